@@ -1,0 +1,139 @@
+-- The accepted file's run of demand 3: the plain run with regions. Regions are numbered from 1 as they are made; 0 is none.
+use Prim.Native.Nat.{ℕ, zero, suc}
+use mathlib.Core.Bool.{Bool, true, false}
+use mathlib.Core.List.{List, [], _∷_, _++_, map}
+use lib.IntN.{ℤ}
+use lib.ListN.{length}
+use Rattle.sets.specs.Members.{members}
+use Rattle.language.specs.Lists.{nth, choose, put}
+use Rattle.language.specs.Program.{argumentsOf, Step, literal, sum, assign, construct, call, print, create, remove, Goals, done, _then_, Goal, step, switch, ifLess, Signature, Program, regionOf, signatureOf}
+use Rattle.language.specs.Regions.{Mapping, mapping, imageIn}
+use Rattle.language.specs.Lifetimes.{born, startHeld}
+use Rattle.language.specs.Frames.{Value, numeral, cellAt, Frame, Cell, numberIn, withGoals, giving, literalIn, sumIn, assignIn, cellFor, branchIn, noCell, cellIn, openCell, calleeFrame, returning, entryFrame, settle}
+
+-- "A frame also says what region each region number stands for."
+pub record RegionFrame : Type 0 where
+  pub frame : Frame
+  pub stands : ℕ → ℕ
+
+-- "A construct's cell lies in the region of X"
+pub record RegionCell : Type 0 where
+  pub cell : Cell
+  pub region : ℕ
+
+pub record Memory : Type 0 where
+  pub cells : List RegionCell
+  pub made : ℕ
+  pub alive : ℕ → Bool  -- created and not removed
+  pub printed : List ℤ
+
+pub record State : Type 0 where
+  pub frames : List RegionFrame
+  pub memory : Memory
+
+unfoldable pub cellOf : RegionCell → Cell
+cellOf c = c .cell
+
+-- the region that X's cell lies in
+unfoldable pub liesIn : List RegionCell → Value → ℕ
+liesIn cells (numeral z) = 0
+liesIn cells (cellAt c) = nth (record { cell = noCell; region = 0 }) cells c .region
+
+unfoldable pub withCell : Memory → RegionCell → Memory
+withCell m c = record { cells = m .cells ++ (c ∷ []); made = m .made; alive = m .alive; printed = m .printed }
+
+unfoldable pub withPrinted : Memory → ℤ → Memory
+withPrinted m z = record { cells = m .cells; made = m .made; alive = m .alive; printed = m .printed ++ (z ∷ []) }
+
+-- "Create lets its number stand for a region never made before."
+unfoldable pub withRegion : Memory → Memory
+withRegion m = record { cells = m .cells; made = suc (m .made); alive = put (m .alive) (suc (m .made)) true; printed = m .printed }
+
+unfoldable pub withoutRegion : Memory → ℕ → Memory
+withoutRegion m k = record { cells = m .cells; made = m .made; alive = put (m .alive) k false; printed = m .printed }
+
+-- for each r of a list, the number `name r` stands for what r stands for in `meant`
+unfoldable pub standEach : (ℕ → ℕ) → (ℕ → ℕ) → List ℕ → (ℕ → ℕ) → ℕ → ℕ
+standEach name meant [] stands = stands
+standEach name meant (r ∷ rs) stands = standEach name meant rs (put stands (name r) (meant r))
+
+unfoldable pub withFrame : RegionFrame → Frame → RegionFrame
+withFrame f e = record { frame = e; stands = f .stands }
+
+-- "A callee's dead and kept numbers stand for what their images do"
+unfoldable pub calleeStands : Mapping → Signature → (ℕ → ℕ) → ℕ → ℕ
+calleeStands m Q stands = standEach (λ r. r) (λ r. stands (imageIn m r)) (members (startHeld Q)) (λ r. 0)
+
+-- "when its frame goes, the images of born ones stand for what those did"
+unfoldable pub returnStands : Mapping → Signature → (ℕ → ℕ) → (ℕ → ℕ) → ℕ → ℕ
+returnStands m Q meant stands = standEach (imageIn m) meant (members (born Q)) stands
+
+module _ (P : Program) where
+  -- the mapping of a call that the procedure of f makes
+  unfoldable pub mappingFrom : Frame → ℕ → List ℕ → Mapping
+  mappingFrom f q ys = mapping (signatureOf P (f .procedure)) (signatureOf P q) ys
+
+  unfoldable pub calleeRegions : RegionFrame → ℕ → List ℕ → RegionFrame
+  calleeRegions f q ys =
+      record { frame = calleeFrame P (f .frame) q ys; stands = calleeStands (mappingFrom (f .frame) q ys) (signatureOf P q) (f .stands) }
+
+  unfoldable pub returningRegions : RegionFrame → RegionFrame → RegionFrame
+  returningRegions f g = record {
+    frame = returning P (f .frame) (g .frame);
+    stands = returnStands (mappingFrom (g .frame) (f .frame .procedure) (f .frame .arguments)) (signatureOf P (f .frame .procedure)) (f .stands) (g .stands);
+  }
+
+  unfoldable pub state : RegionFrame → List RegionFrame → Memory → State
+  state f fs m = record { frames = settle (λ e. e .frame .goals) returningRegions fs f (f .frame .goals); memory = m }
+
+  unfoldable pub start : State
+  start = state (record { frame = entryFrame P; stands = λ r. 0 }) [] (record { cells = []; made = 0; alive = λ k. false; printed = [] })
+
+  -- the region that X's region number stands for
+  unfoldable pub regionFor : RegionFrame → ℕ → ℕ
+  regionFor f x = f .stands (regionOf (signatureOf P (f .frame .procedure)) x)
+
+  -- "A step that would build or read in a region never created or already removed, or remove such a one, is not taken"
+  unfoldable pub allowed : Goal → RegionFrame → Memory → Bool
+  allowed (step (literal x v)) f m = true
+  allowed (step (sum x o y z)) f m = true
+  allowed (step (assign x y)) f m = true
+  allowed (step (construct x k ys)) f m = m .alive (regionFor f x)
+  allowed (step (call q ys)) f m = true
+  allowed (step (print y)) f m = true
+  allowed (step (create r)) f m = true
+  allowed (step (remove r)) f m = m .alive (f .stands r)
+  allowed (switch x cs) f m = m .alive (liesIn (m .cells) (f .frame .values x))
+  allowed (ifLess y z a b) f m = true
+
+  -- a goal of the newest frame f, which has the others still to do
+  unfoldable pub take : Goal → RegionFrame → List RegionFrame → Memory → State
+  take (step (literal x v)) f fs m = state (withFrame f (literalIn (f .frame) x v)) fs m
+  take (step (sum x o y z)) f fs m = state (withFrame f (sumIn (f .frame) x o y z)) fs m
+  take (step (assign x y)) f fs m = state (withFrame f (assignIn (f .frame) x y)) fs m
+  take (step (construct x k ys)) f fs m =
+      state (withFrame f (giving (f .frame) x (cellAt (length (m .cells))))) fs
+      (withCell m (record { cell = cellFor (f .frame) k (argumentsOf ys); region = regionFor f x }))
+  take (step (call q ys)) f fs m = state (calleeRegions f q ys) (f ∷ fs) m
+  take (step (print y)) f fs m = state f fs (withPrinted m (numberIn (f .frame .values y)))
+  take (step (create r)) f fs m = state (record { frame = f .frame; stands = put (f .stands) r (suc (m .made)) }) fs (withRegion m)
+  take (step (remove r)) f fs m = state f fs (withoutRegion m (f .stands r))
+  take (switch x cs) f fs m = state (withFrame f (openCell (cellIn (map cellOf (m .cells)) (f .frame .values x)) cs (f .frame))) fs m
+  take (ifLess y z a b) f fs m = state (withFrame f (branchIn (f .frame) y z a b)) fs m
+
+  -- ".. is not taken: the run stays there and has not ended"
+  unfoldable pub next : Goals → RegionFrame → List RegionFrame → State → State
+  next done f fs s = s
+  next (g then gs) f fs s = choose (allowed g f (s .memory)) (take g (withFrame f (withGoals (f .frame) gs)) fs (s .memory)) s
+
+  unfoldable pub stepFrom : List RegionFrame → State → State
+  stepFrom [] s = s
+  stepFrom (f ∷ fs) s = next (f .frame .goals) f fs s
+
+  unfoldable pub stepOf : State → State
+  stepOf s = stepFrom (s .frames) s
+
+  -- the state after n steps of the accepted file's run
+  unfoldable pub steps : ℕ → State
+  steps zero = start
+  steps (suc n) = stepOf (steps n)

@@ -1,0 +1,107 @@
+-- "Refusals and stops": what each program answers on any bytes.
+use Prim.Native.Nat.{ℕ}
+use mathlib.Core.Bool.{Bool, true, false}
+use mathlib.Core.List.{List, [], _∷_, _++_}
+use lib.Dec.{leb}
+use lib.ListN.{length}
+use Rattle.sets.specs.Tests.{_&_}
+use Rattle.language.specs.declared.Refusal.{Refusal}
+use Rattle.language.specs.declared.Refusal.the-variants.{Header, Form, Typing, Values, Regions, Annotated, Classes, Rules, Room}
+use Rattle.language.specs.declared.Verdict.{Verdict}
+use Rattle.language.specs.declared.Verdict.the-variants.{Refused, Accepted}
+use Rattle.language.specs.declared.Stop.{Stop}
+use Rattle.language.specs.declared.Stop.the-variants.{Steps, Cells, Places, Frames, Prints}
+use Rattle.language.specs.declared.Ending.{Ending}
+use Rattle.language.specs.declared.Ending.the-variants.{Refused as RunRefused}
+use Rattle.language.specs.File.{word, recordCount, headerOk, formOk}
+use Rattle.language.specs.Tree.{treeOf}
+use Rattle.language.specs.Layout.{size, written}
+use Rattle.language.specs.Program.{Program}
+use Rattle.language.specs.Reading.{programOf}
+use Rattle.language.specs.Records.{programTree}
+use Rattle.language.specs.Typing.{typingOk}
+use Rattle.language.specs.Values.{valuesOk}
+use Rattle.language.specs.Regions.{regionsOk}
+use Rattle.language.specs.Lifetimes.{declaredClassesOk, callClassesOk}
+use Rattle.language.specs.Annotation.{unannotated, annotate}
+use Rattle.language.specs.Checking.{rulesOk}
+use Rattle.language.specs.Machine.{Lent, Run, run}
+
+-- the table's numbers
+unfoldable pub refusalNumber : Refusal → ℕ
+refusalNumber Header = 1
+refusalNumber Form = 2
+refusalNumber Typing = 3
+refusalNumber Values = 4
+refusalNumber Regions = 5
+refusalNumber Annotated = 6
+refusalNumber Classes = 7
+refusalNumber Rules = 8
+refusalNumber Room = 9
+
+unfoldable pub stopNumber : Stop → ℕ
+stopNumber Steps = 10
+stopNumber Cells = 11
+stopNumber Places = 12
+stopNumber Frames = 13
+stopNumber Prints = 14
+
+-- a test of a file and the refusal that it stands for
+pub data Stage : Type 0 where
+  stage : Refusal → Bool → Stage
+
+-- "The lowest number that applies is given, and is given for no other cause": the first stage that is not passed
+unfoldable pub lowest : List Stage → Verdict
+lowest [] = Accepted
+lowest (stage r true ∷ ss) = lowest ss
+lowest (stage r false ∷ ss) = Refused r
+
+unfoldable pub program : List ℕ → Program
+program f = programOf (treeOf f)
+
+-- the stages of every program, in the table's order
+unfoldable pub fileStages : List ℕ → List Stage
+fileStages f =
+    stage Header (headerOk f) ∷ stage Form (formOk (word f) (recordCount f)) ∷ stage Typing (typingOk (program f)) ∷ stage Values (valuesOk (program f))
+    ∷ stage Regions (regionsOk (program f)) ∷ []
+
+-- the annotator's output, before it is known to fit
+unfoldable pub annotation : List ℕ → List ℕ
+annotation f = written (programTree (annotate (program f)))
+
+-- "annotated file over 4,096 records or longer than the memory lent"
+unfoldable pub roomOk : List ℕ → ℕ → Bool
+roomOk f lent = leb (size (programTree (annotate (program f)))) 4096 & leb (length (annotation f)) lent
+
+unfoldable pub annotatorStages : List ℕ → ℕ → List Stage
+annotatorStages f lent =
+    fileStages f
+    ++ (stage Annotated (unannotated (program f)) ∷ stage Classes (declaredClassesOk (program f) & callClassesOk (program f)) ∷ stage Room (roomOk f lent) ∷ [])
+
+unfoldable pub checkerStages : List ℕ → List Stage
+checkerStages f = fileStages f ++ (stage Classes (declaredClassesOk (program f)) ∷ stage Rules (rulesOk (program f)) ∷ [])
+
+-- the annotator: a refusal, or "the front part of the caller's output memory"
+pub data Annotation : Type 0 where
+  refuses : Refusal → Annotation
+  writes : List ℕ → Annotation
+
+unfoldable pub annotationFor : Verdict → List ℕ → Annotation
+annotationFor (Refused r) f = refuses r
+annotationFor Accepted f = writes (annotation f)
+
+-- what the annotator answers to the bytes f with `lent` bytes of output memory
+unfoldable pub annotated : List ℕ → ℕ → Annotation
+annotated f lent = annotationFor (lowest (annotatorStages f lent)) f
+
+-- what the checker answers
+unfoldable pub checked : List ℕ → Verdict
+checked f = lowest (checkerStages f)
+
+unfoldable pub runFor : Verdict → List ℕ → Lent → Run
+runFor (Refused r) f l = record { ending = RunRefused r; steps = 0; printed = [] }
+runFor Accepted f l = run (program f) l
+
+-- what the runner answers, lent words and steps
+unfoldable pub ran : List ℕ → Lent → Run
+ran f l = runFor (checked f) f l

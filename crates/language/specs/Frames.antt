@@ -1,0 +1,113 @@
+-- "The two runs of demand 3": values, frames and cells, and what a goal does to a frame. Both runs share it.
+use Prim.Native.Nat.{ℕ, zero, suc}
+use mathlib.Core.List.{List, [], _∷_, map}
+use lib.Dec.{eqb}
+use lib.IntN.{ℤ, pos}
+use Rattle.language.specs.Lists.{nth, choose, put}
+use Rattle.language.specs.Numbers.{literalNumber, sumNumber, less}
+use Rattle.language.specs.Program.{argumentsOf, Goals, done, _then_, Arms, noArms, arm, _before_, Program, procedureAt, signatureOf, parametersOf, inMode, outMode, argumentsIn, variablesIn}
+
+-- "its variables' values, each a number or a cell"
+pub data Value : Type 0 where
+  numeral : ℤ → Value
+  cellAt : ℕ → Value
+
+-- "A frame has the goals still to do and its variables' values": also its procedure and the arguments of the call that made it
+pub record Frame : Type 0 where
+  pub procedure : ℕ
+  pub arguments : List ℕ
+  pub goals : Goals
+  pub values : ℕ → Value
+
+-- "A cell has a functor and its arguments' values"
+pub record Cell : Type 0 where
+  pub functor : ℕ
+  pub contents : List Value
+
+-- the number that a value is
+unfoldable pub numberIn : Value → ℤ
+numberIn (numeral z) = z
+numberIn (cellAt c) = pos 0
+
+unfoldable pub giveEach : List ℕ → List Value → (ℕ → Value) → ℕ → Value
+giveEach [] vs values = values
+giveEach (x ∷ xs) [] values = values
+giveEach (x ∷ xs) (v ∷ vs) values = giveEach xs vs (put values x v)
+
+unfoldable pub withGoals : Frame → Goals → Frame
+withGoals f gs = record { procedure = f .procedure; arguments = f .arguments; goals = gs; values = f .values }
+
+unfoldable pub giving : Frame → ℕ → Value → Frame
+giving f x v = record { procedure = f .procedure; arguments = f .arguments; goals = f .goals; values = put (f .values) x v }
+
+-- "Literal, sum and assign give X a value"
+unfoldable pub literalIn : Frame → ℕ → ℕ → Frame
+literalIn f x v = giving f x (numeral (literalNumber v))
+
+unfoldable pub sumIn : Frame → ℕ → ℕ → ℕ → ℕ → Frame
+sumIn f x o y z = giving f x (numeral (sumNumber o (numberIn (f .values y)) (numberIn (f .values z))))
+
+unfoldable pub assignIn : Frame → ℕ → ℕ → Frame
+assignIn f x y = giving f x (f .values y)
+
+unfoldable pub cellFor : Frame → ℕ → List ℕ → Cell
+cellFor f k ys = record { functor = k; contents = map (f .values) ys }
+
+-- "that arm's goals, or those of an if's part, go before the rest"
+unfoldable pub branchIn : Frame → ℕ → ℕ → Goals → Goals → Frame
+branchIn f y z a b = withGoals f (choose (less (numberIn (f .values y)) (numberIn (f .values z))) a b before f .goals)
+
+-- "A switch gives its arm's arguments the values in X's cell": the arm of a functor, if there is one
+pub data Picked : Type 0 where
+  noArm : Picked
+  picked : List ℕ → Goals → Picked
+
+unfoldable pub pick : Arms → ℕ → Picked
+pick noArms k = noArm
+pick (arm f ys gs cs) k = choose (eqb f k) (picked (argumentsOf ys) gs) (pick cs k)
+
+unfoldable pub enterArm : Picked → List Value → Frame → Frame
+enterArm noArm vs f = f
+enterArm (picked ys gs) vs f =
+    record { procedure = f .procedure; arguments = f .arguments; goals = gs before f .goals; values = giveEach ys vs (f .values) }
+
+unfoldable pub noCell : Cell
+noCell = record { functor = 0; contents = [] }
+
+-- X's cell; a number has none
+unfoldable pub cellIn : List Cell → Value → Cell
+cellIn cells (numeral z) = noCell
+cellIn cells (cellAt c) = nth noCell cells c
+
+unfoldable pub openCell : Cell → Arms → Frame → Frame
+openCell c cs f = enterArm (pick cs (c .functor)) (c .contents) f
+
+module _ (P : Program) where
+  -- "A call adds the callee's frame with its in values."
+  unfoldable pub calleeFrame : Frame → ℕ → List ℕ → Frame
+  calleeFrame f q ys = record {
+    procedure = q;
+    arguments = ys;
+    goals = procedureAt P q .body;
+    values = giveEach (variablesIn inMode (signatureOf P q)) (map (f .values) (argumentsIn inMode (parametersOf (signatureOf P q)) ys)) (λ x. numeral (pos 0));
+  }
+
+  -- ".. and its out values pass to the call's arguments"
+  unfoldable pub returning : Frame → Frame → Frame
+  returning f g = record {
+    procedure = g .procedure;
+    arguments = g .arguments;
+    goals = g .goals;
+    values = giveEach (argumentsIn outMode (parametersOf (signatureOf P (f .procedure))) (f .arguments)) (map (f .values) (variablesIn outMode (signatureOf P (f .procedure)))) (g .values);
+  }
+
+  unfoldable pub entryFrame : Frame
+  entryFrame = record { procedure = 0; arguments = []; goals = procedureAt P 0 .body; values = λ x. numeral (pos 0) }
+
+-- "Whenever the newest frame has no goals left, it goes at once": f is the newest, gs are its goals, fs wait
+module _ {F : Type 0} (goalsIn : F → Goals) (into : F → F → F) where
+  unfoldable pub settle : List F → F → Goals → List F
+  settle [] f done = []
+  settle [] f (g then gs) = f ∷ []
+  settle (e ∷ fs) f done = settle fs (into f e) (goalsIn e)
+  settle (e ∷ fs) f (g then gs) = f ∷ e ∷ fs

@@ -1,0 +1,109 @@
+-- "The machine": the accepted file's run in lent memory, with document 01's stops.
+use Prim.Native.Nat.{ℕ, zero, suc, _+_, _/_, min}
+use mathlib.Core.Bool.{Bool, true, false}
+use mathlib.Core.List.{List, [], _∷_}
+use lib.Dec.{ltb}
+use lib.IntN.{ℤ}
+use lib.ListN.{length}
+use Rattle.language.specs.declared.Stop.{Stop}
+use Rattle.language.specs.declared.Stop.the-variants.{Steps, Cells, Places, Frames, Prints}
+use Rattle.language.specs.declared.Ending.{Ending}
+use Rattle.language.specs.declared.Ending.the-variants.{Finished, Stopped}
+use Rattle.language.specs.Lists.{one, upFrom}
+use Rattle.language.specs.Program.{Step, literal, sum, assign, construct, call, print, create, remove, Goals, done, _then_, Goal, step, switch, ifLess, Program}
+use Rattle.language.specs.AcceptedRun.{RegionFrame, RegionCell, Memory, State, start, stepOf}
+
+-- what is lent: words of memory for each sort, and steps
+pub record Lent : Type 0 where
+  pub cellWords : ℕ
+  pub regionWords : ℕ
+  pub frameWords : ℕ
+  pub printWords : ℕ
+  pub steps : ℕ
+
+-- how many of each sort the lent words hold
+pub record Room : Type 0 where
+  pub cells : ℕ
+  pub regions : ℕ
+  pub frames : ℕ
+  pub prints : ℕ
+
+-- "a remainder too small for one is not used, and more than 65,535 of a sort count as 65,535"
+unfoldable pub holds : ℕ → ℕ → ℕ
+holds words each = min (words / each) 65535
+
+-- "Lent 32-bit words hold: 8 a cell, 2 a region, 136 a frame, 1 a printed number"
+unfoldable pub roomIn : Lent → Room
+roomIn l = record { cells = holds (l .cellWords) 8; regions = holds (l .regionWords) 2; frames = holds (l .frameWords) 136; prints = holds (l .printWords) 1 }
+
+-- "A removed region's cells and its own place serve later steps": cells of living regions, and living regions
+unfoldable pub cellsHeld : (ℕ → Bool) → List RegionCell → ℕ
+cellsHeld alive [] = 0
+cellsHeld alive (c ∷ cs) = one (alive (c .region)) + cellsHeld alive cs
+
+unfoldable pub countAlive : (ℕ → Bool) → List ℕ → ℕ
+countAlive alive [] = 0
+countAlive alive (k ∷ ks) = one (alive k) + countAlive alive ks
+
+unfoldable pub regionsHeld : Memory → ℕ
+regionsHeld m = countAlive (m .alive) (upFrom 1 (m .made))
+
+-- what can be said before a step: the run has ended, the step can be done, or there is no room for it
+pub data Outlook : Type 0 where
+  ended : Outlook
+  goes : Outlook
+  lacks : Stop → Outlook
+
+unfoldable pub roomOr : Bool → Stop → Outlook
+roomOr true c = goes
+roomOr false c = lacks c
+
+-- "11 no free cell, 12 no free region, 13 no free frame, 14 no place for a printed number"
+unfoldable pub outlookFor : Room → Goal → State → Outlook
+outlookFor k (step (literal x v)) s = goes
+outlookFor k (step (sum x o y z)) s = goes
+outlookFor k (step (assign x y)) s = goes
+outlookFor k (step (construct x f ys)) s = roomOr (ltb (cellsHeld (s .memory .alive) (s .memory .cells)) (k .cells)) Cells
+outlookFor k (step (call q ys)) s = roomOr (ltb (length (s .frames)) (k .frames)) Frames
+outlookFor k (step (print y)) s = roomOr (ltb (length (s .memory .printed)) (k .prints)) Prints
+outlookFor k (step (create r)) s = roomOr (ltb (regionsHeld (s .memory)) (k .regions)) Places
+outlookFor k (step (remove r)) s = goes
+outlookFor k (switch x cs) s = goes
+outlookFor k (ifLess y z a b) s = goes
+
+unfoldable pub outlookIn : Room → Goals → State → Outlook
+outlookIn k done s = goes
+outlookIn k (g then gs) s = outlookFor k g s
+
+unfoldable pub outlookAt : Room → List RegionFrame → State → Outlook
+outlookAt k [] s = ended
+outlookAt k (f ∷ fs) s = outlookIn k (f .frame .goals) s
+
+unfoldable pub outlook : Room → State → Outlook
+outlook k s = outlookAt k (s .frames) s
+
+-- "It returns the number and steps done", and the numbers printed
+pub record Run : Type 0 where
+  pub ending : Ending
+  pub steps : ℕ
+  pub printed : List ℤ
+
+unfoldable pub endedWith : Ending → ℕ → State → Run
+endedWith e n s = record { ending = e; steps = n; printed = s .memory .printed }
+
+-- "an ended run is finished before 10 is looked at"; "Before a step the lower of two numbers is given." l steps are left, n are done
+unfoldable pub runOn : Program → Room → ℕ → Outlook → ℕ → State → Run
+runOn P k zero ended n s = endedWith Finished n s
+runOn P k zero goes n s = endedWith (Stopped Steps) n s
+runOn P k zero (lacks c) n s = endedWith (Stopped Steps) n s
+runOn P k (suc l) ended n s = endedWith Finished n s
+runOn P k (suc l) goes n s = let t = stepOf P s in runOn P k l (outlook k t) (suc n) t
+runOn P k (suc l) (lacks c) n s = endedWith (Stopped c) n s
+
+-- "The entry's frame is taken first": where there is none for it, the run stops at once
+unfoldable pub runFrom : Bool → Program → Room → ℕ → Run
+runFrom true P k l = runOn P k l (outlook k (start P)) 0 (start P)
+runFrom false P k l = endedWith (Stopped Frames) 0 (start P)
+
+unfoldable pub run : Program → Lent → Run
+run P l = runFrom (ltb 0 (roomIn l .frames)) P (roomIn l) (l .steps)

@@ -1,0 +1,116 @@
+-- "Proved by hand-sized files": the cases of document 01, together as one theorem.
+use Prim.Native.Nat.{ℕ, zero, suc}
+use mathlib.Core.List.{List, [], _∷_, _++_}
+use mathlib.Core.Path.{_≡_, refl}
+use lib.IntN.{ℤ, pos, negsuc}
+use lib.ListN.{set}
+use Rattle.language.specs.declared.Refusal.{Refusal}
+use Rattle.language.specs.declared.Refusal.the-variants.{Header, Form, Typing, Annotated, Rules, Room}
+use Rattle.language.specs.declared.Verdict.the-variants.{Refused, Accepted}
+use Rattle.language.specs.declared.Stop.the-variants.{Steps, Cells, Frames}
+use Rattle.language.specs.declared.Ending.{Ending}
+use Rattle.language.specs.declared.Ending.the-variants.{Refused as RunRefused, Finished, Stopped}
+use Rattle.language.specs.Numbers.{sumNumber}
+use Rattle.language.specs.Layout.{bytesOf}
+use Rattle.language.specs.Machine.{Lent, Run}
+use Rattle.language.specs.Answers.{annotated, refuses, writes, checked, ran}
+use Rattle.language.specs.Computing.{computing}
+
+-- a file from its records: "words left out are 0"
+unfoldable pub eight : ℕ → List ℕ → List ℕ
+eight zero ws = []
+eight (suc n) [] = 0 ∷ eight n []
+eight (suc n) (w ∷ ws) = w ∷ eight n ws
+
+unfoldable pub rows : List (List ℕ) → List (List ℕ)
+rows [] = []
+rows (r ∷ rs) = eight 8 r ∷ rows rs
+
+unfoldable pub file : List (List ℕ) → List ℕ
+file rs = bytesOf (rows rs)
+
+-- records 1 to 5 of U and A
+unfoldable pub five : List (List ℕ)
+five = (2 ∷ 0 ∷ 2 ∷ []) ∷ (3 ∷ []) ∷ (4 ∷ 0 ∷ 4 ∷ 5 ∷ 6 ∷ []) ∷ (5 ∷ 0 ∷ 0 ∷ 1 ∷ 1 ∷ []) ∷ (6 ∷ 0 ∷ 1 ∷ []) ∷ []
+
+-- a file of n records: its header, records 1 to 5, and the goals
+unfoldable pub with5 : ℕ → List (List ℕ) → List ℕ
+with5 n goals = file ((1 ∷ 3 ∷ 1 ∷ n ∷ []) ∷ five ++ goals)
+
+unfoldable pub U : List ℕ
+U = with5 7 ((11 ∷ 0 ∷ 1 ∷ 0 ∷ []) ∷ [])
+
+unfoldable pub A : List ℕ
+A = with5 9 ((18 ∷ 7 ∷ 1 ∷ []) ∷ (11 ∷ 8 ∷ 1 ∷ 0 ∷ []) ∷ (19 ∷ 0 ∷ 1 ∷ []) ∷ [])
+
+-- U with w7 = 1 in record 5, and in record 6: the byte 16 × 5 + 14, and 16 × 6 + 14
+unfoldable pub U5 : List ℕ
+U5 = set U 94 1
+
+unfoldable pub U6 : List ℕ
+U6 = set U 110 1
+
+-- A with create, remove, construct, and A with a second remove
+unfoldable pub early : List ℕ
+early = with5 9 ((18 ∷ 7 ∷ 1 ∷ []) ∷ (19 ∷ 8 ∷ 1 ∷ []) ∷ (11 ∷ 0 ∷ 1 ∷ 0 ∷ []) ∷ [])
+
+unfoldable pub twice : List ℕ
+twice = with5 10 ((18 ∷ 7 ∷ 1 ∷ []) ∷ (11 ∷ 8 ∷ 1 ∷ 0 ∷ []) ∷ (19 ∷ 9 ∷ 1 ∷ []) ∷ (19 ∷ 0 ∷ 1 ∷ []) ∷ [])
+
+-- "The runner program has 1,024 cells, 1,024 regions, 100 frames, 1,024 prints, 1,000,000 steps."
+unfoldable pub lent : Lent
+lent = record { cellWords = 8192; regionWords = 2048; frameWords = 13600; printWords = 1024; steps = 1000000 }
+
+unfoldable pub twoSteps : Lent
+twoSteps = record { cellWords = 8192; regionWords = 2048; frameWords = 13600; printWords = 1024; steps = 2 }
+
+unfoldable pub noCells : Lent
+noCells = record { cellWords = 0; regionWords = 2048; frameWords = 13600; printWords = 1024; steps = 1000000 }
+
+unfoldable pub noFrames : Lent
+noFrames = record { cellWords = 8192; regionWords = 2048; frameWords = 0; printWords = 1024; steps = 0 }
+
+-- a run that printed nothing
+unfoldable pub silent : Ending → ℕ → Run
+silent e n = record { ending = e; steps = n; printed = [] }
+
+-- the three programs' answers where they are one refusal
+abbrev pub AllRefuse : List ℕ → Refusal → Type 0
+AllRefuse f r = (annotated f 65536 ≡ refuses r) × (checked f ≡ Refused r) × (ran f lent ≡ silent (RunRefused r) 0)
+
+pub record Table : Type 0 where
+  pub annotated-144 : annotated U 144 ≡ writes A
+  pub annotated-143 : annotated U 143 ≡ refuses Room
+  pub empty-file : AllRefuse [] Header
+  pub unused-word : AllRefuse U5 Form
+  pub past-arity : AllRefuse U6 Typing
+  pub already-annotated : annotated A 65536 ≡ refuses Annotated
+  pub A-checked : checked A ≡ Accepted
+  pub U-checked : checked U ≡ Refused Rules
+  pub removed-early : checked early ≡ Refused Rules
+  pub removed-twice : checked twice ≡ Refused Rules
+  pub A-run : ran A lent ≡ silent Finished 3
+  pub steps-spent : ran A twoSteps ≡ silent (Stopped Steps) 2
+  pub no-cell : ran A noCells ≡ silent (Stopped Cells) 1
+  pub no-frame : ran A noFrames ≡ silent (Stopped Frames) 0
+  pub sum-wraps : sumNumber 0 (pos 2147483647) (pos 1) ≡ negsuc 2147483647
+
+pub table : Table
+unfolding computing eight rows file five with5 U A U5 U6 early twice lent twoSteps noCells noFrames silent
+table = record {
+  annotated-144 = refl;
+  annotated-143 = refl;
+  empty-file = (refl, refl, refl);
+  unused-word = (refl, refl, refl);
+  past-arity = (refl, refl, refl);
+  already-annotated = refl;
+  A-checked = refl;
+  U-checked = refl;
+  removed-early = refl;
+  removed-twice = refl;
+  A-run = refl;
+  steps-spent = refl;
+  no-cell = refl;
+  no-frame = refl;
+  sum-wraps = refl;
+}

@@ -1,0 +1,36 @@
+// The answers that the programs share: document 01's table of refusals and stops.
+
+// The cause of a refusal, in the table's order: numbers 1 to 9.
+pub enum Refusal {
+    Header,
+    Form,
+    Typing,
+    Values,
+    Regions,
+    Annotated,
+    Classes,
+    Rules,
+    Room,
+}
+
+// What a test of a file says: the lowest refusal that applies, or that none does.
+pub enum Verdict {
+    Refused(Refusal),
+    Accepted,
+}
+
+// Why a run stops before a step that can't be done: numbers 10 to 14.
+pub enum Stop {
+    Steps,
+    Cells,
+    Places,
+    Frames,
+    Prints,
+}
+
+// How a run ends.
+pub enum Ending {
+    Refused(Refusal),
+    Finished,
+    Stopped(Stop),
+}

@@ -1,0 +1,9 @@
+use Rattle.sets.proofs.Set.same.Statement.{statement}
+use Rattle.sets.proofs.Set.same.Tie as tie
+use Rattle.sets.specs.Code.{same-made}
+
+returns : tie.Need-returns
+returns c = same-made _ _
+
+pub same-spec : {M : Type 1} → statement M
+same-spec = tie.close (tie.spec returns)

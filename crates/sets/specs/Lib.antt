@@ -1,0 +1,10 @@
+pub mod Digits
+pub mod Tests
+pub mod Sets
+pub mod SetLaws
+pub mod Members
+pub mod MemberLaws
+pub mod Rising
+pub mod Size
+pub mod Walk
+pub mod Code

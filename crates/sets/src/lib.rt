@@ -1,0 +1,95 @@
+// A set of numbers from 1 to 64, by value: the number n is the bit at the place n - 1.
+ghost use mathlib.Core.Path.{_≡_};
+ghost use Rattle.sets.specs.Sets.{member, single, _∪_, _∩_, _∖_, sameSet, subset};
+ghost use Rattle.sets.specs.Members.{nextMember};
+
+pub struct Set {
+    bits: u64,
+}
+
+impl Set {
+    // No member.
+    pub const EMPTY: Set = Set { bits: 0 };
+
+    // The set of `n` alone; empty where `n` is not from 1 to 64.
+    pub fn of(n: usize) -> Set
+        ensures { λ r. ⌜ r ≡ single n ⌝ }
+    {
+        if n < 1 {
+            return Set::EMPTY;
+        }
+        if 64 < n {
+            return Set::EMPTY;
+        }
+        let place = n - 1;
+        let bits = 1u64 << place;
+        Set { bits }
+    }
+
+    // The members of either.
+    pub fn union(self, other: Set) -> Set
+        ensures { λ r. ⌜ r ≡ self ∪ other ⌝ }
+    {
+        Set {
+            bits: self.bits | other.bits,
+        }
+    }
+
+    // The members of both.
+    pub fn intersection(self, other: Set) -> Set
+        ensures { λ r. ⌜ r ≡ self ∩ other ⌝ }
+    {
+        Set {
+            bits: self.bits & other.bits,
+        }
+    }
+
+    // The members that `other` lacks.
+    pub fn difference(self, other: Set) -> Set
+        ensures { λ r. ⌜ r ≡ self ∖ other ⌝ }
+    {
+        Set {
+            bits: self.bits & !other.bits,
+        }
+    }
+
+    // Whether `n` is a member.
+    pub fn has(self, n: usize) -> bool
+        ensures { λ r. ⌜ r ≡ member self n ⌝ }
+    {
+        if n < 1 {
+            return false;
+        }
+        if 64 < n {
+            return false;
+        }
+        (self.bits >> (n - 1)) & 1 == 1
+    }
+
+    // Whether both have the same members.
+    pub fn same(self, other: Set) -> bool
+        ensures { λ r. ⌜ r ≡ sameSet self other ⌝ }
+    {
+        self.bits == other.bits
+    }
+
+    // Whether `other` has every member.
+    pub fn is_subset(self, other: Set) -> bool
+        ensures { λ r. ⌜ r ≡ subset self other ⌝ }
+    {
+        self.difference(other).same(Set::EMPTY)
+    }
+
+    // The least member above `n`, or 65 where there is none, in one step. A loop over all members starts at `n` = 0.
+    pub fn after(self, n: usize) -> usize
+        ensures { λ r. ⌜ r ≡ nextMember self n ⌝ }
+    {
+        if 63 < n {
+            return 65;
+        }
+        let rest = self.bits >> n;
+        let zeros = u64::trailing_zeros(rest) as usize;
+        let found = n + 1 + zeros;
+        if found < 65 { found } else { 65 }
+    }
+}
