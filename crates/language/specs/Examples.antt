@@ -17,11 +17,9 @@ use Rattle.language.specs.Table.{eight, rows, file, lent, silent}
 abbrev Answered : List ℕ → Annotation → Verdict → Run → Type 0
 Answered f a c r = (annotated f 65536 ≡ a) × (checked f ≡ c) × (ran f lent ≡ r)
 
--- number 2: a record that two words refer to
+-- number 2: two procedures refer to one goal
 unfoldable referredTwice : List ℕ
-referredTwice =
-    file (
-    (1 ∷ 1 ∷ 0 ∷ 3 ∷ []) ∷ (4 ∷ 0 ∷ 0 ∷ 0 ∷ 2 ∷ []) ∷ (4 ∷ 0 ∷ 0 ∷ 0 ∷ 2 ∷ []) ∷ [])
+referredTwice = file ((1 ∷ 1 ∷ 0 ∷ 4 ∷ []) ∷ (4 ∷ 2 ∷ 0 ∷ 0 ∷ 3 ∷ []) ∷ (4 ∷ 0 ∷ 0 ∷ 0 ∷ 3 ∷ []) ∷ (17 ∷ 0 ∷ 1 ∷ []) ∷ [])
 
 referredTwice-answers : Answered referredTwice (refuses Form) (Refused Form) (silent (RunRefused Form) 0)
 unfolding computing eight rows file lent silent referredTwice
