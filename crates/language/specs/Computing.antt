@@ -23,6 +23,7 @@ use Rattle.language.specs.PlainRun as PlainRun
 use Rattle.language.specs.AcceptedRun as AcceptedRun
 use Rattle.language.specs.Machine as Machine
 use Rattle.language.specs.Answers as Answers
+use Rattle.language.specs.Output as Output
 
 unfoldable pub setsOpen : Unit {0}
 unfolding Digits.bit Tests._&_ Tests._or_ Tests.neg Sets.member Sets.oneAt Sets.single Sets._∪_ Sets._∩_ Sets._∖_ Sets.sameSet Sets.subset Sets.apart Members.consIf Members.membersFrom Members.members Members.firstOr65 Members.nextMember Members.setOf Members.filtered Members.keep Members.unionAll Members.unionOver Members.image Members.allOf Members.every
@@ -61,7 +62,7 @@ unfolding Records.zeros Records.fourPlain Records.chainOf Records.functorWords R
 recordsOpen = tt
 
 unfoldable pub typingOpen : Unit {0}
-unfolding Typing.typesIn Typing.placeIf Typing.isVariable Typing.isRegion Typing.hasType Typing.isRegionOf Typing.haveTypes Typing.argumentsOk Typing.isType Typing.regioned Typing.functorOk Typing.typeOk Typing.typesOk Typing.placesIn Typing.placesFrom Typing.variableOk Typing.edgesOk Typing.regionOk Typing.signatureOk Typing.functorsFor Typing.typesOf Typing.parameterTypes Typing.stepOk Typing.goalsOk Typing.goalOk Typing.armsOk Typing.procedureOk Typing.typingOk
+unfolding Typing.typesIn Typing.placeIf Typing.isVariable Typing.isRegion Typing.hasType Typing.isRegionOf Typing.haveTypes Typing.argumentsOk Typing.isType Typing.regioned Typing.functorOk Typing.typeOk Typing.typesOk Typing.placesIn Typing.placesFrom Typing.variableOk Typing.edgesOk Typing.regionOk Typing.signatureOk Typing.typesOf Typing.parameterTypes Typing.functorsFor Typing.stepOk Typing.goalsOk Typing.goalOk Typing.armsOk Typing.procedureOk Typing.typingOk
 typingOpen = tt
 
 unfoldable pub valuesOpen : Unit {0}
@@ -93,7 +94,7 @@ unfolding PlainRun.thenIf PlainRun.stripGoals PlainRun.stripGoal PlainRun.stripA
 plainRunOpen = tt
 
 unfoldable pub acceptedRunOpen : Unit {0}
-unfolding AcceptedRun.cellOf AcceptedRun.liesIn AcceptedRun.withCell AcceptedRun.withPrinted AcceptedRun.withRegion AcceptedRun.withoutRegion AcceptedRun.standEach AcceptedRun.mappingFrom AcceptedRun.calleeStands AcceptedRun.calleeRegions AcceptedRun.returnStands AcceptedRun.returningRegions AcceptedRun.state AcceptedRun.start AcceptedRun.regionFor AcceptedRun.allowed AcceptedRun.withFrame AcceptedRun.take AcceptedRun.next AcceptedRun.stepFrom AcceptedRun.stepOf AcceptedRun.steps
+unfolding AcceptedRun.cellOf AcceptedRun.liesIn AcceptedRun.withCell AcceptedRun.withPrinted AcceptedRun.withRegion AcceptedRun.withoutRegion AcceptedRun.standEach AcceptedRun.withFrame AcceptedRun.calleeStands AcceptedRun.returnStands AcceptedRun.mappingFrom AcceptedRun.calleeRegions AcceptedRun.returningRegions AcceptedRun.state AcceptedRun.start AcceptedRun.regionFor AcceptedRun.allowed AcceptedRun.take AcceptedRun.next AcceptedRun.stepFrom AcceptedRun.stepOf AcceptedRun.steps
 acceptedRunOpen = tt
 
 unfoldable pub machineOpen : Unit {0}
@@ -104,6 +105,10 @@ unfoldable pub answersOpen : Unit {0}
 unfolding Answers.refusalNumber Answers.stopNumber Answers.lowest Answers.program Answers.fileStages Answers.annotation Answers.roomOk Answers.annotatorStages Answers.checkerStages Answers.annotationFor Answers.annotated Answers.checked Answers.runFor Answers.ran
 answersOpen = tt
 
+unfoldable pub outputOpen : Unit {0}
+unfolding Output.digitsOnto Output.decimal Output.signedDecimal Output.line Output.refusalLine Output.annotatorOutput Output.checkerOutput Output.numberLines Output.endingLine Output.runnerOutput
+outputOpen = tt
+
 unfoldable pub computing : Unit {0}
-unfolding setsOpen listsOpen numbersOpen fileOpen treeOpen layoutOpen programOpen readingOpen recordsOpen typingOpen valuesOpen regionsOpen lifetimesOpen annotationOpen checkingOpen framesOpen plainRunOpen acceptedRunOpen machineOpen answersOpen
+unfolding setsOpen listsOpen numbersOpen fileOpen treeOpen layoutOpen programOpen readingOpen recordsOpen typingOpen valuesOpen regionsOpen lifetimesOpen annotationOpen checkingOpen framesOpen plainRunOpen acceptedRunOpen machineOpen answersOpen outputOpen
 computing = tt

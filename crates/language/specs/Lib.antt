@@ -17,6 +17,7 @@ pub mod PlainRun
 pub mod AcceptedRun
 pub mod Machine
 pub mod Answers
+pub mod Output
 pub mod Computing
 pub mod Table
 pub mod Examples

@@ -14,6 +14,7 @@ use Rattle.language.specs.Numbers.{sumNumber}
 use Rattle.language.specs.Layout.{bytesOf}
 use Rattle.language.specs.Machine.{Lent, Run}
 use Rattle.language.specs.Answers.{annotated, refuses, writes, checked, ran}
+use Rattle.language.specs.Output.{finishedWord, runnerOutput}
 use Rattle.language.specs.Computing.{computing}
 
 -- a file from its records: "words left out are 0"
@@ -90,6 +91,7 @@ pub record Table : Type 0 where
   pub removed-early : checked early ≡ Refused Rules
   pub removed-twice : checked twice ≡ Refused Rules
   pub A-run : ran A lent ≡ silent Finished 3
+  pub A-lines : runnerOutput (ran A lent) ≡ finishedWord ++ (51 ∷ 10 ∷ [])
   pub steps-spent : ran A twoSteps ≡ silent (Stopped Steps) 2
   pub no-cell : ran A noCells ≡ silent (Stopped Cells) 1
   pub no-frame : ran A noFrames ≡ silent (Stopped Frames) 0
@@ -109,6 +111,7 @@ table = record {
   removed-early = refl;
   removed-twice = refl;
   A-run = refl;
+  A-lines = refl;
   steps-spent = refl;
   no-cell = refl;
   no-frame = refl;
