@@ -1,0 +1,107 @@
+-- The accepted file's run and the plain run go in lock step: of n steps of the one, those that are no creates and removes are the steps
+-- of the other; the two print the same, and one ends if and only if the other does.
+use mathlib.Core.Path.{_≡_, refl, ap, sym, _∙_}
+use mathlib.Core.Bool.{Bool, true, false}
+use mathlib.Core.List.{List, [], _∷_}
+use mathlib.Core.Logic.{_↔_}
+use Prim.Native.Nat.{ℕ, zero, suc, _-_, _≤_}
+use native.Mathlib.Omega.{arith}
+use Rattle.language.specs.Program.{Goal, Program}
+use Rattle.language.specs.PlainRun.{stripped, plainState, plainStepOf, plainSteps}
+use Rattle.language.specs.AcceptedRun.{RegionFrame, Memory, stepOf, steps}
+use Rattle.lockstep.specs.Counted.{isPlain, price, priceOf, nextGoal, spends, spent, Safe}
+use Rattle.lockstep.specs.Erase.{eraseFrames, erase, erase-start}
+use Rattle.lockstep.specs.Ready.{ready-steps, toDo}
+use Rattle.lockstep.specs.Turn.{Turn, quiet, plain, turn, over-erased, ended}
+
+-- ---- counting
+price-most : (gs : List Goal) → priceOf gs ≤ 1
+unfolding priceOf price
+price-most [] = omega arith
+price-most (g ∷ gs) = go (isPlain g)
+  where
+    go : (b : Bool) → price b ≤ 1
+    go true = omega arith
+    go false = omega arith
+
+module _ (P : Program) where
+  -- creates and removes are some of the steps
+  pub spent-most : (n : ℕ) → spent P n ≤ n
+  unfolding spent spends
+  spent-most zero = omega arith
+  spent-most (suc n) = let i = spent-most n in let p = price-most (nextGoal (steps P n)) in omega arith
+
+  after-quiet : (n : ℕ) → spends P (steps P n) ≡ 1 → suc n - spent P (suc n) ≡ n - spent P n
+  unfolding spent
+  after-quiet n z = omega arith
+
+  after-plain : (n : ℕ) → spends P (steps P n) ≡ 0 → suc n - spent P (suc n) ≡ suc (n - spent P n)
+  unfolding spent
+  after-plain n z = let i = spent-most n in omega arith
+
+  erased-printed : (fs : List RegionFrame) (m : Memory) → eraseFrames P fs m .printed ≡ m .printed
+  unfolding eraseFrames plainState
+  erased-printed [] m = refl
+  erased-printed (f ∷ fs) m = refl
+
+module _ (P : Program) (safe : Safe P) where
+  turns : (n : ℕ) → Turn P (steps P n)
+  turns n = turn P (steps P n) (ready-steps P n) (safe n)
+
+  -- 1. lock step: what the plain run sees of the state after n steps is its own state after the plain ones of them
+  pub lock : (n : ℕ) → erase P (steps P n) ≡ plainSteps (stripped P) (n - spent P n)
+  unfolding steps plainSteps spent
+  lock zero = erase-start P
+  lock (suc n) = go (turns n) (lock n)
+    where
+      go : Turn P (steps P n) → erase P (steps P n) ≡ plainSteps (stripped P) (n - spent P n) →
+          erase P (stepOf P (steps P n)) ≡ plainSteps (stripped P) (suc n - spent P (suc n))
+      go (quiet z e d) i = e ∙ i ∙ ap (plainSteps (stripped P)) (sym (after-quiet P n z))
+      go (plain z e) i = e ∙ ap (plainStepOf (stripped P)) i ∙ ap (plainSteps (stripped P)) (sym (after-plain P n z))
+
+  -- 2. the numbers printed
+  pub prints : (n : ℕ) → steps P n .memory .printed ≡ plainSteps (stripped P) (n - spent P n) .printed
+  unfolding erase
+  prints n = sym (erased-printed P (steps P n .frames) (steps P n .memory)) ∙ ap (λ t. t .printed) (lock n)
+
+  -- from each state some creates and removes lead to one where none comes next: the goals still to do fall
+  abbrev Settles : ℕ → Type 0
+  Settles n = (m : ℕ) × (m - spent P m ≡ n - spent P n) × (spends P (steps P m) ≡ 0)
+
+  settles : (t n : ℕ) → toDo (steps P n .frames) ≤ t → Settles n
+  unfolding steps
+  settles zero n l = go (turns n)
+    where
+      go : Turn P (steps P n) → Settles n
+      go (quiet z e d) = absurd (omega arith)
+      go (plain z e) = (n, refl, z)
+  settles (suc t) n l = go (turns n) (λ q. settles t (suc n) q)
+    where
+      go : Turn P (steps P n) → (toDo (stepOf P (steps P n) .frames) ≤ t → Settles (suc n)) → Settles n
+      go (quiet z e d) later = let s = later (omega arith) in (s .0, s .1 ∙ after-quiet P n z, s .2)
+      go (plain z e) later = (n, refl, z)
+
+  -- 3. each number of plain steps comes up
+  pub each : (k : ℕ) → (n : ℕ) × (n - spent P n ≡ k)
+  unfolding spent
+  each zero = (0, refl)
+  each (suc k) =
+      let o = each k in
+      let s = settles (toDo (steps P (o .0) .frames)) (o .0) (omega arith) in
+      (suc (s .0), after-plain P (s .0) (s .2) ∙ ap suc (s .1 ∙ o .1))
+
+  -- 4. one run ends if and only if the other does
+  pub both : ((n : ℕ) × (steps P n .frames ≡ [])) ↔ ((k : ℕ) × (plainSteps (stripped P) k .frames ≡ []))
+  both = (forth, back)
+    where
+      forth : ((n : ℕ) × (steps P n .frames ≡ [])) → ((k : ℕ) × (plainSteps (stripped P) k .frames ≡ []))
+      forth e = (e .0 - spent P (e .0), ap (λ t. t .frames) (sym (lock (e .0))) ∙ over-erased P (steps P (e .0)) (e .1))
+
+      back : ((k : ℕ) × (plainSteps (stripped P) k .frames ≡ [])) → ((n : ℕ) × (steps P n .frames ≡ []))
+      back e =
+          let o = each (e .0) in
+          let s = settles (toDo (steps P (o .0) .frames)) (o .0) (omega arith) in (
+            s .0,
+            ended P (steps P (s .0)) (ready-steps P (s .0)) (s .2)
+                (ap (λ t. t .frames) (lock (s .0)) ∙ ap (λ k. plainSteps (stripped P) k .frames) (s .1 ∙ o .1) ∙ e .1),
+          )

@@ -1,0 +1,87 @@
+-- One step of the accepted file's run: a create or a remove, of which the plain run sees nothing, or a step of the plain run too.
+use mathlib.Core.Path.{_≡_, refl, ap, sym, _∙_}
+use mathlib.Core.Bool.{Bool, true, false}
+use mathlib.Core.List.{List, [], _∷_, map}
+use Prim.Native.Nat.{suc}
+use native.Mathlib.Omega.{arith}
+use lib.IntN.{ℤ}
+use Rattle.language.specs.Program.{Goals, _then_, Goal, Program}
+use Rattle.language.specs.Frames.{Frame, Cell, withGoals, settle}
+use Rattle.language.specs.PlainRun.{thenIf, stripGoals, stripped, PlainState, plainState, plainTake, plainNext, plainFrom, plainStepOf}
+use Rattle.language.specs.AcceptedRun.{RegionFrame, State, cellOf, withFrame, allowed, stepFrom, stepOf}
+use Rattle.lockstep.specs.Counted.{Free, isPlain, nextIn, nextGoal, price, priceOf, spends}
+use Rattle.lockstep.specs.Strip.{strippedGoal, strip-goal}
+use Rattle.lockstep.specs.Erase.{eraseFrame, eraseFrames, erase, erase-take, Same}
+use Rattle.lockstep.specs.Ready.{Ready, over, ready, toDo, rest, ready-spends, taken, falls}
+
+pub data Turn (P : Program) (s : State) : Type 0 where
+  quiet : spends P s ≡ 1 → erase P (stepOf P s) ≡ erase P s → suc (toDo (stepOf P s .frames)) ≡ toDo (s .frames) → Turn P s
+  plain : spends P s ≡ 0 → erase P (stepOf P s) ≡ plainStepOf (stripped P) (erase P s) → Turn P s
+
+-- ---- the plain run's step from a newest frame with goals
+settle-then : {F : Type 0} (goalsIn : F → Goals) (into : F → F → F) (fs : List F) (f : F) (g : Goal) (gs : Goals) →
+    settle goalsIn into fs f (g then gs) ≡ f ∷ fs
+unfolding settle
+settle-then goalsIn into [] f g gs = refl
+settle-then goalsIn into (e ∷ fs) f g gs = refl
+
+module _ (P : Program) (f : Frame) (fs : List Frame) (cells : List Cell) (printed : List ℤ) (g : Goal) (gs : Goals) where
+  plain-frames : plainState P (withGoals f (g then gs)) fs cells printed .frames ≡ withGoals f (g then gs) ∷ fs
+  unfolding plainState withGoals
+  plain-frames = settle-then _ _ fs _ g gs
+
+  plain-next : plainStepOf P (plainState P (withGoals f (g then gs)) fs cells printed) ≡ plainTake P g (withGoals f gs) fs cells printed
+  unfolding plainStepOf plainState plainFrom plainNext withGoals
+  plain-next = rw settle-then
+
+module _ (P : Program) (s : State) where
+  -- ---- an ended run
+  module _ (e : s .frames ≡ []) where
+    pub over-erased : erase P s .frames ≡ []
+    unfolding erase eraseFrames
+    over-erased = rw e
+
+    over-turn : Turn P s
+    unfolding spends nextGoal nextIn priceOf stepOf stepFrom plainStepOf plainFrom
+    over-turn = plain (rw e) (ap (λ l. erase P (stepFrom P l s)) e ∙ sym (ap (λ l. plainFrom (stripped P) l (erase P s)) over-erased))
+
+  -- ---- a run with a next goal
+  module _ (f : RegionFrame) (fs : List RegionFrame) (g : Goal) (gs : Goals) (e : s .frames ≡ f ∷ fs) (h : f .frame .goals ≡ (g then gs)) where
+    abbrev Seen : Goals → PlainState
+    Seen hs = plainState (stripped P) (withGoals (f .frame) hs) (map eraseFrame fs) (map cellOf (s .memory .cells)) (s .memory .printed)
+
+    erased : erase P s ≡ Seen (thenIf (isPlain g) (strippedGoal g) (stripGoals gs))
+    unfolding erase eraseFrames eraseFrame
+    erased = rw (e, h, strip-goal)
+
+    erased-plain : isPlain g ≡ true → erase P s ≡ Seen (strippedGoal g then stripGoals gs)
+    unfolding thenIf
+    erased-plain p = rw p at erased
+
+    erased-quiet : isPlain g ≡ false → erase P s ≡ Seen (stripGoals gs)
+    unfolding thenIf
+    erased-quiet p = rw p at erased
+
+    ready-turn : (b : Bool) → isPlain g ≡ b → Same P b g (rest f gs) fs (s .memory) → allowed P g f (s .memory) ≡ true → Turn P s
+    unfolding price eraseFrame withFrame withGoals
+    ready-turn true p t a =
+        plain (ready-spends P s f fs g gs e h ∙ ap price p)
+        (ap (erase P) (taken P s f fs g gs e h a) ∙ t ∙ sym (plain-next (stripped P) (f .frame) _ _ _ _ _)
+        ∙ ap (plainStepOf (stripped P)) (sym (erased-plain p)))
+    ready-turn false p t a =
+        quiet (ready-spends P s f fs g gs e h ∙ ap price p) (ap (erase P) (taken P s f fs g gs e h a) ∙ t ∙ sym (erased-quiet p))
+        (falls P s f fs g gs e h a p)
+
+    ready-seen : (b : Bool) → isPlain g ≡ b → spends P s ≡ 0 → erase P s .frames ≡ [] → s .frames ≡ []
+    unfolding price
+    ready-seen true p z q = cc (ap (λ t. t .frames) (erased-plain p) ∙ plain-frames (stripped P) (f .frame) _ _ _ _ _)
+    ready-seen false p z q = absurd (omega (arith, ready-spends P s f fs g gs e h ∙ ap price p))
+
+  pub turn : Ready (s .frames) → Free P s → Turn P s
+  turn (over e) free = over-turn e
+  turn (ready f fs g gs e h) free = ready-turn f fs g gs e h (isPlain g) refl (erase-take P g _ fs _) (free f fs g gs e h)
+
+  -- where the plain run sees the end and no create or remove comes next, the run has ended
+  pub ended : Ready (s .frames) → spends P s ≡ 0 → erase P s .frames ≡ [] → s .frames ≡ []
+  ended (over e) z q = e
+  ended (ready f fs g gs e h) z q = ready-seen f fs g gs e h (isPlain g) refl z q
