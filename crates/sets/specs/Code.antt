@@ -13,7 +13,7 @@ use lib.Dec.{eqb, lit<}
 use lib.Pow.{shl-exact}
 use Rattle.sets.specs.Digits.{bit, bit-made, bit-and, bit-high, bit-not, bit-shr, trailing-low, trailing-here}
 use Rattle.sets.specs.Tests.{_&_, neg}
-use Rattle.sets.specs.Sets.{member, emptySet, oneAt, single, _∪_, _∩_, _∖_, sameSet, subset, single-zero, single-high, member-ext, member-difference}
+use Rattle.sets.specs.Sets.{member, emptySet, oneAt, single, _∪_, _∩_, _∖_, sameSet, subset, single-zero, single-high, member-ext, member-difference, stored, loaded}
 use Rattle.sets.specs.declared.Set.{Set}
 
 abbrev set : ℕ → Set
@@ -43,6 +43,14 @@ union-made a b = refl
 pub intersection-made : (a b : Set) → set (bitAnd (a .bits) (b .bits)) ≡ a ∩ b
 unfolding _∩_
 intersection-made a b = refl
+
+pub stored-made : (s : Set) → s .bits ≡ stored s
+unfolding stored
+stored-made s = refl
+
+pub loaded-made : (word : ℕ) → set word ≡ loaded word
+unfolding loaded
+loaded-made word = refl
 
 pub same-made : (a b : Set) → eqb (a .bits) (b .bits) ≡ sameSet a b
 unfolding sameSet

@@ -57,6 +57,21 @@ subset a b = sameSet (a ∖ b) emptySet
 unfoldable pub apart : Set → Set → Bool
 apart a b = sameSet (a ∩ b) emptySet
 
+-- a set kept as one word of memory; 0 is the empty set
+unfoldable pub stored : Set → ℕ
+stored s = s .bits
+
+unfoldable pub loaded : ℕ → Set
+loaded word = record { bits = word }
+
+pub loaded-stored : (s : Set) → loaded (stored s) ≡ s
+unfolding stored loaded
+loaded-stored s = refl
+
+pub loaded-zero : loaded 0 ≡ emptySet
+unfolding loaded
+loaded-zero = refl
+
 -- ---- the members of each
 pub member-pos : (s : Set) (n : ℕ) → member s n ≡ true → 1 ≤ n
 unfolding member

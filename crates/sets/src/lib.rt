@@ -1,6 +1,6 @@
 // A set of numbers from 1 to 64, by value: the number n is the bit at the place n - 1.
 ghost use mathlib.Core.Path.{_≡_};
-ghost use Rattle.sets.specs.Sets.{member, single, _∪_, _∩_, _∖_, sameSet, subset};
+ghost use Rattle.sets.specs.Sets.{member, single, _∪_, _∩_, _∖_, sameSet, subset, stored, loaded};
 ghost use Rattle.sets.specs.Members.{nextMember};
 
 pub struct Set {
@@ -91,5 +91,20 @@ impl Set {
         let zeros = u64::trailing_zeros(rest) as usize;
         let found = n + 1 + zeros;
         if found < 65 { found } else { 65 }
+    }
+
+    // The set as one word of memory, for tables of sets; 0 is the empty set.
+    pub fn stored(self) -> u64
+        ensures { λ r. ⌜ r ≡ stored self ⌝ }
+    {
+        let word = self.bits;
+        word
+    }
+
+    // The set that a word was stored for.
+    pub fn loaded(word: u64) -> Set
+        ensures { λ r. ⌜ r ≡ loaded word ⌝ }
+    {
+        Set { bits: word }
     }
 }
