@@ -1,0 +1,15 @@
+pub mod Laws
+pub mod Lookups
+pub mod Typed
+pub mod Reach
+pub mod Places
+pub mod Procedure
+pub mod Alike
+pub mod Unmapped
+pub mod Mapping
+pub mod Parameters
+pub mod Shared
+pub mod Classes
+pub mod Calls
+pub mod Maps
+pub mod Ways

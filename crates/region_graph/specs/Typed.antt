@@ -1,0 +1,193 @@
+-- What number 3 says of each procedure, variable and region, and what the other numbers say of each procedure.
+-- A procedure that is not there has no variables, regions or goals and passes every test, so `p` may be any number.
+use Prim.Native.Nat.{ℕ, _≤_}
+use mathlib.Core.Bool.{Bool, true, false}
+use mathlib.Core.List.{List, []}
+use mathlib.Core.Path.{_≡_, refl, ap}
+use native.Mathlib.Omega.{arith}
+use borrow.Author.Tests.{leb-true}
+use lib.ListN.{length}
+use Rattle.sets.specs.Tests.{_&_, and-true, true-and}
+use Rattle.sets.specs.Sets.{member, emptySet, subset, _∪_, eq-same}
+use Rattle.sets.specs.SetLaws.{subset-antisym, empty-subset}
+use Rattle.sets.specs.Members.{setOf, keep}
+use Rattle.sets.specs.MemberLaws.{setOf-in, setOf-mk, keep-subset}
+use Rattle.sets.specs.declared.Set.{Set}
+use Rattle.language.specs.Lists.{all, upFrom, isNone}
+use Rattle.language.specs.Program.{Functor, Signature, Procedure, Program, done, variableAt, regionAt, procedureAt, signatureOf, parametersOf, parametersFrom, parameterVariables, argumentsIn, variablesIn}
+use Rattle.language.specs.Typing.{isVariable, isRegion, typesOk, variableOk, regionOk, signatureOk, goalsOk, procedureOk, typingOk}
+use Rattle.language.specs.Values.{insOf, outsOf, goalsValues, outsValued, procedureValues, valuesOk}
+use Rattle.language.specs.Regions.{goalsRegions, regionsOk}
+use Rattle.language.specs.Lifetimes.{ofClass, declared, born, dead, kept, startHeld, classesOk, goalsClasses, declaredClassesOk, callClassesOk}
+use Rattle.language.specs.Checking.{checkGoals, endRules, procedureRules, rulesOk}
+use Rattle.region_graph.specs.Lookups.{all-or-default, nth-past, among-in, among-mk, all-nth1, nth1-past, upFrom-in, upFrom-mk}
+
+-- ---- a procedure's variables and regions
+module _ (S : Signature) where
+  pub variable-in : (x : ℕ) → isVariable S x ≡ true → (1 ≤ x) × (x ≤ length (S .variables))
+  unfolding isVariable
+  variable-in x e = among-in (length (S .variables)) x e
+
+  pub variable-mk : (x : ℕ) → 1 ≤ x → x ≤ length (S .variables) → isVariable S x ≡ true
+  unfolding isVariable
+  variable-mk x h l = among-mk (length (S .variables)) x h l
+
+  pub region-in : (r : ℕ) → isRegion S r ≡ true → (1 ≤ r) × (r ≤ length (S .regions))
+  unfolding isRegion
+  region-in r e = among-in (length (S .regions)) r e
+
+  pub region-mk : (r : ℕ) → 1 ≤ r → r ≤ length (S .regions) → isRegion S r ≡ true
+  unfolding isRegion
+  region-mk r h l = among-mk (length (S .regions)) r h l
+
+  -- the set of all regions
+  pub declared-in : (r : ℕ) → member (declared S) r ≡ true → isRegion S r ≡ true
+  unfolding declared
+  declared-in r m =
+      let i = upFrom-in 1 (length (S .regions)) r (setOf-in (upFrom 1 (length (S .regions))) r m) in
+      region-mk r (i .0) (omega arith)
+
+  pub declared-mk : length (S .regions) ≤ 64 → (r : ℕ) → isRegion S r ≡ true → member (declared S) r ≡ true
+  unfolding declared
+  declared-mk few r h =
+      let i = region-in r h in
+      setOf-mk (upFrom 1 (length (S .regions))) r (upFrom-mk 1 (length (S .regions)) r (i .0) (omega arith)) (i .0) (omega arith)
+
+  -- a number that is none finds the empty one
+  pub variable-past : (x : ℕ) → isVariable S x ≡ false → variableAt S x ≡ record { mode = 0; type = 0; region = 0 }
+  unfolding isVariable variableAt
+  variable-past x e = nth1-past _ (S .variables) x e
+
+  pub region-past : (r : ℕ) → isRegion S r ≡ false → regionAt S r ≡ record { type = 0; class = 0; edges = [] }
+  unfolding isRegion regionAt
+  region-past r e = nth1-past _ (S .regions) r e
+
+module _ (T : List (List Functor)) (S : Signature) (ok : signatureOk T S ≡ true) where
+  pub variables-few : length (S .variables) ≤ 64
+  unfolding signatureOk
+  variables-few = leb-true _ 64 (and-true ok .0)
+
+  pub regions-few : length (S .regions) ≤ 64
+  unfolding signatureOk
+  regions-few = leb-true _ 64 (and-true (and-true ok .1) .0)
+
+  pub variable-typed : (x : ℕ) → isVariable S x ≡ true → variableOk T S (variableAt S x) ≡ true
+  unfolding signatureOk isVariable variableAt
+  variable-typed x h = all-nth1 _ (S .variables) (variableOk T S) x (and-true (and-true (and-true ok .1) .1) .0) h
+
+  pub region-typed : (r : ℕ) → isRegion S r ≡ true → regionOk T S (regionAt S r) ≡ true
+  unfolding signatureOk isRegion regionAt
+  region-typed r h = all-nth1 _ (S .regions) (regionOk T S) r (and-true (and-true (and-true ok .1) .1) .1) h
+
+-- ---- a procedure that is not there
+abbrev pub noSignature : Signature
+noSignature = record { variables = []; regions = [] }
+
+abbrev pub noProcedure : Procedure
+noProcedure = record { signature = noSignature; body = done }
+
+pub procedure-past : (P : Program) (p : ℕ) → length (P .procedures) ≤ p → procedureAt P p ≡ noProcedure
+unfolding procedureAt
+procedure-past P p h = nth-past noProcedure (P .procedures) p h
+
+pub signature-past : (P : Program) (p : ℕ) → length (P .procedures) ≤ p → signatureOf P p ≡ noSignature
+unfolding signatureOf
+signature-past P p h = ap (λ (q : Procedure). q .signature) (procedure-past P p h)
+
+pub no-signature-typed : (T : List (List Functor)) → signatureOk T noSignature ≡ true
+unfolding signatureOk all _&_
+no-signature-typed T = refl
+
+-- its sets are empty
+nothing : (s : Set) → subset s emptySet ≡ true → s ≡ emptySet
+nothing s h = subset-antisym s emptySet h (empty-subset s)
+
+none-kept : (p : ℕ → Bool) → keep p emptySet ≡ emptySet
+none-kept p = nothing (keep p emptySet) (keep-subset p emptySet)
+
+no-outs : outsOf noSignature ≡ emptySet
+unfolding outsOf variablesIn argumentsIn parametersOf parametersFrom parameterVariables setOf
+no-outs = refl
+
+no-born : born noSignature ≡ emptySet
+unfolding born declared ofClass upFrom setOf
+no-born = none-kept _
+
+no-dead : dead noSignature ≡ emptySet
+unfolding dead declared ofClass upFrom setOf
+no-dead = none-kept _
+
+no-procedure-typed : (P : Program) → procedureOk P noProcedure ≡ true
+unfolding procedureOk goalsOk
+no-procedure-typed P = true-and (no-signature-typed (P .types)) refl
+
+no-procedure-valued : (P : Program) → procedureValues P noProcedure ≡ true
+unfolding procedureValues goalsValues outsValued
+no-procedure-valued P = rw no-outs (empty-subset (insOf noSignature))
+
+no-signature-classed : classesOk noSignature ≡ true
+unfolding classesOk
+no-signature-classed = rw (no-born, no-dead) (true-and (empty-subset _) (empty-subset _))
+
+no-procedure-ruled : (P : Program) → procedureRules P noProcedure ≡ true
+unfolding procedureRules checkGoals endRules startHeld
+no-procedure-ruled P =
+    rw (no-born, no-dead, no-outs) (true-and (eq-same (emptySet ∪ kept noSignature) _ refl) (empty-subset (insOf noSignature)))
+
+-- ---- a test of all procedures, at each
+pub each-procedure : (P : Program) (t : Procedure → Bool) → t noProcedure ≡ true → all t (P .procedures) ≡ true
+    → (p : ℕ) → t (procedureAt P p) ≡ true
+unfolding procedureAt
+each-procedure P t z e p = all-or-default t noProcedure z (P .procedures) p e
+
+module _ (P : Program) where
+  -- number 3
+  module _ (ok : typingOk P ≡ true) where
+    pub types-typed : typesOk (P .types) ≡ true
+    unfolding typingOk
+    types-typed = and-true ok .0
+
+    pub procedures-count : (1 ≤ length (P .procedures)) × (length (P .procedures) ≤ 256)
+    unfolding typingOk
+    procedures-count = among-in 256 (length (P .procedures)) (and-true (and-true ok .1) .0)
+
+    procedure-typed : (p : ℕ) → procedureOk P (procedureAt P p) ≡ true
+    unfolding typingOk
+    procedure-typed p = each-procedure P (procedureOk P) (no-procedure-typed P) (and-true (and-true ok .1) .1) p
+
+    pub signature-typed : (p : ℕ) → signatureOk (P .types) (signatureOf P p) ≡ true
+    unfolding signatureOf procedureOk
+    signature-typed p = and-true (procedure-typed p) .0
+
+    pub goals-typed : (p : ℕ) → goalsOk P (signatureOf P p) (procedureAt P p .body) ≡ true
+    unfolding signatureOf procedureOk
+    goals-typed p = and-true (procedure-typed p) .1
+
+  -- number 4
+  pub entry-bare : valuesOk P ≡ true → isNone (parametersOf (signatureOf P 0)) ≡ true
+  unfolding valuesOk
+  entry-bare ok = and-true ok .0
+
+  pub procedure-valued : valuesOk P ≡ true → (p : ℕ) → procedureValues P (procedureAt P p) ≡ true
+  unfolding valuesOk
+  procedure-valued ok p = each-procedure P (procedureValues P) (no-procedure-valued P) (and-true ok .1) p
+
+  -- number 5
+  pub goals-regioned : regionsOk P ≡ true → (p : ℕ) → goalsRegions P (signatureOf P p) (procedureAt P p .body) ≡ true
+  unfolding regionsOk signatureOf goalsRegions
+  goals-regioned ok p = each-procedure P (λ q. goalsRegions P (q .signature) (q .body)) refl ok p
+
+  -- number 7
+  pub signature-classed : declaredClassesOk P ≡ true → (p : ℕ) → classesOk (signatureOf P p) ≡ true
+  unfolding declaredClassesOk signatureOf
+  signature-classed ok p = each-procedure P (λ q. classesOk (q .signature)) no-signature-classed ok p
+
+  pub goals-classed : callClassesOk P ≡ true
+      → (p : ℕ) → goalsClasses P (signatureOf P p) (procedureAt P p .body) (outsOf (signatureOf P p)) ≡ true
+  unfolding callClassesOk signatureOf goalsClasses
+  goals-classed ok p = each-procedure P (λ q. goalsClasses P (q .signature) (q .body) (outsOf (q .signature))) refl ok p
+
+  -- number 8
+  pub procedure-ruled : rulesOk P ≡ true → (p : ℕ) → procedureRules P (procedureAt P p) ≡ true
+  unfolding rulesOk
+  procedure-ruled ok p = each-procedure P (procedureRules P) (no-procedure-ruled P) ok p
