@@ -1,0 +1,15 @@
+pub mod Combine
+pub mod MoreSets
+pub mod Alike
+pub mod Strip
+pub mod Marks
+pub mod Given
+pub mod Wanted
+pub mod Effects
+pub mod Fits
+pub mod Held
+pub mod Local
+pub mod Typed
+pub mod Passes
+pub mod Accept
+pub mod Whole
