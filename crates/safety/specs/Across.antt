@@ -1,0 +1,105 @@
+-- Values pass into a callee and back: a value placed at a region's image in the caller is placed at the region in the callee, and the
+-- other way round.
+use mathlib.Core.Path.{_≡_, refl, sym, ap, _∙_, subst}
+use mathlib.Core.Bool.{true, false≢true}
+use mathlib.Core.List.{List, [], _∷_, map}
+use mathlib.Core.Logic.{inl, inr}
+use Prim.Native.Nat.{ℕ, zero, suc}
+use Rattle.sets.specs.Sets.{member}
+use Rattle.sets.specs.Members.{inList, cons-here, cons-later}
+use Rattle.language.specs.Program.{Functor, Signature, regionAt, parametersOf, parameterVariables}
+use Rattle.language.specs.Typing.{isRegion}
+use Rattle.language.specs.Regions.{mapping, imageIn, regionsOf, reachFrom}
+use Rattle.language.specs.Frames.{Value}
+use Rattle.language.specs.AcceptedRun.{RegionCell}
+use Rattle.region_graph.specs.Laws.{shared, target, Declared, Called}
+use Rattle.safety.specs.Signatures.{Known, region-positive, target-known, target-reach}
+use Rattle.safety.specs.Places.{cellOn, along, along-in, choices, width, Placed, is-number, is-cell, PlacedAll, placed-none, placed-more}
+
+-- what the values need of a call's mapping m
+pub record Along (C Q : Signature) (ys : List ℕ) (m : ℕ → ℕ) : Type 0 where
+  pub nowhere : m 0 ≡ 0
+  pub arguments : map m (regionsOf Q (parameterVariables (parametersOf Q))) ≡ regionsOf C ys
+  pub region : (r : ℕ) → shared Q r → isRegion C (m r) ≡ true
+  pub type : (r : ℕ) → shared Q r → regionAt C (m r) .type ≡ regionAt Q r .type
+  pub follows : (r f k : ℕ) → shared Q r → target C (m r) f k ≡ m (target Q r f k)
+
+pub called-along : {C Q : Signature} {ys : List ℕ} → Called C Q ys → Along C Q ys (imageIn (mapping C Q ys))
+unfolding imageIn
+called-along {C} {Q} {ys} K =
+    subst (λ (m : ℕ → ℕ). Along C Q ys m) (sym (ap imageIn (K .mapped)))
+    (record { nowhere = K .nowhere; arguments = K .arguments; region = K .region; type = K .type; follows = K .follows })
+
+-- what r reaches in the callee Q is shared with the caller, where it stands for what its image does
+abbrev pub Comes : Signature → (ℕ → ℕ) → (ℕ → ℕ) → (ℕ → ℕ) → ℕ → Type 0
+Comes Q m ρ ρ′ r = (u : ℕ) → member (reachFrom Q r) u ≡ true → (shared Q u) × (ρ (m u) ≡ ρ′ u)
+
+abbrev pub ComesAll : Signature → (ℕ → ℕ) → (ℕ → ℕ) → (ℕ → ℕ) → List ℕ → Type 0
+ComesAll Q m ρ ρ′ rs = (t : ℕ) → inList t rs ≡ true → Known Q t × Comes Q m ρ ρ′ t
+
+module _ {T : List (List Functor)} {C Q : Signature} {ys : List ℕ} {m : ℕ → ℕ} (DC : Declared T C) (D : Declared T Q)
+    (A : Along C Q ys m) where
+  -- ---- a region and its image have equal edges
+  choices-same : (r : ℕ) → shared Q r → choices T C (m r) ≡ choices T Q r
+  unfolding choices
+  choices-same r i = rw (A .type r i)
+
+  width-same : (r f : ℕ) → shared Q r → width T C (m r) f ≡ width T Q r f
+  unfolding width
+  width-same r f i = rw (A .type r i)
+
+  along-from : (r f k n : ℕ) → shared Q r → along C (m r) f k n ≡ map m (along Q r f k n)
+  unfolding along
+  along-from r f k zero i = refl
+  along-from r f k (suc n) i = cc (A .follows r f k i, along-from r f (suc k) n i)
+
+  along-same : (r f : ℕ) → shared Q r → along C (m r) f 1 (width T C (m r) f) ≡ map m (along Q r f 1 (width T Q r f))
+  along-same r f i = ap (along C (m r) f 1) (width-same r f i) ∙ along-from r f 1 (width T Q r f) i
+
+  comes-along : (ρ ρ′ : ℕ → ℕ) (r f k n : ℕ) → isRegion Q r ≡ true → Comes Q m ρ ρ′ r → ComesAll Q m ρ ρ′ (along Q r f k n)
+  comes-along ρ ρ′ r f k n i g t e =
+      let j = along-in Q r f k n t e in
+      (rw (j .1) at (target-known D r f (j .0) i), λ u x. g u (target-reach D r f (j .0) u i (rw (j .1) x)))
+
+  zero-back : (ρ ρ′ : ℕ → ℕ) (r : ℕ) → Known Q r → Comes Q m ρ ρ′ r → 0 ≡ m r → r ≡ 0
+  zero-back ρ ρ′ r (inl z) g e = z
+  zero-back ρ ρ′ r (inr i) g e = absurd (region-positive DC (rw e (A .region r (g r (D .self r i) .0))))
+
+  region-back : (r k : ℕ) → Known Q r → k ≡ m r → isRegion C k ≡ true → isRegion Q r ≡ true
+  region-back r k (inl z) e i = absurd (region-positive DC (sym (ap (isRegion C) (e ∙ ap m z ∙ A .nowhere)) ∙ i))
+  region-back r k (inr j) e i = j
+
+  module _ {ρ ρ′ : ℕ → ℕ} {H : List RegionCell} where
+    -- ---- into the callee
+    mutual
+      pub enter : {k : ℕ} {v : Value} → Placed T C ρ H k v → (r : ℕ) → k ≡ m r → Known Q r → Comes Q m ρ ρ′ r → Placed T Q ρ′ H r v
+      enter is-number r e w g = rw (zero-back ρ ρ′ r w g e) is-number
+      enter (is-cell {r = k} {c = c} {vs = vs} f i l t s p) r e w g =
+          let j = region-back r k w e i in
+          let b = g r (D .self r j) in
+          is-cell f j l (t ∙ ap (λ (x : ℕ). cellOn x f vs) (ap ρ e ∙ b .1)) (rw (e, choices-same r (b .0)) at s)
+          (enter-all p (along Q r f 1 (width T Q r f)) (ap (λ (x : ℕ). along C x f 1 (width T C x f)) e ∙ along-same r f (b .0))
+          (comes-along ρ ρ′ r f 1 (width T Q r f) j g))
+
+      pub enter-all : {ks : List ℕ} {vs : List Value} → PlacedAll T C ρ H ks vs → (rs : List ℕ) → ks ≡ map m rs → ComesAll Q m ρ ρ′ rs
+          → PlacedAll T Q ρ′ H rs vs
+      enter-all placed-none [] e g = placed-none
+      enter-all placed-none (r ∷ rs) e g = absurd (false≢true (cc))
+      enter-all (placed-more p q) [] e g = absurd (false≢true (cc))
+      enter-all (placed-more p q) (r ∷ rs) e g =
+          placed-more (enter p r (cc) (g r (cons-here r r rs refl) .0) (g r (cons-here r r rs refl) .1))
+          (enter-all q rs (cc) (λ t x. g t (cons-later t r rs x)))
+
+    -- ---- back to the caller
+    mutual
+      pub leave : {r : ℕ} {v : Value} → Placed T Q ρ′ H r v → Comes Q m ρ ρ′ r → Placed T C ρ H (m r) v
+      leave is-number g = rw (A .nowhere) is-number
+      leave (is-cell {r = r} {c = c} {vs = vs} f i l t s p) g =
+          let b = g r (D .self r i) in
+          is-cell f (A .region r (b .0)) l (t ∙ ap (λ (x : ℕ). cellOn x f vs) (sym (b .1))) (rw (choices-same r (b .0)) s)
+          (rw (along-same r f (b .0)) (leave-all p (comes-along ρ ρ′ r f 1 (width T Q r f) i g)))
+
+      pub leave-all : {rs : List ℕ} {vs : List Value} → PlacedAll T Q ρ′ H rs vs → ComesAll Q m ρ ρ′ rs → PlacedAll T C ρ H (map m rs) vs
+      leave-all placed-none g = placed-none
+      leave-all (placed-more {r = r} {rs = rs} p q) g =
+          placed-more (leave p (g r (cons-here r r rs refl) .1)) (leave-all q (λ t x. g t (cons-later t r rs x)))

@@ -1,0 +1,90 @@
+-- A call's arguments beside the callee's in and out variables, and the region numbers that a call or a return lets stand for something.
+use mathlib.Core.Path.{_≡_, refl, sym, ap, _∙_}
+use mathlib.Core.Bool.{Bool, true, false, false≢true}
+use mathlib.Core.List.{List, [], _∷_, map}
+use mathlib.Core.Logic.{_≢_, _⊎_, inl, inr, ⊎-elim}
+use Prim.Native.Nat.{ℕ}
+use native.Mathlib.Omega.{arith}
+use lib.Dec.{eqb}
+use Rattle.sets.specs.Tests.{truth, clash}
+use Rattle.sets.specs.Sets.{member}
+use Rattle.sets.specs.Members.{setOf, consIf, inList, nil-in, cons-in, cons-here, cons-later, consIf-in}
+use Rattle.sets.specs.MemberLaws.{setOf-mk}
+use Rattle.language.specs.Lists.{put}
+use Rattle.language.specs.Program.{Functor, Signature, Parameter, regionOf, parameterVariables, argumentsIn, variablesIn}
+use Rattle.language.specs.Regions.{regionsOf}
+use Rattle.language.specs.AcceptedRun.{standEach}
+use Rattle.region_graph.specs.Laws.{Declared}
+use Rattle.region_graph.specs.Typed.{variable-in}
+use Rattle.region_graph.specs.Parameters.{parameter-variable, mode-parameter}
+use Rattle.safety.specs.Plain.{put-same, put-other}
+
+-- ---- the callee's in and out variables are variables of its own
+pub arguments-in : (k : ℕ) (ps : List Parameter) (ys : List ℕ) (y : ℕ) → inList y (argumentsIn k ps ys) ≡ true → inList y ys ≡ true
+unfolding argumentsIn
+arguments-in k [] ys y e = absurd (nil-in y e)
+arguments-in k (a ∷ ps) [] y e = absurd (nil-in y e)
+arguments-in k (a ∷ ps) (z ∷ ys) y e =
+    ⊎-elim (λ q. cons-here y z ys (q .1)) (λ q. cons-later y z ys (arguments-in k ps ys y q))
+    (consIf-in (eqb (a .mode) k) y z (argumentsIn k ps ys) e)
+
+pub variables-member : {T : List (List Functor)} {S : Signature} → Declared T S → (k x : ℕ) → inList x (variablesIn k S) ≡ true
+    → member (setOf (variablesIn k S)) x ≡ true
+variables-member {S = S} D k x i =
+    let r = variable-in S x (parameter-variable S x (mode-parameter S k x i)) in
+    let l = D .variables in
+    setOf-mk (variablesIn k S) x i (r .0) (omega arith)
+
+-- ---- the regions of arguments and of the variables that they match
+regions-consIf : (C Q : Signature) (m : ℕ → ℕ) (b : Bool) (x y : ℕ) (xs ys : List ℕ) → m (regionOf Q x) ≡ regionOf C y
+    → map m (regionsOf Q xs) ≡ regionsOf C ys → map m (regionsOf Q (consIf b x xs)) ≡ regionsOf C (consIf b y ys)
+unfolding consIf regionsOf
+regions-consIf C Q m true x y xs ys p q = cc
+regions-consIf C Q m false x y xs ys p q = q
+
+pub arguments-regions : (C Q : Signature) (m : ℕ → ℕ) (k : ℕ) (ps : List Parameter) (ys : List ℕ)
+    → map m (regionsOf Q (parameterVariables ps)) ≡ regionsOf C ys
+    → map m (regionsOf Q (argumentsIn k ps (parameterVariables ps))) ≡ regionsOf C (argumentsIn k ps ys)
+unfolding argumentsIn regionsOf parameterVariables
+arguments-regions C Q m k [] ys e = refl
+arguments-regions C Q m k (a ∷ ps) [] e = absurd (false≢true (cc))
+arguments-regions C Q m k (a ∷ ps) (y ∷ ys) e =
+    regions-consIf C Q m (eqb (a .mode) k) (a .variable) y (argumentsIn k ps (parameterVariables ps)) (argumentsIn k ps ys) (cc)
+    (arguments-regions C Q m k ps ys (cc))
+
+pub regions-in : (S : Signature) (xs : List ℕ) (t : ℕ) → inList t (regionsOf S xs) ≡ true
+    → (x : ℕ) × (inList x xs ≡ true) × (regionOf S x ≡ t)
+unfolding regionsOf
+regions-in S [] t e = absurd (nil-in t e)
+regions-in S (x ∷ xs) t e =
+    ⊎-elim (λ q. (x, cons-here x x xs refl, q)) (λ q. let r = regions-in S xs t q in (r .0, cons-later (r .0) x xs (r .1), r .2))
+    (cons-in t (regionOf S x) (regionsOf S xs) e)
+
+-- ---- numbers made to stand for something
+module _ (name meant : ℕ → ℕ) where
+  pub stand-old : (rs : List ℕ) (stands : ℕ → ℕ) (u : ℕ) → ((r : ℕ) → inList r rs ≡ true → name r ≢ u)
+      → standEach name meant rs stands u ≡ stands u
+  unfolding standEach
+  stand-old [] stands u f = refl
+  stand-old (r ∷ rs) stands u f =
+      stand-old rs (put stands (name r) (meant r)) u (λ q i. f q (cons-later q r rs i)) ∙ put-other stands (meant r)
+      (f r (cons-here r r rs refl))
+
+  pub stand-new : (rs : List ℕ) (stands : ℕ → ℕ) → ((a b : ℕ) → inList a rs ≡ true → inList b rs ≡ true → name a ≡ name b → a ≡ b)
+      → (r : ℕ) → inList r rs ≡ true → standEach name meant rs stands (name r) ≡ meant r
+  unfolding standEach
+  stand-new [] stands f r i = absurd (nil-in r i)
+  stand-new (y ∷ rs) stands f r i =
+      go (stand-new rs (put stands (name y) (meant y)) (λ a b p q. f a b (cons-later a y rs p) (cons-later b y rs q)) r)
+      (truth (inList r rs))
+    where
+      go : (inList r rs ≡ true → standEach name meant rs (put stands (name y) (meant y)) (name r) ≡ meant r)
+          → (inList r rs ≡ true) ⊎ (inList r rs ≡ false) → standEach name meant rs (put stands (name y) (meant y)) (name r) ≡ meant r
+      go ih (inl t) = ih t
+      go ih (inr t) =
+          stand-old rs (put stands (name y) (meant y)) (name r)
+          (λ a j e. clash (ap (λ (k : ℕ). inList k rs) (sym (f a r (cons-later a y rs j) i e)) ∙ j) t)
+          ∙ (rw (first t) (put-same stands (name r) (meant r)))
+        where
+          first : inList r rs ≡ false → y ≡ r
+          first n = ⊎-elim (λ q. q) (λ q. absurd (clash q n)) (cons-in r y rs i)

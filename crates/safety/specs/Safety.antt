@@ -1,0 +1,121 @@
+-- Safety of the accepted file's run: no step is one that would stay, and nothing is alive once the entry has returned.
+use mathlib.Core.Path.{_≡_, sym, ap, _∙_}
+use mathlib.Core.Bool.{true, false, false≢true}
+use mathlib.Core.List.{List, [], _∷_}
+use Prim.Native.Nat.{ℕ, zero, suc}
+use Rattle.sets.specs.Tests.{clash}
+use Rattle.sets.specs.Sets.{member, emptySet, member-empty}
+use Rattle.sets.specs.declared.Set.{Set}
+use Rattle.language.specs.Program.{Goals, _then_, Goal, Program, signatureOf, inMode}
+use Rattle.language.specs.Values.{insOf}
+use Rattle.language.specs.Lifetimes.{startHeld}
+use Rattle.language.specs.Frames.{withGoals, entryFrame}
+use Rattle.language.specs.AcceptedRun.{RegionFrame, Memory, State, withFrame, start, allowed, take, next, stepFrom, stepOf, steps}
+use Rattle.safety.specs.Plain.{choose-true}
+use Rattle.safety.specs.Doing.{next-in}
+use Rattle.safety.specs.Signatures.{kept-shared, start-shared}
+use Rattle.safety.specs.Premises.{Accepted, laws, fit, start-doing, entry-variables, entry-unshared}
+use Rattle.safety.specs.Invariant.{bottom, Inv, inv, Fine, running, over}
+use Rattle.safety.specs.Settling.{settled}
+use Rattle.safety.specs.Allowed.{allowed-ok}
+use Rattle.safety.specs.Steps.{take-ok}
+
+module _ {P : Program} (A : Accepted P) where
+  -- the next goal of a frame is allowed, and taking it leads to a settled state
+  inv-allowed : (f : RegionFrame) (fs : List RegionFrame) (m : Memory) (g : Goal) (gs : Goals) → f .frame .goals ≡ g then gs → Inv P f fs m
+      → allowed P g f m ≡ true
+  inv-allowed f fs m g gs e (inv d N) = allowed-ok A f fs m N g gs (next-in P _ d g gs e)
+
+  inv-taken : (f : RegionFrame) (fs : List RegionFrame) (m : Memory) (g : Goal) (gs : Goals) → f .frame .goals ≡ g then gs → Inv P f fs m
+      → Fine P (take P g (withFrame f (withGoals (f .frame) gs)) fs m)
+  unfolding withFrame withGoals
+  inv-taken f fs m g gs e (inv d N) = take-ok A (withFrame f (withGoals (f .frame) gs)) fs m N g (next-in P _ d g gs e)
+
+  -- a step from there is that goal taken
+  step-taken : (st : State) (f : RegionFrame) (fs : List RegionFrame) (g : Goal) (gs : Goals) → st .frames ≡ f ∷ fs
+      → f .frame .goals ≡ g then gs
+      → allowed P g f (st .memory) ≡ true → stepOf P st ≡ take P g (withFrame f (withGoals (f .frame) gs)) fs (st .memory)
+  unfolding stepOf stepFrom next
+  step-taken st f fs g gs e q a =
+      ap (λ (es : List RegionFrame). stepFrom P es st) e ∙ ap (λ (hs : Goals). next P hs f fs st) q ∙ choose-true _ st a
+
+  step-fine : (st : State) → Fine P st → Fine P (stepOf P st)
+  unfolding stepOf stepFrom
+  step-fine st (running {f = f} {fs = fs} {g = g} {gs = gs} e q i) =
+      rw (step-taken st f fs g gs e q (inv-allowed f fs (st .memory) g gs q i)) (inv-taken f fs (st .memory) g gs q i)
+  step-fine st (over e d) = rw (ended e) (over e d)
+    where
+      ended : st .frames ≡ [] → stepOf P st ≡ st
+      ended z = ap (λ (es : List RegionFrame). stepFrom P es st) z
+
+  -- the entry's frame alone: it has no input and output regions and no in variables
+  start-fine : Fine P (start P)
+  unfolding start entryFrame insOf
+  start-fine = settled A _ [] _ (inv {os = []} (start-doing A 0) (record {
+    regions = record {
+      alive = (λ r i. absurd (unheld r i), tt);
+      low = λ k l. absurd (false≢true l);
+      covered = λ k l. absurd (false≢true l);
+      owns = record {
+        alone = λ r q i. absurd (unheld r i);
+        away = λ r i. absurd (unheld r i);
+        keeps = λ r i. absurd (entry-unshared A r (kept-shared (laws A 0) r i));
+      };
+    };
+    vars = record { placed = λ x i. absurd (unsound x i); closed = λ x u i. absurd (unsound x i) };
+    stack = bottom (entry-unshared A);
+  }))
+    where
+      unheld : (r : ℕ) → member (startHeld (signatureOf P 0)) r ≡ true → ⊥
+      unheld r i = let F = fit A 0 in entry-unshared A r (start-shared F r i)
+
+      unsound : (x : ℕ) → member (insOf (signatureOf P 0)) x ≡ true → ⊥
+      unsound x i = clash i (ap (λ (s : Set). member s x) none ∙ member-empty x)
+        where
+          none : insOf (signatureOf P 0) ≡ emptySet
+          none = entry-variables A inMode
+
+  pub steps-fine : (n : ℕ) → Fine P (steps P n)
+  unfolding steps
+  steps-fine zero = start-fine
+  steps-fine (suc n) = step-fine (steps P n) (steps-fine n)
+
+  -- ---- what a settled state says, for any frame that is its newest
+  fine-inv : (st : State) (f : RegionFrame) (fs : List RegionFrame) → Fine P st → st .frames ≡ f ∷ fs → Inv P f fs (st .memory)
+  fine-inv st f fs (running {f = e} {fs = es} p q i) z =
+      let a : e ≡ f = cc in
+      let b : es ≡ fs = cc in
+      rw (← a) (rw (← b) i)
+  fine-inv st f fs (over p d) z = absurd (false≢true (cc))
+
+  fine-goal : (st : State) (f : RegionFrame) (fs : List RegionFrame) → Fine P st → st .frames ≡ f ∷ fs
+      → (g : Goal) × (gs : Goals) × (f .frame .goals ≡ g then gs)
+  fine-goal st f fs (running {f = e} {g = g} {gs = gs} p q i) z =
+      let a : e ≡ f = cc in
+      (g, gs, ap (λ (b : RegionFrame). b .frame .goals) (sym a) ∙ q)
+  fine-goal st f fs (over p d) z = absurd (false≢true (cc))
+
+  fine-clean : (st : State) → Fine P st → st .frames ≡ [] → (k : ℕ) → st .memory .alive k ≡ false
+  fine-clean st (running p q i) z k = absurd (false≢true (cc))
+  fine-clean st (over p d) z k = d k
+
+  -- ---- the theorems
+  -- the state after any number of steps is never one that stays
+  pub safe : (n : ℕ) (f : RegionFrame) (fs : List RegionFrame) (g : Goal) (gs : Goals) → steps P n .frames ≡ f ∷ fs
+      → f .frame .goals ≡ g then gs → allowed P g f (steps P n .memory) ≡ true
+  safe n f fs g gs e q = inv-allowed f fs (steps P n .memory) g gs q (fine-inv (steps P n) f fs (steps-fine n) e)
+
+  -- so the next step takes the newest frame's next goal
+  pub taken : (n : ℕ) (f : RegionFrame) (fs : List RegionFrame) (g : Goal) (gs : Goals) → steps P n .frames ≡ f ∷ fs
+      → f .frame .goals ≡ g then gs → steps P (suc n) ≡ take P g (withFrame f (withGoals (f .frame) gs)) fs (steps P n .memory)
+  unfolding steps
+  taken n f fs g gs e q = step-taken (steps P n) f fs g gs e q (safe n f fs g gs e q)
+
+  -- the newest frame has a goal
+  pub busy : (n : ℕ) (f : RegionFrame) (fs : List RegionFrame) → steps P n .frames ≡ f ∷ fs
+      → (g : Goal) × (gs : Goals) × (f .frame .goals ≡ g then gs)
+  busy n f fs e = fine-goal (steps P n) f fs (steps-fine n) e
+
+  -- nothing is alive once the entry has returned
+  pub clean : (n : ℕ) → steps P n .frames ≡ [] → (k : ℕ) → steps P n .memory .alive k ≡ false
+  clean n e k = fine-clean (steps P n) (steps-fine n) e k

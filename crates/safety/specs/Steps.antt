@@ -1,0 +1,219 @@
+-- Taking the newest frame's next goal keeps the invariant.
+use mathlib.Core.Path.{_≡_, refl, sym, ap, _∙_}
+use mathlib.Core.Bool.{Bool, true, false}
+use mathlib.Core.List.{List, [], _∷_, _++_, map}
+use mathlib.Core.Logic.{⊎-elim}
+use Prim.Native.Nat.{ℕ, suc, _≤_}
+use native.Mathlib.Omega.{arith}
+use borrow.Author.Tests.{eqb-true, leb-true}
+use lib.ListN.{length}
+use lib.IntN.{ℤ}
+use Rattle.sets.specs.Tests.{and-true}
+use Rattle.sets.specs.Sets.{emptySet, subset, subset-in}
+use Rattle.sets.specs.Members.{setOf, nil-in, cons-in}
+use Rattle.sets.specs.declared.Set.{Set}
+use Rattle.language.specs.Lists.{choose, put}
+use Rattle.language.specs.Program.{Four, argumentsOf, Functor, Step, literal, sum, assign, construct, call, print, create, remove, Goals, Goal, step, switch, ifLess, Arms, _before_, Signature, Program, typeOf, regionOf, signatureOf, functorsOf, functorAt, parametersOf, inMode}
+use Rattle.language.specs.Typing.{typesIn, isVariable, functorsFor, parameterTypes, stepOk, goalsOk, goalOk}
+use Rattle.language.specs.Values.{reads, gives, access, accessing}
+use Rattle.language.specs.Regions.{regionsOf, stepRegions, goalsRegions, goalRegions}
+use Rattle.language.specs.Lifetimes.{noEffect, effect}
+use Rattle.language.specs.Checking.{carries, soundGiven, soundWithout, checkStep, checkGoals, checkGoal}
+use Rattle.language.specs.Frames.{Value, cellAt, Frame, Cell, withGoals, giving, giveEach, literalIn, sumIn, assignIn, cellFor, branchIn, picked, pick, enterArm, cellIn, openCell, calleeFrame}
+use Rattle.language.specs.AcceptedRun.{RegionFrame, Memory, cellOf, withCell, withPrinted, withRegion, withoutRegion, withFrame, mappingFrom, calleeRegions, regionFor, take}
+use Rattle.safety.specs.Plain.{nth-map}
+use Rattle.safety.specs.Walks.{require-in, Joined, join-in}
+use Rattle.safety.specs.Doing.{Doing, segment, Next, Taken, arms-in}
+use Rattle.safety.specs.Signatures.{Fit}
+use Rattle.safety.specs.Premises.{Accepted, calling, fit, start-doing}
+use Rattle.safety.specs.Places.{cellOn, grows-more, Placed, PlacedAll, placed-none, placed-more, Lies}
+use Rattle.safety.specs.Variables.{AllVariables, type-in, types-variables, read-sound, placed-each, placed-new}
+use Rattle.safety.specs.Owners.{Owner}
+use Rattle.safety.specs.Invariant.{Now, Inv, inv, Fine}
+use Rattle.safety.specs.Quiet.{Obeyed, obeyed, quiet, now-fewer, now-given, now-grown, now-quiet, now-created, now-removed}
+use Rattle.safety.specs.Arguments.{arguments-in}
+use Rattle.safety.specs.Calls.{now-called}
+use Rattle.safety.specs.Settling.{settled}
+use Rattle.safety.specs.Allowed.{number-placed, fits-along, choices-typed, cell-of, Built, constructed}
+
+-- how a step is checked and described, opened together
+unfoldable described : Unit {0}
+unfolding goalOk goalRegions checkGoal effect noEffect reads gives access accessing giveEach regionsOf
+described = tt
+
+-- a frame that has entered an arm
+abbrev inArm : Frame → List ℕ → List Value → Goals → Frame
+inArm f ys vs gs =
+    record { procedure = f .procedure; arguments = f .arguments; goals = gs before f .goals; values = giveEach ys vs (f .values) }
+
+module _ {P : Program} (A : Accepted P) (f : RegionFrame) (fs : List RegionFrame) (m : Memory) {h s : Set} {os : List Owner}
+    (N : Now P (f .frame .procedure) (f .frame .arguments) (f .stands) (f .frame .values) fs (m .cells) (m .made) (m .alive) h s os) where
+  abbrev S : Signature
+  S = signatureOf P (f .frame .procedure)
+
+  abbrev T : List (List Functor)
+  T = P .types
+
+  F : Fit T S
+  F = fit A (f .frame .procedure)
+
+  -- ---- what is to be done after a step that changes no region, and in a part of an if
+  quiet-doing : (g : Step) (counted : Set) {h₁ s₁ : Set} (rest : Goals) → effect P S g .ends ≡ emptySet → effect P S g .bears ≡ emptySet
+      → checkStep P S g h counted ≡ carries h₁ s₁
+      → Doing P S rest h₁ s₁ → Doing P S rest h (soundGiven S (gives P g) h (soundWithout S emptySet counted))
+  quiet-doing g counted rest e b c d = let q = quiet P S g e b (obeyed P S g c) in rw (← q .1) (rw (← q .0) d)
+
+  branch-doing : (t : Bool) (a b rest : Goals) {counted h₁ s₁ : Set} → goalsOk P S a ≡ true → goalsOk P S b ≡ true
+      → goalsRegions P S a ≡ true → goalsRegions P S b ≡ true
+      → Joined (checkGoals P S a h counted) (checkGoals P S b h counted) h₁ s₁ → Doing P S rest h₁ s₁
+      → Doing P S (choose t a b before rest) h counted
+  unfolding choose
+  branch-doing true a b rest oa ob ra rb j d = segment a refl oa ra (j .goes-left) (j .in-left) d
+  branch-doing false a b rest oa ob ra rb j d = segment b refl ob rb (j .goes-right) (j .in-right) d
+
+  -- sound variables that are read
+  read-placed : (g : Step) (counted : Set) (ys : List ℕ) {h₁ s₁ : Set} → subset counted s ≡ true → AllVariables S ys → reads P g ≡ setOf ys
+      → Obeyed P S g h counted h₁ s₁ → PlacedAll T S (f .stands) (m .cells) (regionsOf S ys) (map (f .frame .values) ys)
+  read-placed g counted ys w a e R =
+      placed-each (N .vars) ys (λ y i. subset-in counted s w y (read-sound (F .laws) counted ys a (rw e at (R .reads-sound)) y i))
+
+  -- ---- the goals in turn
+  literal-ok : (x v : ℕ) → Next P S (step (literal x v)) (f .frame .goals) h s → Inv P (withFrame f (literalIn (f .frame) x v)) fs m
+  unfolding described withFrame literalIn giving stepOk
+  literal-ok x v X =
+      inv (quiet-doing (literal x v) (X .counted) (f .frame .goals) refl refl (X .goes) (X .onward))
+      (now-quiet A (X .counted) (x ∷ []) (X .fewer) (number-placed P F x _ (X .typed)) N)
+
+  sum-ok : (x o y z : ℕ) → Next P S (step (sum x o y z)) (f .frame .goals) h s → Inv P (withFrame f (sumIn (f .frame) x o y z)) fs m
+  unfolding described withFrame sumIn giving stepOk
+  sum-ok x o y z X =
+      inv (quiet-doing (sum x o y z) (X .counted) (f .frame .goals) refl refl (X .goes) (X .onward))
+      (now-quiet A (X .counted) (x ∷ []) (X .fewer) (number-placed P F x _ (and-true (X .typed) .0)) N)
+
+  assign-ok : (x y : ℕ) → Next P S (step (assign x y)) (f .frame .goals) h s → Inv P (withFrame f (assignIn (f .frame) x y)) fs m
+  unfolding described withFrame assignIn giving stepOk stepRegions
+  assign-ok x y X =
+      inv (quiet-doing (assign x y) (X .counted) (f .frame .goals) refl refl (X .goes) (X .onward))
+      (now-quiet A (X .counted) (x ∷ []) (X .fewer) given N)
+    where
+      one : AllVariables S (y ∷ [])
+      one z i =
+          ⊎-elim (λ q. ap (isVariable S) (sym q) ∙ type-in S (typeOf S x) y (and-true (X .typed) .1) .0) (λ q. absurd (nil-in z q))
+          (cons-in z y [] i)
+
+      placed : PlacedAll T S (f .stands) (m .cells) (regionsOf S (y ∷ [])) (map (f .frame .values) (y ∷ []))
+      placed = read-placed (assign x y) (X .counted) (y ∷ []) (X .fewer) one refl (obeyed P S (assign x y) (X .goes))
+
+      given : PlacedAll T S (f .stands) (m .cells) (regionsOf S (x ∷ [])) (f .frame .values y ∷ [])
+      given = rw (eqb-true (regionOf S x) (regionOf S y) (X .regioned)) placed
+
+  print-ok : (y : ℕ) (z : ℤ) → Next P S (step (print y)) (f .frame .goals) h s → Inv P f fs (withPrinted m z)
+  unfolding described withPrinted
+  print-ok y z X =
+      inv (quiet-doing (print y) (X .counted) (f .frame .goals) refl refl (X .goes) (X .onward))
+      (now-quiet A (X .counted) [] (X .fewer) placed-none N)
+
+  construct-ok : (x k : ℕ) (ys : Four) → Next P S (step (construct x k ys)) (f .frame .goals) h s
+      → Inv P (withFrame f (giving (f .frame) x (cellAt (length (m .cells))))) fs
+      (withCell m (record { cell = cellFor (f .frame) k (argumentsOf ys); region = regionFor P f x }))
+  unfolding described withFrame giving withCell cellFor regionFor stepRegions
+  construct-ok x k ys X =
+      inv (quiet-doing (construct x k ys) (X .counted) (f .frame .goals) refl refl (X .goes) (X .onward))
+      (now-quiet A (X .counted) (x ∷ []) (X .fewer) (placed-more new placed-none) (now-grown A (grows-more (m .cells) _) N))
+    where
+      t : Built T S x k (argumentsOf ys)
+      t = constructed A f fs m N x k ys (X .typed)
+
+      arguments : PlacedAll T S (f .stands) (m .cells) (regionsOf S (argumentsOf ys)) (map (f .frame .values) (argumentsOf ys))
+      arguments =
+          read-placed (construct x k ys) (X .counted) (argumentsOf ys) (X .fewer)
+          (types-variables S (typesIn (functorAt (functorsOf T (typeOf S x)) k)) (argumentsOf ys) (t .have)) refl
+          (obeyed P S (construct x k ys) (X .goes))
+
+      new : Placed T S (f .stands) (m .cells ++ (cellOn (f .stands (regionOf S x)) k (map (f .frame .values) (argumentsOf ys)) ∷ []))
+          (regionOf S x) (cellAt (length (m .cells)))
+      new =
+          placed-new (F .laws) (regionOf S x) k (F .cell x (t .typed) .0) (rw (choices-typed P F x (t .typed)) (t .small))
+          (rw (fits-along P F x k (argumentsOf ys) (t .typed) (t .have) (X .regioned)) at arguments)
+
+  create-ok : (r : ℕ) → Next P S (step (create r)) (f .frame .goals) h s
+      → Inv P (record { frame = f .frame; stands = put (f .stands) r (suc (m .made)) }) fs (withRegion m)
+  unfolding described withRegion stepOk
+  create-ok r X =
+      let R = obeyed P S (create r) (X .goes) in
+      inv (rw (R .sound) at (X .onward)) (now-created A r (X .typed) N (X .counted) (X .held) (X .fewer) (R .bears-new) (R .held))
+
+  remove-ok : (r : ℕ) → Next P S (step (remove r)) (f .frame .goals) h s → Inv P f fs (withoutRegion m (f .stands r))
+  unfolding described withoutRegion stepOk
+  remove-ok r X =
+      let R = obeyed P S (remove r) (X .goes) in
+      inv (rw (R .sound) at (X .onward))
+      (now-removed A r (X .typed) N (X .counted) (X .held) (X .fewer) (R .needs-held) (R .ends-own) (R .held))
+
+  if-ok : (y z : ℕ) (a b : Goals) → Next P S (ifLess y z a b) (f .frame .goals) h s → Inv P (withFrame f (branchIn (f .frame) y z a b)) fs m
+  unfolding described withFrame branchIn withGoals
+  if-ok y z a b X =
+      let o = and-true (and-true (and-true (X .typed) .1) .1) in
+      let r = and-true (X .regioned) in
+      inv (branch-doing _ a b (f .frame .goals) (o .0) (o .1) (r .0) (r .1) (join-in (require-in (X .goes) .1)) (X .onward))
+      (now-fewer A (X .fewer) N)
+
+  -- X's cell, as a switch finds it
+  cell-found : (x : ℕ) (c : Lies T S (f .stands) (m .cells) (regionOf S x) (f .frame .values x))
+      → cellIn (map cellOf (m .cells)) (f .frame .values x) ≡ record { functor = c .functor; contents = c .contents }
+  unfolding cellIn cellOf
+  cell-found x c = ap (cellIn (map cellOf (m .cells))) (c .is) ∙ nth-map cellOf _ (m .cells) (c .number) ∙ ap cellOf (c .there)
+
+  arm-entered : (cs : Arms) (k : Cell) (found : Cell) (ys : List ℕ) (gs : Goals) → found ≡ k → pick cs (k .functor) ≡ picked ys gs
+      → openCell found cs (f .frame) ≡ inArm (f .frame) ys (k .contents) gs
+  unfolding openCell enterArm
+  arm-entered cs k found ys gs e q = ap (λ (j : Cell). openCell j cs (f .frame)) e ∙ (rw q)
+
+  enter-ok : (x : ℕ) (cs : Arms) (counted : Set) {h₁ s₁ : Set} → 1 ≤ typeOf S x
+      → (c : Lies T S (f .stands) (m .cells) (regionOf S x) (f .frame .values x))
+      → Taken P S cs (regionOf S x) (functorAt (functorsOf T (typeOf S x)) (c .functor)) (c .functor) h counted h₁ s₁
+      → subset counted s ≡ true → Doing P S (f .frame .goals) h₁ s₁
+      → Inv P (withFrame f (openCell (cellIn (map cellOf (m .cells)) (f .frame .values x)) cs (f .frame))) fs m
+  unfolding withFrame
+  enter-ok x cs counted l c t w d =
+      rw (arm-entered cs (record { functor = c .functor; contents = c .contents }) (cellIn (map cellOf (m .cells)) (f .frame .values x))
+      (t .arguments) (t .goals) (cell-found x c) (t .picks))
+      (inv (segment (t .goals) refl (t .typed) (t .regioned) (t .goes) (t .more) d)
+      (now-given A (t .arguments) (rw (← fits-along P F x (c .functor) (t .arguments) l (t .have) (t .targets)) at (c .inside))
+      (now-fewer A w N)))
+
+  switch-ok : (x : ℕ) (cs : Arms) → Next P S (switch x cs) (f .frame .goals) h s
+      → Inv P (withFrame f (openCell (cellIn (map cellOf (m .cells)) (f .frame .values x)) cs (f .frame))) fs m
+  unfolding described functorsFor
+  switch-ok x cs X =
+      let o = and-true (and-true (X .typed) .1) in
+      let l = leb-true 1 (typeOf S x) (o .0) in
+      let r = require-in (X .goes) in
+      let c = cell-of A f fs m N x l (subset-in (X .counted) s (X .fewer) x (r .0)) in
+      enter-ok x cs (X .counted) l c
+      (arms-in P S cs (functorsOf T (typeOf S x)) (regionOf S x) 0 (c .functor) (c .functor) (omega arith)
+      (rw (choices-typed P F x l) at (c .small)) (o .1) (X .regioned) (r .1))
+      (X .fewer) (X .onward)
+
+  call-ok : (q : ℕ) (ys : List ℕ) → Next P S (step (call q ys)) (f .frame .goals) h s → Inv P (calleeRegions P f q ys) (f ∷ fs) m
+  unfolding described calleeRegions calleeFrame mappingFrom stepOk
+  call-ok q ys X =
+      let o = and-true (X .typed) in
+      inv (start-doing A q)
+      (now-called A f q ys (calling A (f .frame .procedure) q ys (X .typed) (X .regioned))
+      (obeyed P S (call q ys) (X .goes)) (now-fewer A (X .fewer) N) (X .onward)
+      (λ y j. types-variables S (parameterTypes (signatureOf P q)) ys (o .1) y
+      (arguments-in inMode (parametersOf (signatureOf P q)) ys y j)))
+
+  pub take-ok : (g : Goal) → Next P S g (f .frame .goals) h s → Fine P (take P g f fs m)
+  unfolding take
+  take-ok (step (literal x v)) X = settled A _ fs m (literal-ok x v X)
+  take-ok (step (sum x o y z)) X = settled A _ fs m (sum-ok x o y z X)
+  take-ok (step (assign x y)) X = settled A _ fs m (assign-ok x y X)
+  take-ok (step (construct x k ys)) X = settled A _ fs _ (construct-ok x k ys X)
+  take-ok (step (call q ys)) X = settled A _ (f ∷ fs) m (call-ok q ys X)
+  take-ok (step (print y)) X = settled A f fs _ (print-ok y _ X)
+  take-ok (step (create r)) X = settled A _ fs _ (create-ok r X)
+  take-ok (step (remove r)) X = settled A f fs _ (remove-ok r X)
+  take-ok (switch x cs) X = settled A _ fs m (switch-ok x cs X)
+  take-ok (ifLess y z a b) X = settled A _ fs m (if-ok y z a b X)

@@ -1,0 +1,1 @@
+// Safety of the accepted file's run. The theorems are in specs/.

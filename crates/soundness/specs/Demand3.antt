@@ -1,0 +1,99 @@
+-- Demand 3, proved: `demand-3` and `written-accepted` are the two claims of `Statement`.
+use Prim.Native.Nat.{ℕ, _≤_}
+use mathlib.Core.Bool.{true, false≢true}
+use mathlib.Core.List.{List, []}
+use mathlib.Core.Path.{_≡_, refl, ap}
+use borrow.Author.Tests.{leb-true}
+use Rattle.sets.specs.Tests.{and-true}
+use Rattle.language.specs.declared.Verdict.{Verdict}
+use Rattle.language.specs.declared.Verdict.the-variants.{Refused, Accepted}
+use Rattle.language.specs.Layout.{size, written}
+use Rattle.language.specs.Program.{Program}
+use Rattle.language.specs.Records.{programTree}
+use Rattle.language.specs.Typing.{typingOk}
+use Rattle.language.specs.Lifetimes.{declaredClassesOk}
+use Rattle.language.specs.Annotation.{annotate}
+use Rattle.language.specs.Checking.{rulesOk}
+use Rattle.language.specs.Answers.{lowest, program, annotation, roomOk, annotatorStages, checkerStages, Annotation, refuses, writes, annotationFor, annotated, checked}
+use Rattle.region_graph.specs.Procedure.{declared-all}
+use Rattle.region_graph.specs.Calls.{called}
+use Rattle.layout.specs.Programs.{program-written, form-of-program, header-of-program}
+use Rattle.placement.specs.Whole.{Graph, Annotatable, accepted-again, typed-again, values-again, regions-again, classes-again}
+use Rattle.lockstep.specs.Lock as Lock
+use Rattle.safety.specs.Premises as Premises
+use Rattle.safety.specs.Safety.{safe, clean}
+use Rattle.soundness.specs.Statement.{Demand3, Written}
+use Rattle.soundness.specs.Stages.{Passed, lowest-passed, passed-lowest, Read, passed-read, read-passed}
+
+-- ---- an accepted file
+-- what it has passed beside numbers 1 to 5
+pub record Checked (f : List ℕ) : Type 0 where
+  pub read : Read f
+  pub classes : declaredClassesOk (program f) ≡ true
+  pub rules : rulesOk (program f) ≡ true
+
+pub checked-is : (f : List ℕ) → checked f ≡ Accepted → Checked f
+unfolding checked checkerStages
+checked-is f e =
+    let p = passed-read f _ (lowest-passed (checkerStages f) e) in
+    record { read = p .0; classes = p .1 .0; rules = p .1 .1 .0 }
+
+pub is-checked : (f : List ℕ) → Checked f → checked f ≡ Accepted
+unfolding checked checkerStages
+is-checked f c = passed-lowest (checkerStages f) (read-passed f _ (c .read) (c .classes, (c .rules, tt)))
+
+accepted-program : (f : List ℕ) → Checked f → Premises.Accepted (program f)
+accepted-program f c =
+    record { typing = c .read .typing; values = c .read .values; regions = c .read .regions; classes = c .classes; rules = c .rules }
+
+pub demand-3 : Demand3
+demand-3 f e =
+    let A = accepted-program f (checked-is f e) in
+    let S = safe A in
+    record { safe = S; clean = clean A; prints = Lock.prints (program f) S; each = Lock.each (program f) S; both = Lock.both (program f) S }
+
+-- ---- an annotated file
+graph : (P : Program) → typingOk P ≡ true → Graph P
+graph P typing = record { declared = declared-all P typing; called = λ a b ys. called P a b ys typing }
+
+-- the annotation of a program passes every stage of the checker
+annotation-checked : (P : Program) → Annotatable P → size (programTree (annotate P)) ≤ 4096 → Checked (written (programTree (annotate P)))
+annotation-checked P A l =
+    let G = graph P (A .typing) in
+    let e = program-written (annotate P) in
+    record {
+      read = record {
+        header = header-of-program (annotate P) l;
+        form = form-of-program (annotate P);
+        typing = rw e (typed-again P G A);
+        values = rw e (values-again P G A);
+        regions = rw e (regions-again P G A);
+      };
+      classes = rw e (classes-again P G A);
+      rules = rw e (accepted-again P G A);
+    }
+
+unfoldable bytesIn : Annotation → List ℕ
+bytesIn (refuses r) = []
+bytesIn (writes g) = g
+
+-- bytes that are written are the annotation, and every stage has been passed
+writes-passed : (v : Verdict) (f g : List ℕ) → annotationFor v f ≡ writes g → (v ≡ Accepted) × (annotation f ≡ g)
+unfolding annotationFor bytesIn
+writes-passed (Refused r) f g e = absurd (no-answer e)
+  where
+    no-answer : refuses r ≡ writes g → ⊥
+    no-answer z = false≢true cc
+writes-passed Accepted f g e = (refl, ap bytesIn e)
+
+pub written-accepted : Written
+unfolding annotated annotatorStages roomOk annotation
+written-accepted f lent g e =
+    let w = writes-passed (lowest (annotatorStages f lent)) f g e in
+    let p = passed-read f _ (lowest-passed (annotatorStages f lent) (w .0)) in
+    let c = and-true (p .1 .1 .0) in
+    let l = leb-true (size (programTree (annotate (program f)))) 4096 (and-true (p .1 .1 .1 .0) .0) in
+    rw (← w .1)
+    (is-checked (annotation f)
+    (annotation-checked (program f)
+    (record { typing = p .0 .typing; values = p .0 .values; regions = p .0 .regions; classes = c .0; calls = c .1 }) l))

@@ -1,0 +1,51 @@
+-- A file passes a list of stages exactly if it passes each test; the stages of every program by name.
+use Prim.Native.Nat.{ℕ}
+use mathlib.Core.Bool.{true, false, false≢true}
+use mathlib.Core.List.{List, [], _∷_, _++_}
+use mathlib.Core.Path.{_≡_, refl}
+use Rattle.language.specs.declared.Refusal.{Refusal}
+use Rattle.language.specs.declared.Verdict.the-variants.{Refused, Accepted}
+use Rattle.language.specs.File.{word, recordCount, headerOk, formOk}
+use Rattle.language.specs.Typing.{typingOk}
+use Rattle.language.specs.Values.{valuesOk}
+use Rattle.language.specs.Regions.{regionsOk}
+use Rattle.language.specs.Answers.{Stage, stage, lowest, program, fileStages}
+
+-- every test of the stages is passed
+abbrev pub Passed : List Stage → Type 0
+Passed [] = Unit {0}
+Passed (stage r b ∷ ss) = (b ≡ true) × Passed ss
+
+refused-not : (r : Refusal) → Refused r ≡ Accepted → ⊥
+refused-not r e = false≢true cc
+
+pub lowest-passed : (ss : List Stage) → lowest ss ≡ Accepted → Passed ss
+unfolding lowest
+lowest-passed [] e = tt
+lowest-passed (stage r true ∷ ss) e = (refl, lowest-passed ss e)
+lowest-passed (stage r false ∷ ss) e = absurd (refused-not r e)
+
+pub passed-lowest : (ss : List Stage) → Passed ss → lowest ss ≡ Accepted
+unfolding lowest
+passed-lowest [] p = refl
+passed-lowest (stage r true ∷ ss) p = passed-lowest ss (p .1)
+passed-lowest (stage r false ∷ ss) p = absurd (false≢true (p .0))
+
+-- numbers 1 to 5
+pub record Read (f : List ℕ) : Type 0 where
+  pub header : headerOk f ≡ true
+  pub form : formOk (word f) (recordCount f) ≡ true
+  pub typing : typingOk (program f) ≡ true
+  pub values : valuesOk (program f) ≡ true
+  pub regions : regionsOk (program f) ≡ true
+
+pub passed-read : (f : List ℕ) (ss : List Stage) → Passed (fileStages f ++ ss) → Read f × Passed ss
+unfolding fileStages
+passed-read f ss p = (
+  record { header = p .0; form = p .1 .0; typing = p .1 .1 .0; values = p .1 .1 .1 .0; regions = p .1 .1 .1 .1 .0 },
+  p .1 .1 .1 .1 .1,
+)
+
+pub read-passed : (f : List ℕ) (ss : List Stage) → Read f → Passed ss → Passed (fileStages f ++ ss)
+unfolding fileStages
+read-passed f ss r p = (r .header, (r .form, (r .typing, (r .values, (r .regions, p)))))

@@ -1,0 +1,36 @@
+-- Demand 3, to be checked against the user's words without reading a proof: what holds of every file that the checker accepts, and of whatever
+-- the annotator writes.
+use Prim.Native.Nat.{ℕ, _-_}
+use mathlib.Core.Bool.{true, false}
+use mathlib.Core.List.{List, [], _∷_}
+use mathlib.Core.Logic.{_↔_}
+use mathlib.Core.Path.{_≡_}
+use Rattle.language.specs.declared.Verdict.the-variants.{Accepted}
+use Rattle.language.specs.Program.{Goals, _then_, Goal}
+use Rattle.language.specs.PlainRun.{stripped, plainSteps}
+use Rattle.language.specs.AcceptedRun.{RegionFrame, allowed, steps}
+use Rattle.language.specs.Answers.{program, checked, annotated, writes}
+use Rattle.lockstep.specs.Counted.{spent}
+
+-- The accepted file's run is `steps (program f)`, the plain run `plainSteps (stripped (program f))`; a run has ended once it has no frame.
+pub record Sound (f : List ℕ) : Type 0 where
+  -- "after any number of steps at any call depth: builds, reads and removes only in regions created and not yet removed": the run never stays
+  -- at a goal, and no region is removed twice
+  pub safe : (n : ℕ) (e : RegionFrame) (es : List RegionFrame) (g : Goal) (gs : Goals)
+      → steps (program f) n .frames ≡ e ∷ es → e .frame .goals ≡ (g then gs) → allowed (program f) g e (steps (program f) n .memory) ≡ true
+  -- "all are removed once the entry has returned"
+  pub clean : (n : ℕ) → steps (program f) n .frames ≡ [] → (k : ℕ) → steps (program f) n .memory .alive k ≡ false
+  -- "the numbers printed are those of the plain run .. after as many steps less those spent on creates and removes"
+  pub prints : (n : ℕ) → steps (program f) n .memory .printed ≡ plainSteps (stripped (program f)) (n - spent (program f) n) .printed
+  -- "each number of plain steps comes up"
+  pub each : (k : ℕ) → (n : ℕ) × (n - spent (program f) n ≡ k)
+  -- "both end or neither"
+  pub both : ((n : ℕ) × (steps (program f) n .frames ≡ [])) ↔ ((k : ℕ) × (plainSteps (stripped (program f)) k .frames ≡ []))
+
+-- "For every accepted file .."
+abbrev pub Demand3 : Type 0
+Demand3 = (f : List ℕ) → checked f ≡ Accepted → Sound f
+
+-- "Whatever the annotator writes, the checker accepts."
+abbrev pub Written : Type 0
+Written = (f : List ℕ) (lent : ℕ) (g : List ℕ) → annotated f lent ≡ writes g → checked g ≡ Accepted
