@@ -21,6 +21,7 @@ pub record RegionCell : Type 0 where
   pub cell : Cell
   pub region : ℕ
 
+-- what all frames share: the cells in the order they were made, how many regions were made, which are alive, the numbers printed
 pub record Memory : Type 0 where
   pub cells : List RegionCell
   pub made : ℕ
@@ -39,6 +40,7 @@ unfoldable pub liesIn : List RegionCell → Value → ℕ
 liesIn cells (numeral z) = 0
 liesIn cells (cellAt c) = nth (record { cell = noCell; region = 0 }) cells c .region
 
+-- one cell more, one number more
 unfoldable pub withCell : Memory → RegionCell → Memory
 withCell m c = record { cells = m .cells ++ (c ∷ []); made = m .made; alive = m .alive; printed = m .printed }
 
@@ -49,6 +51,7 @@ withPrinted m z = record { cells = m .cells; made = m .made; alive = m .alive; p
 unfoldable pub withRegion : Memory → Memory
 withRegion m = record { cells = m .cells; made = suc (m .made); alive = put (m .alive) (suc (m .made)) true; printed = m .printed }
 
+-- a remove: the region is alive no more
 unfoldable pub withoutRegion : Memory → ℕ → Memory
 withoutRegion m k = record { cells = m .cells; made = m .made; alive = put (m .alive) k false; printed = m .printed }
 
@@ -73,6 +76,7 @@ module _ (P : Program) where
   unfoldable pub mappingFrom : Frame → ℕ → List ℕ → Mapping
   mappingFrom f q ys = mapping (signatureOf P (f .procedure)) (signatureOf P q) ys
 
+  -- the callee's frame, and the caller's when the callee's goes
   unfoldable pub calleeRegions : RegionFrame → ℕ → List ℕ → RegionFrame
   calleeRegions f q ys =
       record { frame = calleeFrame P (f .frame) q ys; stands = calleeStands (mappingFrom (f .frame) q ys) (signatureOf P q) (f .stands) }
@@ -83,9 +87,11 @@ module _ (P : Program) where
     stands = returnStands (mappingFrom (g .frame) (f .frame .procedure) (f .frame .arguments)) (signatureOf P (f .frame .procedure)) (f .stands) (g .stands);
   }
 
+  -- the state with newest frame f, once frames that are done have gone
   unfoldable pub state : RegionFrame → List RegionFrame → Memory → State
   state f fs m = record { frames = settle (λ e. e .frame .goals) returningRegions fs f (f .frame .goals); memory = m }
 
+  -- the entry's frame alone, nothing made
   unfoldable pub start : State
   start = state (record { frame = entryFrame P; stands = λ r. 0 }) [] (record { cells = []; made = 0; alive = λ k. false; printed = [] })
 
@@ -126,6 +132,7 @@ module _ (P : Program) where
   next done f fs s = s
   next (g then gs) f fs s = choose (allowed g f (s .memory)) (take g (withFrame f (withGoals (f .frame) gs)) fs (s .memory)) s
 
+  -- an ended run stays as it is
   unfoldable pub stepFrom : List RegionFrame → State → State
   stepFrom [] s = s
   stepFrom (f ∷ fs) s = next (f .frame .goals) f fs s

@@ -83,6 +83,7 @@ module _ (P : Program) (S : Signature) where
   unfoldable pub createdFor : Step → Set → Set
   createdFor g after = ((effect P S g .needs ∪ wanted S after) ∖ wanted S (liveStep P g after)) ∖ effect P S g .bears
 
+  -- the creates, then the step
   unfoldable pub placeStep : Step → Set → Set → Placed
   placeStep g after held = record {
     goals = creates (members (createdFor g after)) before step g then done;

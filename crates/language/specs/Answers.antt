@@ -56,6 +56,7 @@ lowest [] = Accepted
 lowest (stage r true ∷ ss) = lowest ss
 lowest (stage r false ∷ ss) = Refused r
 
+-- the program that bytes stand for
 unfoldable pub program : List ℕ → Program
 program f = programOf (treeOf f)
 
@@ -73,6 +74,7 @@ annotation f = written (programTree (annotate (program f)))
 unfoldable pub roomOk : List ℕ → ℕ → Bool
 roomOk f lent = leb (size (programTree (annotate (program f)))) 4096 & leb (length (annotation f)) lent
 
+-- the stages of the annotator; and of the checker, which the runner shares
 unfoldable pub annotatorStages : List ℕ → ℕ → List Stage
 annotatorStages f lent =
     fileStages f

@@ -17,6 +17,7 @@ pub data Carried : Type 0 where
   broken : Carried
   carries : Set → Set → Carried
 
+-- a rule that must hold, and going on where none is broken
 unfoldable pub requireRule : Bool → Carried → Carried
 requireRule true c = c
 requireRule false c = broken

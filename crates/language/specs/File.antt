@@ -91,6 +91,7 @@ code goals = 7
 code arms = 8
 code arguments = 9
 
+-- a kind that may stand in a chain
 unfoldable pub standsIn : Chain → Kind → Bool
 standsIn c k = eqb (code (row k .chain)) (code c)
 
@@ -114,6 +115,7 @@ module _ (W : ℕ → ℕ → ℕ) (n : ℕ) where
   wordsOk i k (unused ∷ us) = eqb (W i k) 0 & wordsOk i (suc k) us
   wordsOk i k (first c ∷ us) = referenceOk i c (W i k) & wordsOk i (suc k) us
 
+  -- what number 2 asks of record i alone
   unfoldable pub recordOk : ℕ → Bool
   recordOk i = referenceOk i (row (kindAt i) .next) (W i 1) & wordsOk i 2 (row (kindAt i) .words)
 
@@ -127,6 +129,7 @@ module _ (W : ℕ → ℕ → ℕ) (n : ℕ) where
   unfoldable pub references : ℕ → List ℕ
   references i = W i 1 ∷ leading i 2 (row (kindAt i) .words)
 
+  -- .. of several records
   unfoldable pub referencesOf : List ℕ → List ℕ
   referencesOf [] = []
   referencesOf (i ∷ is) = references i ++ referencesOf is
@@ -135,5 +138,6 @@ module _ (W : ℕ → ℕ → ℕ) (n : ℕ) where
   unfoldable pub onceIn : List ℕ → Bool
   onceIn rs = all (λ i. eqb (count i rs) 1) (upFrom 1 (n - 1))
 
+  -- all of number 2
   unfoldable pub formOk : Bool
   formOk = all recordOk (upFrom 0 n) & onceIn (referencesOf (upFrom 0 n))

@@ -24,16 +24,18 @@ pub record Cell : Type 0 where
   pub functor : ℕ
   pub contents : List Value
 
--- the number that a value is
+-- the number that a value is; number 3 keeps cells away from sums, ifs and prints
 unfoldable pub numberIn : Value → ℤ
 numberIn (numeral z) = z
 numberIn (cellAt c) = pos 0
 
+-- variables get values in turn
 unfoldable pub giveEach : List ℕ → List Value → (ℕ → Value) → ℕ → Value
 giveEach [] vs values = values
 giveEach (x ∷ xs) [] values = values
 giveEach (x ∷ xs) (v ∷ vs) values = giveEach xs vs (put values x v)
 
+-- a frame with other goals still to do, or with one more value
 unfoldable pub withGoals : Frame → Goals → Frame
 withGoals f gs = record { procedure = f .procedure; arguments = f .arguments; goals = gs; values = f .values }
 
@@ -50,6 +52,7 @@ sumIn f x o y z = giving f x (numeral (sumNumber o (numberIn (f .values y)) (num
 unfoldable pub assignIn : Frame → ℕ → ℕ → Frame
 assignIn f x y = giving f x (f .values y)
 
+-- "a construct a new cell"
 unfoldable pub cellFor : Frame → ℕ → List ℕ → Cell
 cellFor f k ys = record { functor = k; contents = map (f .values) ys }
 
@@ -66,11 +69,13 @@ unfoldable pub pick : Arms → ℕ → Picked
 pick noArms k = noArm
 pick (arm f ys gs cs) k = choose (eqb f k) (picked (argumentsOf ys) gs) (pick cs k)
 
+-- number 3 sees to it that there is one
 unfoldable pub enterArm : Picked → List Value → Frame → Frame
 enterArm noArm vs f = f
 enterArm (picked ys gs) vs f =
     record { procedure = f .procedure; arguments = f .arguments; goals = gs before f .goals; values = giveEach ys vs (f .values) }
 
+-- what stands where no cell is looked up
 unfoldable pub noCell : Cell
 noCell = record { functor = 0; contents = [] }
 
@@ -79,6 +84,7 @@ unfoldable pub cellIn : List Cell → Value → Cell
 cellIn cells (numeral z) = noCell
 cellIn cells (cellAt c) = nth noCell cells c
 
+-- into the arm of X's cell
 unfoldable pub openCell : Cell → Arms → Frame → Frame
 openCell c cs f = enterArm (pick cs (c .functor)) (c .contents) f
 
@@ -101,6 +107,7 @@ module _ (P : Program) where
     values = giveEach (argumentsIn outMode (parametersOf (signatureOf P (f .procedure))) (f .arguments)) (map (f .values) (variablesIn outMode (signatureOf P (f .procedure)))) (g .values);
   }
 
+  -- "Procedure 0 is the entry."
   unfoldable pub entryFrame : Frame
   entryFrame = record { procedure = 0; arguments = []; goals = procedureAt P 0 .body; values = λ x. numeral (pos 0) }
 

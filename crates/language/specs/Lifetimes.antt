@@ -25,6 +25,7 @@ module _ (S : Signature) where
   unfoldable pub ofClass : ℕ → Set → Set
   ofClass c rs = keep (λ r. eqb (regionAt S r .class) c) rs
 
+  -- all regions of the procedure
   unfoldable pub declared : Set
   declared = setOf (upFrom 1 (length (S .regions)))
 

@@ -54,6 +54,7 @@ pub data Outlook : Type 0 where
   goes : Outlook
   lacks : Stop → Outlook
 
+-- there is room, or the step stops for want of it
 unfoldable pub roomOr : Bool → Stop → Outlook
 roomOr true c = goes
 roomOr false c = lacks c
@@ -71,6 +72,7 @@ outlookFor k (step (remove r)) s = goes
 outlookFor k (switch x cs) s = goes
 outlookFor k (ifLess y z a b) s = goes
 
+-- .. before the next goal of the newest frame; a run without a frame has ended
 unfoldable pub outlookIn : Room → Goals → State → Outlook
 outlookIn k done s = goes
 outlookIn k (g then gs) s = outlookFor k g s
@@ -88,6 +90,7 @@ pub record Run : Type 0 where
   pub steps : ℕ
   pub printed : List ℤ
 
+-- a run that ends in state s after n steps
 unfoldable pub endedWith : Ending → ℕ → State → Run
 endedWith e n s = record { ending = e; steps = n; printed = s .memory .printed }
 

@@ -40,6 +40,7 @@ pub record PlainState : Type 0 where
   pub printed : List ℤ
 
 module _ (P : Program) where
+  -- the state with newest frame f, once frames that are done have gone
   unfoldable pub plainState : Frame → List Frame → List Cell → List ℤ → PlainState
   plainState f fs cells printed = record { frames = settle (λ e. e .goals) (returning P) fs f (f .goals); cells = cells; printed = printed }
 
@@ -66,6 +67,7 @@ module _ (P : Program) where
   plainNext done f fs s = s
   plainNext (g then gs) f fs s = plainTake g (withGoals f gs) fs (s .cells) (s .printed)
 
+  -- an ended run stays as it is
   unfoldable pub plainFrom : List Frame → PlainState → PlainState
   plainFrom [] s = s
   plainFrom (f ∷ fs) s = plainNext (f .goals) f fs s
