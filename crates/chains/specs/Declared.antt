@@ -1,0 +1,236 @@
+-- Records of declarations that the code has read: what the fields are, what stands there, and where each reference leads.
+-- In a turn of a loop: `variable-at F (c .. .record-at .ensures) (c .. .next .given .1)` has all of it, where `next` is the first name that the
+-- pattern binds: `.view` for the invariant, `.to-next .stands` for the next turn, `.to-next .falls` for the measure.
+use Prim.Native.Nat.{ℕ, _<_}
+use mathlib.Core.Path.{_≡_, refl, ap}
+use mathlib.Core.List.{List, _∷_}
+use Rattle.language.specs.File.{kType, kFunctor, kProcedure, kVariable, kRegion, kEdge, types, functors, procedures, variables, regions, edges, goals, word, recordCount}
+use Rattle.language.specs.Program.{four}
+use Rattle.language.specs.Answers.{program}
+use Rattle.layout.specs.Table.{all-rows}
+use Rattle.layout.specs.Chains.{real, type-functors, procedure-variables, procedure-regions, procedure-goals, region-edges}
+use Rattle.layout.specs.Files.{header-kind}
+use Rattle.layout.specs.Steps
+use Rattle.layout.specs.Steps.{procedureOf}
+use Rattle.records.specs.Records.{recordAt}
+use Rattle.records.specs.declared.Record.{Record}
+use Rattle.records.specs.declared.Record.the-variants.{Header, «Type» as TypeOf, Functor, Procedure, Variable, Region, Edge}
+use Rattle.chains.specs.Formed.{Formed, Stands, Onward, types-stand, procedures-stand, program-types, program-procedures, typesAt, functorsAt, proceduresAt, variablesAt, regionsAt, edgesAt, goalsAt}
+use Rattle.chains.specs.Kinds.{kindIn, same-read, known, onward}
+
+pub record TypeAt (f : List ℕ) (i next fs : ℕ) : Type 0 where
+  pub some : 0 < i
+  pub below : i < recordCount f
+  pub w1 : next ≡ word f i 1
+  pub w2 : fs ≡ word f i 2
+  pub view : typesAt f i ≡ functorsAt f fs ∷ typesAt f next
+  pub to-next : Onward f types i next
+  pub to-functors : Onward f functors i fs
+
+pub type-at : {f : List ℕ} {i next fs : ℕ} {r : Record} → Formed f → r ≡ recordAt f i → r ≡ TypeOf next fs
+    → TypeAt f i next fs
+unfolding typesAt functorsAt all-rows real
+type-at {f} {i} {next} {fs} F e g =
+    let h = known {k = kType} F refl e (ap kindIn g) in
+    let e1 : next ≡ word f i 1 = cc (h .same) in
+    let e2 : fs ≡ word f i 2 = cc (h .same) in
+    record {
+      some = h .some;
+      below = h .below;
+      w1 = e1;
+      w2 = e2;
+      view = rw (e1, e2) (Steps.type-step (word f) (recordCount f) (F .form) i (h .some) (h .below) (h .kind));
+      to-next = rw e1 (h .next);
+      to-functors = onward F h e2 (type-functors (word f) (recordCount f) (F .form) i (h .below) (h .kind));
+    }
+
+pub record FunctorAt (f : List ℕ) (i next arity t1 t2 t3 t4 : ℕ) : Type 0 where
+  pub some : 0 < i
+  pub below : i < recordCount f
+  pub w1 : next ≡ word f i 1
+  pub w2 : arity ≡ word f i 2
+  pub w3 : t1 ≡ word f i 3
+  pub w4 : t2 ≡ word f i 4
+  pub w5 : t3 ≡ word f i 5
+  pub w6 : t4 ≡ word f i 6
+  pub view : functorsAt f i ≡ record { arity = arity; argumentTypes = four t1 t2 t3 t4 } ∷ functorsAt f next
+  pub to-next : Onward f functors i next
+
+pub functor-at : {f : List ℕ} {i next arity t1 t2 t3 t4 : ℕ} {r : Record} → Formed f → r ≡ recordAt f i → r ≡ Functor next arity t1 t2 t3 t4
+    → FunctorAt f i next arity t1 t2 t3 t4
+unfolding functorsAt all-rows real
+functor-at {f} {i} {next} {arity} {t1} {t2} {t3} {t4} F e g =
+    let h = known {k = kFunctor} F refl e (ap kindIn g) in
+    let e1 : next ≡ word f i 1 = cc (h .same) in
+    let e2 : arity ≡ word f i 2 = cc (h .same) in
+    let e3 : t1 ≡ word f i 3 = cc (h .same) in
+    let e4 : t2 ≡ word f i 4 = cc (h .same) in
+    let e5 : t3 ≡ word f i 5 = cc (h .same) in
+    let e6 : t4 ≡ word f i 6 = cc (h .same) in
+    record {
+      some = h .some;
+      below = h .below;
+      w1 = e1;
+      w2 = e2;
+      w3 = e3;
+      w4 = e4;
+      w5 = e5;
+      w6 = e6;
+      view = rw (e1, e2, e3, e4, e5, e6) (Steps.functor-step (word f) (recordCount f) (F .form) i (h .some) (h .below) (h .kind));
+      to-next = rw e1 (h .next);
+    }
+
+pub record ProcedureAt (f : List ℕ) (i next vs rs gs : ℕ) : Type 0 where
+  pub some : 0 < i
+  pub below : i < recordCount f
+  pub w1 : next ≡ word f i 1
+  pub w2 : vs ≡ word f i 2
+  pub w3 : rs ≡ word f i 3
+  pub w4 : gs ≡ word f i 4
+  pub view : proceduresAt f i ≡ procedureOf (variablesAt f vs) (regionsAt f rs) (goalsAt f gs) ∷ proceduresAt f next
+  pub to-next : Onward f procedures i next
+  pub to-variables : Onward f variables i vs
+  pub to-regions : Onward f regions i rs
+  pub to-goals : Onward f goals i gs
+
+pub procedure-at : {f : List ℕ} {i next vs rs gs : ℕ} {r : Record} → Formed f → r ≡ recordAt f i → r ≡ Procedure next vs rs gs
+    → ProcedureAt f i next vs rs gs
+unfolding proceduresAt variablesAt regionsAt goalsAt all-rows real
+procedure-at {f} {i} {next} {vs} {rs} {gs} F e g =
+    let h = known {k = kProcedure} F refl e (ap kindIn g) in
+    let e1 : next ≡ word f i 1 = cc (h .same) in
+    let e2 : vs ≡ word f i 2 = cc (h .same) in
+    let e3 : rs ≡ word f i 3 = cc (h .same) in
+    let e4 : gs ≡ word f i 4 = cc (h .same) in
+    record {
+      some = h .some;
+      below = h .below;
+      w1 = e1;
+      w2 = e2;
+      w3 = e3;
+      w4 = e4;
+      view = rw (e1, e2, e3, e4) (Steps.procedure-step (word f) (recordCount f) (F .form) i (h .some) (h .below) (h .kind));
+      to-next = rw e1 (h .next);
+      to-variables = onward F h e2 (procedure-variables (word f) (recordCount f) (F .form) i (h .below) (h .kind));
+      to-regions = onward F h e3 (procedure-regions (word f) (recordCount f) (F .form) i (h .below) (h .kind));
+      to-goals = onward F h e4 (procedure-goals (word f) (recordCount f) (F .form) i (h .below) (h .kind));
+    }
+
+pub record VariableAt (f : List ℕ) (i next mode type region : ℕ) : Type 0 where
+  pub some : 0 < i
+  pub below : i < recordCount f
+  pub w1 : next ≡ word f i 1
+  pub w2 : mode ≡ word f i 2
+  pub w3 : type ≡ word f i 3
+  pub w4 : region ≡ word f i 4
+  pub view : variablesAt f i ≡ record { mode = mode; type = type; region = region } ∷ variablesAt f next
+  pub to-next : Onward f variables i next
+
+pub variable-at : {f : List ℕ} {i next mode type region : ℕ} {r : Record} → Formed f → r ≡ recordAt f i → r ≡ Variable next mode type region
+    → VariableAt f i next mode type region
+unfolding variablesAt all-rows real
+variable-at {f} {i} {next} {mode} {type} {region} F e g =
+    let h = known {k = kVariable} F refl e (ap kindIn g) in
+    let e1 : next ≡ word f i 1 = cc (h .same) in
+    let e2 : mode ≡ word f i 2 = cc (h .same) in
+    let e3 : type ≡ word f i 3 = cc (h .same) in
+    let e4 : region ≡ word f i 4 = cc (h .same) in
+    record {
+      some = h .some;
+      below = h .below;
+      w1 = e1;
+      w2 = e2;
+      w3 = e3;
+      w4 = e4;
+      view = rw (e1, e2, e3, e4) (Steps.variable-step (word f) (recordCount f) (F .form) i (h .some) (h .below) (h .kind));
+      to-next = rw e1 (h .next);
+    }
+
+pub record RegionAt (f : List ℕ) (i next type class es : ℕ) : Type 0 where
+  pub some : 0 < i
+  pub below : i < recordCount f
+  pub w1 : next ≡ word f i 1
+  pub w2 : type ≡ word f i 2
+  pub w3 : class ≡ word f i 3
+  pub w4 : es ≡ word f i 4
+  pub view : regionsAt f i ≡ record { type = type; class = class; edges = edgesAt f es } ∷ regionsAt f next
+  pub to-next : Onward f regions i next
+  pub to-edges : Onward f edges i es
+
+pub region-at : {f : List ℕ} {i next type class es : ℕ} {r : Record} → Formed f → r ≡ recordAt f i → r ≡ Region next type class es
+    → RegionAt f i next type class es
+unfolding regionsAt edgesAt all-rows real
+region-at {f} {i} {next} {type} {class} {es} F e g =
+    let h = known {k = kRegion} F refl e (ap kindIn g) in
+    let e1 : next ≡ word f i 1 = cc (h .same) in
+    let e2 : type ≡ word f i 2 = cc (h .same) in
+    let e3 : class ≡ word f i 3 = cc (h .same) in
+    let e4 : es ≡ word f i 4 = cc (h .same) in
+    record {
+      some = h .some;
+      below = h .below;
+      w1 = e1;
+      w2 = e2;
+      w3 = e3;
+      w4 = e4;
+      view = rw (e1, e2, e3, e4) (Steps.region-step (word f) (recordCount f) (F .form) i (h .some) (h .below) (h .kind));
+      to-next = rw e1 (h .next);
+      to-edges = onward F h e4 (region-edges (word f) (recordCount f) (F .form) i (h .below) (h .kind));
+    }
+
+pub record EdgeAt (f : List ℕ) (i next functor position target : ℕ) : Type 0 where
+  pub some : 0 < i
+  pub below : i < recordCount f
+  pub w1 : next ≡ word f i 1
+  pub w2 : functor ≡ word f i 2
+  pub w3 : position ≡ word f i 3
+  pub w4 : target ≡ word f i 4
+  pub view : edgesAt f i ≡ record { functor = functor; position = position; target = target } ∷ edgesAt f next
+  pub to-next : Onward f edges i next
+
+pub edge-at : {f : List ℕ} {i next functor position target : ℕ} {r : Record} → Formed f → r ≡ recordAt f i → r ≡ Edge next functor position target
+    → EdgeAt f i next functor position target
+unfolding edgesAt all-rows real
+edge-at {f} {i} {next} {functor} {position} {target} F e g =
+    let h = known {k = kEdge} F refl e (ap kindIn g) in
+    let e1 : next ≡ word f i 1 = cc (h .same) in
+    let e2 : functor ≡ word f i 2 = cc (h .same) in
+    let e3 : position ≡ word f i 3 = cc (h .same) in
+    let e4 : target ≡ word f i 4 = cc (h .same) in
+    record {
+      some = h .some;
+      below = h .below;
+      w1 = e1;
+      w2 = e2;
+      w3 = e3;
+      w4 = e4;
+      view = rw (e1, e2, e3, e4) (Steps.edge-step (word f) (recordCount f) (F .form) i (h .some) (h .below) (h .kind));
+      to-next = rw e1 (h .next);
+    }
+
+-- ---- the header, record 0
+pub record HeaderAt (f : List ℕ) (ps ts count : ℕ) : Type 0 where
+  pub w1 : ps ≡ word f 0 1
+  pub w2 : ts ≡ word f 0 2
+  pub w3 : count ≡ recordCount f
+  pub to-procedures : Stands f procedures ps
+  pub to-types : Stands f types ts
+  pub all-procedures : program f .procedures ≡ proceduresAt f ps
+  pub all-types : program f .types ≡ typesAt f ts
+
+pub header-at : {f : List ℕ} {ps ts count : ℕ} {r : Record} → Formed f → r ≡ recordAt f 0 → r ≡ Header ps ts count → HeaderAt f ps ts count
+unfolding recordCount
+header-at {f} {ps} {ts} {count} F e g =
+    let s = same-read f 0 e (header-kind f (F .header) (F .form)) in
+    let e1 : ps ≡ word f 0 1 = cc in
+    let e2 : ts ≡ word f 0 2 = cc in
+    let e3 : count ≡ word f 0 3 = cc in
+    record {
+      w1 = e1;
+      w2 = e2;
+      w3 = e3;
+      to-procedures = rw e1 (procedures-stand F);
+      to-types = rw e2 (types-stand F);
+      all-procedures = rw e1 (program-procedures F);
+      all-types = rw e2 (program-types F);
+    }

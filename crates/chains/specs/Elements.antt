@@ -1,0 +1,106 @@
+-- What stands in a chain is one element for each of its records: the element of record j, in words of j. Record 0, "none", has the element that
+-- the definitions take where there is none.
+use Prim.Native.Nat.{ℕ, zero, suc, _<_}
+use native.Mathlib.Omega.{arith}
+use native.Mathlib.Decide.{ℕ-discrete}
+use mathlib.Core.Path.{_≡_, refl, ap, sym, _∙_}
+use mathlib.Core.List.{List, [], _∷_, map}
+use mathlib.Core.Bool.{true}
+use lib.ListN.{length, length-map}
+use Rattle.language.specs.Lists.{nth, nth1}
+use Rattle.language.specs.File.{Chain, types, functors, procedures, variables, regions, edges, goals, arguments, word}
+use Rattle.language.specs.Program.{four, Functor, Variable, Edge, Region, Procedure}
+use Rattle.layout.specs.Chains.{real}
+use Rattle.layout.specs.Steps.{procedureOf}
+use Rattle.chains.specs.Formed.{Formed, Stands, stands-none, Onward, typesAt, functorsAt, proceduresAt, variablesAt, regionsAt, edgesAt, goalsAt, argumentsAt, types-none, functors-none, procedures-none, variables-none, regions-none, edges-none, arguments-none}
+use Rattle.chains.specs.Declared.{type-at, functor-at, procedure-at, variable-at, region-at, edge-at}
+use Rattle.chains.specs.Parts.{argument-at}
+use Rattle.chains.specs.Is.{type-is, functor-is, procedure-is, variable-is, region-is, edge-is, argument-is}
+use Rattle.chains.specs.Fields.{fieldOf, field-none, field-some}
+use Rattle.chains.specs.Records.{chainRecords, records-none, records-step, along, view-map}
+
+-- ---- the element of record j
+module _ (f : List ℕ) (j : ℕ) where
+  abbrev pub functorsOfType : List Functor
+  functorsOfType = functorsAt f (fieldOf f j 2)
+
+  abbrev pub functorFrom : Functor
+  functorFrom = record { arity = fieldOf f j 2; argumentTypes = four (fieldOf f j 3) (fieldOf f j 4) (fieldOf f j 5) (fieldOf f j 6) }
+
+  abbrev pub variableFrom : Variable
+  variableFrom = record { mode = fieldOf f j 2; type = fieldOf f j 3; region = fieldOf f j 4 }
+
+  abbrev pub edgeFrom : Edge
+  edgeFrom = record { functor = fieldOf f j 2; position = fieldOf f j 3; target = fieldOf f j 4 }
+
+  abbrev pub regionFrom : Region
+  regionFrom = record { type = fieldOf f j 2; class = fieldOf f j 3; edges = edgesAt f (fieldOf f j 4) }
+
+  abbrev pub procedureFrom : Procedure
+  procedureFrom = procedureOf (variablesAt f (fieldOf f j 2)) (regionsAt f (fieldOf f j 3)) (goalsAt f (fieldOf f j 4))
+
+-- ---- the chains
+module _ {f : List ℕ} (F : Formed f) (i : ℕ) where
+  pub types-map : Stands f types i → typesAt f i ≡ map (functorsOfType f) (chainRecords f i)
+  unfolding real
+  types-map =
+      view-map F types refl (typesAt f) (functorsOfType f) (types-none f refl)
+      (λ j s z. rw (← field-some f j 2 z) (type-at F refl (type-is s z) .view)) i
+
+  pub functors-map : Stands f functors i → functorsAt f i ≡ map (functorFrom f) (chainRecords f i)
+  unfolding real
+  functors-map =
+      view-map F functors refl (functorsAt f) (functorFrom f) (functors-none f refl)
+      (λ j s z. rw (← field-some f j 2 z, ← field-some f j 3 z, ← field-some f j 4 z, ← field-some f j 5 z, ← field-some f j 6 z) (functor-at F refl (functor-is s z) .view)) i
+
+  pub variables-map : Stands f variables i → variablesAt f i ≡ map (variableFrom f) (chainRecords f i)
+  unfolding real
+  variables-map =
+      view-map F variables refl (variablesAt f) (variableFrom f) (variables-none f refl)
+      (λ j s z. rw (← field-some f j 2 z, ← field-some f j 3 z, ← field-some f j 4 z) (variable-at F refl (variable-is s z) .view)) i
+
+  pub edges-map : Stands f edges i → edgesAt f i ≡ map (edgeFrom f) (chainRecords f i)
+  unfolding real
+  edges-map =
+      view-map F edges refl (edgesAt f) (edgeFrom f) (edges-none f refl)
+      (λ j s z. rw (← field-some f j 2 z, ← field-some f j 3 z, ← field-some f j 4 z) (edge-at F refl (edge-is s z) .view)) i
+
+  pub regions-map : Stands f regions i → regionsAt f i ≡ map (regionFrom f) (chainRecords f i)
+  unfolding real
+  regions-map =
+      view-map F regions refl (regionsAt f) (regionFrom f) (regions-none f refl)
+      (λ j s z. rw (← field-some f j 2 z, ← field-some f j 3 z, ← field-some f j 4 z) (region-at F refl (region-is s z) .view)) i
+
+  pub procedures-map : Stands f procedures i → proceduresAt f i ≡ map (procedureFrom f) (chainRecords f i)
+  unfolding real
+  procedures-map =
+      view-map F procedures refl (proceduresAt f) (procedureFrom f) (procedures-none f refl)
+      (λ j s z. rw (← field-some f j 2 z, ← field-some f j 3 z, ← field-some f j 4 z) (procedure-at F refl (procedure-is s z) .view)) i
+
+  pub arguments-map : Stands f arguments i → argumentsAt f i ≡ map (λ j. fieldOf f j 2) (chainRecords f i)
+  unfolding real
+  arguments-map =
+      view-map F arguments refl (argumentsAt f) (λ j. fieldOf f j 2) (arguments-none f refl)
+      (λ j s z. rw (← field-some f j 2 z) (argument-at F refl (argument-is s z) .view)) i
+
+  -- ---- as many as records
+  pub types-count : Stands f types i → length (typesAt f i) ≡ length (chainRecords f i)
+  types-count s = ap length (types-map s) ∙ length-map (chainRecords f i) (functorsOfType f)
+
+  pub functors-count : Stands f functors i → length (functorsAt f i) ≡ length (chainRecords f i)
+  functors-count s = ap length (functors-map s) ∙ length-map (chainRecords f i) (functorFrom f)
+
+  pub variables-count : Stands f variables i → length (variablesAt f i) ≡ length (chainRecords f i)
+  variables-count s = ap length (variables-map s) ∙ length-map (chainRecords f i) (variableFrom f)
+
+  pub edges-count : Stands f edges i → length (edgesAt f i) ≡ length (chainRecords f i)
+  edges-count s = ap length (edges-map s) ∙ length-map (chainRecords f i) (edgeFrom f)
+
+  pub regions-count : Stands f regions i → length (regionsAt f i) ≡ length (chainRecords f i)
+  regions-count s = ap length (regions-map s) ∙ length-map (chainRecords f i) (regionFrom f)
+
+  pub procedures-count : Stands f procedures i → length (proceduresAt f i) ≡ length (chainRecords f i)
+  procedures-count s = ap length (procedures-map s) ∙ length-map (chainRecords f i) (procedureFrom f)
+
+  pub arguments-count : Stands f arguments i → length (argumentsAt f i) ≡ length (chainRecords f i)
+  arguments-count s = ap length (arguments-map s) ∙ length-map (chainRecords f i) (λ j. fieldOf f j 2)

@@ -1,0 +1,13 @@
+pub mod Formed
+pub mod Kinds
+pub mod Declared
+pub mod Goals
+pub mod Parts
+pub mod Is
+pub mod Fields
+pub mod Records
+pub mod Tables
+pub mod Elements
+pub mod Reached
+pub mod Lookups
+pub mod Example

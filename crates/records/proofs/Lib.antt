@@ -1,0 +1,5 @@
+mod Decoding
+mod Steps
+mod Loops
+mod Stages
+pub mod Told

@@ -1,0 +1,194 @@
+-- The invariants of number 2's loops: what is still ahead gives what is asked of the whole. Assumes nothing.
+use Prim.Native.Nat.{ℕ, suc, _+_, _-_, _/_, _%_, _≤_, _<_}
+use native.Mathlib.Omega.{arith}
+use mathlib.Core.Path.{_≡_, refl, sym, ap, _∙_}
+use mathlib.Core.Bool.{Bool, true, false, false≢true}
+use mathlib.Core.List.{List, [], _∷_}
+use lib.Dec.{eqb}
+use lib.ListN.{length, getD, replicate}
+use borrow.Author.Tests.{eq-eqb, ne-eqb}
+use Rattle.sets.specs.Tests.{_&_}
+use Rattle.language.specs.Lists.{all, upFrom}
+use Rattle.language.specs.File.{kLiteral, kSum, kAssign, kConstruct, kSwitch, kIf, kCall, kPrint, kCreate, kRemove, Kind, kNone, kHeader, kType, kFunctor, kProcedure, kVariable, kRegion, kEdge, kArm, kArgument, kGoal, Use, row, rowIn, padded, kindOf, kindAt, wordsOk, recordOk, leading, references, referencesOf, onceIn, formOk}
+use Rattle.records.specs.Lists.{all-same, from-here, from-end, tally, tally-append, tally-once}
+use Rattle.records.specs.Table.{digit, pack, packed, uses, pack-first, pack-rest}
+use Rattle.records.specs.Form.{Passed, useOk, leads, words-cons, leading-cons, record-words, record-leading}
+
+seven : (k : Kind) → length (uses (row k)) ≡ 7
+unfolding uses row rowIn padded
+seven kNone = refl
+seven kHeader = refl
+seven kType = refl
+seven kFunctor = refl
+seven kProcedure = refl
+seven kVariable = refl
+seven kRegion = refl
+seven kEdge = refl
+seven kArm = refl
+seven kArgument = refl
+seven (kGoal kLiteral) = refl
+seven (kGoal kSum) = refl
+seven (kGoal kAssign) = refl
+seven (kGoal kConstruct) = refl
+seven (kGoal kSwitch) = refl
+seven (kGoal kIf) = refl
+seven (kGoal kCall) = refl
+seven (kGoal kPrint) = refl
+seven (kGoal kCreate) = refl
+seven (kGoal kRemove) = refl
+
+and-first : {a b : Bool} → a ≡ true → (a & b) ≡ b
+unfolding _&_
+and-first e = rw e
+
+and-none : {a : Bool} (b : Bool) → a ≡ false → (a & b) ≡ false
+unfolding _&_
+and-none b e = rw e
+
+-- ---- the words of a record, from word k on
+module _ (W : ℕ → ℕ → ℕ) (n i : ℕ) where
+  pub record Words (seen₀ seen : List ℕ) (digits k : ℕ) : Type 0 where
+    pub ahead : List Use
+    pub many : k + length ahead ≡ 8
+    pub packs : digits ≡ pack ahead
+    pub same : length seen ≡ length seen₀
+    pub says : recordOk W n i ≡ wordsOk W n i k ahead
+    pub counts : tally seen (leading W n i k ahead) ≡ tally seen₀ (references W n i)
+
+  pub words-first : (seen : List ℕ) {w p : ℕ} → w ≡ W i 0 → p ≡ packed (row (kindOf w)) → Words seen seen (p / 16) 1
+  unfolding packed kindAt
+  words-first seen {w = w} e h =
+      record {
+        ahead = uses (row (kindAt W n i));
+        many = omega (arith, seven (kindAt W n i));
+        packs = ap (λ x. x / 16) (h ∙ ap (λ x. packed (row (kindOf x))) e) ∙ pack-rest _ _;
+        same = refl;
+        says = record-words W n i;
+        counts = ap (tally seen) (sym (record-leading W n i));
+      }
+
+  -- what word k says of itself
+  abbrev pub Said : ℕ → ℕ → Bool → List ℕ → List ℕ → Type 0
+  Said k d b seen after = (u : Use) → d ≡ digit u → Passed b (useOk W n i k u) (leads W n i k u) seen after
+
+  module _ {seen₀ seen after : List ℕ} {digits k : ℕ} {b : Bool} (h : Words seen₀ seen digits k) (l : k < 8) (s : Said k (digits % 16) b seen after) where
+    pub words-next : b ≡ true → length after ≡ length seen → Words seen₀ after (digits / 16) (k + 1)
+    words-next t m = go (h .ahead) (h .many) (h .packs) (h .says) (h .counts)
+      where
+        go : (us : List Use) → k + length us ≡ 8 → digits ≡ pack us → recordOk W n i ≡ wordsOk W n i k us → tally seen (leading W n i k us) ≡ tally seen₀ (references W n i) → Words seen₀ after (digits / 16) (k + 1)
+        go [] e p q r = absurd (omega arith)
+        go (u ∷ us) e p q r =
+            let g : suc k ≡ k + 1 = omega arith in
+            let w = s u (ap (λ x. x % 16) p ∙ pack-first u us) in
+            record {
+              ahead = us;
+              many = omega arith;
+              packs = ap (λ x. x / 16) p ∙ pack-rest u us;
+              same = m ∙ h .same;
+              says = q ∙ words-cons W n i k u us ∙ and-first (sym (w .says) ∙ t) ∙ ap (λ j. wordsOk W n i j us) g;
+              counts =
+                  ap (λ a. tally a (leading W n i (k + 1) us)) (w .counts t) ∙ ap (λ j. tally (tally seen (leads W n i k u)) (leading W n i j us)) (sym g)
+                  ∙ sym (tally-append seen (leads W n i k u) (leading W n i (suc k) us)) ∙ ap (tally seen) (sym (leading-cons W n i k u us)) ∙ r;
+            }
+
+    pub words-refused : b ≡ false → Passed false (recordOk W n i) (references W n i) seen₀ after
+    words-refused t = record { says = go (h .ahead) (h .many) (h .packs) (h .says); counts = λ e. absurd (false≢true e) }
+      where
+        go : (us : List Use) → k + length us ≡ 8 → digits ≡ pack us → recordOk W n i ≡ wordsOk W n i k us → false ≡ recordOk W n i
+        go [] e p q = absurd (omega arith)
+        go (u ∷ us) e p q =
+            let w = s u (ap (λ x. x % 16) p ∙ pack-first u us) in
+            sym (q ∙ words-cons W n i k u us ∙ and-none _ (sym (w .says) ∙ t))
+
+  pub words-last : {seen₀ seen : List ℕ} {digits k : ℕ} → Words seen₀ seen digits k → 8 ≤ k → Passed true (recordOk W n i) (references W n i) seen₀ seen
+  unfolding wordsOk leading tally
+  words-last {seen₀ = seen₀} {seen = seen} {k = k} h l = go (h .ahead) (h .many) (h .says) (h .counts)
+    where
+      go : (us : List Use) → k + length us ≡ 8 → recordOk W n i ≡ wordsOk W n i k us → tally seen (leading W n i k us) ≡ tally seen₀ (references W n i) → Passed true (recordOk W n i) (references W n i) seen₀ seen
+      go [] e q r = record { says = sym q; counts = λ _. r }
+      go (u ∷ us) e q r = absurd (omega arith)
+
+-- ---- the records from i on
+module _ (W : ℕ → ℕ → ℕ) (n : ℕ) where
+  pub record Records (seen₀ seen : List ℕ) (i : ℕ) : Type 0 where
+    pub same : length seen ≡ length seen₀
+    pub says : all (recordOk W n) (upFrom 0 n) ≡ all (recordOk W n) (upFrom i (n - i))
+    pub counts : tally seen (referencesOf W n (upFrom i (n - i))) ≡ tally seen₀ (referencesOf W n (upFrom 0 n))
+
+  -- every record is in order, and all that they refer to is counted
+  abbrev pub Formed : Bool → List ℕ → List ℕ → Type 0
+  Formed b seen₀ seen = Passed b (all (recordOk W n) (upFrom 0 n)) (referencesOf W n (upFrom 0 n)) seen₀ seen
+
+  pub records-first : (seen : List ℕ) → Records seen seen 0
+  records-first seen =
+      let e : n ≡ n - 0 = omega arith in
+      record {
+        same = refl;
+        says = ap (λ m. all (recordOk W n) (upFrom 0 m)) e;
+        counts = ap (λ m. tally seen (referencesOf W n (upFrom 0 m))) (sym e);
+      }
+
+  module _ {seen₀ seen after : List ℕ} {i : ℕ} {b : Bool} (h : Records seen₀ seen i) (l : i < n) (s : Passed b (recordOk W n i) (references W n i) seen after) where
+    pub records-next : b ≡ true → length after ≡ length seen → Records seen₀ after (i + 1)
+    unfolding all referencesOf
+    records-next t m =
+        record {
+          same = m ∙ h .same;
+          says = h .says ∙ ap (all (recordOk W n)) (from-here n i l) ∙ and-first (sym (s .says) ∙ t);
+          counts =
+              ap (λ a. tally a (referencesOf W n (upFrom (i + 1) (n - (i + 1))))) (s .counts t)
+              ∙ sym (tally-append seen (references W n i) (referencesOf W n (upFrom (i + 1) (n - (i + 1)))))
+              ∙ ap (λ js. tally seen (referencesOf W n js)) (sym (from-here n i l)) ∙ h .counts;
+        }
+
+    pub records-refused : b ≡ false → Formed false seen₀ after
+    unfolding all
+    records-refused t =
+        record {
+          says = sym (h .says ∙ ap (all (recordOk W n)) (from-here n i l) ∙ and-none _ (sym (s .says) ∙ t));
+          counts = λ e. absurd (false≢true e);
+        }
+
+  pub records-last : {seen₀ seen : List ℕ} {i : ℕ} → Records seen₀ seen i → n ≤ i → Formed true seen₀ seen
+  unfolding all referencesOf tally
+  records-last {seen = seen} {i = i} h l =
+      record {
+        says = sym (h .says ∙ ap (all (recordOk W n)) (from-end n i l));
+        counts = λ _. ap (λ js. tally seen (referencesOf W n js)) (sym (from-end n i l)) ∙ h .counts;
+      }
+
+-- ---- the counts from j on
+module _ (seen : List ℕ) (n : ℕ) where
+  abbrev pub one-at : ℕ → Bool
+  one-at j = eqb (getD seen j 0) 1
+
+  -- those from j on decide
+  pub record Once (j : ℕ) : Type 0 where
+    pub says : all one-at (upFrom 1 (n - 1)) ≡ all one-at (upFrom j (n - j))
+
+  pub once-first : Once 1
+  once-first = record { says = refl }
+
+  pub once-next : {j : ℕ} → Once j → j < n → getD seen j 0 ≡ 1 → Once (j + 1)
+  unfolding all
+  once-next {j = j} h l e = record { says = h .says ∙ ap (all one-at) (from-here n j l) ∙ and-first (eq-eqb _ _ e) }
+
+  pub once-refused : {j : ℕ} → Once j → j < n → (getD seen j 0 ≡ 1 → ⊥) → false ≡ all one-at (upFrom 1 (n - 1))
+  unfolding all
+  once-refused {j = j} h l e = sym (h .says ∙ ap (all one-at) (from-here n j l) ∙ and-none _ (ne-eqb _ _ e))
+
+  pub once-last : {j : ℕ} → Once j → n ≤ j → true ≡ all one-at (upFrom 1 (n - 1))
+  unfolding all
+  once-last {j = j} h l = sym (h .says ∙ ap (all one-at) (from-end n j l))
+
+-- ---- number 2
+module _ (W : ℕ → ℕ → ℕ) (n : ℕ) {b : Bool} {seen₀ seen : List ℕ} (s : Formed W n b seen₀ seen) where
+  pub form-refused : b ≡ false → false ≡ formOk W n
+  unfolding formOk
+  form-refused t = sym (and-none _ (sym (s .says) ∙ t))
+
+  pub form-counted : b ≡ true → seen₀ ≡ replicate 4096 0 → n ≤ 4096 → all (λ j. eqb (getD seen j 0) 1) (upFrom 1 (n - 1)) ≡ formOk W n
+  unfolding formOk onceIn
+  form-counted t z l =
+      all-same (n - 1) 1 _ _ (λ j p q. ap (λ a. eqb (getD a j 0) 1) (s .counts t ∙ ap (λ a. tally a (referencesOf W n (upFrom 0 n))) z) ∙ tally-once 4096 j _ (omega arith))
+      ∙ sym (and-first (sym (s .says) ∙ t))

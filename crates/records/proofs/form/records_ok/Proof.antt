@@ -1,0 +1,59 @@
+-- `records_ok` meets its contract. Invariant: the records still ahead decide. Assumes nothing.
+use Prim.Native.Nat.{_-_}
+use native.Mathlib.Omega.{arith}
+use mathlib.Core.Path.{_∙_}
+use borrow.Author.Needs.{needs}
+use borrow.Author.Tests.{not-true, not-false}
+use Rattle.language.specs.File.{word}
+use Rattle.records.proofs.Loops.{Records, records-first, records-next, records-refused, records-last}
+use Rattle.records.proofs.form.records_ok.Statement.{statement}
+use Rattle.records.proofs.form.records_ok.Tie as tie
+
+abbrev Inv-loop : tie.InvT-loop
+Inv-loop rows file seen₀ n i₀ seen i = Records (word file) n seen₀ seen i
+
+abbrev μ-loop : tie.MeasureT-loop
+μ-loop rows file seen₀ n i₀ seen i = n - i
+
+loop-holds : tie.Need-loop-holds Inv-loop μ-loop
+loop-holds c = records-first _ _ _
+
+record-ok-requires : tie.Need-record-ok-requires Inv-loop μ-loop
+record-ok-requires c κs = search needs
+
+same-length : tie.Need-same-length Inv-loop μ-loop
+same-length c = c .before .before .before .record-ok .kept .1 .1 .0 ∙ c .before .before .before .before .before .before .loop .inv .same
+
+returns : tie.Need-returns Inv-loop μ-loop
+returns c = records-refused _ _ (c .before .before .before .before .before .before .loop .inv) (omega arith) (c .before .before .before .record-ok .ensures) (not-true _ (c .if1 .taken))
+
+add-i : tie.Need-add-i Inv-loop μ-loop
+add-i c = search needs
+
+loop-less : tie.Need-loop-less Inv-loop μ-loop
+loop-less c = search needs
+
+loop-again : tie.Need-loop-again Inv-loop μ-loop
+loop-again c = records-next _ _ (c .before .before .before .before .before .before .loop .inv) (omega arith) (c .before .before .before .record-ok .ensures) (not-false _ (c .if1 .left)) (c .before .before .before .record-ok .kept .1 .1 .0)
+
+same-length-2 : tie.Need-same-length-2 Inv-loop μ-loop
+same-length-2 c = c .before .loop .inv .same
+
+returns-2 : tie.Need-returns-2 Inv-loop μ-loop
+returns-2 c = records-last _ _ (c .before .loop .inv) (omega arith)
+
+pub records-ok-spec : {M : Type 1} → statement M
+records-ok-spec =
+    tie.close
+    (tie.spec
+    Inv-loop
+    μ-loop
+    loop-holds
+    record-ok-requires
+    same-length
+    returns
+    add-i
+    loop-less
+    loop-again
+    same-length-2
+    returns-2)

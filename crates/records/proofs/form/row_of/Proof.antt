@@ -1,0 +1,28 @@
+-- `row_of` meets its contract: the table at a kind's number, and at any number above. Assumes nothing.
+use native.Mathlib.Omega.{arith}
+use mathlib.Core.Path.{ap, _∙_}
+use lib.ListN.{getD}
+use Rattle.records.specs.Table.{row-at, row-past}
+use borrow.Author.Needs.{needs}
+use Rattle.records.proofs.form.row_of.Statement.{statement}
+use Rattle.records.proofs.form.row_of.Tie as tie
+
+mul-result : tie.Need-mul-result
+mul-result c = search needs
+
+element-copy-out-result : tie.Need-element-copy-out-result
+element-copy-out-result c = search needs
+
+element-copy-out-result-2 : tie.Need-element-copy-out-result-2
+element-copy-out-result-2 c = search needs
+
+returns : tie.Need-returns
+returns c = ap (λ xs. getD xs (c .before .before .args .kind) 0) (c .before .before .pre) ∙ row-at (c .before .before .args .kind) (omega arith)
+
+returns-2 : tie.Need-returns-2
+returns-2 c = ap (λ xs. getD xs 0 0) (c .before .before .pre) ∙ row-past (c .before .before .args .kind) (omega arith)
+
+pub row-of-spec : {M : Type 1} → statement M
+row-of-spec =
+    tie.close
+    (tie.spec mul-result element-copy-out-result element-copy-out-result-2 returns returns-2)

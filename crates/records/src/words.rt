@@ -1,0 +1,62 @@
+// Words of a file, and number 1.
+ghost use mathlib.Core.Path.{_≡_};
+ghost use Prim.Native.Nat.{_<_};
+ghost use lib.ListN.{getD};
+ghost use Rattle.language.specs.File.{word, headerOk};
+
+fn wide(x: u8) -> usize
+    ensures { λ r. ⌜ (r ≡ x) × (r < 256) ⌝ }
+{
+    x as usize
+}
+
+// Word k of record i; what is past the end counts as 0.
+pub fn word(file: &[u8], i: usize, k: usize) -> usize
+    requires { ⌜ k < 8 ⌝ }
+    ensures { λ r. ⌜ (r ≡ word (now (file .entry)) i k) × (r < 65536) ⌝ }
+{
+    if i < file.len() / 16 {
+        let at = 16 * i + 2 * k;
+        let low = wide(file[at]);
+        let high = wide(file[at + 1]);
+        return low + 256 * high;
+    }
+    last_word(file, i, k)
+}
+
+// The same where the file ends in record i, or before it.
+fn last_word(file: &[u8], i: usize, k: usize) -> usize
+    requires { ⌜ k < 8 ⌝ }
+    ensures { λ r. ⌜ (r ≡ word (now (file .entry)) i k) × (r < 65536) ⌝ }
+{
+    if i > file.len() / 16 {
+        return 0;
+    }
+    let at = 16 * i + 2 * k;
+    let low = byte(file, at);
+    let high = byte(file, at + 1);
+    low + 256 * high
+}
+
+// The byte at a place; 0 past the end.
+fn byte(file: &[u8], at: usize) -> usize
+    ensures { λ r. ⌜ (r ≡ getD (now (file .entry)) at 0) × (r < 256) ⌝ }
+{
+    if at < file.len() { wide(file[at]) } else { 0 }
+}
+
+// Number 1.
+pub fn header_ok(file: &[u8]) -> bool
+    ensures { λ r. ⌜ r ≡ headerOk (now (file .entry)) ⌝ }
+{
+    if file.len() < 16 {
+        return false;
+    }
+    if file.len() > 65536 {
+        return false;
+    }
+    if file.len() != 16 * word(file, 0, 3) {
+        return false;
+    }
+    word(file, 0, 0) == 1
+}
