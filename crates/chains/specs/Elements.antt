@@ -1,23 +1,19 @@
 -- What stands in a chain is one element for each of its records: the element of record j, in words of j. Record 0, "none", has the element that
 -- the definitions take where there is none.
-use Prim.Native.Nat.{ℕ, zero, suc, _<_}
-use native.Mathlib.Omega.{arith}
-use native.Mathlib.Decide.{ℕ-discrete}
-use mathlib.Core.Path.{_≡_, refl, ap, sym, _∙_}
-use mathlib.Core.List.{List, [], _∷_, map}
-use mathlib.Core.Bool.{true}
+use Prim.Native.Nat.{ℕ}
+use mathlib.Core.Path.{_≡_, refl, ap, _∙_}
+use mathlib.Core.List.{List, map}
 use lib.ListN.{length, length-map}
-use Rattle.language.specs.Lists.{nth, nth1}
-use Rattle.language.specs.File.{Chain, types, functors, procedures, variables, regions, edges, goals, arguments, word}
+use Rattle.language.specs.File.{types, functors, procedures, variables, regions, edges, arguments}
 use Rattle.language.specs.Program.{four, Functor, Variable, Edge, Region, Procedure}
 use Rattle.layout.specs.Chains.{real}
 use Rattle.layout.specs.Steps.{procedureOf}
-use Rattle.chains.specs.Formed.{Formed, Stands, stands-none, Onward, typesAt, functorsAt, proceduresAt, variablesAt, regionsAt, edgesAt, goalsAt, argumentsAt, types-none, functors-none, procedures-none, variables-none, regions-none, edges-none, arguments-none}
+use Rattle.chains.specs.Formed.{Formed, Stands, typesAt, functorsAt, proceduresAt, variablesAt, regionsAt, edgesAt, goalsAt, argumentsAt, types-none, functors-none, procedures-none, variables-none, regions-none, edges-none, arguments-none}
 use Rattle.chains.specs.Declared.{type-at, functor-at, procedure-at, variable-at, region-at, edge-at}
 use Rattle.chains.specs.Parts.{argument-at}
 use Rattle.chains.specs.Is.{type-is, functor-is, procedure-is, variable-is, region-is, edge-is, argument-is}
-use Rattle.chains.specs.Fields.{fieldOf, field-none, field-some}
-use Rattle.chains.specs.Records.{chainRecords, records-none, records-step, along, view-map}
+use Rattle.chains.specs.Fields.{fieldOf, field-some}
+use Rattle.chains.specs.Records.{chainRecords, view-map}
 
 -- ---- the element of record j
 module _ (f : List ℕ) (j : ℕ) where

@@ -1,22 +1,26 @@
 -- The premise that every walk over the records carries: the file passes numbers 1 and 2. What stands at a record then, which records may
 -- start a chain, and the measure that falls along every reference.
 --
--- How to use it in a loop along a chain (the crate's own `in_variables` is a complete example, proofs/in_variables/Proof.antt):
---   requires `Formed (now file)` and `Stands (now file) variables start`;
---   invariant `Stands file variables i`, and "what is counted so far and the rest from i make the whole" over `variablesAt file i`;
---   measure `ahead file i`;
---   at the end of the loop `i ≡ 0`: `variables-none`;
---   in a turn: the laws of the modules Declared, Goals and Is.
+-- How to use it (src/example.rt has a loop along a chain, `in_variables`, and a walk over goals, `quiet_goals`; copy their proof files):
+--   `requires` Formed (now file) and Stands (now file) variables start;
+--   a loop's invariant: Stands file variables i, and "what is done so far and the rest from i make the whole" over `variablesAt file i`; where a
+--   count must fit, also n + ahead file i < 4096 (`ahead-below`); in a cycle of calls also ahead file i ≤ ahead file start;
+--   the measure: `ahead file i`; of a cycle 2 * ahead + 1 for a chain, 2 * ahead for the goal at record i;
+--   a turn: `variable-at` and its like (modules Declared, Goals, Parts) give the view, the Stands of each reference and that the measure falls;
+--   the `else` that is never met: `variable-else` and its like (module Is); the end, i ≡ 0: `variables-none` and its like, below.
 use Prim.Native.Nat.{ℕ, zero, suc, _-_, _*_, _≤_, _<_}
 use native.Mathlib.Omega.{arith}
-use mathlib.Core.Path.{_≡_, refl, ap, sym, _∙_}
+use mathlib.Core.Path.{_≡_, refl, sym, _∙_}
 use mathlib.Core.List.{List, []}
 use mathlib.Core.Bool.{true}
 use mathlib.Core.Logic.{_⊎_, inl, inr}
 use lib.ListN.{length}
+use Rattle.language.specs.declared.Verdict.{Verdict}
+use Rattle.language.specs.declared.Verdict.the-variants.{Accepted}
 use Rattle.language.specs.File.{Chain, types, procedures, row, kindOf, word, recordCount, headerOk, formOk}
 use Rattle.language.specs.Program.{Functor, Variable, Edge, Region, print, Goals, done, _then_, Goal, step, Arms, noArms, Procedure}
 use Rattle.language.specs.Answers.{program}
+use Rattle.records.specs.Verdicts.{formVerdict, form-in}
 use Rattle.layout.specs.Passing.{Starts, Leads}
 use Rattle.layout.specs.Files.{file-length, count-range, types-lead, procedures-lead}
 use Rattle.layout.specs.Steps
@@ -25,6 +29,10 @@ use Rattle.layout.specs.Steps
 pub record Formed (f : List ℕ) : Type 0 where
   pub header : headerOk f ≡ true
   pub form : formOk (word f) (recordCount f) ≡ true
+
+-- `check_form` accepted the file
+pub formed : {f : List ℕ} {r : Verdict} → r ≡ formVerdict f → r ≡ Accepted → Formed f
+formed {f} e a = let h = form-in f (sym e ∙ a) in record { header = h .0; form = h .1 }
 
 pub record Counted (f : List ℕ) : Type 0 where
   pub some : 0 < recordCount f

@@ -1,6 +1,7 @@
 -- A record of a chain is one of that chain's constructors, so the `else` of a `let .. else`, or the `_` of a `match`, is never met.
 -- There: `absurd (variable-else S z (c .. .record-at .ensures) (c .match .keys2))`, with S the invariant's `Stands` and z : i ≡ 0 → ⊥, the loop's
 -- test; of a `match` with an arm for each goal `goal-else`; of any other `never`, the keys written out.
+-- Where a loop reads w1 itself and another function the record: `chain-next`, and for goals `goals-step`.
 use Prim.Native.Nat.{ℕ, _<_}
 use native.Mathlib.Omega.{arith}
 use mathlib.Core.Path.{_≡_, refl, ap, sym, subst, _∙_}
@@ -12,7 +13,7 @@ use mir.Val.{hasKey}
 use mir.Facts.{and-yes, or-yes}
 use denote.Enum.Declared.{tagOf}
 use package.types.Run.{OneOf, miss}
-use Rattle.language.specs.File.{GoalKind, kLiteral, kSum, kAssign, kConstruct, kSwitch, kIf, kCall, kPrint, kCreate, kRemove, Kind, kNone, kHeader, kType, kFunctor, kProcedure, kVariable, kRegion, kEdge, kArm, kArgument, kGoal, Chain, nowhere, types, functors, procedures, variables, regions, edges, goals, arms, arguments, row, kindOf, word, recordCount}
+use Rattle.language.specs.File.{GoalKind, kLiteral, kSum, kAssign, kConstruct, kSwitch, kIf, kCall, kPrint, kCreate, kRemove, Kind, kGoal, Chain, nowhere, types, functors, procedures, variables, regions, edges, goals, arms, arguments, row, kindOf, word, recordCount}
 use Rattle.language.specs.Program.{Goals, _then_, Goal}
 use Rattle.language.specs.Reading.{inFront}
 use Rattle.layout.specs.Chains.{InChain, none-in, header-in, type-in, functor-in, procedure-in, variable-in, region-in, edge-in, arm-in, argument-in, goal-in, real, next-stays, starts-kind, types-kind, functors-kind, procedures-kind, variables-kind, regions-kind, edges-kind, arms-kind, arguments-kind, goals-kind}
@@ -22,7 +23,7 @@ use Rattle.layout.specs.Steps
 use Rattle.records.proofs.Record.{the-type}
 use Rattle.records.specs.Records.{recordAs, recordAt}
 use Rattle.records.specs.declared.Record.{Record}
-use Rattle.records.specs.declared.Record.the-variants.{Header, «Type» as TypeOf, Functor, Procedure, Variable, Region, Edge, Literal, Sum, Assign, Construct, Switch, Arm, If, Call, Argument, Print, Create, Remove, Other}
+use Rattle.records.specs.declared.Record.the-variants.{Header, «Type» as TypeOf, Functor, Procedure, Variable, Region, Edge, Arm, Argument}
 use Rattle.chains.specs.Formed.{Formed, Stands, stands-starts, Onward, leads-onward, goalsAt, firstGoal, goalAt}
 use Rattle.chains.specs.Kinds.{same-read}
 

@@ -1,7 +1,7 @@
 -- A decoded record and its kind: what is known of record i once the code has read it and knows its constructor.
 use Prim.Native.Nat.{ℕ, _<_, _≤_}
 use native.Mathlib.Omega.{arith}
-use native.Mathlib.Decide.{decLe, decLt}
+use native.Mathlib.Decide.{decLt}
 use mathlib.Core.Path.{_≡_, refl, ap, sym, _∙_}
 use mathlib.Core.List.{List}
 use mathlib.Core.Bool.{true, false≢true}
@@ -15,7 +15,7 @@ use Rattle.records.specs.Words.{word-past}
 use Rattle.records.specs.Records.{recordAs, recordAt}
 use Rattle.records.specs.declared.Record.{Record}
 use Rattle.records.specs.declared.Record.the-variants.{Header, «Type» as TypeOf, Functor, Procedure, Variable, Region, Edge, Literal, Sum, Assign, Construct, Switch, Arm, If, Call, Argument, Print, Create, Remove, Other}
-use Rattle.chains.specs.Formed.{Formed, counted, Stands, Onward, leads-onward}
+use Rattle.chains.specs.Formed.{Formed, counted, Onward, leads-onward}
 
 abbrev pub kindIn : Record → Kind
 kindIn (Header p t n) = kHeader

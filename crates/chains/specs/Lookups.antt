@@ -3,20 +3,20 @@
 -- lends the tables on: `requires { ⌜ VariableTable (now file) S (now table) ⌝ }`. There r = entry(table, x) and w = field(file, r, 3) give
 -- `w ≡ typeOf S x` by `cc (T .type x)`; r tells whether x is a variable (`T .named`, `T .unnamed`), and what a word of it leads to stands in its
 -- chain (`edges-stand`). Of a table that is too short for its chain, `variable-of` and its like with `from-one`, at a place inside the table.
-use Prim.Native.Nat.{ℕ, zero, suc, _≤_, _<_}
+use Prim.Native.Nat.{ℕ, _≤_, _<_}
 use native.Mathlib.Omega.{arith}
 use mathlib.Core.Path.{_≡_, refl, ap, sym, _∙_}
-use mathlib.Core.List.{List, []}
+use mathlib.Core.List.{List}
 use mathlib.Core.Bool.{true, false}
 use mathlib.Core.Logic.{inr}
-use lib.Dec.{ltb, leb}
+use lib.Dec.{ltb}
 use lib.ListN.{length, getD}
-use borrow.Author.Tests.{le-leb, lt-leb, lt-ltb, le-ltb}
+use borrow.Author.Tests.{lt-ltb, le-ltb}
 use Rattle.sets.specs.Tests.{and-true}
 use Rattle.language.specs.Lists.{nth, nth1, among}
 use Rattle.language.specs.File
 use Rattle.language.specs.File.{types, functors, procedures, variables, regions, goals, arguments}
-use Rattle.language.specs.Program.{Functor, Signature, Procedure, Program, variableAt, typeOf, regionOf, regionAt, procedureAt, signatureOf, functorsOf, functorAt}
+use Rattle.language.specs.Program.{Functor, Signature, Program, variableAt, typeOf, regionOf, regionAt, procedureAt, signatureOf, functorsOf, functorAt}
 use Rattle.language.specs.Typing.{isVariable, isRegion, isType}
 use Rattle.layout.specs.Chains.{real}
 use Rattle.chains.specs.Formed.{Formed, Stands, typesAt, functorsAt, proceduresAt, variablesAt, regionsAt, edgesAt, goalsAt, argumentsAt, functors-none, variables-none, regions-none, edges-none, goals-none}

@@ -2,7 +2,7 @@
 -- the same, a create or a remove nothing.
 use mathlib.Core.Path.{_≡_, refl, ap, _∙_}
 use mathlib.Core.Bool.{Bool, true, false}
-use mathlib.Core.List.{List, [], _∷_, _++_, map}
+use mathlib.Core.List.{List, [], _∷_, map, map-append}
 use Prim.Native.Nat.{ℕ}
 use lib.IntN.{ℤ}
 use lib.ListN.{length-map}
@@ -10,9 +10,11 @@ use Rattle.language.specs.Program.{Step, literal, sum, assign, construct, call,
 use Rattle.language.specs.Annotation.{plainStep}
 use Rattle.language.specs.Frames.{Value, Frame, Cell, withGoals, giving, literalIn, sumIn, assignIn, cellFor, branchIn, Picked, noArm, picked, pick, enterArm, openCell, calleeFrame, returning, entryFrame, settle}
 use Rattle.language.specs.PlainRun.{stripGoals, stripArms, stripped, PlainState, plainState, plainStart, plainTake}
-use Rattle.language.specs.AcceptedRun.{RegionFrame, RegionCell, Memory, State, cellOf, withCell, withPrinted, withRegion, withoutRegion, withFrame, calleeRegions, returningRegions, state, start, take}
+use Rattle.language.specs.AcceptedRun.{RegionFrame, Memory, State, cellOf, withCell, withPrinted, withRegion, withoutRegion, withFrame, calleeRegions, returningRegions, state, start, take}
+use Rattle.laws.specs.Choices.{choose-map}
+use Rattle.laws.specs.Goals.{strip-before}
 use Rattle.lockstep.specs.Counted.{isPlain}
-use Rattle.lockstep.specs.Strip.{strippedGoal, strip-before, strip-choose, stripPicked, strip-pick, strip-signature, strip-body}
+use Rattle.lockstep.specs.Strip.{strippedGoal, stripPicked, strip-pick, strip-signature, strip-body}
 
 -- a frame without its regions, and with its goals stripped of creates and removes
 unfoldable pub eraseFrame : RegionFrame → Frame
@@ -30,10 +32,6 @@ eraseFrames P (f ∷ fs) m = seen (plainState (stripped P)) f fs m
 -- what the plain run sees of a state
 unfoldable pub erase : Program → State → PlainState
 erase P s = eraseFrames P (s .frames) (s .memory)
-
-map-snoc : (cs : List RegionCell) (c : RegionCell) → map cellOf (cs ++ (c ∷ [])) ≡ map cellOf cs ++ (cellOf c ∷ [])
-map-snoc [] c = refl
-map-snoc (d ∷ cs) c = ap (λ l. cellOf d ∷ l) (map-snoc cs c)
 
 module _ (P : Program) where
   -- ---- frames that come and go
@@ -74,7 +72,7 @@ module _ (P : Program) where
   erase-branch : (f : RegionFrame) (y z : ℕ) (gs hs : Goals) →
       eraseFrame (withFrame f (branchIn (f .frame) y z gs hs)) ≡ branchIn (eraseFrame f) y z (stripGoals gs) (stripGoals hs)
   unfolding eraseFrame withFrame withGoals branchIn
-  erase-branch f y z gs hs = rw (strip-before, strip-choose)
+  erase-branch f y z gs hs = rw (strip-before, choose-map stripGoals)
 
   erase-arm : (p : Picked) (vs : List Value) (f : RegionFrame) →
       eraseFrame (withFrame f (enterArm p vs (f .frame))) ≡ enterArm (stripPicked p) vs (eraseFrame f)
@@ -97,7 +95,7 @@ module _ (P : Program) where
   erase-step (literal x v) f fs m = erase-state _ fs m
   erase-step (sum x o y z) f fs m = erase-state _ fs m
   erase-step (assign x y) f fs m = erase-state _ fs m
-  erase-step (construct x k ys) f fs m = erase-state _ fs _ ∙ rw (length-map, map-snoc)
+  erase-step (construct x k ys) f fs m = erase-state _ fs _ ∙ rw (length-map, map-append)
   erase-step (call q ys) f fs m = erase-state _ (f ∷ fs) m ∙ rw (erase-callee f q ys)
   erase-step (print y) f fs m = erase-state f fs _
   erase-step (create r) f fs m = erase-state _ fs _

@@ -19,10 +19,11 @@ use Rattle.language.specs.Regions.{reach, reachAll}
 use Rattle.language.specs.Lifetimes.{inputs, outputs, born, kept, dead, startHeld, classesOk, declaredClassesOk, effect, heldAfter}
 use Rattle.language.specs.Checking.{Carried, broken, carries, stepRules, checkGoals, endRules, procedureRules, rulesOk}
 use Rattle.language.specs.Answers.{program, fileStages, checkerStages, checked}
+use Rattle.region_graph.specs.Parameters.{ins-top}
 use Rattle.needed.specs.Without.{Rule, endKept, endBorn, number, leftOut, unless, withBorn, withKept, endHeld, endAsks, goalsWithout, procedureWithout, rulesWithout, checkedWithout}
 use Rattle.needed.specs.Carrying.{After, Invariant, after-goals}
 use Rattle.needed.specs.NoneLeftOut.{onTheWay, path-same}
-use Rattle.needed.specs.SoundReach.{ins-top, stays-held, ReachHeld, reach-invariant}
+use Rattle.needed.specs.SoundReach.{stays-held, ReachHeld, reach-invariant}
 use Rattle.needed.specs.Passing.{all-from, last-test}
 
 -- a rule about the end, left out, is none of those on the way

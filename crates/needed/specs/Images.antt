@@ -5,20 +5,22 @@ use mathlib.Core.List.{List, [], _∷_}
 use mathlib.Core.Logic.{_⊎_, inl, inr, ⊎-elim}
 use mathlib.Core.Path.{_≡_, refl, sym}
 use native.Mathlib.Omega.{arith}
-use borrow.Author.Tests.{eqb-true}
+use borrow.Author.Tests.{eqb-true, eq-eqb}
 use lib.Dec.{eqb}
 use lib.ListN.{length}
 use Rattle.sets.specs.Tests.{and-true, clash}
 use Rattle.sets.specs.Sets.{member}
 use Rattle.sets.specs.Members.{setOf, inList, nil-in, cons-here, cons-later, consIf-here, consIf-later}
-use Rattle.sets.specs.MemberLaws.{setOf-mk, unionOver-in, unionOver-mk}
+use Rattle.sets.specs.MemberLaws.{setOf-mk}
 use Rattle.language.specs.Lists.{nth, nth1, all, among, choose, put}
-use Rattle.language.specs.Program.{Variable, Signature, variableAt, regionOf, regionAt, Parameter, parametersOf, parameterVariables, argumentsIn, variablesIn, inMode, outMode}
-use Rattle.language.specs.Values.{outsOf}
-use Rattle.language.specs.Regions.{targetsIn, targets, reach, reachAll, Mapping, twoWays, images, Pair, pairs, afterMapping, mapEach, agreeing, visit, mapRegion, regionsOf, mapping, imageIn}
+use Rattle.language.specs.Program.{Functor, Variable, Signature, variableAt, regionOf, regionAt, Parameter, parametersOf, parameterVariables, argumentsIn, variablesIn, inMode, outMode}
+use Rattle.language.specs.Regions.{targetsIn, targets, reach, Mapping, twoWays, images, Pair, pairs, afterMapping, mapEach, agreeing, visit, mapRegion, regionsOf, mapping, imageIn}
 use Rattle.language.specs.Lifetimes.{outputs}
-use Rattle.needed.specs.Shapes.{Shaped, among-in}
-use Rattle.needed.specs.Reaching.{reach-own, reach-closed}
+use Rattle.language.specs.Typing.{signatureOk}
+use Rattle.region_graph.specs.Typed.{variables-few}
+use Rattle.region_graph.specs.Parameters.{in-or-out, modes}
+use Rattle.region_graph.specs.Procedure.{declared}
+use Rattle.region_graph.specs.Shared.{reach-own, reach-closes, outputs-closed, output-own}
 
 -- ---- a relation that goes along equal edges holds between each region and its image
 module _ (R : ℕ → ℕ → Type 0) where
@@ -101,13 +103,7 @@ unfolding regionOf variableAt nth1
 region-some S zero h = absurd (omega arith)
 region-some S (suc x) h = let l = nth-some (S .variables) x h in (omega arith, omega arith)
 
-mode-is : (m : ℕ) → 1 ≤ m → m ≤ 2 → (eqb m inMode ≡ true) ⊎ (eqb m outMode ≡ true)
-mode-is zero h l = absurd (omega arith)
-mode-is (suc zero) h l = inl refl
-mode-is (suc (suc zero)) h l = inr refl
-mode-is (suc (suc (suc m))) h l = absurd (omega arith)
-
-module _ (C Q : Signature) (shC : Shaped C) (shQ : Shaped Q) (ys : List ℕ) where
+module _ (T : List (List Functor)) (C Q : Signature) (okC : signatureOk T C ≡ true) (okQ : signatureOk T Q ≡ true) (ys : List ℕ) where
   -- the arguments that are read
   abbrev args : List ℕ
   args = argumentsIn inMode (parametersOf Q) ys
@@ -115,32 +111,23 @@ module _ (C Q : Signature) (shC : Shaped C) (shQ : Shaped Q) (ys : List ℕ) whe
   Along : ℕ → ℕ → Type 0
   Along r u = 1 ≤ r → 1 ≤ u → (member (outputs Q) r ≡ true) ⊎ ((y : ℕ) × (member (setOf args) y ≡ true) × (member (reach C y) u ≡ true))
 
-  outputs-closed : (r t : ℕ) → member (outputs Q) r ≡ true → inList t (targets Q r) ≡ true → member (outputs Q) t ≡ true
-  unfolding outputs reachAll
-  outputs-closed r t m e =
-      let p = unionOver-in (reach Q) (outsOf Q) r m in
-      unionOver-mk (reach Q) (outsOf Q) (p .0) t (p .1) (p .3) (reach-closed Q shQ (p .0) r t (p .2) e)
-
   along-edge : (r u : ℕ) → Along r u → Each Along (pairs (targets Q r) (targets C u))
   unfolding Along
   along-edge r u h =
       each-pair Along (targets Q r) (targets C u)
-      (λ q v m n k l. ⊎-elim (λ p. inl (outputs-closed r q p m)) (λ p. inr (p .0, p .1, reach-closed C shC (p .0) u v (p .2) n))
+      (λ q v m n k l. ⊎-elim (λ p. inl (outputs-closed T Q (declared T Q okQ) r q p m)) (λ p. inr (p .0, p .1, reach-closes T C (declared T C okC) (p .0) u v (p .2) n))
       (h (targets-some Q r q m) (targets-some C u v n)))
 
   along-in : (x y : ℕ) → inList y args ≡ true → Along (regionOf Q x) (regionOf C y)
   unfolding Along
   along-in x y m k l =
       let b = region-some C y l in
-      let top = shC .variables-top in
-      inr (y, setOf-mk args y m (b .0) (omega arith), reach-own C shC y l)
+      let top = variables-few T C okC in
+      inr (y, setOf-mk args y m (b .0) (omega arith), reach-own T C (declared T C okC) y (λ z. omega arith))
 
   along-out : (x y : ℕ) → inList x (variablesIn outMode Q) ≡ true → Along (regionOf Q x) (regionOf C y)
-  unfolding Along outputs reachAll outsOf
-  along-out x y m k l =
-      let b = region-some Q x k in
-      let top = shQ .variables-top in
-      inl (unionOver-mk (reach Q) (setOf (variablesIn outMode Q)) x (regionOf Q x) (setOf-mk (variablesIn outMode Q) x m (b .0) (omega arith)) (omega arith) (reach-own Q shQ x k))
+  unfolding Along
+  along-out x y m k l = inl (output-own T Q (declared T Q okQ) x m (λ z. omega arith))
 
   -- argument to argument: ps are parameters of Q, and zs their arguments
   along-arguments : (ps : List Parameter) (zs : List ℕ) → all (λ a. among 2 (a .mode)) ps ≡ true
@@ -150,17 +137,16 @@ module _ (C Q : Signature) (shC : Shaped C) (shQ : Shaped Q) (ys : List ℕ) whe
   unfolding all argumentsIn parameterVariables regionsOf pairs Each
   along-arguments [] zs e f g = tt
   along-arguments (a ∷ ps) [] e f g = tt
-  along-arguments (a ∷ ps) (z ∷ zs) e f g =
-      let b = among-in 2 (a .mode) (and-true e .0) in (
-        ⊎-elim (λ p. along-in (a .variable) z (f z (consIf-here _ z z _ p refl)))
-            (λ p. along-out (a .variable) z (g (a .variable) (consIf-here _ (a .variable) (a .variable) _ p refl))) (mode-is (a .mode) (b .0) (b .1)),
-        along-arguments ps zs (and-true e .1) (λ y m. f y (consIf-later _ y z _ m)) (λ x m. g x (consIf-later _ x (a .variable) _ m)),
-      )
+  along-arguments (a ∷ ps) (z ∷ zs) e f g = (
+    ⊎-elim (λ p. along-in (a .variable) z (f z (consIf-here _ z z _ (eq-eqb (a .mode) inMode p) refl)))
+        (λ p. along-out (a .variable) z (g (a .variable) (consIf-here _ (a .variable) (a .variable) _ (eq-eqb (a .mode) outMode p) refl))) (in-or-out (a .mode) (and-true e .0)),
+    along-arguments ps zs (and-true e .1) (λ y m. f y (consIf-later _ y z _ m)) (λ x m. g x (consIf-later _ x (a .variable) _ m)),
+  )
 
   along-mapping : Good Along (mapping C Q ys)
   unfolding mapping variablesIn Has
   along-mapping =
-      each-good Along _ (region-good Along C Q along-edge (length (Q .regions))) _ (along-arguments (parametersOf Q) ys (shQ .modes) (λ y m. m) (λ x m. m)) _ (λ r l. absurd (omega arith))
+      each-good Along _ (region-good Along C Q along-edge (length (Q .regions))) _ (along-arguments (parametersOf Q) ys (modes T Q okQ) (λ y m. m) (λ x m. m)) _ (λ r l. absurd (omega arith))
 
   pub image-reached : (r : ℕ) → 1 ≤ r → 1 ≤ imageIn (mapping C Q ys) r → member (outputs Q) r ≡ false
       → (y : ℕ) × (member (setOf args) y ≡ true) × (member (reach C y) (imageIn (mapping C Q ys) r) ≡ true)

@@ -4,8 +4,6 @@ pub mod NoneLeftOut
 pub mod SoundReach
 pub mod Passing
 pub mod AtTheEnd
-pub mod Shapes
-pub mod Reaching
 pub mod Images
 pub mod DeadImages
 pub mod Faults

@@ -2,15 +2,16 @@
 -- the end are left out, it carries what the checker carries.
 use Prim.Native.Nat.{ℕ}
 use mathlib.Core.Bool.{Bool, true, false}
-use mathlib.Core.List.{List, [], _∷_}
+use mathlib.Core.List.{List, []}
 use mathlib.Core.Path.{_≡_, refl, ap, _∙_}
 use lib.Dec.{ltb}
 use Rattle.sets.specs.declared.Set.{Set}
-use Rattle.language.specs.Lists.{all, choose}
+use Rattle.language.specs.Lists.{choose}
 use Rattle.language.specs.Program.{Step, literal, sum, assign, construct, call, print, create, remove, Goals, Signature, Procedure, Program}
 use Rattle.language.specs.Lifetimes.{callEffect, effect, heldAfter}
 use Rattle.language.specs.Checking.{Carried, broken, carries, stepRules, checkStep, checkGoals, endRules, procedureRules, rulesOk}
 use Rattle.language.specs.Answers.{program, checkerStages, checked}
+use Rattle.laws.specs.Lists.{all-same}
 use Rattle.needed.specs.Without.{Rule, createNotHeld, removeHeld, removeNotKept, removeUnsound, readSound, constructHeld, deadHeld, keptHeld, deadNotKept, bornNotHeld, deadUnshared, bornUnshared, deadGone, deadUnsound, bornThenHeld, reachHeld, armsEqual, everyArm, number, leftOut, allAsked, unless, asked, callAsks, withBorn, withKept, endHeld, endAsks, givenSound, asks, holdsAfter, stepAsks, stepWithout, goalsWithout, procedureWithout, rulesWithout, checkedWithout}
 use Rattle.needed.specs.Carrying.{unless-in, Invariant, Agrees, goals-same}
 
@@ -74,11 +75,6 @@ end-all S (carries held sound) = refl
 procedure-all : (P : Program) (p : Procedure) → procedureWithout [] P p ≡ procedureRules P p
 unfolding procedureWithout procedureRules
 procedure-all P p = end-all (p .signature) _ ∙ ap (endRules (p .signature)) (path-same [] none-inner P (p .signature) (p .body) _ _)
-
-all-same : (p q : Procedure → Bool) → ((x : Procedure) → p x ≡ q x) → (xs : List Procedure) → all p xs ≡ all q xs
-unfolding all
-all-same p q e [] = refl
-all-same p q e (x ∷ xs) = cc (e x, all-same p q e xs)
 
 pub rules-all : (P : Program) → rulesWithout [] P ≡ rulesOk P
 unfolding rulesWithout rulesOk

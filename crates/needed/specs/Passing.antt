@@ -2,16 +2,15 @@
 use mathlib.Core.Bool.{Bool, true, false}
 use mathlib.Core.List.{List, [], _∷_, _++_}
 use mathlib.Core.Path.{_≡_, refl}
-use native.Mathlib.Omega.{arith}
 use Prim.Native.Nat.{ℕ}
 use Rattle.sets.specs.Tests.{and-true, true-and}
-use Rattle.language.specs.declared.Refusal.{Refusal}
 use Rattle.language.specs.declared.Refusal.the-variants.{Classes, Rules}
 use Rattle.language.specs.declared.Verdict.the-variants.{Accepted}
 use Rattle.language.specs.Lists.{all}
 use Rattle.language.specs.Program.{Procedure}
 use Rattle.language.specs.Typing.{typingOk}
 use Rattle.language.specs.Answers.{Stage, stage, lowest, program, fileStages}
+use Rattle.laws.specs.Stages.{lowest-passed, passed-read}
 
 pub all-from : (c p q : Procedure → Bool) → ((x : Procedure) → c x ≡ true → p x ≡ true → q x ≡ true) → (xs : List Procedure)
     → all c xs ≡ true → all p xs ≡ true → all q xs ≡ true
@@ -31,12 +30,6 @@ last-test [] false less more f e = e
 last-test (stage r true ∷ ss) d less more f e = last-test ss d less more f e
 last-test (stage r false ∷ ss) d less more f e = e
 
-passed : (r : Refusal) (b : Bool) (ss : List Stage) → lowest (stage r b ∷ ss) ≡ Accepted → (b ≡ true) × (lowest ss ≡ Accepted)
-unfolding lowest
-passed r true ss e = (refl, e)
-passed r false ss e = let z : _≡_ {A = ℕ} 0 1 = cc in absurd (omega arith)
-
 -- a file that passes has passed number 3
 pub typed : (f : List ℕ) (ss : List Stage) → lowest (fileStages f ++ ss) ≡ Accepted → typingOk (program f) ≡ true
-unfolding fileStages
-typed f ss e = passed _ _ _ (passed _ _ _ (passed _ _ _ e .1) .1) .0
+typed f ss e = passed-read f ss (lowest-passed (fileStages f ++ ss) e) .0 .typing

@@ -1,22 +1,18 @@
 -- Along each path the reach of a sound variable is held, but for some regions that do not matter.
-use Prim.Native.Nat.{ℕ, _≤_}
+use Prim.Native.Nat.{ℕ}
 use mathlib.Core.Bool.{true, false}
 use mathlib.Core.Logic.{⊎-elim}
 use mathlib.Core.Path.{_≡_}
 use Rattle.sets.specs.Sets.{member, _∩_, _∖_, subset, apart, union-left, union-in, intersection-in, difference-mk, difference-in, subset-in}
-use Rattle.sets.specs.SetLaws.{apart-in, small-top}
-use Rattle.sets.specs.MemberLaws.{keep-in, small-setOf}
+use Rattle.sets.specs.SetLaws.{apart-in}
+use Rattle.sets.specs.MemberLaws.{keep-in}
 use Rattle.sets.specs.declared.Set.{Set}
-use Rattle.language.specs.Program.{Step, Signature, Program, inMode, variablesIn}
-use Rattle.language.specs.Values.{insOf, gives}
+use Rattle.language.specs.Program.{Step, Signature, Program}
+use Rattle.language.specs.Values.{gives}
 use Rattle.language.specs.Regions.{reach}
 use Rattle.language.specs.Lifetimes.{effect, heldAfter}
 use Rattle.language.specs.Checking.{soundGiven, soundWithout}
 use Rattle.needed.specs.Carrying.{Invariant}
-
-pub ins-top : (S : Signature) (x : ℕ) → member (insOf S) x ≡ true → x ≤ 64
-unfolding insOf
-ins-top S x m = small-top (insOf S) (small-setOf (variablesIn inMode S)) x m
 
 -- a step takes away only what it ends
 pub stays-held : (P : Program) (S : Signature) (g : Step) (held : Set) (r : ℕ) → member held r ≡ true → member (effect P S g .ends) r ≡ false

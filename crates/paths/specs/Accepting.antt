@@ -11,11 +11,12 @@ use Rattle.sets.specs.declared.Set.{Set}
 use Rattle.language.specs.Lists.{all}
 use Rattle.language.specs.Program.{Goals, Signature, Procedure, Program, procedureAt, variablesIn, inMode}
 use Rattle.language.specs.Typing.{typesOk, procedureOk, typingOk}
-use Rattle.language.specs.Values.{insOf, outsOf}
+use Rattle.language.specs.Values.{insOf}
 use Rattle.language.specs.Lifetimes.{born, kept, startHeld}
 use Rattle.language.specs.Checking.{Carried, broken, carries, checkGoals, endRules, procedureRules, rulesOk}
+use Rattle.laws.specs.Tests.{and-shared}
+use Rattle.laws.specs.Lists.{all-nth, nth-all}
 use Rattle.paths.specs.Paths.{paths, endRule, pathRules, arrivals, armsAgree, EveryPath, EveryProcedure}
-use Rattle.paths.specs.Alls.{and-shared, all-nth, nth-all}
 use Rattle.paths.specs.Named.{goalsNamed}
 use Rattle.paths.specs.Carrying.{Test, passes, Splits}
 use Rattle.paths.specs.Along.{alongAll}

@@ -9,8 +9,10 @@ use Rattle.sets.specs.Sets.{member}
 use Rattle.sets.specs.declared.Set.{Set}
 use Rattle.language.specs.Lists.{all, isNone}
 use Rattle.language.specs.Program.{Four, Signature, Program}
+use Rattle.laws.specs.Tests.{and-yes, and-swap}
+use Rattle.laws.specs.Lists.{all-append, all-same, all-both, all-beside}
 use Rattle.paths.specs.Paths.{Event, takes, compares, thenEach, thenAll, readBy, readSound, regionRules, eventRules, heldThen, soundThen, keepsAlong}
-use Rattle.paths.specs.Alls.{and-yes, and-swap, all-append, all-same, all-both, all-beside, all-each, all-all}
+use Rattle.paths.specs.Alls.{all-each, all-all}
 use Rattle.paths.specs.Events.{held-back, rules-meet, sound-meet}
 use Rattle.paths.specs.Steps.{compares-sound}
 use Rattle.paths.specs.Carrying.{Test, Splits}

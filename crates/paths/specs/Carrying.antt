@@ -9,6 +9,7 @@ use Rattle.sets.specs.MemberLaws.{small-keep}
 use Rattle.sets.specs.declared.Set.{Set}
 use Rattle.language.specs.Program.{Step, Goals, done, _then_, Goal, step, switch, ifLess, Arms, noArms, arm, Signature, Program}
 use Rattle.language.specs.Checking.{Carried, broken, carries, requireRule, carryOn, joinArms, soundGiven, soundWithout, checkStep, checkGoals, checkGoal, checkArms}
+use Rattle.laws.specs.Tests.{and-no}
 
 -- a test of what is held and what is sound
 abbrev pub Test : Type 0
@@ -32,11 +33,6 @@ unfolding passes carryOn
 passes-on K broken f = refl
 passes-on K (carries h s) f = refl
 
-and-none : (a : Bool) → (a & false) ≡ false
-unfolding _&_
-and-none true = refl
-and-none false = refl
-
 both-pass : (K : Test) → Splits K → (h k s t : Set) → (sameSet h k & K h (s ∩ t)) ≡ (K h s & K k t)
 both-pass K split h k s t = same-truth down up
   where
@@ -56,7 +52,7 @@ both-pass K split h k s t = same-truth down up
 pub passes-join : (K : Test) → Splits K → (c d : Carried) → passes K (joinArms c d) ≡ (passes K c & passes K d)
 unfolding passes joinArms _&_
 passes-join K split broken d = refl
-passes-join K split (carries h s) broken = sym (and-none (K h s))
+passes-join K split (carries h s) broken = sym (and-no (K h s) refl)
 passes-join K split (carries h s) (carries k t) = passes-require K (sameSet h k) (carries h (s ∩ t)) ∙ both-pass K split h k s t
 
 -- ---- no member above 64

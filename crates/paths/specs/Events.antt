@@ -6,8 +6,8 @@ use mathlib.Core.List.{List}
 use mathlib.Core.Logic.{_⊎_, inl, inr, ⊎-elim}
 use mathlib.Core.Path.{_≡_, refl, sym, ap, ap₂, _∙_}
 use Rattle.sets.specs.Tests.{_&_, _or_, neg, truth, clash, same-truth, and-true, neg-true}
-use Rattle.sets.specs.Sets.{member, single, _∪_, _∩_, _∖_, subset, apart, member-union, member-intersection, member-difference, single-in, union-left, union-in, intersection-mk, intersection-in, difference-mk, difference-in, member-ext, subset-in, subset-mk}
-use Rattle.sets.specs.SetLaws.{subset-refl, subset-trans, subset-antisym, single-subset, left-union, difference-left, apart-in, apart-mk, apart-mono, small-top}
+use Rattle.sets.specs.Sets.{member, single, _∪_, _∩_, _∖_, subset, apart, member-union, member-intersection, member-difference, union-left, union-in, intersection-mk, intersection-in, difference-mk, difference-in, member-ext, subset-in, subset-mk}
+use Rattle.sets.specs.SetLaws.{subset-refl, subset-trans, subset-antisym, single-subset, left-union, difference-left, apart-in, apart-mono, small-top}
 use Rattle.sets.specs.Members.{setOf, keep, image}
 use Rattle.sets.specs.MemberLaws.{keep-in, keep-mk, small-keep, unionOver-mono}
 use Rattle.sets.specs.declared.Set.{Set}
@@ -15,8 +15,9 @@ use Rattle.language.specs.Lists.{all}
 use Rattle.language.specs.Program.{literal, sum, assign, construct, call, print, create, remove, Signature, Program, signatureOf}
 use Rattle.language.specs.Lifetimes.{born, dead, kept}
 use Rattle.language.specs.Regions.{reach}
+use Rattle.laws.specs.Lists.{all-same, all-both}
+use Rattle.laws.specs.MoreSets.{single-apart}
 use Rattle.paths.specs.Paths.{Event, does, takes, compares, readBy, givenBy, imageAt, imagesAt, createNotHeld, removeHeld, readSound, callHeld, callNotHeld, regionRules, eventRules, heldThen, notReaching, stillSound, soundThen}
-use Rattle.paths.specs.Alls.{all-same, all-both}
 
 -- ---- tests and sets
 and-beside : (a b r : Bool) → ((a & b) & r) ≡ ((a & r) & (b & r))
@@ -91,10 +92,6 @@ difference-back d h k f g e = subset-antisym h k (go h k g e) (go k h f (sym e))
     go : (h k : Set) → subset d k ≡ true → h ∖ d ≡ k ∖ d → subset h k ≡ true
     go h k f e = subset-mk h k (λ n m. at h k f e n m (truth (member d n)))
 
--- one number that is no member
-single-apart : (r : ℕ) (h : Set) → neg (member h r) ≡ true → apart (single r) h ≡ true
-single-apart r h e = apart-mk (single r) h (λ n m. ap (member h) (sym (single-in r n m)) ∙ neg-true e)
-
 module _ (P : Program) (S : Signature) where
   -- the images of dead regions are among those of dead and kept ones
   dead-images : (q : ℕ) (ys : List ℕ) (h : Set) → callHeld P S q ys h ≡ true → subset (imagesAt P S q ys (dead (signatureOf P q))) h ≡ true
@@ -127,7 +124,7 @@ module _ (P : Program) (S : Signature) where
   held-back (does (construct x c ys)) h k f g e = e
   held-back (does (call q ys)) h k f g e = call-back q ys h k f g e
   held-back (does (print y)) h k f g e = e
-  held-back (does (create r)) h k f g e = union-back (single r) h k (single-apart r h f) (single-apart r k g) e
+  held-back (does (create r)) h k f g e = union-back (single r) h k (single-apart r h (neg-true f)) (single-apart r k (neg-true g)) e
   held-back (does (remove r)) h k f g e =
       difference-back (single r) h k (single-subset r h (and-true f .0)) (single-subset r k (and-true g .0)) e
   held-back (takes x c ys) h k f g e = e

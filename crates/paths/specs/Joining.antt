@@ -11,9 +11,10 @@ use Rattle.sets.specs.declared.Set.{Set}
 use Rattle.language.specs.Lists.{all}
 use Rattle.language.specs.Program.{Four, argumentsOf, Step, Goals, done, _then_, Goal, step, switch, ifLess, Arms, noArms, arm, Signature, Program}
 use Rattle.language.specs.Checking.{carries, joinArms, soundGiven, checkStep, checkGoals, checkGoal, checkArms}
+use Rattle.laws.specs.Tests.{and-yes, and-shared}
+use Rattle.laws.specs.Goals.{someArm}
 use Rattle.paths.specs.Paths.{does, takes, compares, thenEach, paths, ways, armWays, eventRules, heldThen, soundThen, keepsAlong}
-use Rattle.paths.specs.Alls.{and-yes, and-shared}
-use Rattle.paths.specs.Named.{someArm, stepNamed, goalsNamed, goalNamed, armsNamed, some-path}
+use Rattle.paths.specs.Named.{stepNamed, goalsNamed, goalNamed, armsNamed, some-path}
 use Rattle.paths.specs.Steps.{step-checks, takes-sound, sound-small}
 use Rattle.paths.specs.Carrying.{Test, passes, Splits, passes-require, passes-on, passes-join, passes-same, small-goal}
 use Rattle.paths.specs.Along.{alongAll, all-splits, along-then, along-append, along-takes, along-compares}

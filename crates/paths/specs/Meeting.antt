@@ -9,8 +9,8 @@ use Rattle.sets.specs.Sets.{sameSet, eq-same}
 use Rattle.sets.specs.declared.Set.{Set}
 use Rattle.language.specs.Lists.{all}
 use Rattle.language.specs.Program.{Four, Goals, done, _then_, Goal, step, switch, ifLess, Arms, noArms, arm, Signature, Program}
+use Rattle.laws.specs.Lists.{all-append, all-same, all-weaker}
 use Rattle.paths.specs.Paths.{Event, takes, compares, thenEach, paths, ways, armWays, heldThen, soundThen, keepsAlong, Arrival, arrivalsAfter, arrivalsAfterAll, arrivals, arrivalsIn, armArrivals, heldAlong, armsAgree}
-use Rattle.paths.specs.Alls.{all-append, all-same, all-map}
 use Rattle.paths.specs.Named.{goalsNamed, goalNamed, armsNamed, some-path}
 use Rattle.paths.specs.Carrying.{Test, Splits}
 use Rattle.paths.specs.Along.{alongAll, all-splits, along-then, along-append, along-takes, along-compares}
@@ -18,7 +18,7 @@ use Rattle.paths.specs.Along.{alongAll, all-splits, along-then, along-ap
 -- any two elements that pass p stand in q
 pairwise : {A : Type 0} (p : A → Bool) (q : A → A → Bool) (xs : List A) → ((x y : A) → p x ≡ true → p y ≡ true → q x y ≡ true)
     → all p xs ≡ true → all (λ x. all (λ y. q x y) xs) xs ≡ true
-pairwise p q xs f e = all-map p (λ x. all (λ y. q x y) xs) xs (λ x a. all-map p (λ y. q x y) xs (λ y b. f x y a b) e) e
+pairwise p q xs f e = all-weaker p (λ x. all (λ y. q x y) xs) xs (λ x a. all-weaker p (λ y. q x y) xs (λ y b. f x y a b) e) e
 
 module _ (P : Program) (S : Signature) where
   -- what a path comes to passes the test at its end
@@ -84,7 +84,7 @@ module _ (P : Program) (S : Signature) where
       → all (λ u. all (armsAgree P S (heldAlong P S u h)) places) us ≡ true
   unfolding alongAll
   later-goals K us places h s f e =
-      all-map (λ u. keepsAlong P S K u h s) (λ u. all (armsAgree P S (heldAlong P S u h)) places) us
+      all-weaker (λ u. keepsAlong P S K u h s) (λ u. all (armsAgree P S (heldAlong P S u h)) places) us
       (λ u a. let x = end-passes K u h s a in f (heldAlong P S u h) (x .0) (x .1)) e
 
   mutual

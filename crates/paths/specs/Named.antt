@@ -8,12 +8,10 @@ use Rattle.sets.specs.Tests.{_&_, and-true}
 use Rattle.language.specs.Lists.{all, among, isNone}
 use Rattle.language.specs.Program.{Step, literal, sum, assign, construct, call, print, create, remove, Goals, done, _then_, Goal, step, switch, ifLess, Arms, noArms, arm, Signature, Program, regionOf}
 use Rattle.language.specs.Values.{access}
+use Rattle.laws.specs.Lists.{none-append}
+use Rattle.laws.specs.Goals.{someArm}
 use Rattle.paths.specs.Paths.{takes, compares, paths, ways, armWays, thenEach}
-use Rattle.paths.specs.Alls.{none-append, none-each, none-all}
-
-unfoldable pub someArm : Arms → Bool
-someArm noArms = false
-someArm (arm f ys gs cs) = true
+use Rattle.paths.specs.Alls.{none-each, none-all}
 
 module _ (P : Program) (S : Signature) where
   unfoldable pub regionNamed : Step → Bool

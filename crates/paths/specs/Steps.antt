@@ -1,15 +1,14 @@
 -- Each event does what the checker does with it: the conjunction of the rules that speak of a step is `stepRules`, and the held regions and
 -- sound variables after it are the checker's.
-use Prim.Native.Nat.{ℕ, _≤_}
+use Prim.Native.Nat.{ℕ}
 use mathlib.Core.Bool.{Bool, true}
 use mathlib.Core.List.{List, [], _∷_}
-use mathlib.Core.Path.{_≡_, refl, sym, ap, ap₂, _∙_}
-use borrow.Author.Tests.{leb-true}
-use Rattle.sets.specs.Tests.{_&_, neg, clash, same-truth, and-true, true-and, neg-true, true-neg}
-use Rattle.sets.specs.Sets.{member, emptySet, single, _∪_, _∖_, subset, apart, Small, member-empty, single-mk, single-in, difference-mk, subset-in, subset-mk}
-use Rattle.sets.specs.SetLaws.{subset-trans, subset-antisym, empty-subset, single-subset, left-union, right-union, union-least, union-empty, apart-in, apart-mk, difference-left, small-top, small-union, small-difference}
-use Rattle.sets.specs.Members.{setOf, keep}
-use Rattle.sets.specs.MemberLaws.{keep-mk, keep-subset, small-keep}
+use mathlib.Core.Path.{_≡_, refl, ap, ap₂, _∙_}
+use Rattle.sets.specs.Tests.{_&_, neg, same-truth, and-true, true-and, neg-true, true-neg}
+use Rattle.sets.specs.Sets.{member, emptySet, single, _∪_, _∖_, subset, apart, Small, single-mk, subset-in}
+use Rattle.sets.specs.SetLaws.{subset-trans, empty-subset, single-subset, left-union, right-union, union-least, union-empty, apart-in, small-union, small-difference}
+use Rattle.sets.specs.Members.{setOf}
+use Rattle.sets.specs.MemberLaws.{small-keep}
 use Rattle.sets.specs.declared.Set.{Set}
 use Rattle.language.specs.Lists.{all, among}
 use Rattle.language.specs.Program.{Four, argumentsOf, Step, literal, sum, assign, construct, call, print, create, remove, Signature, Program, regionOf}
@@ -17,27 +16,22 @@ use Rattle.language.specs.Values.{access, reads, gives}
 use Rattle.language.specs.Regions.{reach}
 use Rattle.language.specs.Lifetimes.{kept, noEffect, unsharedIn, callEffect, effect, heldAfter}
 use Rattle.language.specs.Checking.{carries, requireRule, soundGiven, soundWithout, stepRules, checkStep}
+use Rattle.laws.specs.Tests.{and-yes}
+use Rattle.laws.specs.Numbers.{among-in}
+use Rattle.laws.specs.MoreSets.{difference-empty, no-change, empty-apart, apart-empty, keep-empty, keep-all, single-apart}
 use Rattle.paths.specs.Paths.{Event, does, takes, compares, readBy, givenBy, imageAt, imagesAt, createNotHeld, removeHeld, removeNotKept, readSound, constructHeld, callHeld, callNotKept, callNotHeld, callUnshared, regionRules, eventRules, heldThen, notReaching, stillSound, soundThen}
-use Rattle.paths.specs.Alls.{and-yes}
 use Rattle.paths.specs.Named.{regionNamed, stepNamed}
 
 -- ---- one number from 1 to 64, and a list of them
-among-low : (k n : ℕ) → among k n ≡ true → 1 ≤ n
-unfolding among
-among-low k n e = leb-true 1 n (and-true e .0)
-
-among-high : (k n : ℕ) → among k n ≡ true → n ≤ k
-unfolding among
-among-high k n e = leb-true n k (and-true e .1)
-
 pub held-one : (s : Set) (n : ℕ) → among 64 n ≡ true → subset (single n) s ≡ member s n
 held-one s n e =
-    same-truth (λ h. subset-in (single n) s h n (single-mk n (among-low 64 n e) (among-high 64 n e))) (single-subset n s)
+    let i = among-in 64 n e in
+    same-truth (λ h. subset-in (single n) s h n (single-mk n (i .0) (i .1))) (single-subset n s)
 
 pub not-held-one : (s : Set) (n : ℕ) → among 64 n ≡ true → apart (single n) s ≡ neg (member s n)
 not-held-one s n e =
-    same-truth (λ h. true-neg (apart-in (single n) s h n (single-mk n (among-low 64 n e) (among-high 64 n e))))
-    (λ h. apart-mk (single n) s (λ k m. ap (member s) (sym (single-in n k m)) ∙ neg-true h))
+    let i = among-in 64 n e in
+    same-truth (λ h. true-neg (apart-in (single n) s h n (single-mk n (i .0) (i .1)))) (λ h. single-apart n s (neg-true h))
 
 subset-union : (a b t : Set) → subset (a ∪ b) t ≡ (subset a t & subset b t)
 subset-union a b t =
@@ -50,28 +44,6 @@ held-all s [] e = empty-subset s
 held-all s (n ∷ ns) e =
     let r = and-true e in
     subset-union (single n) (setOf ns) s ∙ ap₂ _&_ (held-one s n (r .0)) (held-all s ns (r .1))
-
--- ---- the empty set
-empty-apart : (a : Set) → apart emptySet a ≡ true
-empty-apart a = apart-mk emptySet a (λ n h. absurd (clash h (member-empty n)))
-
-difference-empty : (a : Set) → a ∖ emptySet ≡ a
-difference-empty a =
-    subset-antisym (a ∖ emptySet) a (difference-left a emptySet)
-    (subset-mk a (a ∖ emptySet) (λ n h. difference-mk a emptySet n h (member-empty n)))
-
-keep-empty : (p : ℕ → Bool) → keep p emptySet ≡ emptySet
-keep-empty p = subset-antisym (keep p emptySet) emptySet (keep-subset p emptySet) (empty-subset (keep p emptySet))
-
-keep-all : (p : ℕ → Bool) (s : Set) → Small s → ((n : ℕ) → p n ≡ true) → keep p s ≡ s
-keep-all p s h f =
-    subset-antisym (keep p s) s (keep-subset p s) (subset-mk s (keep p s) (λ n m. keep-mk p s n m (small-top s h n m) (f n)))
-
-apart-empty : (a : Set) → apart a emptySet ≡ true
-apart-empty a = apart-mk a emptySet (λ n h. member-empty n)
-
-no-change : (a : Set) → (a ∖ emptySet) ∪ emptySet ≡ a
-no-change a = union-empty (a ∖ emptySet) ∙ difference-empty a
 
 module _ (P : Program) (S : Signature) where
   -- the rules of regions are those of the step's effect

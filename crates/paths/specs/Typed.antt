@@ -1,38 +1,31 @@
 -- A procedure that passes number 3 names numbers from 1 to 64 only, and each of its switches has an arm.
-use Prim.Native.Nat.{ℕ, zero, suc, _≤_}
+use Prim.Native.Nat.{ℕ, suc}
 use mathlib.Core.Bool.{Bool, true, false, false≢true}
 use mathlib.Core.List.{List, [], _∷_}
 use mathlib.Core.Path.{_≡_, refl}
-use native.Mathlib.Omega.{arith}
-use borrow.Author.Tests.{leb-true, le-leb, ltb-true}
-use lib.Dec.{leb, ltb, eqb}
+use borrow.Author.Tests.{ltb-true}
+use lib.Dec.{ltb, eqb}
 use lib.ListN.{length}
 use Rattle.sets.specs.Tests.{and-true, true-and}
 use Rattle.sets.specs.Members.{consIf}
-use Rattle.language.specs.Lists.{all, among, nth1, choose}
-use Rattle.language.specs.Program.{Functor, argumentsOf, Step, literal, sum, assign, construct, call, print, create, remove, Goals, done, _then_, Goal, step, switch, ifLess, Arms, noArms, arm, Signature, Program, variableAt, typeOf, regionOf, signatureOf, functorsOf, Parameter, parametersOf, inMode, argumentsIn}
+use Rattle.language.specs.Lists.{all, among}
+use Rattle.language.specs.Program.{Functor, argumentsOf, Step, literal, sum, assign, construct, call, print, create, remove, Goals, done, _then_, Goal, step, switch, ifLess, Arms, noArms, arm, Signature, Program, typeOf, regionOf, signatureOf, Parameter, parametersOf, inMode, argumentsIn}
 use Rattle.language.specs.Values.{access, accessing}
-use Rattle.language.specs.Typing.{isVariable, isRegion, hasType, isRegionOf, haveTypes, argumentsOk, isType, regioned, typeOk, typesOk, variableOk, signatureOk, functorsFor, parameterTypes, stepOk, goalsOk, goalOk, armsOk}
-use Rattle.paths.specs.Alls.{all-nth1}
-use Rattle.paths.specs.Named.{someArm, regionNamed, stepNamed, goalsNamed, goalNamed, armsNamed}
-
--- ---- numbers
-among-wider : (k m n : ℕ) → k ≤ m → among k n ≡ true → among m n ≡ true
-unfolding among
-among-wider k m n h e =
-    let r = and-true e in
-    true-and (r .0) (le-leb n m (let l = leb-true n k (r .1) in omega arith))
+use Rattle.language.specs.Typing.{isVariable, isRegion, hasType, haveTypes, argumentsOk, typesOk, signatureOk, functorsFor, parameterTypes, stepOk, goalsOk, goalOk, armsOk}
+use Rattle.laws.specs.Numbers.{among-wider}
+use Rattle.region_graph.specs.Typed.{variables-few, regions-few, functors-some, functor-typed, arms-some}
+use Rattle.region_graph.specs.Procedure.{cell-region}
+use Rattle.paths.specs.Named.{regionNamed, stepNamed, goalsNamed, goalNamed, armsNamed}
 
 -- ---- what number 3 says of a procedure
 module _ (P : Program) (S : Signature) (types : typesOk (P .types) ≡ true) (declared : signatureOk (P .types) S ≡ true) where
   variable-named : (x : ℕ) → isVariable S x ≡ true → among 64 x ≡ true
-  unfolding signatureOk isVariable
-  variable-named x e = among-wider (length (S .variables)) 64 x (leb-true (length (S .variables)) 64 (and-true declared .0)) e
+  unfolding isVariable
+  variable-named x e = among-wider (length (S .variables)) 64 x (variables-few (P .types) S declared) e
 
   region-named : (r : ℕ) → isRegion S r ≡ true → among 64 r ≡ true
-  unfolding signatureOk isRegion
-  region-named r e =
-      among-wider (length (S .regions)) 64 r (leb-true (length (S .regions)) 64 (and-true (and-true declared .1) .0)) e
+  unfolding isRegion
+  region-named r e = among-wider (length (S .regions)) 64 r (regions-few (P .types) S declared) e
 
   typed-named : (t x : ℕ) → hasType S t x ≡ true → among 64 x ≡ true
   unfolding hasType
@@ -59,27 +52,11 @@ module _ (P : Program) (S : Signature) (types : typesOk (P .types) ≡ true) (de
       let r = and-true e in
       consIf-named (eqb (a .mode) m) x (argumentsIn m ps xs) (r .0) (some-named m ps xs (r .1))
 
-  variable-ok : (x : ℕ) → isVariable S x ≡ true → variableOk (P .types) S (variableAt S x) ≡ true
-  unfolding signatureOk isVariable variableAt
-  variable-ok x e = all-nth1 (variableOk (P .types) S) _ (S .variables) x (and-true (and-true (and-true declared .1) .1) .0) e
-
-  -- a type that has a functor is not 0
-  functor-regioned : (t f : ℕ) → ltb f (length (functorsOf (P .types) t)) ≡ true → regioned (P .types) t ≡ true
-  unfolding functorsOf nth1 regioned
-  functor-regioned zero f e = absurd (let h = ltb-true f 0 e in omega arith)
-  functor-regioned (suc t) f e = le-leb 1 (suc t) (omega arith)
-
-  chosen : (b c d : Bool) → b ≡ true → choose b c d ≡ true → c ≡ true
-  unfolding choose
-  chosen true c d e f = f
-  chosen false c d e f = absurd (false≢true e)
-
   -- a construct's region
-  built-named : (x f : ℕ) → isVariable S x ≡ true → ltb f (length (functorsFor P S x)) ≡ true → among 64 (regionOf S x) ≡ true
-  unfolding functorsFor typeOf regionOf variableOk isRegionOf
-  built-named x f e l =
-      let r = and-true (and-true (variable-ok x e) .1) .1 in
-      region-named (regionOf S x) (and-true (chosen _ _ _ (functor-regioned (typeOf S x) f l) r) .0)
+  built-named : (x f : ℕ) → ltb f (length (functorsFor P S x)) ≡ true → among 64 (regionOf S x) ≡ true
+  unfolding functorsFor
+  built-named x f l =
+      region-named (regionOf S x) (cell-region (P .types) S declared x (functor-typed (P .types) (typeOf S x) f (ltb-true f _ l)) .0)
 
   step-named : (g : Step) → stepOk P S g ≡ true → stepNamed P S g ≡ true
   unfolding stepOk stepNamed regionNamed access accessing all argumentsOk
@@ -91,29 +68,15 @@ module _ (P : Program) (S : Signature) (types : typesOk (P .types) ≡ true) (de
   step-named (construct x f ys) e =
       let r = and-true e in
       let q = and-true (r .1) in
-      true-and (arguments-named _ (argumentsOf ys) (q .1)) (built-named x f (r .0) (q .0))
+      true-and (arguments-named _ (argumentsOf ys) (q .1)) (built-named x f (q .0))
   step-named (call q ys) e =
       true-and (some-named inMode (parametersOf (signatureOf P q)) ys (arguments-named (parameterTypes (signatureOf P q)) ys (and-true e .1))) refl
   step-named (print y) e = true-and (true-and (typed-named 0 y e) refl) refl
   step-named (create r) e = true-and refl (region-named r e)
   step-named (remove r) e = true-and refl (region-named r e)
 
-  -- a type that a switch is on has a functor, and so an arm
-  functors-some : (x : ℕ) → isVariable S x ≡ true → leb 1 (typeOf S x) ≡ true → 1 ≤ length (functorsFor P S x)
-  unfolding functorsFor functorsOf typeOf variableOk isType among typesOk typeOk
-  functors-some x e l =
-      let t = and-true (and-true (variable-ok x e) .1) .0 in
-      let r = all-nth1 (typeOk (P .types)) [] (P .types) (typeOf S x) (and-true types .1) (true-and l t) in
-      leb-true 1 _ (and-true (and-true r .0) .0)
-
-  arms-some : (cs : Arms) (fs : List Functor) (n : ℕ) → armsOk P S cs fs n ≡ true → 1 ≤ length fs → someArm cs ≡ true
-  unfolding armsOk someArm
-  arms-some noArms [] n e l = absurd (omega arith)
-  arms-some noArms (f ∷ fs) n e l = absurd (false≢true e)
-  arms-some (arm g ys gs cs) fs n e l = refl
-
   mutual
-    unfolding goalsOk goalsNamed
+    unfolding goalsOk goalsNamed functorsFor
 
     pub goals-named : (gs : Goals) → goalsOk P S gs ≡ true → goalsNamed P S gs ≡ true
     goals-named done e = refl
@@ -124,7 +87,7 @@ module _ (P : Program) (S : Signature) (types : typesOk (P .types) ≡ true) (de
     goal-named (switch x cs) e =
         let r = and-true e in
         let q = and-true (r .1) in
-        true-and (arms-some cs (functorsFor P S x) 0 (q .1) (functors-some x (r .0) (q .0))) (arms-named cs (functorsFor P S x) 0 (q .1))
+        true-and (arms-some P S cs (functorsFor P S x) 0 (q .1) (functors-some (P .types) S declared types x (r .0) (q .0))) (arms-named cs (functorsFor P S x) 0 (q .1))
     goal-named (ifLess y z a b) e =
         let r = and-true (and-true (and-true e .1) .1) in
         true-and (goals-named a (r .0)) (goals-named b (r .1))

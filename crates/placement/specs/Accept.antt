@@ -14,7 +14,7 @@ use Rattle.language.specs.Program.{Four, argumentsOf, Step, Goals, done, _then_
 use Rattle.language.specs.Values.{reads, gives}
 use Rattle.language.specs.Regions.{reach}
 use Rattle.language.specs.Lifetimes.{wanted, liveStep, live, liveGoal, effect, heldAfter, stepClasses}
-use Rattle.language.specs.Annotation.{creates, removes, goingOn, placedIf, placedSwitch, placedArm, createdFor, placeStep, placeGoals, placeGoal, placeArms}
+use Rattle.language.specs.Annotation.{creates, goingOn, placedIf, placedSwitch, placedArm, createdFor, placeStep, placeGoals, placeGoal, placeArms}
 use Rattle.language.specs.Checking.{Carried, broken, carries, requireRule, carryOn, joinArms, soundGiven, stepRules, checkStep, checkGoals, checkGoal, checkArms}
 use Rattle.region_graph.specs.Laws.{Declared}
 use Rattle.placement.specs.Given.{small-liveStep, small-live, small-liveGoal}

@@ -1,9 +1,9 @@
 -- Two programs that declare the same differ in their bodies alone. What numbers 3, 4 and 5, live variables, the effects of steps and the
 -- checker say of given goals is the same in both.
 use Prim.Native.Nat.{ℕ, zero, suc}
-use mathlib.Core.Path.{_≡_, refl, sym, ap, ap₂}
+use mathlib.Core.Path.{_≡_, refl, sym, ap₂}
 use mathlib.Core.List.{List, [], _∷_, map}
-use lib.ListN.{length}
+use lib.ListN.{length, length-map}
 use Rattle.sets.specs.declared.Set.{Set}
 use Rattle.language.specs.Lists.{nth}
 use Rattle.language.specs.Program.{Functor, Step, literal, sum, assign, construct, call, print, create, remove, Goals, done, _then_, Goal, step, switch, ifLess, Arms, noArms, arm, Signature, Procedure, Program, signatureOf, procedureAt}
@@ -171,10 +171,6 @@ module _ (P R : Program) (A : Alike P R) where
     alike-checkArms (arm f ys gs (arm k zs hs cs)) S held sound = rw (alike-checkGoals gs S held _, alike-checkArms (arm k zs hs cs) S held sound)
 
 -- ---- programs with other bodies
-length-map : {A B : Type 0} (f : A → B) (xs : List A) → length (map f xs) ≡ length xs
-length-map f [] = refl
-length-map f (x ∷ xs) = ap suc (length-map f xs)
-
 signature-map : (f : Procedure → Procedure) (d : Procedure) → ((p : Procedure) → f p .signature ≡ p .signature)
     → (ps : List Procedure) (n : ℕ) → nth d ps n .signature ≡ nth d (map f ps) n .signature
 unfolding nth
@@ -187,7 +183,7 @@ rebuilt : (P : Program) (f : Procedure → Procedure) → ((p : Procedure) → f
 unfolding signatureOf procedureAt
 rebuilt P f h = record {
   types = refl;
-  count = sym (length-map f (P .procedures));
+  count = sym (length-map (P .procedures) f);
   signatures = signature-map f _ h (P .procedures);
 }
 

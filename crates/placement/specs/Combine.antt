@@ -1,15 +1,9 @@
 -- Readings of the small functions that the definitions are made of: what a good answer says of the parts.
-use Prim.Native.Nat.{ℕ, zero, suc, _<_}
-use mathlib.Core.Path.{_≡_, refl, ap, ap₂}
+use mathlib.Core.Path.{_≡_, refl}
 use mathlib.Core.Bool.{Bool, true, false, false≢true}
-use mathlib.Core.List.{List, [], _∷_, map}
-use native.Mathlib.Omega.{arith}
-use lib.ListN.{length}
-use Rattle.sets.specs.Tests.{_&_, and-true, true-and}
 use Rattle.sets.specs.Sets.{subset}
 use Rattle.sets.specs.SetLaws.{intersection-left, intersection-right}
 use Rattle.sets.specs.declared.Set.{Set}
-use Rattle.language.specs.Lists.{nth, all}
 use Rattle.language.specs.Values.{Valued, faulty, valued, requireValues, afterValues, meetValues}
 use Rattle.language.specs.Checking.{Carried, broken, carries, carryOn}
 
@@ -67,47 +61,3 @@ pub carry-same : (c : Carried) {f g : Set → Set → Carried} → ((h s : Set) 
 unfolding carryOn
 carry-same broken h = refl
 carry-same (carries k s) h = h k s
-
--- ---- a test of every element of a list
-module _ {A : Type 0} (p : A → Bool) (d : A) where
-  pub all-at : (xs : List A) → all p xs ≡ true → (n : ℕ) → n < length xs → p (nth d xs n) ≡ true
-  unfolding all nth
-  all-at [] e n h = absurd (omega arith)
-  all-at (x ∷ xs) e zero h = and-true e .0
-  all-at (x ∷ xs) e (suc n) h = all-at xs (and-true e .1) n (omega arith)
-
-  -- where the default passes too, there is no bound
-  pub all-nth : p d ≡ true → (xs : List A) → all p xs ≡ true → (n : ℕ) → p (nth d xs n) ≡ true
-  unfolding all nth
-  all-nth h [] e n = h
-  all-nth h (x ∷ xs) e zero = and-true e .0
-  all-nth h (x ∷ xs) e (suc n) = all-nth h xs (and-true e .1) n
-
-  pub all-by : (xs : List A) → ((n : ℕ) → n < length xs → p (nth d xs n) ≡ true) → all p xs ≡ true
-  unfolding all nth
-  all-by [] f = refl
-  all-by (x ∷ xs) f = true-and (f 0 (omega arith)) (all-by xs (λ n h. f (suc n) (omega arith)))
-
-pub all-map : {A B : Type 0} (p : B → Bool) (f : A → B) (xs : List A) → all p (map f xs) ≡ all (λ x. p (f x)) xs
-unfolding all
-all-map p f [] = refl
-all-map p f (x ∷ xs) = ap (λ (b : Bool). p (f x) & b) (all-map p f xs)
-
-pub all-same : {A : Type 0} (p q : A → Bool) → ((x : A) → p x ≡ q x) → (xs : List A) → all p xs ≡ all q xs
-unfolding all
-all-same p q h [] = refl
-all-same p q h (x ∷ xs) = rw (h x, all-same p q h xs)
-
-pub map-same : {A B : Type 0} (f g : A → B) → ((x : A) → f x ≡ g x) → (xs : List A) → map f xs ≡ map g xs
-map-same f g h [] = refl
-map-same f g h (x ∷ xs) = rw (h x, map-same f g h xs)
-
-pub map-map : {A B C : Type 0} (g : B → C) (f : A → B) (xs : List A) → map g (map f xs) ≡ map (λ x. g (f x)) xs
-map-map g f [] = refl
-map-map g f (x ∷ xs) = ap (λ l. g (f x) ∷ l) (map-map g f xs)
-
--- a function that changes nothing that passes a test
-pub map-all : {A : Type 0} (p : A → Bool) (f : A → A) → ((x : A) → p x ≡ true → f x ≡ x) → (xs : List A) → all p xs ≡ true → map f xs ≡ xs
-unfolding all
-map-all p f h [] e = refl
-map-all p f h (x ∷ xs) e = ap₂ _∷_ (h x (and-true e .0)) (map-all p f h xs (and-true e .1))

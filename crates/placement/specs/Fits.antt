@@ -1,24 +1,25 @@
 -- What the placement relies on, point by point, in goals that pass numbers 3, 5 and 7: `Fits`. Everything about placed goals goes by it.
 use Prim.Native.Nat.{ℕ, suc, _≤_}
 use mathlib.Core.Path.{_≡_, refl, sym, ap, _∙_}
-use mathlib.Core.Bool.{Bool, true, false, false≢true}
+use mathlib.Core.Bool.{true, false, false≢true}
 use mathlib.Core.List.{List, [], _∷_}
 use mathlib.Core.Logic.{_⊎_, inl, inr, ⊎-elim}
-use native.Mathlib.Decide.{ℕ-discrete}
 use borrow.Author.Tests.{eqb-true}
 use Rattle.sets.specs.Tests.{truth, and-true}
 use Rattle.sets.specs.Sets.{member, single, _∪_, _∖_, subset, single-mk, union-left, union-right, difference-mk, subset-in}
-use Rattle.sets.specs.SetLaws.{subset-trans, empty-subset, left-union, right-union}
+use Rattle.sets.specs.SetLaws.{subset-trans, left-union, right-union}
 use Rattle.sets.specs.Members.{setOf, inList, nil-in, cons-in}
 use Rattle.sets.specs.MemberLaws.{setOf-in}
 use Rattle.sets.specs.declared.Set.{Set}
-use Rattle.language.specs.Lists.{nth1, isNone}
-use Rattle.language.specs.Program.{Four, argumentsOf, Functor, Step, Goals, done, _then_, Goal, step, switch, ifLess, Arms, noArms, arm, Signature, Program, regionOf, regionAt}
-use Rattle.language.specs.Typing.{isVariable, isRegion, hasType, functorsFor, goalsOk, goalOk, armsOk}
-use Rattle.language.specs.Regions.{reach, reachFrom, targetFor, inTargets, goalsRegions, goalRegions, armsRegions}
+use Rattle.language.specs.Program.{Four, argumentsOf, Functor, Step, Goals, done, _then_, Goal, step, switch, ifLess, Arms, noArms, arm, Signature, Program, regionOf}
+use Rattle.language.specs.Typing.{isVariable, hasType, functorsFor, goalsOk, goalOk, armsOk}
+use Rattle.language.specs.Regions.{reach, reachFrom, inTargets, goalsRegions, goalRegions, armsRegions}
 use Rattle.language.specs.Lifetimes.{wanted, live, liveGoal, liveArms, goalsClasses, goalClasses, armsClasses}
+use Rattle.laws.specs.Goals.{someArm}
 use Rattle.region_graph.specs.Laws.{target, Declared}
-use Rattle.placement.specs.Wanted.{kept-wanted, reach-wanted, wanted-least, variable-range}
+use Rattle.region_graph.specs.Typed.{arms-some}
+use Rattle.region_graph.specs.Shared.{variable-top, target-reach}
+use Rattle.placement.specs.Wanted.{kept-wanted, reach-wanted, wanted-least}
 use Rattle.placement.specs.Effects.{Home, FitsStep, step-fits}
 
 -- the start of an arm with arguments ys, where l is live before the switch and b after the arguments are given
@@ -53,29 +54,14 @@ in-target P S r f k [] y e m = absurd (nil-in y m)
 in-target P S r f k (x ∷ xs) y e m =
     ⊎-elim (λ q. (k, ap (regionOf S) (sym q) ∙ eqb-true _ _ (and-true e .0))) (in-target P S r f (suc k) xs y (and-true e .1)) (cons-in y x xs m)
 
-no-target : (S : Signature) (f k : ℕ) → target S 0 f k ≡ 0
-unfolding regionAt targetFor nth1
-no-target S f k = refl
-
 module _ (T : List (List Functor)) (S : Signature) (D : Declared T S) where
-  reach-zero : (s : Set) → subset (reachFrom S 0) s ≡ true
-  reach-zero s = ap (λ t. subset t s) (D .nowhere) ∙ empty-subset s
-
-  target-reach : (r f k : ℕ) → (r ≡ 0) ⊎ (isRegion S r ≡ true) → subset (reachFrom S (target S r f k)) (reachFrom S r) ≡ true
-  target-reach r f k own = go (ℕ-discrete (target S r f k) 0) own
-    where
-      go : Dec (target S r f k ≡ 0) → (r ≡ 0) ⊎ (isRegion S r ≡ true) → subset (reachFrom S (target S r f k)) (reachFrom S r) ≡ true
-      go (yes e) o = ap (λ t. subset (reachFrom S t) (reachFrom S r)) e ∙ reach-zero (reachFrom S r)
-      go (no n) (inl e) = absurd (n (ap (λ u. target S u f k) e ∙ no-target S f k))
-      go (no n) (inr e) = D .onward r (target S r f k) e (D .edge r f k n) .1
-
   -- they reach no further than the variable that is switched on
   argument-reach : (P : Program) (x f k : ℕ) (ys : Four) → inTargets P S (regionOf S x) f k (argumentsOf ys) ≡ true
       → (y : ℕ) → member (setOf (argumentsOf ys)) y ≡ true → subset (reach S y) (reach S x) ≡ true
   unfolding reach
   argument-reach P x f k ys e y m =
       let t = in-target P S (regionOf S x) f k (argumentsOf ys) y e (setOf-in (argumentsOf ys) y m) in
-      ap (λ u. subset (reachFrom S u) (reachFrom S (regionOf S x))) (t .1) ∙ target-reach (regionOf S x) f (t .0) (D .own x)
+      ap (λ u. subset (reachFrom S u) (reachFrom S (regionOf S x))) (t .1) ∙ target-reach T S D (regionOf S x) f (t .0) (D .own x)
 
   arm-start : (P : Program) (x f : ℕ) (ys : Four) (b l : Set) → inTargets P S (regionOf S x) f 1 (argumentsOf ys) ≡ true → isVariable S x ≡ true
       → member l x ≡ true → subset (b ∖ setOf (argumentsOf ys)) l ≡ true → ArmStart S l b ys
@@ -85,15 +71,11 @@ module _ (T : List (List Functor)) (S : Signature) (D : Declared T S) where
       go : (y : ℕ) → member b y ≡ true → y ≤ 64 → (member (setOf (argumentsOf ys)) y ≡ true) ⊎ (member (setOf (argumentsOf ys)) y ≡ false)
           → subset (reach S y) (wanted S l) ≡ true
       go y i t (inl j) =
-          subset-trans _ (reach S x) _ (argument-reach P x f 1 ys e y j) (reach-wanted S l x m (variable-range T S D x v .1))
+          subset-trans _ (reach S x) _ (argument-reach P x f 1 ys e y j) (reach-wanted S l x m (variable-top T S D x v .1))
       go y i t (inr j) = reach-wanted S l y (subset-in _ l h y (difference-mk b _ y i j)) t
 
   single-live : (x : ℕ) → isVariable S x ≡ true → member (single x) x ≡ true
-  single-live x v = let r = variable-range T S D x v in single-mk x (r .0) (r .1)
-
-armed : Arms → Bool
-armed noArms = false
-armed (arm f ys gs cs) = true
+  single-live x v = let r = variable-top T S D x v in single-mk x (r .0) (r .1)
 
 module _ (P : Program) (S : Signature) (H : Home P S) where
   number-live : (x : ℕ) → hasType S 0 x ≡ true → member (single x) x ≡ true
@@ -107,14 +89,8 @@ module _ (P : Program) (S : Signature) (H : Home P S) where
   arm-ok k ys gs cs [] n e = absurd (false≢true e)
   arm-ok k ys gs cs (f ∷ fs) n e = let r = and-true (and-true (and-true e .1) .1) in (r .0, fs, r .1)
 
-  arms-some : (cs : Arms) (fs : List Functor) (n : ℕ) → armsOk P S cs fs n ≡ true → isNone fs ≡ false → armed cs ≡ true
-  unfolding armsOk isNone armed
-  arms-some noArms [] n e i = sym i
-  arms-some noArms (f ∷ fs) n e i = e
-  arms-some (arm k ys gs cs) fs n e i = refl
-
   mutual
-    unfolding goalsOk goalOk armsOk goalsRegions goalRegions armsRegions goalsClasses goalClasses armsClasses armed liveGoal liveArms
+    unfolding goalsOk goalOk armsOk goalsRegions goalRegions armsRegions goalsClasses goalClasses armsClasses someArm liveGoal liveArms
 
     -- goals that pass numbers 3, 5 and 7
     pub fits : (gs : Goals) (after : Set) → goalsOk P S gs ≡ true → goalsRegions P S gs ≡ true → goalsClasses P S gs after ≡ true → Fits P S gs after
@@ -131,7 +107,7 @@ module _ (P : Program) (S : Signature) (H : Home P S) where
         let m = union-left (single x) (liveArms P cs after) x (single-live (P .types) S (H .declared) x (u .0)) in
         fits-switch m
         (arms-fit cs x _ after (functorsFor P S x) 0 (u .0) m (right-union (single x) _)
-        (arms-some cs _ 0 (w .1) (H .functors x (u .0) (w .0))) (w .1) r c)
+        (arms-some P S cs _ 0 (w .1) (H .functors x (u .0) (w .0))) (w .1) r c)
     goal-fits (ifLess y z a b) after t r c =
         let u = and-true t in
         let w = and-true (u .1) in
@@ -141,7 +117,7 @@ module _ (P : Program) (S : Signature) (H : Home P S) where
         (fits a after (k .0) (and-true r .0) (and-true c .0)) (fits b after (k .1) (and-true r .1) (and-true c .1))
 
     arms-fit : (cs : Arms) (x : ℕ) (l after : Set) (fs : List Functor) (n : ℕ) → isVariable S x ≡ true → member l x ≡ true
-        → subset (liveArms P cs after) l ≡ true → armed cs ≡ true → armsOk P S cs fs n ≡ true → armsRegions P S cs (regionOf S x) ≡ true
+        → subset (liveArms P cs after) l ≡ true → someArm cs ≡ true → armsOk P S cs fs n ≡ true → armsRegions P S cs (regionOf S x) ≡ true
         → armsClasses P S cs after ≡ true → FitsArms P S l cs after
     arms-fit noArms x l after fs n v m h i t r c = absurd (false≢true i)
     arms-fit (arm k ys gs noArms) x l after fs n v m h i t r c =

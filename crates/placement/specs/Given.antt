@@ -5,7 +5,7 @@ use mathlib.Core.Bool.{true, false≢true}
 use mathlib.Core.List.{List}
 use mathlib.Core.Logic.{⊎-elim}
 use Rattle.sets.specs.Tests.{clash, and-true}
-use Rattle.sets.specs.Sets.{member, _∪_, _∖_, subset, Small, union-in, difference-in, subset-in, subset-mk}
+use Rattle.sets.specs.Sets.{_∪_, _∖_, subset, Small, union-in, difference-in, subset-in, subset-mk}
 use Rattle.sets.specs.SetLaws.{subset-trans, empty-subset, single-subset, union-least, small-empty, small-single, small-union, small-difference}
 use Rattle.sets.specs.Members.{setOf}
 use Rattle.sets.specs.MemberLaws.{small-setOf}

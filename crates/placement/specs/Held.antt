@@ -8,11 +8,11 @@ use Rattle.sets.specs.Tests.{truth, clash, false-of, and-true}
 use Rattle.sets.specs.Sets.{member, single, _∪_, _∖_, subset, union-left, union-right, difference-mk, subset-in, subset-mk}
 use Rattle.sets.specs.SetLaws.{subset-refl, subset-trans, left-union, right-union, union-least, apart-in}
 use Rattle.sets.specs.declared.Set.{Set}
-use Rattle.language.specs.Program.{Four, Step, Goals, Goal, step, switch, ifLess, Arms, noArms, arm, Signature, Program}
+use Rattle.language.specs.Program.{Four, Step, Goals, Goal, ifLess, Arms, noArms, arm, Signature, Program}
 use Rattle.language.specs.Lifetimes.{wanted, liveStep, live, liveGoal, liveArms, effect, heldAfter, stepClasses}
 use Rattle.language.specs.Annotation.{goingOn, removing, placedIf, placedSwitch, placedArm, createdFor, placeStep, placeGoals, placeGoal, placeArms}
+use Rattle.laws.specs.MoreSets.{intersection-whole}
 use Rattle.region_graph.specs.Laws.{Declared}
-use Rattle.placement.specs.MoreSets.{intersection-whole}
 use Rattle.placement.specs.Wanted.{wanted-mono, Within, within-union, within-difference, within-intersection, wanted-within}
 use Rattle.placement.specs.Effects.{FitsStep}
 use Rattle.placement.specs.Fits.{Fits, fits-done, fits-then, FitsGoal, fits-step, fits-switch, fits-if, FitsArms, fits-last, fits-more}

@@ -1,5 +1,4 @@
 pub mod Combine
-pub mod MoreSets
 pub mod Alike
 pub mod Strip
 pub mod Marks

@@ -8,8 +8,8 @@ use Rattle.sets.specs.declared.Set.{Set}
 use Rattle.language.specs.Program.{Step, Goals, done, _then_, Goal, step, switch, ifLess, Arms, noArms, arm, _before_, Signature, Program}
 use Rattle.language.specs.Lifetimes.{wanted, liveStep, live, liveGoal, heldAfter}
 use Rattle.language.specs.Annotation.{creates, removes, goingOn, removing, placedIf, placedSwitch, placedArm, createdFor, placeStep, placeGoals, placeGoal, placeArms}
-use Rattle.placement.specs.MoreSets.{difference-self, members-empty}
-use Rattle.placement.specs.Strip.{before-done, before-assoc}
+use Rattle.laws.specs.MoreSets.{difference-self, members-empty}
+use Rattle.laws.specs.Goals.{before-done, before-assoc}
 use Rattle.placement.specs.Fits.{Fits, fits-done, fits-then, FitsGoal, fits-step, fits-switch, fits-if, FitsArms, fits-last, fits-more}
 use Rattle.placement.specs.Held.{removed-held, removed-wants, goal-wants, then-wants, else-wants, arms-held, then-held}
 

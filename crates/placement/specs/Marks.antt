@@ -3,9 +3,9 @@ use Prim.Native.Nat.{ℕ}
 use mathlib.Core.Path.{_≡_, refl, sym, ap, ap₂, _∙_}
 use mathlib.Core.Bool.{Bool, true, false, false≢true}
 use mathlib.Core.List.{[]}
-use Rattle.sets.specs.Tests.{_&_, clash}
-use Rattle.sets.specs.Sets.{emptySet, _∪_, _∖_, subset, member-empty}
-use Rattle.sets.specs.SetLaws.{empty-subset, union-empty, apart-mk}
+use Rattle.sets.specs.Tests.{_&_}
+use Rattle.sets.specs.Sets.{_∪_, _∖_, subset}
+use Rattle.sets.specs.SetLaws.{empty-subset, union-empty}
 use Rattle.sets.specs.Members.{setOf}
 use Rattle.sets.specs.declared.Set.{Set}
 use Rattle.language.specs.Program.{Step, literal, sum, assign, construct, call, print, create, remove, Goals, done, _then_, Goal, step, switch, ifLess, Arms, noArms, arm, Signature, Procedure, Program, parametersOf}
@@ -15,8 +15,9 @@ use Rattle.language.specs.Regions.{stepRegions, goalsRegions, goalRegions, arms
 use Rattle.language.specs.Lifetimes.{liveStep, live, liveGoal, liveArms, declaredClassesOk}
 use Rattle.language.specs.Annotation.{plainStep, annotateProcedure, annotate, placeGoals}
 use Rattle.language.specs.PlainRun.{thenIf, stripGoals, stripGoal, stripArms}
-use Rattle.placement.specs.Combine.{after-same, all-map, all-same}
-use Rattle.placement.specs.MoreSets.{difference-empty}
+use Rattle.laws.specs.Lists.{all-map, all-same}
+use Rattle.laws.specs.MoreSets.{empty-apart, no-change}
+use Rattle.placement.specs.Combine.{after-same}
 use Rattle.placement.specs.Alike.{alike-annotated, alike-goalsValues, alike-goalsRegions}
 use Rattle.placement.specs.Strip.{strip-placed}
 
@@ -28,11 +29,11 @@ record Mark (P : Program) (g : Step) : Type 0 where
 
 no-values : (e s : Set) → requireValues (subset (setOf []) e) (giveValues [] e s) ≡ valued e s
 unfolding requireValues giveValues setOf distinct _&_
-no-values e s = rw (empty-subset e, apart-mk emptySet s (λ n h. absurd (clash h (member-empty n))), union-empty e, union-empty s)
+no-values e s = rw (empty-subset e, empty-apart s, union-empty e, union-empty s)
 
 no-live : (after : Set) → (after ∖ setOf []) ∪ setOf [] ≡ after
 unfolding setOf
-no-live after = union-empty _ ∙ difference-empty after
+no-live after = no-change after
 
 module _ (P : Program) where
   mark : (g : Step) → plainStep g ≡ false → Mark P g

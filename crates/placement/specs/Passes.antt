@@ -6,20 +6,20 @@ use mathlib.Core.List.{List, []}
 use mathlib.Core.Logic.{_⊎_, inl, inr, ⊎-elim}
 use native.Mathlib.Omega.{arith}
 use Rattle.sets.specs.Tests.{truth, clash, false-of, true-and}
-use Rattle.sets.specs.Sets.{member, emptySet, single, _∪_, _∖_, subset, apart, Small, member-empty, single-in, union-left, union-right, union-in, difference-mk, difference-in, subset-in, subset-mk}
+use Rattle.sets.specs.Sets.{member, single, _∪_, _∖_, subset, apart, Small, single-in, union-left, union-right, union-in, difference-mk, difference-in, subset-in, subset-mk}
 use Rattle.sets.specs.SetLaws.{empty-subset, single-subset, union-empty, union-assoc, apart-in, apart-mk, small-top, small-difference}
 use Rattle.sets.specs.Members.{members, setOf, inList, cons-here, cons-later, members-in}
 use Rattle.sets.specs.MemberLaws.{keep-mk, setOf-members}
 use Rattle.sets.specs.Rising.{Rising, rising-nil, rising-cons, rising-above, members-rising}
 use Rattle.sets.specs.declared.Set.{Set}
-use Rattle.language.specs.Program.{Step, create, remove, Goals, done, _then_, step, _before_, Signature, Program}
+use Rattle.language.specs.Program.{Step, create, remove, Goals, done, _then_, _before_, Signature, Program}
 use Rattle.language.specs.Values.{access, accessing, reads, gives}
 use Rattle.language.specs.Regions.{reach}
 use Rattle.language.specs.Lifetimes.{kept, wanted, effect, heldAfter}
 use Rattle.language.specs.Annotation.{creates, removes, removing}
 use Rattle.language.specs.Checking.{Carried, broken, carries, requireRule, carryOn, soundGiven, soundWithout, stepRules, checkStep, checkGoals, checkGoal}
+use Rattle.laws.specs.MoreSets.{empty-in, difference-empty, empty-apart, apart-empty, single-apart, difference-union, difference-difference}
 use Rattle.placement.specs.Combine.{carry-same}
-use Rattle.placement.specs.MoreSets.{difference-empty, difference-union, difference-difference}
 use Rattle.placement.specs.Wanted.{kept-wanted, reach-wanted}
 
 -- a walk of the checker that ends with exactly h held, and with all of l sound
@@ -80,19 +80,13 @@ module _ (P : Program) (S : Signature) where
   -- ---- one create, one remove, and lists of them in rising order
   none-given : (x : ℕ) → member (setOf []) x ≡ true → ⊥
   unfolding setOf
-  none-given x m = clash m (member-empty x)
+  none-given x m = empty-in _ refl x m
 
   reach-apart : (l : Set) (x r : ℕ) → Small l → member l x ≡ true → member (wanted S l) r ≡ false → apart (reach S x) (single r) ≡ true
   reach-apart l x r t m n =
       apart-mk (reach S x) (single r)
       (λ u i. false-of (λ j. clash (subset-in _ _ (reach-wanted S l x m (small-top l t x m)) u i)
       (ap (member (wanted S l)) (sym (single-in r u j)) ∙ n)))
-
-  empty-apart : (s : Set) → apart emptySet s ≡ true
-  empty-apart s = apart-mk emptySet s (λ u i. absurd (clash i (member-empty u)))
-
-  single-apart : (r : ℕ) (s : Set) → member s r ≡ false → apart (single r) s ≡ true
-  single-apart r s n = apart-mk (single r) s (λ u i. ap (member s) (sym (single-in r u i)) ∙ n)
 
   remove-passes : (r : ℕ) (held sound l : Set) → Small l → subset l sound ≡ true → member held r ≡ true → member (wanted S l) r ≡ false
       → Passes l (held ∖ single r) (checkStep P S (remove r) held sound)
@@ -115,7 +109,7 @@ module _ (P : Program) (S : Signature) where
       (step-passes (create r) held sound l
       (true-and (empty-subset sound)
       (true-and (empty-subset held) (true-and (empty-apart (kept S)) (true-and (single-apart r held n) refl))))
-      t (λ x i j. absurd (none-given x j)) (λ x i j. (subset-in l sound c x i, apart-mk (reach S x) emptySet (λ u _. member-empty u))))
+      t (λ x i j. absurd (none-given x j)) (λ x i j. (subset-in l sound c x i, apart-empty (reach S x))))
 
   removes-pass : {m : ℕ} {rs : List ℕ} → Rising m rs → (held sound l : Set) → Small l → subset l sound ≡ true
       → ((r : ℕ) → inList r rs ≡ true → (member held r ≡ true) × (member (wanted S l) r ≡ false))

@@ -1,42 +1,16 @@
 -- Striking out the creates and removes of an annotation: what the annotator put in goes again, for any input.
 use Prim.Native.Nat.{ℕ}
-use mathlib.Core.Path.{_≡_, refl, sym, ap, ap₂, _∙_}
-use mathlib.Core.Bool.{Bool, true, false}
-use mathlib.Core.List.{List, [], _∷_}
+use mathlib.Core.Path.{_≡_, refl, ap, ap₂, _∙_}
+use mathlib.Core.Bool.{true}
+use mathlib.Core.List.{List, [], _∷_, map-map, map-congr-left}
 use Rattle.sets.specs.Tests.{and-true}
 use Rattle.sets.specs.declared.Set.{Set}
 use Rattle.language.specs.Program.{Step, Goals, done, _then_, Goal, step, switch, ifLess, Arms, noArms, arm, _before_, Signature, Procedure, Program}
 use Rattle.language.specs.Lifetimes.{live}
 use Rattle.language.specs.Annotation.{plainStep, plainGoals, plainGoal, plainArms, unannotated, creates, removes, goingOn, removing, placedIf, placedSwitch, placedArm, placeStep, placeGoals, placeGoal, placeArms, annotateProcedure, annotate}
 use Rattle.language.specs.PlainRun.{thenIf, stripGoals, stripGoal, stripArms, stripProcedure, stripped}
-use Rattle.placement.specs.Combine.{map-map, map-same, map-all}
-
--- ---- goals in front of others
-pub before-done : (gs : Goals) → gs before done ≡ gs
-unfolding _before_
-before-done done = refl
-before-done (g then gs) = ap (λ (hs : Goals). g then hs) (before-done gs)
-
-pub before-assoc : (gs hs ks : Goals) → (gs before hs) before ks ≡ gs before (hs before ks)
-unfolding _before_
-before-assoc done hs ks = refl
-before-assoc (g then gs) hs ks = ap (λ (rest : Goals). g then rest) (before-assoc gs hs ks)
-
-if-before : (b : Bool) (g : Goal) (gs hs : Goals) → thenIf b g gs before hs ≡ thenIf b g (gs before hs)
-unfolding thenIf _before_
-if-before true g gs hs = refl
-if-before false g gs hs = refl
-
-goal-before : (g : Goal) (gs hs : Goals) → stripGoal g gs before hs ≡ stripGoal g (gs before hs)
-unfolding stripGoal _before_
-goal-before (step g) gs hs = if-before (plainStep g) (step g) gs hs
-goal-before (switch x cs) gs hs = refl
-goal-before (ifLess y z a b) gs hs = refl
-
-pub strip-before : (gs hs : Goals) → stripGoals (gs before hs) ≡ stripGoals gs before stripGoals hs
-unfolding stripGoals _before_
-strip-before done hs = refl
-strip-before (g then gs) hs = ap (stripGoal g) (strip-before gs hs) ∙ sym (goal-before g (stripGoals gs) (stripGoals hs))
+use Rattle.laws.specs.Lists.{map-all}
+use Rattle.laws.specs.Goals.{goal-before, strip-before}
 
 -- ---- striking out what was put in
 pub strip-removes : (rs : List ℕ) → stripGoals (removes rs) ≡ done
@@ -106,7 +80,7 @@ pub strip-annotate : (P : Program) → stripped (annotate P) ≡ stripped P
 unfolding stripped annotate
 strip-annotate P =
     ap (λ (ps : List Procedure). record { types = P .types; procedures = ps })
-    (map-map stripProcedure (annotateProcedure P) (P .procedures) ∙ map-same _ _ (strip-procedure P) (P .procedures))
+    (map-map stripProcedure (annotateProcedure P) (P .procedures) ∙ map-congr-left {l = P .procedures} (λ p i. strip-procedure P p))
 
 plain-procedure : (p : Procedure) → plainGoals (p .body) ≡ true → stripProcedure p ≡ p
 unfolding stripProcedure

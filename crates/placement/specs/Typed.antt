@@ -1,7 +1,7 @@
 -- An annotation passes number 3 where the input does: each region created or removed is one of the procedure's.
 use Prim.Native.Nat.{ℕ, suc}
 use mathlib.Core.Path.{_≡_, refl, sym, ap, ap₂, _∙_}
-use mathlib.Core.Bool.{Bool, true, false}
+use mathlib.Core.Bool.{Bool, true}
 use mathlib.Core.List.{List, [], _∷_}
 use lib.Dec.{eqb, leb}
 use Rattle.sets.specs.Tests.{_&_, true-and}
@@ -13,25 +13,12 @@ use Rattle.language.specs.Program.{Functor, Step, Goals, done, _then_, Goal, st
 use Rattle.language.specs.Typing.{isVariable, isRegion, hasType, argumentsOk, functorsFor, stepOk, goalsOk, goalOk, armsOk}
 use Rattle.language.specs.Lifetimes.{wanted, live, liveGoal}
 use Rattle.language.specs.Annotation.{creates, removes, goingOn, removing, placedIf, placedSwitch, placedArm, placeStep, placeGoals, placeGoal, placeArms}
+use Rattle.laws.specs.Tests.{and-assoc, yes-and, and-yes}
 use Rattle.region_graph.specs.Laws.{Declared}
 use Rattle.placement.specs.Wanted.{Within, within-difference}
 use Rattle.placement.specs.Effects.{FitsStep}
 use Rattle.placement.specs.Fits.{Fits, fits-done, fits-then, FitsGoal, fits-step, fits-switch, fits-if, FitsArms, fits-last, fits-more}
 use Rattle.placement.specs.Held.{removed-wants, removed-within, goal-wants, then-wants, else-wants, created-within, goal-within}
-
-and-assoc : (a b c : Bool) → ((a & b) & c) ≡ (a & b & c)
-unfolding _&_
-and-assoc true b c = refl
-and-assoc false b c = refl
-
-true-part : {a : Bool} (b : Bool) → a ≡ true → (a & b) ≡ b
-unfolding _&_
-true-part b e = rw e
-
-part-true : (a : Bool) → (a & true) ≡ a
-unfolding _&_
-part-true true = refl
-part-true false = refl
 
 module _ (P : Program) (S : Signature) where
   ok-before : (gs hs : Goals) → goalsOk P S (gs before hs) ≡ (goalsOk P S gs & goalsOk P S hs)
@@ -61,15 +48,15 @@ module _ (P : Program) (S : Signature) where
     ok-step : (g : Step) (after held : Set) → FitsStep P S g after → goalsOk P S (placeStep P S g after held .goals) ≡ stepOk P S g
     unfolding placeStep goalsOk goalOk
     ok-step g after held F =
-        ok-before (creates _) (step g then done) ∙ true-part _ (ok-creates _ (members-regions _ (created-within P S D g after F)))
-        ∙ part-true (stepOk P S g)
+        ok-before (creates _) (step g then done) ∙ yes-and _ (ok-creates _ (members-regions _ (created-within P S D g after F)))
+        ∙ and-yes (stepOk P S g)
 
     -- removes, then a goal, then the rest
     ok-parts : (rs front rest gs : Goals) (g : Goal) → goalsOk P S rs ≡ true → goalsOk P S front ≡ goalOk P S g → goalsOk P S rest ≡ goalsOk P S gs
         → goalsOk P S (rs before (front before rest)) ≡ goalsOk P S (g then gs)
     unfolding goalsOk
     ok-parts rs front rest gs g p q r =
-        ok-before rs (front before rest) ∙ true-part _ p ∙ ok-before front rest ∙ ap₂ _&_ q r
+        ok-before rs (front before rest) ∙ yes-and _ p ∙ ok-before front rest ∙ ap₂ _&_ q r
 
     mutual
       unfolding placeGoals placeGoal placeArms goingOn placedIf placedSwitch placedArm goalsOk goalOk armsOk live liveGoal
@@ -89,9 +76,9 @@ module _ (P : Program) (S : Signature) where
           → Within S held → goalsOk P S (placeGoal P S g after held .goals) ≡ goalOk P S g
       goal-typed (fits-step {g = g} {after = after} F) held h W = ok-step g after held F
       goal-typed (fits-switch {x = x} {cs = cs} {after = after} m A) held h W =
-          part-true _ ∙ ap (λ b. isVariable S x & leb 1 (typeOf S x) & b) (arms-typed A held h W (functorsFor P S x) 0)
+          and-yes _ ∙ ap (λ b. isVariable S x & leb 1 (typeOf S x) & b) (arms-typed A held h W (functorsFor P S x) 0)
       goal-typed (fits-if {y = y} {z = z} {a = a} {b = b} {after = after} m n F G) held h W =
-          part-true _
+          and-yes _
           ∙ ap₂ (λ c d. hasType S 0 y & hasType S 0 z & c & d)
           (placed-typed F held (subset-trans _ _ held (then-wants S y z (live P a after) (live P b after)) h) W)
           (placed-typed G held (subset-trans _ _ held (else-wants S y z (live P a after) (live P b after)) h) W)

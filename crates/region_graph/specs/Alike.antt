@@ -1,10 +1,10 @@
 -- A caller's and a callee's regions of one type: their edges stand for the same places, so they lead in parallel to regions of one type.
 -- So do the arguments of a call that passes number 3.
 use Prim.Native.Nat.{ℕ, _≤_}
-use mathlib.Core.Bool.{Bool, true, false, false≢true}
+use mathlib.Core.Bool.{Bool, true, false≢true}
 use mathlib.Core.List.{List, [], _∷_, map, head-eq-of-cons-eq, tail-eq-of-cons-eq}
 use mathlib.Core.Logic.{_≢_, _⊎_, inl, inr}
-use mathlib.Core.Path.{_≡_, sym, ap, _∙_}
+use mathlib.Core.Path.{_≡_, sym, ap, ap₂, _∙_}
 use native.Mathlib.Omega.{arith}
 use borrow.Author.Tests.{eqb-true}
 use lib.Dec.{eqb}
@@ -13,6 +13,7 @@ use Rattle.language.specs.Lists.{choose}
 use Rattle.language.specs.Program.{Functor, Edge, Signature, regionOf, regionAt, typeOf, functorsOf, parametersOf, parameterVariables}
 use Rattle.language.specs.Typing.{Place, isRegion, hasType, haveTypes, typesOf, placesFrom, edgesOk, signatureOk}
 use Rattle.language.specs.Regions.{targets, targetsIn, targetFor, regionsOf}
+use Rattle.laws.specs.Choices.{choose-map}
 use Rattle.region_graph.specs.Laws.{target}
 use Rattle.region_graph.specs.Typed.{region-in}
 use Rattle.region_graph.specs.Places.{region-of, edges-cons}
@@ -41,9 +42,7 @@ pub region-some : (S : Signature) (r : ℕ) → isRegion S r ≡ true → r ≢ 
 region-some S r h e = let i = region-in S r h in omega arith
 
 choose-along : (m : ℕ → ℕ) (b : Bool) (x y u v : ℕ) → u ≡ m x → v ≡ m y → choose b u v ≡ m (choose b x y)
-unfolding choose
-choose-along m true x y u v p q = p
-choose-along m false x y u v p q = q
+choose-along m b x y u v p q = ap₂ (choose b) p q ∙ sym (choose-map m b x y)
 
 -- the regions of a procedure's in and out variables
 abbrev pub parameterRegions : Signature → List ℕ

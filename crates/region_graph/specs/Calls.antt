@@ -9,11 +9,12 @@ use borrow.Author.Tests.{eqb-false, ne-eqb}
 use lib.Dec.{eqb}
 use Rattle.sets.specs.Tests.{neg, and-true, neg-true, true-neg}
 use Rattle.sets.specs.Sets.{member, member-pos}
-use Rattle.sets.specs.Members.{inList, nil-in, cons-here, cons-later, cons-in, image}
+use Rattle.sets.specs.Members.{inList, nil-in, cons-in, image}
 use Rattle.sets.specs.MemberLaws.{image-in, image-mk}
 use Rattle.language.specs.Program.{Functor, Signature, Program, call, regionOf, signatureOf, parametersOf, parameterVariables}
 use Rattle.language.specs.Typing.{isRegion, haveTypes, parameterTypes, signatureOk, stepOk, typingOk}
 use Rattle.language.specs.Regions.{targets, reachFrom, reach, Mapping, twoWays, images, oneWay, regionsOf, mapping, stepRegions}
+pub use Rattle.laws.specs.Lists.{image-listed, listed-image}
 use Rattle.region_graph.specs.Laws.{Called, shared}
 use Rattle.region_graph.specs.Typed.{regions-few, signature-typed}
 use Rattle.region_graph.specs.Procedure.{declared}
@@ -22,24 +23,13 @@ use Rattle.region_graph.specs.Alike.{parameterRegions, Paired, paired-ni
 use Rattle.region_graph.specs.Mapping.{Due, Image, Outcome, none-mapped, mapping-outcome}
 
 -- ---- lists and their images
-pub image-listed : (m : ℕ → ℕ) (ts : List ℕ) (t : ℕ) → inList t ts ≡ true → inList (m t) (map m ts) ≡ true
-image-listed m [] t e = absurd (nil-in t e)
-image-listed m (x ∷ ts) t e =
-    ⊎-elim (λ p. cons-here (m t) (m x) (map m ts) (ap m p)) (λ q. cons-later (m t) (m x) (map m ts) (image-listed m ts t q))
-    (cons-in t x ts e)
-
-pub listed-image : (m : ℕ → ℕ) (ts : List ℕ) (u : ℕ) → inList u (map m ts) ≡ true → (t : ℕ) × (inList t ts ≡ true) × (m t ≡ u)
-listed-image m [] u e = absurd (nil-in u e)
-listed-image m (x ∷ ts) u e =
-    ⊎-elim (λ p. (x, cons-here x x ts refl, p)) (λ q. let r = listed-image m ts u q in (r .0, cons-later (r .0) x ts (r .1), r .2))
-    (cons-in u (m x) (map m ts) e)
+pub regions-map : (S : Signature) (xs : List ℕ) → regionsOf S xs ≡ map (regionOf S) xs
+unfolding regionsOf
+regions-map S [] = refl
+regions-map S (x ∷ xs) = ap (λ rs. regionOf S x ∷ rs) (regions-map S xs)
 
 region-listed : (S : Signature) (xs : List ℕ) (x : ℕ) → inList x xs ≡ true → inList (regionOf S x) (regionsOf S xs) ≡ true
-unfolding regionsOf
-region-listed S [] x e = absurd (nil-in x e)
-region-listed S (y ∷ xs) x e =
-    ⊎-elim (λ p. cons-here (regionOf S x) (regionOf S y) (regionsOf S xs) (ap (regionOf S) p))
-    (λ q. cons-later (regionOf S x) (regionOf S y) (regionsOf S xs) (region-listed S xs x q)) (cons-in x y xs e)
+region-listed S xs x e = rw (regions-map S xs) (image-listed (regionOf S) xs x e)
 
 -- a pair's first is in the list: its image is the second
 paired-at : {R : ℕ → ℕ → Type 0} {rs us : List ℕ} (m : ℕ → ℕ) → Paired R rs us → map m rs ≡ us → (r : ℕ) → inList r rs ≡ true → R r (m r)

@@ -1,19 +1,21 @@
 -- Born, dead and kept regions: what they are by number 3, and how number 7 places them among the input and output regions.
 use Prim.Native.Nat.{ℕ, zero, suc, _≤_}
-use mathlib.Core.Bool.{true}
+use mathlib.Core.Bool.{Bool, true}
 use mathlib.Core.List.{List}
+use mathlib.Core.Logic.{_⊎_, ⊎-elim}
 use mathlib.Core.Path.{_≡_, refl}
 use native.Mathlib.Omega.{arith}
 use borrow.Author.Tests.{eqb-true, eq-eqb}
 use lib.Dec.{eqb}
-use Rattle.sets.specs.Tests.{false-of, and-true}
-use Rattle.sets.specs.Sets.{member, _∪_, _∖_, subset, apart, union-left, union-right, subset-mk}
-use Rattle.sets.specs.SetLaws.{subset-trans, subset-antisym, left-union, right-union, union-least, difference-left, difference-apart, apart-mk, apart-mono, subset-refl}
-use Rattle.sets.specs.MemberLaws.{keep-in, keep-mk}
+use Rattle.sets.specs.Tests.{_or_, neg, clash, false-of, and-true, or-true, neg-true}
+use Rattle.sets.specs.Sets.{member, _∪_, _∖_, subset, apart, union-left, union-right, union-in, subset-mk}
+use Rattle.sets.specs.SetLaws.{subset-trans, subset-antisym, left-union, right-union, union-least, difference-left, difference-apart, apart-in, apart-mk, apart-mono, subset-refl}
+use Rattle.sets.specs.Members.{every}
+use Rattle.sets.specs.MemberLaws.{keep-in, keep-mk, every-in}
 use Rattle.sets.specs.declared.Set.{Set}
 use Rattle.language.specs.Program.{Functor, Signature, regionAt}
 use Rattle.language.specs.Typing.{isRegion}
-use Rattle.language.specs.Lifetimes.{inputs, outputs, ofClass, declared, born, dead, kept, classesOk}
+use Rattle.language.specs.Lifetimes.{inputs, outputs, ofClass, declared, born, dead, kept, unsharedIn, classesOk}
 use Rattle.region_graph.specs.Laws.{Declared, shared}
 use Rattle.region_graph.specs.Typed.{declared-in, declared-mk}
 use Rattle.region_graph.specs.Shared.{region-top, shared-ranged}
@@ -82,6 +84,17 @@ module _ (T : List (List Functor)) (S : Signature) (D : Declared T S) where
       go (suc (suc zero)) e l = union-right (kept S ∪ born S) (dead S) r (dead-mk r region e)
       go (suc (suc (suc c))) e l = absurd (omega arith)
 
+-- "An image of a dead or born one is no other region's image."
+pub unshared-in : (m : ℕ → ℕ) (rs others : Set) → unsharedIn m rs others ≡ true
+    → (r q : ℕ) → member rs r ≡ true → r ≤ 64 → member others q ≡ true → q ≤ 64 → m r ≡ m q → r ≡ q
+unfolding unsharedIn
+unshared-in m rs others e r q i h j l p =
+    ⊎-elim (λ n. absurd (clash (eq-eqb (m r) (m q) p) (neg-true n))) (eqb-true r q)
+    (or-true (every-in (other r) others (every-in (λ a. every (other a) others) rs e r i h) q j l))
+  where
+    other : ℕ → ℕ → Bool
+    other a b = neg (eqb (m a) (m b)) or eqb a b
+
 -- ---- number 7 for every program
 module _ (S : Signature) (ok : classesOk S ≡ true) where
   born-only : subset (born S) (outputs S ∖ inputs S) ≡ true
@@ -113,6 +126,31 @@ module _ (S : Signature) (ok : classesOk S ≡ true) where
 
   pub dead-shared : subset (dead S) (inputs S ∪ outputs S) ≡ true
   dead-shared = subset-trans (dead S) (inputs S) (inputs S ∪ outputs S) dead-inputs (left-union (inputs S) (outputs S))
+
+  pub start-shared : subset (dead S ∪ kept S) (inputs S ∪ outputs S) ≡ true
+  start-shared = union-least (dead S) (kept S) (inputs S ∪ outputs S) dead-shared (kept-shared S)
+
+  -- the input regions are dead or kept, the output regions born or kept
+  pub inputs-sorted : (T : List (List Functor)) → Declared T S → subset (inputs S) (dead S ∪ kept S) ≡ true
+  inputs-sorted T D = subset-mk (inputs S) (dead S ∪ kept S) (λ r m. ⊎-elim (other r m) (union-left (dead S) (kept S) r) (classed r m))
+    where
+      classed : (r : ℕ) → member (inputs S) r ≡ true → (member (kept S ∪ born S) r ≡ true) ⊎ (member (dead S) r ≡ true)
+      classed r m = union-in (kept S ∪ born S) (dead S) r (shared-classed T S D r (union-left (inputs S) (outputs S) r m))
+
+      other : (r : ℕ) → member (inputs S) r ≡ true → member (kept S ∪ born S) r ≡ true → member (dead S ∪ kept S) r ≡ true
+      other r m i =
+          ⊎-elim (union-right (dead S) (kept S) r) (λ b. absurd (clash m (apart-in (born S) (inputs S) born-inputs r b))) (union-in (kept S) (born S) r i)
+
+  pub outputs-sorted : (T : List (List Functor)) → Declared T S → subset (outputs S) (born S ∪ kept S) ≡ true
+  outputs-sorted T D =
+      subset-mk (outputs S) (born S ∪ kept S)
+      (λ r m. ⊎-elim (other r) (λ d. absurd (clash m (apart-in (dead S) (outputs S) dead-outputs r d))) (classed r m))
+    where
+      classed : (r : ℕ) → member (outputs S) r ≡ true → (member (kept S ∪ born S) r ≡ true) ⊎ (member (dead S) r ≡ true)
+      classed r m = union-in (kept S ∪ born S) (dead S) r (shared-classed T S D r (union-right (inputs S) (outputs S) r m))
+
+      other : (r : ℕ) → member (kept S ∪ born S) r ≡ true → member (born S ∪ kept S) r ≡ true
+      other r i = ⊎-elim (union-right (born S) (kept S) r) (union-left (born S) (kept S) r) (union-in (kept S) (born S) r i)
 
   pub shared-parts : (T : List (List Functor)) → Declared T S → inputs S ∪ outputs S ≡ kept S ∪ born S ∪ dead S
   shared-parts T D =

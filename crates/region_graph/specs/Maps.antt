@@ -15,12 +15,14 @@ use Rattle.language.specs.Lists.{nth, nth1}
 use Rattle.language.specs.Program.{Functor, Edge, Signature, regionOf, regionAt, variableAt, functorsOf, parametersOf, parameterVariables}
 use Rattle.language.specs.Typing.{Place, isRegion, isRegionOf, haveTypes, parameterTypes, edgesOk, signatureOk}
 use Rattle.language.specs.Regions.{targets, targetsIn, targetFor, regionsOf}
+use Rattle.laws.specs.Lists
+use Rattle.laws.specs.Lists.{nth-past}
 use Rattle.region_graph.specs.Laws.{target}
-use Rattle.region_graph.specs.Lookups.{nth-past}
 use Rattle.region_graph.specs.Places.{typeFor, region-of, edges-cons, edges-found, choose-first, choose-second, Single, single-cons, places-single}
 use Rattle.region_graph.specs.Procedure.{placesOf, region-type, region-edges}
+pub use Rattle.region_graph.specs.Shared.{none-target}
 use Rattle.region_graph.specs.Alike.{parameterRegions, Paired, paired-nil, paired-cons, Matched, Alike, edges-there}
-use Rattle.region_graph.specs.Calls.{arguments-paired}
+use Rattle.region_graph.specs.Calls.{regions-map, arguments-paired}
 
 -- region r of the callee Q is mapped to u of the caller C. Where there is no argument or edge, region 0, none, is mapped to none
 pub data Maps (C Q : Signature) (ys : List ℕ) : ℕ → ℕ → Type 0 where
@@ -29,24 +31,14 @@ pub data Maps (C Q : Signature) (ys : List ℕ) : ℕ → ℕ → Type 0 where
 
 -- ---- lists by number
 pub nth-map : (m : ℕ → ℕ) → m 0 ≡ 0 → (rs : List ℕ) (i : ℕ) → nth 0 (map m rs) i ≡ m (nth 0 rs i)
-unfolding nth
-nth-map m z [] i = sym z
-nth-map m z (r ∷ rs) zero = refl
-nth-map m z (r ∷ rs) (suc i) = nth-map m z rs i
+nth-map m z rs i = ap (λ d. nth d (map m rs) i) (sym z) ∙ Lists.nth-map m 0 rs i
 
 pub none-region : (S : Signature) → regionOf S 0 ≡ 0
 unfolding regionOf variableAt nth1
 none-region S = refl
 
-pub none-target : (S : Signature) (f k : ℕ) → target S 0 f k ≡ 0
-unfolding regionAt nth1 targetFor
-none-target S f k = refl
-
 pub nth-region : (S : Signature) (xs : List ℕ) (i : ℕ) → nth 0 (regionsOf S xs) i ≡ regionOf S (nth 0 xs i)
-unfolding nth regionsOf
-nth-region S [] i = sym (none-region S)
-nth-region S (x ∷ xs) zero = refl
-nth-region S (x ∷ xs) (suc i) = nth-region S xs i
+nth-region S xs i = rw (regions-map S xs) (nth-map (regionOf S) (none-region S) xs i)
 
 -- two lists that are related by number are related one by one, if they have one length
 paired-nth : {R W : ℕ → ℕ → Type 0} {rs us : List ℕ} → Paired R rs us → ((i : ℕ) → W (nth 0 rs i) (nth 0 us i)) → Paired W rs us

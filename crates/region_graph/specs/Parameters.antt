@@ -17,7 +17,7 @@ use Rattle.language.specs.Lists.{all, among}
 use Rattle.language.specs.Program.{Functor, Variable, Signature, Parameter, parameterIn, parametersFrom, parametersOf, parameterVariables, argumentsIn, variablesIn, inMode, outMode}
 use Rattle.language.specs.Typing.{isVariable, variableOk, signatureOk}
 use Rattle.language.specs.Values.{insOf, outsOf}
-use Rattle.region_graph.specs.Lookups.{among-in, among-mk}
+use Rattle.laws.specs.Numbers.{among-in, among-mk}
 use Rattle.region_graph.specs.Typed.{variable-in, variable-mk}
 
 -- ---- the parameters among variables numbered from n on
@@ -39,20 +39,20 @@ unfolding parametersOf
 parameter-variable S x e = let r = from-in 1 (S .variables) x e in variable-mk S x (r .0) (omega arith)
 
 -- ---- one mode's among them
-mode-listed : (m x : ℕ) (ps : List Parameter) → inList x (argumentsIn m ps (parameterVariables ps)) ≡ true
-    → inList x (parameterVariables ps) ≡ true
-unfolding argumentsIn parameterVariables
-mode-listed m x [] e = e
-mode-listed m x (a ∷ ps) e =
-    ⊎-elim (λ p. cons-here x (a .variable) (parameterVariables ps) (p .1))
-    (λ q. cons-later x (a .variable) (parameterVariables ps) (mode-listed m x ps q)) (consIf-in (eqb (a .mode) m) x (a .variable) _ e)
+pub arguments-in : (m : ℕ) (ps : List Parameter) (ys : List ℕ) (y : ℕ) → inList y (argumentsIn m ps ys) ≡ true → inList y ys ≡ true
+unfolding argumentsIn
+arguments-in m [] ys y e = absurd (nil-in y e)
+arguments-in m (a ∷ ps) [] y e = absurd (nil-in y e)
+arguments-in m (a ∷ ps) (z ∷ ys) y e =
+    ⊎-elim (λ q. cons-here y z ys (q .1)) (λ q. cons-later y z ys (arguments-in m ps ys y q))
+    (consIf-in (eqb (a .mode) m) y z (argumentsIn m ps ys) e)
 
 pub mode-parameter : (S : Signature) (m x : ℕ) → inList x (variablesIn m S) ≡ true → inList x (parameterVariables (parametersOf S)) ≡ true
 unfolding variablesIn
-mode-parameter S m x e = mode-listed m x (parametersOf S) e
+mode-parameter S m x e = arguments-in m (parametersOf S) (parameterVariables (parametersOf S)) x e
 
 -- ---- number 3 knows no other mode
-in-or-out : (m : ℕ) → among 2 m ≡ true → (m ≡ inMode) ⊎ (m ≡ outMode)
+pub in-or-out : (m : ℕ) → among 2 m ≡ true → (m ≡ inMode) ⊎ (m ≡ outMode)
 in-or-out zero e = absurd (let r = among-in 2 0 e in omega arith)
 in-or-out (suc zero) e = inl refl
 in-or-out (suc (suc zero)) e = inr refl
@@ -71,6 +71,10 @@ modes-from T S n (v ∷ vs) e =
     go zero h ih = ih
     go (suc m) h ih = true-and (among-mk 2 (suc m) (omega arith) h) ih
 
+pub modes : (T : List (List Functor)) (S : Signature) → signatureOk T S ≡ true → all (λ a. among 2 (a .mode)) (parametersOf S) ≡ true
+unfolding signatureOk parametersOf
+modes T S ok = modes-from T S 1 (S .variables) (and-true (and-true (and-true ok .1) .1) .0)
+
 of-mode : (x : ℕ) (ps : List Parameter) → all (λ a. among 2 (a .mode)) ps ≡ true → inList x (parameterVariables ps) ≡ true
     → (inList x (argumentsIn inMode ps (parameterVariables ps)) ≡ true) ⊎ (inList x (argumentsIn outMode ps (parameterVariables ps)) ≡ true)
 unfolding all argumentsIn parameterVariables
@@ -87,8 +91,8 @@ of-mode x (a ∷ ps) h e =
 pub parameter-mode : (T : List (List Functor)) (S : Signature) → signatureOk T S ≡ true → (x : ℕ)
     → inList x (parameterVariables (parametersOf S)) ≡ true
     → (inList x (variablesIn inMode S) ≡ true) ⊎ (inList x (variablesIn outMode S) ≡ true)
-unfolding signatureOk variablesIn parametersOf
-parameter-mode T S ok x e = of-mode x (parametersOf S) (modes-from T S 1 (S .variables) (and-true (and-true (and-true ok .1) .1) .0)) e
+unfolding variablesIn
+parameter-mode T S ok x e = of-mode x (parametersOf S) (modes T S ok) e
 
 -- ---- the sets of in and of out variables
 module _ (S : Signature) where

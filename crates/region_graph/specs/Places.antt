@@ -14,6 +14,8 @@ use Rattle.language.specs.Lists.{nth, choose}
 use Rattle.language.specs.Program.{Functor, Edge, Signature, regionAt, functorAt}
 use Rattle.language.specs.Typing.{Place, typesIn, placeIf, isRegion, isRegionOf, regioned, placesIn, placesFrom, edgesOk}
 use Rattle.language.specs.Regions.{targetsIn, targetFor}
+use Rattle.laws.specs.Tests.{and-no, no-and}
+pub use Rattle.laws.specs.Choices.{choose-true as choose-first, choose-false as choose-second}
 
 -- the type at functor f and position k, 0 where there is no place
 unfoldable pub typeFor : List Place → ℕ → ℕ → ℕ
@@ -77,26 +79,6 @@ edge-listed (e ∷ es) f k n = go (eqb (e .functor) f & eqb (e .position) k) n (
     go false n ih = cons-later (targetFor es f k) (e .target) (targetsIn es) (ih n)
 
 -- ---- the places of a type
-pub choose-second : {A : Type 0} (b : Bool) (x y : A) → b ≡ false → choose b x y ≡ y
-unfolding choose
-choose-second true x y e = absurd (false≢true (sym e))
-choose-second false x y e = refl
-
-pub choose-first : {A : Type 0} (b : Bool) (x y : A) → b ≡ true → choose b x y ≡ x
-unfolding choose
-choose-first true x y e = refl
-choose-first false x y e = absurd (false≢true e)
-
-and-no : (a : Bool) {b : Bool} → b ≡ false → (a & b) ≡ false
-unfolding _&_
-and-no true e = e
-and-no false e = refl
-
-no-and : {a : Bool} (b : Bool) → a ≡ false → (a & b) ≡ false
-unfolding _&_
-no-and {a = true} b e = absurd (false≢true (sym e))
-no-and {a = false} b e = refl
-
 -- a place that stands there if the test b passes
 place-if : (b : Bool) (p : Place) (qs ps : List Place) (f k : ℕ)
     → typeFor (placeIf b p qs ++ ps) f k ≡ choose (b & (eqb (p .functor) f & eqb (p .position) k)) (p .type) (typeFor (qs ++ ps) f k)

@@ -62,6 +62,12 @@ module _ (T : List (List Functor)) (S : Signature) (ok : signatureOk T S ≡ tru
           ⊎ ((1 ≤ typeOf S x) × (isRegion S (regionOf S x) ≡ true) × (regionAt S (regionOf S x) .type ≡ typeOf S x))
       none h = let e = variable-past S x h in inl (ap (λ (v : Variable). v .type) e, ap (λ (v : Variable). v .region) e)
 
+  pub number-region : (x : ℕ) → typeOf S x ≡ 0 → regionOf S x ≡ 0
+  number-region x z = ⊎-elim (λ a. a .1) (λ a. absurd (let l = a .0 in omega arith)) (variable-region x)
+
+  pub cell-region : (x : ℕ) → 1 ≤ typeOf S x → (isRegion S (regionOf S x) ≡ true) × (regionAt S (regionOf S x) .type ≡ typeOf S x)
+  cell-region x l = ⊎-elim (λ a. absurd (let z = a .0 in omega arith)) (λ a. (a .1, a .2)) (variable-region x)
+
   pub region-type : (r : ℕ) → isRegion S r ≡ true → 1 ≤ regionAt S r .type
   region-type r h = region-parts T S (regionAt S r) (region-typed T S ok r h) .0
 

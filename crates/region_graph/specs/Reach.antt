@@ -15,7 +15,7 @@ use Rattle.sets.specs.declared.Set.{Set}
 use Rattle.language.specs.Program.{Signature}
 use Rattle.language.specs.Typing.{isRegion}
 use Rattle.language.specs.Regions.{targets, grown, grownBy, reachFrom}
-use Rattle.region_graph.specs.Typed.{region-in}
+use Rattle.region_graph.specs.Typed.{region-in, region-small}
 
 module _ (S : Signature) where
   -- ---- one edge further
@@ -83,9 +83,6 @@ module _ (S : Signature) where
 -- ---- a procedure's edges lead to regions
 module _ (S : Signature) (few : length (S .regions) ≤ 64)
     (leads : (r t : ℕ) → isRegion S r ≡ true → inList t (targets S r) ≡ true → isRegion S t ≡ true) where
-  small-region : (r : ℕ) → isRegion S r ≡ true → (1 ≤ r) × (r ≤ 64)
-  small-region r h = let i = region-in S r h in (i .0, omega arith)
-
   grownBy-ranged : (k r u : ℕ) → isRegion S r ≡ true → member (grownBy S k (single r)) u ≡ true → isRegion S u ≡ true
   grownBy-ranged k r u h m =
       grownBy-least S (isRegion S) leads k (single r) (λ w i. ap (isRegion S) (sym (single-in r w i)) ∙ h) u m
@@ -94,7 +91,7 @@ module _ (S : Signature) (few : length (S .regions) ≤ 64)
   rounds : (k r : ℕ) → isRegion S r ≡ true
       → (grown S (grownBy S k (single r)) ≡ grownBy S k (single r)) ⊎ (suc k ≤ size (grownBy S k (single r)))
   unfolding grownBy
-  rounds zero r h = let i = small-region r h in inr (size-pos (single r) r (single-mk r (i .0) (i .1)) (i .1))
+  rounds zero r h = let i = region-small S few r h in inr (size-pos (single r) r (single-mk r (i .0) (i .1)) (i .1))
   rounds (suc k) r h = ⊎-elim (λ p. inl (ap (grown S) p)) (λ q. go q (truth (sameSet before after))) (rounds k r h)
     where
       before : Set
@@ -122,7 +119,7 @@ module _ (S : Signature) (few : length (S .regions) ≤ 64)
 
   pub reach-self : (r : ℕ) → isRegion S r ≡ true → member (reachFrom S r) r ≡ true
   unfolding reachFrom
-  reach-self r h = let i = small-region r h in grownBy-old S (length (S .regions)) (single r) r (single-mk r (i .0) (i .1))
+  reach-self r h = let i = region-small S few r h in grownBy-old S (length (S .regions)) (single r) r (single-mk r (i .0) (i .1))
 
   pub reach-ranged : (r u : ℕ) → isRegion S r ≡ true → member (reachFrom S r) u ≡ true → isRegion S u ≡ true
   unfolding reachFrom
@@ -132,8 +129,8 @@ module _ (S : Signature) (few : length (S .regions) ≤ 64)
       → member (reachFrom S r) t ≡ true
   reach-closed r u t h m e =
       let v = reach-ranged r u h m in
-      let i = small-region u v in
-      let j = small-region t (leads u t v e) in
+      let i = region-small S few u v in
+      let j = region-small S few t (leads u t v e) in
       ap (λ (s : Set). member s t) (sym (stable r h)) ∙ grown-new S (reachFrom S r) u t m (i .1) e (j .0) (j .1)
 
   pub reach-onward : (r t : ℕ) → isRegion S r ≡ true → inList t (targets S r) ≡ true → subset (reachFrom S t) (reachFrom S r) ≡ true

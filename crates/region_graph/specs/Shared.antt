@@ -3,31 +3,37 @@
 use Prim.Native.Nat.{ℕ, _≤_}
 use mathlib.Core.Bool.{Bool, true}
 use mathlib.Core.List.{List}
-use mathlib.Core.Logic.{_≢_, ⊎-elim}
-use mathlib.Core.Path.{_≡_, ap, _∙_}
-use native.Mathlib.Omega.{arith}
-use Rattle.sets.specs.Tests.{_&_, clash, and-true, true-and}
-use Rattle.sets.specs.Sets.{member, _∪_, subset, member-empty, union-left, union-right, union-in, subset-in, subset-mk}
-use Rattle.sets.specs.SetLaws.{subset-refl, subset-trans, left-union, right-union}
+use mathlib.Core.Logic.{_≢_, _⊎_, inl, inr, ⊎-elim}
+use mathlib.Core.Path.{_≡_, refl, ap, _∙_}
+use native.Mathlib.Decide.{ℕ-discrete}
+use Rattle.sets.specs.Tests.{_&_, and-true, true-and}
+use Rattle.sets.specs.Sets.{member, _∪_, subset, union-left, union-right, union-in, subset-in, subset-mk}
+use Rattle.sets.specs.SetLaws.{subset-refl, subset-trans, empty-subset, left-union, right-union}
 use Rattle.sets.specs.Members.{inList}
 use Rattle.sets.specs.MemberLaws.{unionOver-in, unionOver-mk}
 use Rattle.sets.specs.declared.Set.{Set}
-use Rattle.language.specs.Program.{Functor, Signature, regionOf, parametersOf, parameterVariables, variablesIn, inMode, outMode}
-use Rattle.language.specs.Typing.{isRegion, signatureOk}
+use Rattle.language.specs.Lists.{nth1}
+use Rattle.language.specs.Program.{Functor, Signature, regionOf, regionAt, parametersOf, parameterVariables, variablesIn, inMode, outMode}
+use Rattle.language.specs.Typing.{isVariable, isRegion, signatureOk}
 use Rattle.language.specs.Values.{insOf, outsOf}
-use Rattle.language.specs.Regions.{targets, reachFrom, reach, reachAll}
+use Rattle.language.specs.Regions.{targets, targetFor, reachFrom, reach, reachAll}
 use Rattle.language.specs.Lifetimes.{inputs, outputs}
-use Rattle.region_graph.specs.Laws.{Declared, shared}
-use Rattle.region_graph.specs.Typed.{region-in}
+use Rattle.laws.specs.MoreSets.{empty-in}
+use Rattle.region_graph.specs.Laws.{Declared, shared, target}
+use Rattle.region_graph.specs.Typed.{variable-small, region-small}
 use Rattle.region_graph.specs.Parameters.{mode-parameter, parameter-mode, ins-in, ins-top, ins-mk, outs-in, outs-top, outs-mk}
 use Rattle.region_graph.specs.Procedure.{declared}
 
+pub none-target : (S : Signature) (f k : ℕ) → target S 0 f k ≡ 0
+unfolding regionAt nth1 targetFor
+none-target S f k = refl
+
 module _ (T : List (List Functor)) (S : Signature) (D : Declared T S) where
   pub region-top : (r : ℕ) → isRegion S r ≡ true → (1 ≤ r) × (r ≤ 64)
-  region-top r h =
-      let i = region-in S r h in
-      let l = D .regions in
-      (i .0, omega arith)
+  region-top = region-small S (D .regions)
+
+  pub variable-top : (x : ℕ) → isVariable S x ≡ true → (1 ≤ x) × (x ≤ 64)
+  variable-top = variable-small S (D .variables)
 
   -- ---- reach, from one region to the next
   -- what is reached from a region that is reached is reached
@@ -50,12 +56,28 @@ module _ (T : List (List Functor)) (S : Signature) (D : Declared T S) where
       subset-in (reachFrom S t) (reachFrom S r)
       (subset-trans (reachFrom S t) (reachFrom S u) (reachFrom S r) (b .1) (reach-trans r u h m)) t (D .self t (b .0))
 
+  -- an edge leads to a region, or there is none, and what is reached from there is reached from here
+  pub target-known : (r f k : ℕ) → isRegion S r ≡ true → (target S r f k ≡ 0) ⊎ (isRegion S (target S r f k) ≡ true)
+  target-known r f k h = go (ℕ-discrete (target S r f k) 0)
+    where
+      go : Dec (target S r f k ≡ 0) → (target S r f k ≡ 0) ⊎ (isRegion S (target S r f k) ≡ true)
+      go (yes e) = inl e
+      go (no n) = inr (D .onward r (target S r f k) h (D .edge r f k n) .0)
+
+  pub target-reach : (r f k : ℕ) → (r ≡ 0) ⊎ (isRegion S r ≡ true) → subset (reachFrom S (target S r f k)) (reachFrom S r) ≡ true
+  target-reach r f k own = go (ℕ-discrete (target S r f k) 0) own
+    where
+      go : Dec (target S r f k ≡ 0) → (r ≡ 0) ⊎ (isRegion S r ≡ true) → subset (reachFrom S (target S r f k)) (reachFrom S r) ≡ true
+      go (yes e) o = ap (λ (s : Set). subset s (reachFrom S r)) (ap (reachFrom S) e ∙ D .nowhere) ∙ empty-subset (reachFrom S r)
+      go (no n) (inl e) = absurd (n (ap (λ (u : ℕ). target S u f k) e ∙ none-target S f k))
+      go (no n) (inr h) = D .onward r (target S r f k) h (D .edge r f k n) .1
+
   -- ---- the reach of a variable
   -- a variable that reaches a region has one
   pub reach-from : (x u : ℕ) → member (reach S x) u ≡ true → isRegion S (regionOf S x) ≡ true
   unfolding reach
   reach-from x u m =
-      ⊎-elim (λ z. absurd (clash m (ap (λ (s : Set). member s u) (ap (reachFrom S) z ∙ D .nowhere) ∙ member-empty u))) (λ h. h) (D .own x)
+      ⊎-elim (λ z. absurd (empty-in _ (ap (reachFrom S) z ∙ D .nowhere) u m)) (λ h. h) (D .own x)
 
   pub reach-own : (x : ℕ) → regionOf S x ≢ 0 → member (reach S x) (regionOf S x) ≡ true
   unfolding reach

@@ -1,26 +1,29 @@
 -- What number 3 says of each procedure, variable and region, and what the other numbers say of each procedure.
 -- A procedure that is not there has no variables, regions or goals and passes every test, so `p` may be any number.
-use Prim.Native.Nat.{ℕ, _≤_}
-use mathlib.Core.Bool.{Bool, true, false}
-use mathlib.Core.List.{List, []}
+use Prim.Native.Nat.{ℕ, zero, suc, _≤_, _<_}
+use mathlib.Core.Bool.{Bool, true, false, false≢true}
+use mathlib.Core.List.{List, [], _∷_}
 use mathlib.Core.Path.{_≡_, refl, ap}
 use native.Mathlib.Omega.{arith}
 use borrow.Author.Tests.{leb-true}
+use lib.Dec.{leb}
 use lib.ListN.{length}
 use Rattle.sets.specs.Tests.{_&_, and-true, true-and}
-use Rattle.sets.specs.Sets.{member, emptySet, subset, _∪_, eq-same}
-use Rattle.sets.specs.SetLaws.{subset-antisym, empty-subset}
-use Rattle.sets.specs.Members.{setOf, keep}
-use Rattle.sets.specs.MemberLaws.{setOf-in, setOf-mk, keep-subset}
-use Rattle.sets.specs.declared.Set.{Set}
-use Rattle.language.specs.Lists.{all, upFrom, isNone}
-use Rattle.language.specs.Program.{Functor, Signature, Procedure, Program, done, variableAt, regionAt, procedureAt, signatureOf, parametersOf, parametersFrom, parameterVariables, argumentsIn, variablesIn}
-use Rattle.language.specs.Typing.{isVariable, isRegion, typesOk, variableOk, regionOk, signatureOk, goalsOk, procedureOk, typingOk}
+use Rattle.sets.specs.Sets.{member, emptySet, _∪_, eq-same}
+use Rattle.sets.specs.SetLaws.{empty-subset}
+use Rattle.sets.specs.Members.{setOf}
+use Rattle.sets.specs.MemberLaws.{setOf-in, setOf-mk}
+use Rattle.language.specs.Lists.{nth1, all, among, upFrom, isNone}
+use Rattle.language.specs.Program.{Functor, Signature, Procedure, Program, done, Arms, noArms, arm, variableAt, typeOf, regionAt, functorsOf, procedureAt, signatureOf, parametersOf, parametersFrom, parameterVariables, argumentsIn, variablesIn}
+use Rattle.language.specs.Typing.{isVariable, isRegion, isType, typeOk, typesOk, armsOk, variableOk, regionOk, signatureOk, goalsOk, procedureOk, typingOk}
 use Rattle.language.specs.Values.{insOf, outsOf, goalsValues, outsValued, procedureValues, valuesOk}
 use Rattle.language.specs.Regions.{goalsRegions, regionsOk}
 use Rattle.language.specs.Lifetimes.{ofClass, declared, born, dead, kept, startHeld, classesOk, goalsClasses, declaredClassesOk, callClassesOk}
 use Rattle.language.specs.Checking.{checkGoals, endRules, procedureRules, rulesOk}
-use Rattle.region_graph.specs.Lookups.{all-or-default, nth-past, among-in, among-mk, all-nth1, nth1-past, upFrom-in, upFrom-mk}
+use Rattle.laws.specs.Numbers.{among-in, among-mk, upFrom-in, upFrom-mk}
+use Rattle.laws.specs.Lists.{all-or-default, nth-past, all-nth1, nth1-past}
+use Rattle.laws.specs.MoreSets.{keep-empty}
+use Rattle.laws.specs.Goals.{someArm}
 
 -- ---- a procedure's variables and regions
 module _ (S : Signature) where
@@ -39,6 +42,13 @@ module _ (S : Signature) where
   pub region-mk : (r : ℕ) → 1 ≤ r → r ≤ length (S .regions) → isRegion S r ≡ true
   unfolding isRegion
   region-mk r h l = among-mk (length (S .regions)) r h l
+
+  -- there are at most 64
+  pub variable-small : length (S .variables) ≤ 64 → (x : ℕ) → isVariable S x ≡ true → (1 ≤ x) × (x ≤ 64)
+  variable-small few x h = let i = variable-in x h in (i .0, omega arith)
+
+  pub region-small : length (S .regions) ≤ 64 → (r : ℕ) → isRegion S r ≡ true → (1 ≤ r) × (r ≤ 64)
+  region-small few r h = let i = region-in r h in (i .0, omega arith)
 
   -- the set of all regions
   pub declared-in : (r : ℕ) → member (declared S) r ≡ true → isRegion S r ≡ true
@@ -79,6 +89,27 @@ module _ (T : List (List Functor)) (S : Signature) (ok : signatureOk T S ≡ tru
   unfolding signatureOk isRegion regionAt
   region-typed r h = all-nth1 _ (S .regions) (regionOk T S) r (and-true (and-true (and-true ok .1) .1) .1) h
 
+  -- a type that has regions has a functor, and so a switch on it an arm
+  pub functors-some : typesOk T ≡ true → (x : ℕ) → isVariable S x ≡ true → leb 1 (typeOf S x) ≡ true → 1 ≤ length (functorsOf T (typeOf S x))
+  unfolding functorsOf typeOf variableOk isType among typesOk typeOk
+  functors-some types x h l =
+      let t = and-true (and-true (variable-typed x h) .1) .0 in
+      let f = all-nth1 [] T (typeOk T) (typeOf S x) (and-true types .1) (true-and l t) in
+      leb-true 1 _ (and-true (and-true f .0) .0)
+
+-- a type with a functor is not that of numbers
+pub functor-typed : (T : List (List Functor)) (t k : ℕ) → k < length (functorsOf T t) → 1 ≤ t
+unfolding functorsOf nth1
+functor-typed T zero k l = absurd (omega arith)
+functor-typed T (suc t) k l = omega arith
+
+pub arms-some : (P : Program) (S : Signature) (cs : Arms) (fs : List Functor) (n : ℕ) → armsOk P S cs fs n ≡ true → 1 ≤ length fs
+    → someArm cs ≡ true
+unfolding armsOk someArm
+arms-some P S noArms [] n e l = absurd (omega arith)
+arms-some P S noArms (f ∷ fs) n e l = absurd (false≢true e)
+arms-some P S (arm g ys gs cs) fs n e l = refl
+
 -- ---- a procedure that is not there
 abbrev pub noSignature : Signature
 noSignature = record { variables = []; regions = [] }
@@ -99,23 +130,17 @@ unfolding signatureOk all _&_
 no-signature-typed T = refl
 
 -- its sets are empty
-nothing : (s : Set) → subset s emptySet ≡ true → s ≡ emptySet
-nothing s h = subset-antisym s emptySet h (empty-subset s)
-
-none-kept : (p : ℕ → Bool) → keep p emptySet ≡ emptySet
-none-kept p = nothing (keep p emptySet) (keep-subset p emptySet)
-
 no-outs : outsOf noSignature ≡ emptySet
 unfolding outsOf variablesIn argumentsIn parametersOf parametersFrom parameterVariables setOf
 no-outs = refl
 
 no-born : born noSignature ≡ emptySet
 unfolding born declared ofClass upFrom setOf
-no-born = none-kept _
+no-born = keep-empty _
 
 no-dead : dead noSignature ≡ emptySet
 unfolding dead declared ofClass upFrom setOf
-no-dead = none-kept _
+no-dead = keep-empty _
 
 no-procedure-typed : (P : Program) → procedureOk P noProcedure ≡ true
 unfolding procedureOk goalsOk

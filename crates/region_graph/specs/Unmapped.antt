@@ -1,11 +1,11 @@
 -- The callee's regions that have no image yet: they fall in number with each image given, which bounds the mapping.
 use Prim.Native.Nat.{ℕ, _≤_, _<_}
-use mathlib.Core.Bool.{Bool, true}
+use mathlib.Core.Bool.{true}
 use mathlib.Core.Logic.{_≢_}
-use mathlib.Core.Path.{_≡_, refl, sym, ap, _∙_}
+use mathlib.Core.Path.{_≡_, sym, ap, _∙_}
 use native.Mathlib.Decide.{ℕ-discrete}
 use native.Mathlib.Omega.{arith}
-use borrow.Author.Tests.{eqb-true, eq-eqb, ne-eqb}
+use borrow.Author.Tests.{eqb-true, eq-eqb}
 use lib.Dec.{eqb}
 use lib.ListN.{length}
 use Rattle.sets.specs.Tests.{false-of}
@@ -14,20 +14,12 @@ use Rattle.sets.specs.Members.{keep}
 use Rattle.sets.specs.MemberLaws.{keep-in, keep-mk}
 use Rattle.sets.specs.Size.{size, size-below, size-mono, size-lt, size-pos}
 use Rattle.sets.specs.declared.Set.{Set}
-use Rattle.language.specs.Lists.{put, choose}
+use Rattle.language.specs.Lists.{put}
+pub use Rattle.laws.specs.Choices.{put-same as put-here, put-other}
 use Rattle.language.specs.Program.{Signature}
 use Rattle.language.specs.Typing.{isRegion}
 use Rattle.language.specs.Lifetimes.{declared}
 use Rattle.region_graph.specs.Typed.{region-in, declared-in, declared-mk}
-
--- ---- a function changed at one number
-pub put-here : (m : ℕ → ℕ) (r u : ℕ) → put m r u r ≡ u
-unfolding put choose
-put-here m r u = ap (λ (b : Bool). choose b u (m r)) (eq-eqb r r refl)
-
-pub put-other : (m : ℕ → ℕ) (r u q : ℕ) → r ≢ q → put m r u q ≡ m q
-unfolding put choose
-put-other m r u q n = ap (λ (b : Bool). choose b u (m q)) (ne-eqb r q n)
 
 -- ---- the callee's regions that have no image yet
 abbrev pub unmapped : Signature → (ℕ → ℕ) → Set

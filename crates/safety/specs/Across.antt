@@ -5,7 +5,7 @@ use mathlib.Core.Bool.{true, false≢true}
 use mathlib.Core.List.{List, [], _∷_, map}
 use mathlib.Core.Logic.{inl, inr}
 use Prim.Native.Nat.{ℕ, zero, suc}
-use Rattle.sets.specs.Sets.{member}
+use Rattle.sets.specs.Sets.{member, subset-in}
 use Rattle.sets.specs.Members.{inList, cons-here, cons-later}
 use Rattle.language.specs.Program.{Functor, Signature, regionAt, parametersOf, parameterVariables}
 use Rattle.language.specs.Typing.{isRegion}
@@ -13,7 +13,9 @@ use Rattle.language.specs.Regions.{mapping, imageIn, regionsOf, reachFrom}
 use Rattle.language.specs.Frames.{Value}
 use Rattle.language.specs.AcceptedRun.{RegionCell}
 use Rattle.region_graph.specs.Laws.{shared, target, Declared, Called}
-use Rattle.safety.specs.Signatures.{Known, region-positive, target-known, target-reach}
+use Rattle.region_graph.specs.Alike.{region-some}
+use Rattle.region_graph.specs.Shared.{target-known, target-reach}
+use Rattle.safety.specs.Signatures.{Known}
 use Rattle.safety.specs.Places.{cellOn, along, along-in, choices, width, Placed, is-number, is-cell, PlacedAll, placed-none, placed-more}
 
 -- what the values need of a call's mapping m
@@ -37,7 +39,7 @@ Comes Q m ρ ρ′ r = (u : ℕ) → member (reachFrom Q r) u ≡ true → (shar
 abbrev pub ComesAll : Signature → (ℕ → ℕ) → (ℕ → ℕ) → (ℕ → ℕ) → List ℕ → Type 0
 ComesAll Q m ρ ρ′ rs = (t : ℕ) → inList t rs ≡ true → Known Q t × Comes Q m ρ ρ′ t
 
-module _ {T : List (List Functor)} {C Q : Signature} {ys : List ℕ} {m : ℕ → ℕ} (DC : Declared T C) (D : Declared T Q)
+module _ {T : List (List Functor)} {C Q : Signature} {ys : List ℕ} {m : ℕ → ℕ} (D : Declared T Q)
     (A : Along C Q ys m) where
   -- ---- a region and its image have equal edges
   choices-same : (r : ℕ) → shared Q r → choices T C (m r) ≡ choices T Q r
@@ -59,14 +61,14 @@ module _ {T : List (List Functor)} {C Q : Signature} {ys : List ℕ} {m : ℕ �
   comes-along : (ρ ρ′ : ℕ → ℕ) (r f k n : ℕ) → isRegion Q r ≡ true → Comes Q m ρ ρ′ r → ComesAll Q m ρ ρ′ (along Q r f k n)
   comes-along ρ ρ′ r f k n i g t e =
       let j = along-in Q r f k n t e in
-      (rw (j .1) at (target-known D r f (j .0) i), λ u x. g u (target-reach D r f (j .0) u i (rw (j .1) x)))
+      (rw (j .1) at (target-known _ _ D r f (j .0) i), λ u x. g u (subset-in _ _ (target-reach _ _ D r f (j .0) (inr i)) u (rw (j .1) x)))
 
   zero-back : (ρ ρ′ : ℕ → ℕ) (r : ℕ) → Known Q r → Comes Q m ρ ρ′ r → 0 ≡ m r → r ≡ 0
   zero-back ρ ρ′ r (inl z) g e = z
-  zero-back ρ ρ′ r (inr i) g e = absurd (region-positive DC (rw e (A .region r (g r (D .self r i) .0))))
+  zero-back ρ ρ′ r (inr i) g e = absurd (region-some C 0 (rw e (A .region r (g r (D .self r i) .0))) refl)
 
   region-back : (r k : ℕ) → Known Q r → k ≡ m r → isRegion C k ≡ true → isRegion Q r ≡ true
-  region-back r k (inl z) e i = absurd (region-positive DC (sym (ap (isRegion C) (e ∙ ap m z ∙ A .nowhere)) ∙ i))
+  region-back r k (inl z) e i = absurd (region-some C 0 (sym (ap (isRegion C) (e ∙ ap m z ∙ A .nowhere)) ∙ i) refl)
   region-back r k (inr j) e i = j
 
   module _ {ρ ρ′ : ℕ → ℕ} {H : List RegionCell} where

@@ -1,16 +1,14 @@
 -- The newest frame's next goal is always allowed: what it builds in or removes is held, and what it reads is sound.
-use mathlib.Core.Path.{_≡_, refl, sym, ap, _∙_}
+use mathlib.Core.Path.{_≡_, refl, ap, _∙_}
 use mathlib.Core.Bool.{true}
 use mathlib.Core.List.{List, [], _∷_}
-use Prim.Native.Nat.{ℕ, zero, suc, _≤_, _<_}
-use native.Mathlib.Omega.{arith}
+use Prim.Native.Nat.{ℕ, _≤_, _<_}
 use borrow.Author.Tests.{leb-true, ltb-true}
 use lib.ListN.{length}
 use lib.IntN.{ℤ}
 use Rattle.sets.specs.Tests.{and-true}
 use Rattle.sets.specs.Sets.{member, single, subset, single-mk, subset-in}
 use Rattle.sets.specs.declared.Set.{Set}
-use Rattle.language.specs.Lists.{nth1}
 use Rattle.language.specs.Program.{Four, argumentsOf, Functor, literal, sum, assign, construct, call, print, create, remove, Goals, Goal, step, switch, ifLess, Signature, Program, typeOf, regionOf, signatureOf, functorsOf, functorAt}
 use Rattle.language.specs.Typing.{typesIn, isRegion, hasType, haveTypes, argumentsOk, functorsFor, stepOk, goalOk}
 use Rattle.language.specs.Regions.{regionsOf, inTargets, reach}
@@ -18,9 +16,13 @@ use Rattle.language.specs.Lifetimes.{effect}
 use Rattle.language.specs.Checking.{checkGoal}
 use Rattle.language.specs.Frames.{numeral}
 use Rattle.language.specs.AcceptedRun.{RegionFrame, RegionCell, Memory, liesIn, regionFor, allowed}
+use Rattle.region_graph.specs.Typed.{functor-typed}
+use Rattle.region_graph.specs.Alike.{region-some}
+use Rattle.region_graph.specs.Procedure.{number-region, cell-region}
 use Rattle.safety.specs.Walks.{require-in}
 use Rattle.safety.specs.Doing.{Next}
-use Rattle.safety.specs.Signatures.{Fit, region-range, region-positive}
+use Rattle.region_graph.specs.Shared.{region-top}
+use Rattle.safety.specs.Signatures.{Fit, laws-of}
 use Rattle.safety.specs.Premises.{Accepted, fit}
 use Rattle.safety.specs.Places.{along, choices, width, Placed, is-number, PlacedAll, placed-none, placed-more, Lies, lies}
 use Rattle.safety.specs.Variables.{type-in, types-length, targets-along}
@@ -34,19 +36,10 @@ pub record Built (T : List (List Functor)) (S : Signature) (x k : ℕ) (ys : Lis
   pub small : k < length (functorsOf T (typeOf S x))
   pub have : haveTypes S (typesIn (functorAt (functorsOf T (typeOf S x)) k)) ys ≡ true
 
--- a type with a functor is not that of numbers
-functor-typed : (T : List (List Functor)) (t k : ℕ) → k < length (functorsOf T t) → 1 ≤ t
-unfolding functorsOf nth1
-functor-typed T zero k l = absurd (omega arith)
-functor-typed T (suc t) k l = omega arith
-
 module _ (P : Program) {S : Signature} (F : Fit (P .types) S) where
-  number-region : (x : ℕ) → hasType S 0 x ≡ true → regionOf S x ≡ 0
-  number-region x e = F .number x (type-in S 0 x e .1)
-
   number-lies : {ρ : ℕ → ℕ} {H : List RegionCell} (x : ℕ) (z : ℤ) → hasType S 0 x ≡ true
       → Placed (P .types) S ρ H (regionOf S x) (numeral z)
-  number-lies x z e = rw (number-region x e) is-number
+  number-lies x z e = rw (number-region _ _ (F .typed) x (type-in S 0 x e .1)) is-number
 
   pub number-placed : {ρ : ℕ → ℕ} {H : List RegionCell} (x : ℕ) (z : ℤ) → hasType S 0 x ≡ true
       → PlacedAll (P .types) S ρ H (regionsOf S (x ∷ [])) (numeral z ∷ [])
@@ -60,11 +53,11 @@ module _ (P : Program) {S : Signature} (F : Fit (P .types) S) where
   unfolding width
   fits-along x k ys l h t =
       targets-along P S (regionOf S x) k 1 ys t ∙ ap (along S (regionOf S x) k 1)
-      (types-length S (typesIn (functorAt (functorsOf (P .types) (typeOf S x)) k)) ys h ∙ (rw (F .cell x l .1)))
+      (types-length S (typesIn (functorAt (functorsOf (P .types) (typeOf S x)) k)) ys h ∙ (rw (cell-region _ _ (F .typed) x l .1)))
 
   pub choices-typed : (x : ℕ) → 1 ≤ typeOf S x → choices (P .types) S (regionOf S x) ≡ length (functorsOf (P .types) (typeOf S x))
   unfolding choices
-  choices-typed x l = rw (F .cell x l .1)
+  choices-typed x l = rw (cell-region _ _ (F .typed) x l .1)
 
 module _ {P : Program} (A : Accepted P) (f : RegionFrame) (fs : List RegionFrame) (m : Memory) {h s : Set} {os : List Owner}
     (N : Now P (f .frame .procedure) (f .frame .arguments) (f .stands) (f .frame .values) fs (m .cells) (m .made) (m .alive) h s os) where
@@ -79,16 +72,16 @@ module _ {P : Program} (A : Accepted P) (f : RegionFrame) (fs : List RegionFrame
 
   -- a region that a step needs is held, so it is alive
   needed-alive : (r : ℕ) → isRegion S r ≡ true → subset (single r) h ≡ true → m .alive (f .stands r) ≡ true
-  needed-alive r i w = let l = region-range (F .laws) r i in N .regions .alive .0 r (subset-in (single r) h w r (single-mk r (l .0) (l .1)))
+  needed-alive r i w = let l = region-top _ _ (laws-of F) r i in N .regions .alive .0 r (subset-in (single r) h w r (single-mk r (l .0) (l .1)))
 
   -- a sound variable that is no number: its cell, in a region that is alive
   pub cell-of : (x : ℕ) → 1 ≤ typeOf S x → member s x ≡ true → Lies T S (f .stands) (m .cells) (regionOf S x) (f .frame .values x)
-  cell-of x l i = lies (N .vars .placed x i) (λ z. region-positive (F .laws) (ap (isRegion S) (sym z) ∙ F .cell x l .0))
+  cell-of x l i = lies (N .vars .placed x i) (region-some S (regionOf S x) (cell-region _ _ (F .typed) x l .0))
 
   cell-alive : (x : ℕ) → 1 ≤ typeOf S x → member s x ≡ true → m .alive (f .stands (regionOf S x)) ≡ true
   unfolding reach
   cell-alive x l i =
-      N .regions .alive .0 (regionOf S x) (N .vars .closed x (regionOf S x) i (F .laws .self (regionOf S x) (F .cell x l .0)))
+      N .regions .alive .0 (regionOf S x) (N .vars .closed x (regionOf S x) i (laws-of F .self (regionOf S x) (cell-region _ _ (F .typed) x l .0)))
 
   cell-lies : (x : ℕ) → 1 ≤ typeOf S x → member s x ≡ true → liesIn (m .cells) (f .frame .values x) ≡ f .stands (regionOf S x)
   unfolding liesIn
@@ -108,7 +101,7 @@ module _ {P : Program} (A : Accepted P) (f : RegionFrame) (fs : List RegionFrame
   allowed-ok (step (sum x o y z)) rest X = refl
   allowed-ok (step (assign x y)) rest X = refl
   allowed-ok (step (construct x k ys)) rest X =
-      needed-alive (regionOf S x) (F .cell x (constructed x k ys (X .typed) .typed) .0)
+      needed-alive (regionOf S x) (cell-region _ _ (F .typed) x (constructed x k ys (X .typed) .typed) .0)
       (obeyed P S (construct x k ys) (X .goes) .needs-held)
   allowed-ok (step (call q ys)) rest X = refl
   allowed-ok (step (print y)) rest X = refl

@@ -4,36 +4,28 @@ use mathlib.Core.Bool.{Bool, true, false, false≢true}
 use mathlib.Core.List.{List, [], _∷_, map}
 use mathlib.Core.Logic.{_≢_, _⊎_, inl, inr, ⊎-elim}
 use Prim.Native.Nat.{ℕ}
-use native.Mathlib.Omega.{arith}
 use lib.Dec.{eqb}
 use Rattle.sets.specs.Tests.{truth, clash}
 use Rattle.sets.specs.Sets.{member}
-use Rattle.sets.specs.Members.{setOf, consIf, inList, nil-in, cons-in, cons-here, cons-later, consIf-in}
+use Rattle.sets.specs.Members.{setOf, consIf, inList, nil-in, cons-in, cons-here, cons-later}
 use Rattle.sets.specs.MemberLaws.{setOf-mk}
 use Rattle.language.specs.Lists.{put}
 use Rattle.language.specs.Program.{Functor, Signature, Parameter, regionOf, parameterVariables, argumentsIn, variablesIn}
 use Rattle.language.specs.Regions.{regionsOf}
 use Rattle.language.specs.AcceptedRun.{standEach}
+use Rattle.laws.specs.Choices.{put-same, put-other}
+use Rattle.laws.specs.Lists.{listed-image}
 use Rattle.region_graph.specs.Laws.{Declared}
-use Rattle.region_graph.specs.Typed.{variable-in}
 use Rattle.region_graph.specs.Parameters.{parameter-variable, mode-parameter}
-use Rattle.safety.specs.Plain.{put-same, put-other}
+use Rattle.region_graph.specs.Shared.{variable-top}
+use Rattle.region_graph.specs.Calls.{regions-map}
 
 -- ---- the callee's in and out variables are variables of its own
-pub arguments-in : (k : ℕ) (ps : List Parameter) (ys : List ℕ) (y : ℕ) → inList y (argumentsIn k ps ys) ≡ true → inList y ys ≡ true
-unfolding argumentsIn
-arguments-in k [] ys y e = absurd (nil-in y e)
-arguments-in k (a ∷ ps) [] y e = absurd (nil-in y e)
-arguments-in k (a ∷ ps) (z ∷ ys) y e =
-    ⊎-elim (λ q. cons-here y z ys (q .1)) (λ q. cons-later y z ys (arguments-in k ps ys y q))
-    (consIf-in (eqb (a .mode) k) y z (argumentsIn k ps ys) e)
-
 pub variables-member : {T : List (List Functor)} {S : Signature} → Declared T S → (k x : ℕ) → inList x (variablesIn k S) ≡ true
     → member (setOf (variablesIn k S)) x ≡ true
-variables-member {S = S} D k x i =
-    let r = variable-in S x (parameter-variable S x (mode-parameter S k x i)) in
-    let l = D .variables in
-    setOf-mk (variablesIn k S) x i (r .0) (omega arith)
+variables-member {T} {S} D k x i =
+    let r = variable-top T S D x (parameter-variable S x (mode-parameter S k x i)) in
+    setOf-mk (variablesIn k S) x i (r .0) (r .1)
 
 -- ---- the regions of arguments and of the variables that they match
 regions-consIf : (C Q : Signature) (m : ℕ → ℕ) (b : Bool) (x y : ℕ) (xs ys : List ℕ) → m (regionOf Q x) ≡ regionOf C y
@@ -54,11 +46,7 @@ arguments-regions C Q m k (a ∷ ps) (y ∷ ys) e =
 
 pub regions-in : (S : Signature) (xs : List ℕ) (t : ℕ) → inList t (regionsOf S xs) ≡ true
     → (x : ℕ) × (inList x xs ≡ true) × (regionOf S x ≡ t)
-unfolding regionsOf
-regions-in S [] t e = absurd (nil-in t e)
-regions-in S (x ∷ xs) t e =
-    ⊎-elim (λ q. (x, cons-here x x xs refl, q)) (λ q. let r = regions-in S xs t q in (r .0, cons-later (r .0) x xs (r .1), r .2))
-    (cons-in t (regionOf S x) (regionsOf S xs) e)
+regions-in S xs t e = listed-image (regionOf S) xs t (rw (regions-map S xs) at e)
 
 -- ---- numbers made to stand for something
 module _ (name meant : ℕ → ℕ) where
@@ -67,7 +55,7 @@ module _ (name meant : ℕ → ℕ) where
   unfolding standEach
   stand-old [] stands u f = refl
   stand-old (r ∷ rs) stands u f =
-      stand-old rs (put stands (name r) (meant r)) u (λ q i. f q (cons-later q r rs i)) ∙ put-other stands (meant r)
+      stand-old rs (put stands (name r) (meant r)) u (λ q i. f q (cons-later q r rs i)) ∙ put-other stands _ (meant r) _
       (f r (cons-here r r rs refl))
 
   pub stand-new : (rs : List ℕ) (stands : ℕ → ℕ) → ((a b : ℕ) → inList a rs ≡ true → inList b rs ≡ true → name a ≡ name b → a ≡ b)

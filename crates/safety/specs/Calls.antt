@@ -6,26 +6,26 @@ use mathlib.Core.Bool.{Bool, true, false}
 use mathlib.Core.List.{List, _∷_, map}
 use mathlib.Core.Logic.{_⊎_, inl, inr, ⊎-elim}
 use Prim.Native.Nat.{ℕ}
-use borrow.Author.Tests.{eqb-true, eq-eqb}
-use lib.Dec.{eqb}
 use lib.IntN.{pos}
-use Rattle.sets.specs.Tests.{_or_, neg, truth, clash, false-of, or-true, neg-true}
+use Rattle.sets.specs.Tests.{truth, clash, false-of}
 use Rattle.sets.specs.Sets.{member, _∪_, _∖_, union-left, union-right, difference-mk, difference-in, subset-in}
 use Rattle.sets.specs.SetLaws.{apart-in}
-use Rattle.sets.specs.Members.{setOf, members, image, every}
+use Rattle.sets.specs.Members.{setOf, members, image}
 use Rattle.sets.specs.Members.{members-mk}
-use Rattle.sets.specs.MemberLaws.{setOf-in, image-in, image-mk, every-in}
+use Rattle.sets.specs.MemberLaws.{setOf-in, image-in, image-mk}
 use Rattle.sets.specs.declared.Set.{Set}
 use Rattle.language.specs.Program.{call, Signature, Program, signatureOf, parametersOf, inMode, variablesIn}
 use Rattle.language.specs.Values.{insOf, reads, gives, access, accessing}
 use Rattle.language.specs.Regions.{regionsOf, mapping, reach}
-use Rattle.language.specs.Lifetimes.{inputs, outputs, born, dead, kept, startHeld, effect, callEffect, unsharedIn}
+use Rattle.language.specs.Lifetimes.{inputs, outputs, born, dead, kept, startHeld, effect, callEffect}
 use Rattle.language.specs.Checking.{soundGiven, soundWithout}
 use Rattle.language.specs.Frames.{numeral, giveEach}
 use Rattle.language.specs.AcceptedRun.{RegionFrame, RegionCell, calleeStands}
 use Rattle.region_graph.specs.Laws.{shared, Called}
 use Rattle.safety.specs.Doing.{Doing}
-use Rattle.safety.specs.Signatures.{Fit, region-range, kept-shared, dead-unkept, born-shared, dead-shared, start-in, start-dead, start-kept, start-shared, shared-top, ins-reach}
+use Rattle.region_graph.specs.Classes.{kept-in, unshared-in}
+use Rattle.region_graph.specs.Shared.{region-top}
+use Rattle.safety.specs.Signatures.{Fit, dead-unkept, born-shared, dead-shared, start-in, start-dead, start-kept, start-shared, shared-top, ins-reach, laws-of}
 use Rattle.safety.specs.Premises.{Accepted, laws, fit}
 use Rattle.safety.specs.Places.{PlacedAll}
 use Rattle.safety.specs.Across.{Along, called-along, ComesAll, enter-all}
@@ -66,7 +66,7 @@ module _ {P : Program} (A : Accepted P) (e : RegionFrame) (q : ℕ) (ys : List �
   -- the image of a shared region is in the set of images
   pub image-member : (s : Set) (a : ℕ) → shared Q a → member s a ≡ true → member (image m s) (m a) ≡ true
   image-member s a j i =
-      let k = region-range (laws A (e .frame .procedure)) (m a) (via .region a j) in
+      let k = region-top _ _ (laws A (e .frame .procedure)) (m a) (via .region a j) in
       image-mk m s a i (shared-top F a j) (k .0) (k .1)
 
   dead-image : (a : ℕ) → member (dead Q) a ≡ true → member (image m (dead Q)) (m a) ≡ true
@@ -91,14 +91,8 @@ module _ {P : Program} (A : Accepted P) (e : RegionFrame) (q : ℕ) (ys : List �
 
     -- "An image of a dead or born one is no other region's image."
     solo : (a b : ℕ) → member (dead Q ∪ born Q) a ≡ true → shared Q a → shared Q b → m a ≡ m b → a ≡ b
-    unfolding effect callEffect unsharedIn
-    solo a b i ja jb d =
-        let one = every-in (λ r. every (other r) (inputs Q ∪ outputs Q)) (dead Q ∪ born Q) (R .unshared) a i (shared-top F a ja) in
-        let two = every-in (other a) (inputs Q ∪ outputs Q) one b jb (shared-top F b jb) in
-        ⊎-elim (λ x. absurd (clash (eq-eqb (m a) (m b) d) (neg-true x))) (λ x. eqb-true a b x) (or-true two)
-      where
-        other : ℕ → ℕ → Bool
-        other r u = neg (eqb (m r) (m u)) or eqb r u
+    unfolding effect callEffect
+    solo a b i ja jb d = unshared-in m (dead Q ∪ born Q) (inputs Q ∪ outputs Q) (R .unshared) a b i (shared-top F a ja) jb (shared-top F b jb) d
 
     dead-solo : (a b : ℕ) → member (dead Q) a ≡ true → shared Q b → m a ≡ m b → a ≡ b
     dead-solo a b i j d = solo a b (union-left (dead Q) (born Q) a i) (dead-shared F a i) j d
@@ -123,7 +117,7 @@ module _ {P : Program} (A : Accepted P) (e : RegionFrame) (q : ℕ) (ys : List �
         dead-too : member (image m (dead Q)) (m u) ≡ true → ⊥
         dead-too j =
             let o = image-in m (dead Q) (m u) j in
-            dead-unkept (F .laws) u (ap (member (dead Q)) (sym (dead-solo (o .0) u (o .1) (kept-shared (F .laws) u i) (o .2))) ∙ o .1) i
+            dead-unkept _ u (ap (member (dead Q)) (sym (dead-solo (o .0) u (o .1) (kept-in _ u i .0) (o .2))) ∙ o .1) i
 
     module _ {os : List Owner} {made : ℕ} {live : ℕ → Bool} (O : Ownership C h (e .stands) os made live) where
       away-callee : (a : ℕ) → member (startHeld Q) a ≡ true → member (kept Q) a ≡ false → Away (ρ′ a) (owner (e .stands) rest ∷ os)
@@ -183,15 +177,15 @@ module _ {P : Program} (A : Accepted P) (e : RegionFrame) (q : ℕ) (ys : List �
       unfolding reach insOf
       comes t j =
           let x = regions-in Q (variablesIn inMode Q) t j in (
-            rw (x .2) at (F .laws .own (x .0)),
-            λ u r. let i = ins-reach F (x .0) u (variables-member (F .laws) inMode (x .0) (x .1)) (rw (x .2) r) in
+            rw (x .2) at (laws-of F .own (x .0)),
+            λ u r. let i = ins-reach F (x .0) u (variables-member (laws-of F) inMode (x .0) (x .1)) (rw (x .2) r) in
                 (start-shared F u i, sym (callee-stands u i)),
           )
 
       entered : PlacedAll (P .types) Q ρ′ H (regionsOf Q (variablesIn inMode Q)) (map (e .frame .values) (readBy P q ys))
       unfolding variablesIn reads access accessing
       entered =
-          enter-all (laws A (e .frame .procedure)) (F .laws) via
+          enter-all (laws-of F) via
           (placed-each X (readBy P q ys) (read-sound (laws A (e .frame .procedure)) s (readBy P q ys) variables (R .reads-sound)))
           (regionsOf Q (variablesIn inMode Q)) (sym (arguments-regions C Q m inMode (parametersOf Q) ys (via .arguments))) comes
 

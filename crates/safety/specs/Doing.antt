@@ -22,13 +22,8 @@ use Rattle.language.specs.Regions.{inTargets, goalsRegions, goalRegions, armsRe
 use Rattle.language.specs.Lifetimes.{born, kept}
 use Rattle.language.specs.Checking.{carries, soundGiven, checkGoals, checkGoal, checkArms, endRules}
 use Rattle.language.specs.Frames.{picked, pick}
-use Rattle.safety.specs.Plain.{choose-true, choose-false}
+use Rattle.laws.specs.Choices.{choose-true, choose-false}
 use Rattle.safety.specs.Walks.{carryOn-in, join-in}
-
-pub before-done : (gs : Goals) → gs before done ≡ gs
-unfolding _before_
-before-done done = refl
-before-done (g then gs) = ap {B = Goals} (λ (hs : Goals). g then hs) (before-done gs)
 
 module _ (P : Program) (S : Signature) where
   pub data Doing : Goals → Set → Set → Type 0 where
@@ -147,7 +142,7 @@ module _ (P : Program) (S : Signature) where
         arguments = argumentsOf ys;
         goals = gs;
         after = p .first;
-        picks = choose-true _ _ (eq-eqb g k z);
+        picks = choose-true _ _ _ (eq-eqb g k z);
         have = b .0;
         targets = rw z at (u .0);
         typed = c .0;
@@ -173,7 +168,7 @@ module _ (P : Program) (S : Signature) where
             arguments = y .arguments;
             goals = y .goals;
             after = y .after;
-            picks = choose-false _ _ (ne-eqb g k (λ v. omega arith)) ∙ y .picks;
+            picks = choose-false _ _ _ (ne-eqb g k (λ v. omega arith)) ∙ y .picks;
             have = y .have;
             targets = y .targets;
             typed = y .typed;

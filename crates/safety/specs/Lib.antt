@@ -1,4 +1,3 @@
-pub mod Plain
 pub mod Walks
 pub mod Doing
 pub mod Signatures

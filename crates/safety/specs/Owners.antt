@@ -14,7 +14,7 @@ use Rattle.sets.specs.declared.Set.{Set}
 use Rattle.language.specs.Lists.{put}
 use Rattle.language.specs.Program.{Signature}
 use Rattle.language.specs.Lifetimes.{kept}
-use Rattle.safety.specs.Plain.{put-same, put-other, put-false, put-true}
+use Rattle.laws.specs.Choices.{put-same, put-other, put-false, put-true}
 
 -- a frame's region numbers: what each stands for, and which are held
 pub record Owner : Type 0 where
@@ -59,7 +59,7 @@ alive-created live n (o ∷ os) a = (λ r i. put-true live n (o .stands r) (a .0
 alive-removed : (live : ℕ → Bool) (k : ℕ) (os : List Owner) → Away k os → Alive live os → Alive (put live k false) os
 alive-removed live k [] w a = tt
 alive-removed live k (o ∷ os) w a =
-    (λ r i. put-other live false (λ e. w .0 r i (sym e)) ∙ a .0 r i, alive-removed live k os (w .1) (a .1))
+    (λ r i. put-other live _ false _ (λ e. w .0 r i (sym e)) ∙ a .0 r i, alive-removed live k os (w .1) (a .1))
 
 -- regions are numbered as they are made, so the next number is new
 away-next : (live : ℕ → Bool) (n : ℕ) (os : List Owner) → ((k : ℕ) → live k ≡ true → k < n) → Alive live os → Away n os
@@ -81,7 +81,7 @@ module _ {S : Signature} {h : Set} {ρ : ℕ → ℕ} {os : List Owner} {made : 
     other u i e = clash i (ap (member h) (sym e) ∙ fresh)
 
     not-new : (u : ℕ) → r ≢ u → member h′ u ≡ true → put ρ r n u ≡ n → ⊥
-    not-new u ne i e = omega (arith, O .low (ρ u) (O .alive .0 u (before u ne i)), sym (put-other ρ n ne) ∙ e)
+    not-new u ne i e = omega (arith, O .low (ρ u) (O .alive .0 u (before u ne i)), sym (put-other ρ _ n _ ne) ∙ e)
 
     alone-created : (a b : ℕ) → Dec (r ≡ a) → Dec (r ≡ b) → member h′ a ≡ true → member h′ b ≡ true → member (kept S) a ≡ false
         → put ρ r n a ≡ put ρ r n b → a ≡ b
@@ -89,25 +89,25 @@ module _ {S : Signature} {h : Set} {ρ : ℕ → ℕ} {os : List Owner} {made : 
     alone-created a b (yes p) (no q) i j k e = absurd (not-new b q j (sym e ∙ ap (put ρ r n) (sym p) ∙ put-same ρ r n))
     alone-created a b (no p) (yes q) i j k e = absurd (not-new a p i (e ∙ ap (put ρ r n) (sym q) ∙ put-same ρ r n))
     alone-created a b (no p) (no q) i j k e =
-        O .owns .alone a b (before a p i) (before b q j) k (sym (put-other ρ n p) ∙ e ∙ put-other ρ n q)
+        O .owns .alone a b (before a p i) (before b q j) k (sym (put-other ρ _ n _ p) ∙ e ∙ put-other ρ _ n _ q)
 
     away-created : (a : ℕ) → Dec (r ≡ a) → member h′ a ≡ true → member (kept S) a ≡ false → Away (put ρ r n a) os
     away-created a (yes p) i k = rw (← p) (rw (put-same ρ r n) (away-next live n os (O .low) (O .alive .1)))
-    away-created a (no p) i k = rw (put-other ρ n p) (O .owns .away a (before a p i) k)
+    away-created a (no p) i k = rw (put-other ρ _ n _ p) (O .owns .away a (before a p i) k)
 
     live-created : (a : ℕ) → Dec (r ≡ a) → member h′ a ≡ true → put live n true (put ρ r n a) ≡ true
     live-created a (yes p) i = rw (← p) (rw (put-same ρ r n) (put-same live n true))
-    live-created a (no p) i = rw (put-other ρ n p) (put-true live n (ρ a) (O .alive .0 a (before a p i)))
+    live-created a (no p) i = rw (put-other ρ _ n _ p) (put-true live n (ρ a) (O .alive .0 a (before a p i)))
 
     low-created : (k : ℕ) → Dec (n ≡ k) → put live n true k ≡ true → k < suc n
     low-created k (yes e) l = omega arith
-    low-created k (no ne) l = omega (arith, O .low k (sym (put-other live true ne) ∙ l))
+    low-created k (no ne) l = omega (arith, O .low k (sym (put-other live _ true _ ne) ∙ l))
 
     covered-created : (k : ℕ) → Dec (n ≡ k) → put live n true k ≡ true → Covered k (owner (put ρ r n) h′ ∷ os)
     covered-created k (yes e) l = inl (r, new, put-same ρ r n ∙ e)
     covered-created k (no ne) l =
-        ⊎-elim (λ o. inl (o .0, old (o .0) (o .1), put-other ρ n (other (o .0) (o .1)) ∙ o .2)) (λ o. inr o)
-        (O .covered k (sym (put-other live true ne) ∙ l))
+        ⊎-elim (λ o. inl (o .0, old (o .0) (o .1), put-other ρ _ n _ (other (o .0) (o .1)) ∙ o .2)) (λ o. inr o)
+        (O .covered k (sym (put-other live _ true _ ne) ∙ l))
 
     pub created : Ownership S h′ (put ρ r (suc made)) os (suc made) (put live (suc made) true)
     created = record {
@@ -127,17 +127,17 @@ module _ {S : Signature} {h : Set} {ρ : ℕ → ℕ} {os : List Owner} {made : 
       (old : (u : ℕ) → member h u ≡ true → r ≢ u → member h′ u ≡ true) where
     live-removed : (a : ℕ) → member h′ a ≡ true → put live (ρ r) false (ρ a) ≡ true
     live-removed a i =
-        put-other live false (λ e. back a i .1 (O .owns .alone r a here (back a i .0) own e)) ∙ O .alive .0 a (back a i .0)
+        put-other live _ false _ (λ e. back a i .1 (O .owns .alone r a here (back a i .0) own e)) ∙ O .alive .0 a (back a i .0)
 
     covered-removed : (k : ℕ) → put live (ρ r) false k ≡ true → Covered k (owner ρ h′ ∷ os)
     covered-removed k l =
-        let d = put-false live l in
+        let d = put-false live _ _ l in
         ⊎-elim (λ o. inl (o .0, old (o .0) (o .1) (λ e. d .0 (ap ρ e ∙ o .2)), o .2)) (λ o. inr o) (O .covered k (d .1))
 
     pub removed : Ownership S h′ ρ os made (put live (ρ r) false)
     removed = record {
       alive = (live-removed, alive-removed live (ρ r) os (O .owns .away r here own) (O .alive .1));
-      low = λ k l. O .low k (put-false live l .1);
+      low = λ k l. O .low k (put-false live _ _ l .1);
       covered = covered-removed;
       owns = record {
         alone = λ a b i j. O .owns .alone a b (back a i .0) (back b j .0);

@@ -4,12 +4,12 @@
 use mathlib.Core.Path.{_≡_, refl, ap, _∙_}
 use mathlib.Core.Bool.{true}
 use mathlib.Core.List.{List, [], _∷_, _++_}
-use mathlib.Core.Logic.{_≢_, ⊎-elim}
+use mathlib.Core.Logic.{_≢_, inr, ⊎-elim}
 use Prim.Native.Nat.{ℕ, zero, suc, _<_}
 use native.Mathlib.Omega.{arith}
 use lib.IntN.{ℤ}
-use lib.ListN.{length}
-use Rattle.sets.specs.Sets.{member}
+use lib.ListN.{length, length-append}
+use Rattle.sets.specs.Sets.{member, subset-in}
 use Rattle.sets.specs.Members.{inList, nil-in, cons-in, cons-here, cons-later}
 use Rattle.language.specs.Lists.{nth}
 use Rattle.language.specs.Program.{Functor, Signature, regionAt, functorsOf, functorAt}
@@ -17,9 +17,9 @@ use Rattle.language.specs.Typing.{typesIn, isRegion}
 use Rattle.language.specs.Regions.{reachFrom}
 use Rattle.language.specs.Frames.{Value, numeral, cellAt, noCell}
 use Rattle.language.specs.AcceptedRun.{RegionCell}
+use Rattle.laws.specs.Lists.{nth-front}
 use Rattle.region_graph.specs.Laws.{target, Declared}
-use Rattle.safety.specs.Plain.{nth-front, length-more}
-use Rattle.safety.specs.Signatures.{target-reach}
+use Rattle.region_graph.specs.Shared.{target-reach}
 
 -- the cell numbered c
 abbrev pub cellNo : List RegionCell → ℕ → RegionCell
@@ -34,10 +34,10 @@ abbrev pub Grows : List RegionCell → List RegionCell → Type 0
 Grows H H′ = (c : ℕ) → c < length H → (c < length H′) × (cellNo H′ c ≡ cellNo H c)
 
 pub grows-more : (H : List RegionCell) (k : RegionCell) → Grows H (H ++ (k ∷ []))
-grows-more H k c l = (omega (arith, length-more H k), nth-front _ H (k ∷ []) c l)
+grows-more H k c l = (omega (arith, length-append H (k ∷ [])), nth-front _ H (k ∷ []) c l)
 
 pub grows-last : (H : List RegionCell) (k : RegionCell) → length H < length (H ++ (k ∷ []))
-grows-last H k = omega (arith, length-more H k)
+grows-last H k = omega (arith, length-append H (k ∷ []))
 
 -- the regions of n arguments from position k on, of a cell with functor f in region r
 unfoldable pub along : Signature → ℕ → ℕ → ℕ → ℕ → List ℕ
@@ -93,7 +93,7 @@ module _ {T : List (List Functor)} {S : Signature} (D : Declared T S) where
   agree-along : (ρ ρ′ : ℕ → ℕ) (r f k n t : ℕ) → isRegion S r ≡ true → Agree S ρ ρ′ r → inList t (along S r f k n) ≡ true → Agree S ρ ρ′ t
   agree-along ρ ρ′ r f k n t i g e u m =
       let j = along-in S r f k n t e in
-      g u (target-reach D r f (j .0) u i (rw (j .1) m))
+      g u (subset-in _ _ (target-reach T S D r f (j .0) (inr i)) u (rw (j .1) m))
 
   module _ {ρ ρ′ : ℕ → ℕ} {H H′ : List RegionCell} (grows : Grows H H′) where
     mutual

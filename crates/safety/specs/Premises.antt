@@ -2,24 +2,23 @@
 use mathlib.Core.Path.{_≡_, refl}
 use mathlib.Core.Bool.{true, false≢true}
 use mathlib.Core.List.{List, [], _∷_}
-use mathlib.Core.Logic.{⊎-elim}
-use Prim.Native.Nat.{ℕ, _≤_}
-use native.Mathlib.Omega.{arith}
+use Prim.Native.Nat.{ℕ}
 use Rattle.sets.specs.Sets.{emptySet}
 use Rattle.sets.specs.SetLaws.{subset-refl}
 use Rattle.sets.specs.Members.{setOf}
-use Rattle.language.specs.Lists.{isNone}
-use Rattle.language.specs.Program.{call, Signature, Parameter, Procedure, Program, typeOf, regionOf, regionAt, procedureAt, signatureOf, parametersOf, parameterVariables, inMode, outMode, argumentsIn, variablesIn}
-use Rattle.language.specs.Typing.{isRegion, stepOk, goalsOk, typingOk}
+use Rattle.language.specs.Program.{call, Parameter, Procedure, Program, procedureAt, signatureOf, parametersOf, parameterVariables, inMode, outMode, argumentsIn, variablesIn}
+use Rattle.language.specs.Typing.{stepOk, goalsOk, typingOk}
 use Rattle.language.specs.Values.{insOf, outsOf, valuesOk}
 use Rattle.language.specs.Regions.{stepRegions, goalsRegions, regionsOk}
 use Rattle.language.specs.Lifetimes.{startHeld, declaredClassesOk}
 use Rattle.language.specs.Checking.{checkGoals, endRules, procedureRules, rulesOk, Carried, broken, carries}
+use Rattle.laws.specs.Lists.{none-in}
+use Rattle.laws.specs.Goals.{before-done}
 use Rattle.region_graph.specs.Laws.{shared, Declared, Called}
 use Rattle.region_graph.specs.Typed.{signature-typed, goals-typed, entry-bare, goals-regioned, signature-classed, procedure-ruled}
-use Rattle.region_graph.specs.Procedure.{variable-region, declared-all}
+use Rattle.region_graph.specs.Procedure.{declared-all}
 use Rattle.region_graph.specs.Calls.{called}
-use Rattle.safety.specs.Doing.{before-done, Doing, ends, segment}
+use Rattle.safety.specs.Doing.{Doing, ends, segment}
 use Rattle.safety.specs.Signatures.{Fit, none-shared}
 
 pub record Accepted (P : Program) : Type 0 where
@@ -38,19 +37,7 @@ module _ {P : Program} (A : Accepted P) where
   calling p q ys o r = called P p q ys (A .typing) o r
 
   pub fit : (p : ℕ) → Fit (P .types) (signatureOf P p)
-  fit p = record { laws = laws p; number = number; cell = cell; classes = signature-classed P (A .classes) p }
-    where
-      S : Signature
-      S = signatureOf P p
-
-      number : (x : ℕ) → typeOf S x ≡ 0 → regionOf S x ≡ 0
-      number x z =
-          ⊎-elim (λ a. a .1) (λ a. absurd (let l = a .0 in omega arith)) (variable-region (P .types) S (signature-typed P (A .typing) p) x)
-
-      cell : (x : ℕ) → 1 ≤ typeOf S x → (isRegion S (regionOf S x) ≡ true) × (regionAt S (regionOf S x) .type ≡ typeOf S x)
-      cell x l =
-          ⊎-elim (λ a. absurd (let z = a .0 in omega arith)) (λ a. (a .1, a .2))
-          (variable-region (P .types) S (signature-typed P (A .typing) p) x)
+  fit p = record { typed = signature-typed P (A .typing) p; classes = signature-classed P (A .classes) p }
 
 -- ---- a procedure's goals, from its start
 rules-doing : (P : Program) (p : Procedure) (c : Carried) → goalsOk P (p .signature) (p .body) ≡ true
@@ -68,11 +55,6 @@ start-doing {P} A p =
     rules-doing P (procedureAt P p) _ (goals-typed P (A .typing) p) (goals-regioned P (A .regions) p) refl (procedure-ruled P (A .rules) p)
 
 -- ---- the entry
-none-in : {A : Type 0} (xs : List A) → isNone xs ≡ true → xs ≡ []
-unfolding isNone
-none-in [] e = refl
-none-in (x ∷ xs) e = absurd (false≢true e)
-
 -- "an in or out variable on the entry" is refused
 pub entry-variables : {P : Program} → Accepted P → (m : ℕ) → setOf (variablesIn m (signatureOf P 0)) ≡ emptySet
 unfolding variablesIn argumentsIn setOf

@@ -5,8 +5,8 @@ use mathlib.Core.List.{List, []}
 use mathlib.Core.Logic.{_≢_, _⊎_, inl, inr, ⊎-elim}
 use Prim.Native.Nat.{ℕ, suc}
 use Rattle.sets.specs.Tests.{clash, and-true, false-of}
-use Rattle.sets.specs.Sets.{member, emptySet, single, _∪_, _∖_, subset, apart, member-empty, single-mk, single-in, union-left, union-right, union-in, difference-mk, difference-in, subset-in, subset-mk}
-use Rattle.sets.specs.SetLaws.{subset-trans, subset-antisym, apart-in}
+use Rattle.sets.specs.Sets.{member, emptySet, single, _∪_, _∖_, subset, apart, member-empty, single-mk, single-in, union-left, union-right, union-in, difference-mk, difference-in, subset-in}
+use Rattle.sets.specs.SetLaws.{subset-trans, apart-in}
 use Rattle.sets.specs.Members.{setOf}
 use Rattle.sets.specs.MemberLaws.{keep-subset}
 use Rattle.sets.specs.declared.Set.{Set}
@@ -19,9 +19,10 @@ use Rattle.language.specs.Lifetimes.{kept, effect, heldAfter}
 use Rattle.language.specs.Checking.{carries, soundGiven, soundWithout, stepRules, checkStep}
 use Rattle.language.specs.Frames.{Value, giveEach}
 use Rattle.language.specs.AcceptedRun.{RegionFrame, RegionCell}
-use Rattle.safety.specs.Plain.{put-other}
+use Rattle.laws.specs.MoreSets.{no-change}
+use Rattle.laws.specs.Choices.{put-other}
+use Rattle.region_graph.specs.Shared.{region-top}
 use Rattle.safety.specs.Walks.{require-in}
-use Rattle.safety.specs.Signatures.{region-range}
 use Rattle.safety.specs.Premises.{Accepted, laws}
 use Rattle.safety.specs.Places.{Grows, PlacedAll, placed-none}
 use Rattle.safety.specs.Variables.{Vars, vars-fewer, vars-given, vars-moved, vars-grown, vars-without}
@@ -38,12 +39,6 @@ module _ (h e b : Set) (u : ℕ) where
 
   pub after-new : member b u ≡ true → member ((h ∖ e) ∪ b) u ≡ true
   after-new i = union-right (h ∖ e) b u i
-
-pub quiet-held : (h : Set) → (h ∖ emptySet) ∪ emptySet ≡ h
-quiet-held h =
-    subset-antisym ((h ∖ emptySet) ∪ emptySet) h
-    (subset-mk _ h (λ u i. ⊎-elim (λ j. j .0) (λ j. absurd (clash j (member-empty u))) (after-in h emptySet emptySet u i)))
-    (subset-mk h _ (λ u i. after-old h emptySet emptySet u i (member-empty u)))
 
 -- ---- the rules of a step
 module _ (P : Program) (S : Signature) where
@@ -70,7 +65,7 @@ module _ (P : Program) (S : Signature) where
   pub quiet : (g : Step) {h s h₁ s₁ : Set} → effect P S g .ends ≡ emptySet → effect P S g .bears ≡ emptySet → Obeyed g h s h₁ s₁
       → (h₁ ≡ h) × (s₁ ≡ soundGiven S (gives P g) h (soundWithout S emptySet s))
   quiet g {h} {s} {h₁} {s₁} e b O =
-      let p : h₁ ≡ h = O .held ∙ (rw (e, b) (quiet-held h)) in
+      let p : h₁ ≡ h = O .held ∙ (rw (e, b) (no-change h)) in
       (p, O .sound ∙ (rw (p, e)))
 
   pub without-fewer : (gone s : Set) → subset (soundWithout S gone s) s ≡ true
@@ -112,7 +107,7 @@ module _ {P : Program}
   module _ {vr : ℕ → Value} {H : List RegionCell} {s : Set} (r : ℕ) (i : isRegion (signatureOf P p) r ≡ true)
       (N : Now P p zs ρ vr fs H made live h s os) (t h′ : Set) (w : subset t s ≡ true) where
     one : member (single r) r ≡ true
-    one = let l = region-range (laws A p) r i in single-mk r (l .0) (l .1)
+    one = let l = region-top _ _ (laws A p) r i in single-mk r (l .0) (l .1)
 
     pub now-created : apart (single r) h ≡ true → h′ ≡ (h ∖ emptySet) ∪ single r
         → Now P p zs (put ρ r (suc made)) vr fs H (suc made) (put live (suc made) true) h′
@@ -121,7 +116,7 @@ module _ {P : Program}
     now-created f q = record {
       regions = created (N .regions) h′ r fresh back old new;
       vars = vars-given [] placed-none (vars-without (laws A p) emptySet (λ u j k. j) moved);
-      stack = stack-stands P (λ u k. put-other ρ (suc made) (other u (N .regions .owns .keeps u k))) (N .stack);
+      stack = stack-stands P (λ u k. put-other ρ _ (suc made) _ (other u (N .regions .owns .keeps u k))) (N .stack);
     }
       where
         fresh : member h r ≡ false
@@ -142,7 +137,7 @@ module _ {P : Program}
         moved : Vars (P .types) (signatureOf P p) h′ t (put ρ r (suc made)) H vr
         moved =
             vars-moved (laws A p) (λ c l. (l, refl)) (subset-in t s w)
-            (λ x u j m. let k = N .vars .closed x u (subset-in t s w x j) m in (sym (put-other ρ (suc made) (other u k)), old u k))
+            (λ x u j m. let k = N .vars .closed x u (subset-in t s w x j) m in (sym (put-other ρ _ (suc made) _ (other u k)), old u k))
             (N .vars)
 
     pub now-removed : subset (single r) h ≡ true → apart (single r) (kept (signatureOf P p)) ≡ true → h′ ≡ (h ∖ single r) ∪ emptySet

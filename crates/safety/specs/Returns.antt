@@ -19,7 +19,8 @@ use Rattle.language.specs.Frames.{Value, giveEach}
 use Rattle.language.specs.AcceptedRun.{RegionFrame, RegionCell, returnStands}
 use Rattle.region_graph.specs.Laws.{shared}
 use Rattle.safety.specs.Doing.{End}
-use Rattle.safety.specs.Signatures.{Fit, kept-shared, born-unkept, born-shared, shared-top, outs-reach}
+use Rattle.region_graph.specs.Classes.{kept-in}
+use Rattle.safety.specs.Signatures.{Fit, born-unkept, born-shared, shared-top, outs-reach, laws-of}
 use Rattle.safety.specs.Premises.{Accepted, laws, fit}
 use Rattle.safety.specs.Places.{PlacedAll}
 use Rattle.safety.specs.Across.{Along, called-along, ComesAll, leave-all}
@@ -72,7 +73,7 @@ module _ {P : Program} (A : Accepted P) (q : ℕ) (zs : List ℕ) (ρ : ℕ → 
   born-held a i = rw (Z .holds) (union-left (born Q) (kept Q) a i)
 
   born-own : (a : ℕ) → member (born Q) a ≡ true → member (kept Q) a ≡ false
-  born-own a i = false-of (λ k. born-unkept (F .laws) a i k)
+  born-own a i = false-of (λ k. born-unkept _ a i k)
 
   born-away : (a : ℕ) → member (born Q) a ≡ true → Away (ρ a) (owner (e .stands) w ∷ os)
   born-away a i = O .owns .away a (born-held a i) (born-own a i)
@@ -121,7 +122,7 @@ module _ {P : Program} (A : Accepted P) (q : ℕ) (zs : List ℕ) (ρ : ℕ → 
     where
       go : (member (born Q) u ≡ true) ⊎ (member (kept Q) u ≡ true) → (shared Q u) × (ρ₂ (m u) ≡ ρ u) × (member h₂ (m u) ≡ true)
       go (inl b) = (born-shared F u b, given u b, born-image u b)
-      go (inr k) = let l = g .link u k in (kept-shared (F .laws) u k, still (m u) (l .1) ∙ sym (l .0), waited-held (m u) (l .1))
+      go (inr k) = let l = g .link u k in (kept-in _ u k .0, still (m u) (l .1) ∙ sym (l .0), waited-held (m u) (l .1))
 
   covered-back : (k : ℕ) → Covered k (owner ρ h ∷ owner (e .stands) w ∷ os) → Covered k (owner ρ₂ h₂ ∷ os)
   covered-back k (inl o) = let l = ended (o .0) (rw (Z .holds) at (o .1)) in inl (m (o .0), l .2, l .1 ∙ o .2)
@@ -133,8 +134,8 @@ module _ {P : Program} (A : Accepted P) (q : ℕ) (zs : List ℕ) (ρ : ℕ → 
   unfolding reach outsOf
   comes t i =
       let x = regions-in Q (variablesIn outMode Q) t i in (
-        rw (x .2) at (F .laws .own (x .0)),
-        λ u r. let l = ended u (outs-reach F (x .0) u (variables-member (F .laws) outMode (x .0) (x .1)) (rw (x .2) r)) in (l .0, l .1),
+        rw (x .2) at (laws-of F .own (x .0)),
+        λ u r. let l = ended u (outs-reach F (x .0) u (variables-member (laws-of F) outMode (x .0) (x .1)) (rw (x .2) r)) in (l .0, l .1),
       )
 
   left : PlacedAll (P .types) C ρ₂ H (regionsOf C (givenBy P q zs)) (map vr (variablesIn outMode Q))
@@ -143,8 +144,8 @@ module _ {P : Program} (A : Accepted P) (q : ℕ) (zs : List ℕ) (ρ : ℕ → 
     where
       images : PlacedAll (P .types) C ρ₂ H (map m (regionsOf Q (variablesIn outMode Q))) (map vr (variablesIn outMode Q))
       images =
-          leave-all (laws A (e .frame .procedure)) (F .laws) via
-          (placed-each X (variablesIn outMode Q) (λ y i. subset-in (outsOf Q) s (Z .outs) y (variables-member (F .laws) outMode y i))) comes
+          leave-all (laws-of F) via
+          (placed-each X (variablesIn outMode Q) (λ y i. subset-in (outsOf Q) s (Z .outs) y (variables-member (laws-of F) outMode y i))) comes
 
   vars-back : Vars (P .types) C h₂ (soundGiven C (setOf (givenBy P q zs)) h₂ t) ρ₂ H
       (giveEach (givenBy P q zs) (map vr (variablesIn outMode Q)) (e .frame .values))

@@ -3,18 +3,18 @@ use mathlib.Core.Path.{_≡_, sym, ap, _∙_}
 use mathlib.Core.Bool.{true, false, false≢true}
 use mathlib.Core.List.{List, [], _∷_}
 use Prim.Native.Nat.{ℕ, zero, suc}
-use Rattle.sets.specs.Tests.{clash}
-use Rattle.sets.specs.Sets.{member, emptySet, member-empty}
-use Rattle.sets.specs.declared.Set.{Set}
+use Rattle.sets.specs.Sets.{member}
 use Rattle.language.specs.Program.{Goals, _then_, Goal, Program, signatureOf, inMode}
 use Rattle.language.specs.Values.{insOf}
 use Rattle.language.specs.Lifetimes.{startHeld}
 use Rattle.language.specs.Frames.{withGoals, entryFrame}
 use Rattle.language.specs.AcceptedRun.{RegionFrame, Memory, State, withFrame, start, allowed, take, next, stepFrom, stepOf, steps}
-use Rattle.safety.specs.Plain.{choose-true}
+use Rattle.laws.specs.Choices.{choose-true}
+use Rattle.laws.specs.MoreSets.{empty-in}
 use Rattle.safety.specs.Doing.{next-in}
-use Rattle.safety.specs.Signatures.{kept-shared, start-shared}
-use Rattle.safety.specs.Premises.{Accepted, laws, fit, start-doing, entry-variables, entry-unshared}
+use Rattle.region_graph.specs.Classes.{kept-in}
+use Rattle.safety.specs.Signatures.{start-shared}
+use Rattle.safety.specs.Premises.{Accepted, fit, start-doing, entry-variables, entry-unshared}
 use Rattle.safety.specs.Invariant.{bottom, Inv, inv, Fine, running, over}
 use Rattle.safety.specs.Settling.{settled}
 use Rattle.safety.specs.Allowed.{allowed-ok}
@@ -37,7 +37,7 @@ module _ {P : Program} (A : Accepted P) where
       → allowed P g f (st .memory) ≡ true → stepOf P st ≡ take P g (withFrame f (withGoals (f .frame) gs)) fs (st .memory)
   unfolding stepOf stepFrom next
   step-taken st f fs g gs e q a =
-      ap (λ (es : List RegionFrame). stepFrom P es st) e ∙ ap (λ (hs : Goals). next P hs f fs st) q ∙ choose-true _ st a
+      ap (λ (es : List RegionFrame). stepFrom P es st) e ∙ ap (λ (hs : Goals). next P hs f fs st) q ∙ choose-true _ _ st a
 
   step-fine : (st : State) → Fine P st → Fine P (stepOf P st)
   unfolding stepOf stepFrom
@@ -59,7 +59,7 @@ module _ {P : Program} (A : Accepted P) where
       owns = record {
         alone = λ r q i. absurd (unheld r i);
         away = λ r i. absurd (unheld r i);
-        keeps = λ r i. absurd (entry-unshared A r (kept-shared (laws A 0) r i));
+        keeps = λ r i. absurd (entry-unshared A r (kept-in _ r i .0));
       };
     };
     vars = record { placed = λ x i. absurd (unsound x i); closed = λ x u i. absurd (unsound x i) };
@@ -70,10 +70,7 @@ module _ {P : Program} (A : Accepted P) where
       unheld r i = let F = fit A 0 in entry-unshared A r (start-shared F r i)
 
       unsound : (x : ℕ) → member (insOf (signatureOf P 0)) x ≡ true → ⊥
-      unsound x i = clash i (ap (λ (s : Set). member s x) none ∙ member-empty x)
-        where
-          none : insOf (signatureOf P 0) ≡ emptySet
-          none = entry-variables A inMode
+      unsound x i = empty-in _ (entry-variables A inMode) x i
 
   pub steps-fine : (n : ℕ) → Fine P (steps P n)
   unfolding steps

@@ -13,7 +13,8 @@ use Rattle.language.specs.Lifetimes.{born, kept}
 use Rattle.language.specs.Frames.{returning, settle}
 use Rattle.language.specs.AcceptedRun.{RegionFrame, Memory, mappingFrom, returningRegions, state}
 use Rattle.safety.specs.Doing.{End, end-in}
-use Rattle.safety.specs.Signatures.{kept-shared, born-shared}
+use Rattle.region_graph.specs.Classes.{kept-in}
+use Rattle.safety.specs.Signatures.{born-shared}
 use Rattle.safety.specs.Premises.{Accepted, fit}
 use Rattle.safety.specs.Owners.{Owner}
 use Rattle.safety.specs.Invariant.{Stack, bottom, hang, Now, Inv, inv, Fine, running, over}
@@ -30,7 +31,7 @@ module _ {P : Program} (A : Accepted P) where
       holds : (r : ℕ) → member (born (signatureOf P (f .frame .procedure)) ∪ kept (signatureOf P (f .frame .procedure))) r ≡ true → ⊥
       holds r i =
           let F = fit A (f .frame .procedure) in
-          ⊎-elim (λ b. none r (born-shared F r b)) (λ b. none r (kept-shared (F .laws) r b))
+          ⊎-elim (λ b. none r (born-shared F r b)) (λ b. none r (kept-in _ r b .0))
           (union-in (born (signatureOf P (f .frame .procedure))) (kept (signatureOf P (f .frame .procedure))) r i)
 
   returned : (f e : RegionFrame) (fs : List RegionFrame) (m : Memory) {h s : Set} {os : List Owner}

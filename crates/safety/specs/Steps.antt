@@ -21,17 +21,18 @@ use Rattle.language.specs.Lifetimes.{noEffect, effect}
 use Rattle.language.specs.Checking.{carries, soundGiven, soundWithout, checkStep, checkGoals, checkGoal}
 use Rattle.language.specs.Frames.{Value, cellAt, Frame, Cell, withGoals, giving, giveEach, literalIn, sumIn, assignIn, cellFor, branchIn, picked, pick, enterArm, cellIn, openCell, calleeFrame}
 use Rattle.language.specs.AcceptedRun.{RegionFrame, Memory, cellOf, withCell, withPrinted, withRegion, withoutRegion, withFrame, mappingFrom, calleeRegions, regionFor, take}
-use Rattle.safety.specs.Plain.{nth-map}
+use Rattle.laws.specs.Lists.{nth-map}
+use Rattle.region_graph.specs.Parameters.{arguments-in}
+use Rattle.region_graph.specs.Procedure.{cell-region}
 use Rattle.safety.specs.Walks.{require-in, Joined, join-in}
 use Rattle.safety.specs.Doing.{Doing, segment, Next, Taken, arms-in}
-use Rattle.safety.specs.Signatures.{Fit}
+use Rattle.safety.specs.Signatures.{Fit, laws-of}
 use Rattle.safety.specs.Premises.{Accepted, calling, fit, start-doing}
 use Rattle.safety.specs.Places.{cellOn, grows-more, Placed, PlacedAll, placed-none, placed-more, Lies}
 use Rattle.safety.specs.Variables.{AllVariables, type-in, types-variables, read-sound, placed-each, placed-new}
 use Rattle.safety.specs.Owners.{Owner}
 use Rattle.safety.specs.Invariant.{Now, Inv, inv, Fine}
 use Rattle.safety.specs.Quiet.{Obeyed, obeyed, quiet, now-fewer, now-given, now-grown, now-quiet, now-created, now-removed}
-use Rattle.safety.specs.Arguments.{arguments-in}
 use Rattle.safety.specs.Calls.{now-called}
 use Rattle.safety.specs.Settling.{settled}
 use Rattle.safety.specs.Allowed.{number-placed, fits-along, choices-typed, cell-of, Built, constructed}
@@ -75,7 +76,7 @@ module _ {P : Program} (A : Accepted P) (f : RegionFrame) (fs : List RegionFrame
   read-placed : (g : Step) (counted : Set) (ys : List ℕ) {h₁ s₁ : Set} → subset counted s ≡ true → AllVariables S ys → reads P g ≡ setOf ys
       → Obeyed P S g h counted h₁ s₁ → PlacedAll T S (f .stands) (m .cells) (regionsOf S ys) (map (f .frame .values) ys)
   read-placed g counted ys w a e R =
-      placed-each (N .vars) ys (λ y i. subset-in counted s w y (read-sound (F .laws) counted ys a (rw e at (R .reads-sound)) y i))
+      placed-each (N .vars) ys (λ y i. subset-in counted s w y (read-sound (laws-of F) counted ys a (rw e at (R .reads-sound)) y i))
 
   -- ---- the goals in turn
   literal-ok : (x v : ℕ) → Next P S (step (literal x v)) (f .frame .goals) h s → Inv P (withFrame f (literalIn (f .frame) x v)) fs m
@@ -133,7 +134,7 @@ module _ {P : Program} (A : Accepted P) (f : RegionFrame) (fs : List RegionFrame
       new : Placed T S (f .stands) (m .cells ++ (cellOn (f .stands (regionOf S x)) k (map (f .frame .values) (argumentsOf ys)) ∷ []))
           (regionOf S x) (cellAt (length (m .cells)))
       new =
-          placed-new (F .laws) (regionOf S x) k (F .cell x (t .typed) .0) (rw (choices-typed P F x (t .typed)) (t .small))
+          placed-new (laws-of F) (regionOf S x) k (cell-region _ _ (F .typed) x (t .typed) .0) (rw (choices-typed P F x (t .typed)) (t .small))
           (rw (fits-along P F x k (argumentsOf ys) (t .typed) (t .have) (X .regioned)) at arguments)
 
   create-ok : (r : ℕ) → Next P S (step (create r)) (f .frame .goals) h s

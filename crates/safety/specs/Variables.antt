@@ -3,8 +3,7 @@ use mathlib.Core.Path.{_≡_, refl, sym, ap, _∙_}
 use mathlib.Core.Bool.{true, false, false≢true}
 use mathlib.Core.List.{List, [], _∷_, _++_, map}
 use mathlib.Core.Logic.{_⊎_, inl, inr, ⊎-elim}
-use Prim.Native.Nat.{ℕ, suc, _≤_, _<_}
-use native.Mathlib.Omega.{arith}
+use Prim.Native.Nat.{ℕ, suc, _<_}
 use native.Mathlib.Decide.{ℕ-discrete}
 use borrow.Author.Tests.{eqb-true}
 use lib.ListN.{length}
@@ -21,9 +20,10 @@ use Rattle.language.specs.Regions.{regionsOf, reach, inTargets}
 use Rattle.language.specs.Checking.{soundGiven, soundWithout}
 use Rattle.language.specs.Frames.{Value, cellAt, giveEach}
 use Rattle.language.specs.AcceptedRun.{RegionCell}
+use Rattle.laws.specs.Choices.{put-same, put-other}
+use Rattle.laws.specs.Lists.{nth-last}
 use Rattle.region_graph.specs.Laws.{target, Declared}
-use Rattle.region_graph.specs.Typed.{variable-in}
-use Rattle.safety.specs.Plain.{put-same, put-other, nth-last}
+use Rattle.region_graph.specs.Shared.{variable-top}
 use Rattle.safety.specs.Places.{cellOn, Grows, grows-more, grows-last, along, choices, width, Placed, is-cell, PlacedAll, placed-none, placed-more, move, move-all}
 
 -- each of a list is a variable
@@ -82,7 +82,7 @@ module _ {T : List (List Functor)} {S : Signature} where
           → (inList x xs ≡ true) ⊎ Placed T S ρ H (regionOf S x) (put vr y v x)
       go (yes e) d = inr (rw (← e) (rw (put-same vr y v) p))
       go (no ne) (inl i) = ⊎-elim (λ e. absurd (ne e)) (λ j. inl j) (cons-in x y xs i)
-      go (no ne) (inr r) = inr (rw (put-other vr v ne) r)
+      go (no ne) (inr r) = inr (rw (put-other vr _ v _ ne) r)
 
   -- "A variable given a value is sound if its whole reach is then held."
   pub vars-given : {h s : Set} {ρ : ℕ → ℕ} {H : List RegionCell} {vr : ℕ → Value} (xs : List ℕ) {vs : List Value}
@@ -113,12 +113,9 @@ module _ {T : List (List Functor)} {S : Signature} where
   placed-each X (y ∷ ys) f = placed-more (X .placed y (f y (cons-here y y ys refl))) (placed-each X ys (λ z i. f z (cons-later z y ys i)))
 
   module _ (D : Declared T S) where
-    variable-range : (x : ℕ) → isVariable S x ≡ true → (1 ≤ x) × (x ≤ 64)
-    variable-range x e = let p = variable-in S x e in let q = D .variables in (p .0, omega arith)
-
     pub read-sound : (s : Set) (ys : List ℕ) → AllVariables S ys → subset (setOf ys) s ≡ true → (y : ℕ) → inList y ys ≡ true
         → member s y ≡ true
-    read-sound s ys a w y i = let l = variable-range y (a y i) in subset-in (setOf ys) s w y (setOf-mk ys y i (l .0) (l .1))
+    read-sound s ys a w y i = let l = variable-top T S D y (a y i) in subset-in (setOf ys) s w y (setOf-mk ys y i (l .0) (l .1))
 
     -- ---- region numbers and cells change
     pub vars-moved : {h k s t : Set} {ρ ρ′ : ℕ → ℕ} {H H′ : List RegionCell} {vr : ℕ → Value} → Grows H H′

@@ -10,20 +10,17 @@ use Rattle.language.specs.declared.Verdict.the-variants.{Refused, Accepted}
 use Rattle.language.specs.Layout.{size, written}
 use Rattle.language.specs.Program.{Program}
 use Rattle.language.specs.Records.{programTree}
-use Rattle.language.specs.Typing.{typingOk}
 use Rattle.language.specs.Lifetimes.{declaredClassesOk}
 use Rattle.language.specs.Annotation.{annotate}
 use Rattle.language.specs.Checking.{rulesOk}
 use Rattle.language.specs.Answers.{lowest, program, annotation, roomOk, annotatorStages, checkerStages, Annotation, refuses, writes, annotationFor, annotated, checked}
-use Rattle.region_graph.specs.Procedure.{declared-all}
-use Rattle.region_graph.specs.Calls.{called}
+use Rattle.laws.specs.Stages.{lowest-passed, passed-lowest, Read, passed-read, read-passed}
 use Rattle.layout.specs.Programs.{program-written, form-of-program, header-of-program}
-use Rattle.placement.specs.Whole.{Graph, Annotatable, accepted-again, typed-again, values-again, regions-again, classes-again}
+use Rattle.placement.specs.Whole.{Annotatable, accepted-again, typed-again, values-again, regions-again, classes-again}
 use Rattle.lockstep.specs.Lock as Lock
 use Rattle.safety.specs.Premises as Premises
 use Rattle.safety.specs.Safety.{safe, clean}
 use Rattle.soundness.specs.Statement.{Demand3, Written}
-use Rattle.soundness.specs.Stages.{Passed, lowest-passed, passed-lowest, Read, passed-read, read-passed}
 
 -- ---- an accepted file
 -- what it has passed beside numbers 1 to 5
@@ -53,24 +50,20 @@ demand-3 f e =
     record { safe = S; clean = clean A; prints = Lock.prints (program f) S; each = Lock.each (program f) S; both = Lock.both (program f) S }
 
 -- ---- an annotated file
-graph : (P : Program) → typingOk P ≡ true → Graph P
-graph P typing = record { declared = declared-all P typing; called = λ a b ys. called P a b ys typing }
-
 -- the annotation of a program passes every stage of the checker
 annotation-checked : (P : Program) → Annotatable P → size (programTree (annotate P)) ≤ 4096 → Checked (written (programTree (annotate P)))
 annotation-checked P A l =
-    let G = graph P (A .typing) in
     let e = program-written (annotate P) in
     record {
       read = record {
         header = header-of-program (annotate P) l;
         form = form-of-program (annotate P);
-        typing = rw e (typed-again P G A);
-        values = rw e (values-again P G A);
-        regions = rw e (regions-again P G A);
+        typing = rw e (typed-again P A);
+        values = rw e (values-again P A);
+        regions = rw e (regions-again P A);
       };
-      classes = rw e (classes-again P G A);
-      rules = rw e (accepted-again P G A);
+      classes = rw e (classes-again P A);
+      rules = rw e (accepted-again P A);
     }
 
 unfoldable bytesIn : Annotation → List ℕ

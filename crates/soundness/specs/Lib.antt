@@ -1,4 +1,3 @@
 pub mod Statement
-pub mod Stages
 pub mod Demand3
 pub mod Example

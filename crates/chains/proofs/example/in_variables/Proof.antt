@@ -1,6 +1,6 @@
 -- `in_variables` meets its contract. In a turn `read c` has what the record says; the invariant is "the count so far and the count of the rest make
 -- the whole", with the records ahead beside it, so that the count fits.
-use Prim.Native.Nat.{ℕ, _<_, _≤_, _+_}
+use Prim.Native.Nat.{_<_, _+_}
 use mathlib.Core.Path.{_≡_}
 use native.Mathlib.Omega.{arith}
 use borrow.Author.Needs.{needs}

@@ -1,7 +1,6 @@
 -- `chain_at` meets its contract: what is looked for stands at the place that is left in the rest of the chain.
 use Prim.Native.Nat.{_<_}
-use mathlib.Core.Path.{_≡_, refl, sym, _∙_}
-use native.Mathlib.Omega.{arith}
+use mathlib.Core.Path.{_≡_, refl, _∙_}
 use Rattle.language.specs.File.{recordCount}
 use Rattle.language.specs.Lists.{nth}
 use Rattle.chains.specs.Formed.{ahead}

@@ -1,6 +1,5 @@
 -- `list_chain` meets its contract: the invariant and its three laws are in Filling.
 use mathlib.Core.Path.{_≡_, refl, _∙_}
-use native.Mathlib.Omega.{arith}
 use lib.ListN.{length}
 use Rattle.chains.specs.Formed.{ahead}
 use Rattle.chains.specs.Records.{next-onward}

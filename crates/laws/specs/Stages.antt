@@ -1,8 +1,9 @@
--- A file passes a list of stages exactly if it passes each test; the stages of every program by name.
+-- A file passes a list of stages exactly if it passes each test, and is refused with the last one's number exactly if it passes all but that;
+-- the stages of every program by name.
 use Prim.Native.Nat.{ℕ}
-use mathlib.Core.Bool.{true, false, false≢true}
+use mathlib.Core.Bool.{Bool, true, false, false≢true}
 use mathlib.Core.List.{List, [], _∷_, _++_}
-use mathlib.Core.Path.{_≡_, refl}
+use mathlib.Core.Path.{_≡_, refl, sym}
 use Rattle.language.specs.declared.Refusal.{Refusal}
 use Rattle.language.specs.declared.Verdict.the-variants.{Refused, Accepted}
 use Rattle.language.specs.File.{word, recordCount, headerOk, formOk}
@@ -31,7 +32,25 @@ passed-lowest [] p = refl
 passed-lowest (stage r true ∷ ss) p = passed-lowest ss (p .1)
 passed-lowest (stage r false ∷ ss) p = absurd (false≢true (p .0))
 
--- numbers 1 to 5
+-- ---- refused with the number of the last stage, which no other has
+abbrev pub Others : Refusal → List Stage → Type 0
+Others q [] = Unit {0}
+Others q (stage r b ∷ ss) = (r ≡ q → ⊥) × Others q ss
+
+pub refused-last : (q : Refusal) (b : Bool) (ss : List Stage) → Others q ss → lowest (ss ++ (stage q b ∷ [])) ≡ Refused q → Passed ss × (b ≡ false)
+unfolding lowest
+refused-last q true [] o e = absurd (refused-not q (sym e))
+refused-last q false [] o e = (tt, refl)
+refused-last q b (stage r true ∷ ss) o e = let p = refused-last q b ss (o .1) e in ((refl, p .0), p .1)
+refused-last q b (stage r false ∷ ss) o e = absurd (o .0 cc)
+
+pub last-refused : (q : Refusal) (b : Bool) (ss : List Stage) → Passed ss → b ≡ false → lowest (ss ++ (stage q b ∷ [])) ≡ Refused q
+unfolding lowest
+last-refused q b [] p e = rw e
+last-refused q b (stage r true ∷ ss) p e = last-refused q b ss (p .1) e
+last-refused q b (stage r false ∷ ss) p e = absurd (false≢true (p .0))
+
+-- ---- numbers 1 to 5
 pub record Read (f : List ℕ) : Type 0 where
   pub header : headerOk f ≡ true
   pub form : formOk (word f) (recordCount f) ≡ true

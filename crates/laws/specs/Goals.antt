@@ -1,0 +1,36 @@
+-- Laws of goals in front of others, and of striking out creates and removes there; whether a switch has an arm.
+use mathlib.Core.Bool.{Bool, true, false}
+use mathlib.Core.Path.{_≡_, refl, sym, ap, _∙_}
+use Rattle.language.specs.Program.{Goals, done, _then_, Goal, step, switch, ifLess, Arms, noArms, arm, _before_}
+use Rattle.language.specs.Annotation.{plainStep}
+use Rattle.language.specs.PlainRun.{thenIf, stripGoals, stripGoal}
+
+pub before-done : (gs : Goals) → gs before done ≡ gs
+unfolding _before_
+before-done done = refl
+before-done (g then gs) = ap (λ (hs : Goals). g then hs) (before-done gs)
+
+pub before-assoc : (gs hs ks : Goals) → (gs before hs) before ks ≡ gs before (hs before ks)
+unfolding _before_
+before-assoc done hs ks = refl
+before-assoc (g then gs) hs ks = ap (λ (rest : Goals). g then rest) (before-assoc gs hs ks)
+
+pub thenIf-before : (b : Bool) (g : Goal) (gs hs : Goals) → thenIf b g gs before hs ≡ thenIf b g (gs before hs)
+unfolding thenIf _before_
+thenIf-before true g gs hs = refl
+thenIf-before false g gs hs = refl
+
+pub goal-before : (g : Goal) (gs hs : Goals) → stripGoal g gs before hs ≡ stripGoal g (gs before hs)
+unfolding stripGoal _before_
+goal-before (step g) gs hs = thenIf-before (plainStep g) (step g) gs hs
+goal-before (switch x cs) gs hs = refl
+goal-before (ifLess y z a b) gs hs = refl
+
+pub strip-before : (gs hs : Goals) → stripGoals (gs before hs) ≡ stripGoals gs before stripGoals hs
+unfolding stripGoals _before_
+strip-before done hs = refl
+strip-before (g then gs) hs = ap (stripGoal g) (strip-before gs hs) ∙ sym (goal-before g (stripGoals gs) (stripGoals hs))
+
+unfoldable pub someArm : Arms → Bool
+someArm noArms = false
+someArm (arm f ys gs cs) = true
