@@ -1,5 +1,5 @@
 -- What stands in a chain is one element for each of its records: the element of record j, in words of j. Record 0, "none", has the element that
--- the definitions take where there is none.
+-- the definitions take where there is none. A count of a chain is the count of its records: `variables-count` and its like, beside `chain_length`.
 use Prim.Native.Nat.{ℕ}
 use mathlib.Core.Path.{_≡_, refl, ap, _∙_}
 use mathlib.Core.List.{List, map}

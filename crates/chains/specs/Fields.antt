@@ -1,4 +1,4 @@
--- A word of a record that may be missing: 0 stands for "none".
+-- A word of a record that may be missing: 0 stands for "none". `field` gives it; `field-some` where the record is there.
 use Prim.Native.Nat.{ℕ, zero, suc}
 use mathlib.Core.Path.{_≡_, refl}
 use mathlib.Core.List.{List}

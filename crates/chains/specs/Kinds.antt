@@ -1,4 +1,5 @@
--- A decoded record and its kind: what is known of record i once the code has read it and knows its constructor.
+-- A decoded record and its kind: what is known of record i once the code has read it and knows its constructor. Declared, Goals and Parts say
+-- it for each constructor: cite those.
 use Prim.Native.Nat.{ℕ, _<_, _≤_}
 use native.Mathlib.Omega.{arith}
 use native.Mathlib.Decide.{decLt}

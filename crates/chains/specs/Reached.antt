@@ -1,4 +1,6 @@
 -- Records that are found by their place in a chain, and the chains that their words lead to: each may be missing, and then its number is 0.
+-- After r = entry(table, n) or chain_at(file, i, n): r stands in its chain (`stands-nth`, `stands-nth1`), and w = field(file, r, k) in the chain that
+-- word k leads to (`type-functors` and its like).
 use Prim.Native.Nat.{ℕ, zero, suc, _≤_, _<_}
 use native.Mathlib.Omega.{arith}
 use native.Mathlib.Decide.{decLt}

@@ -1,4 +1,6 @@
 -- The records of a chain, by their numbers: along w1 from record i on. What stands in the chain is one element for each of them.
+-- In a loop that reads w1: `records-step` and `next-onward` in a turn, `records-none` at the end, `records-few` where a count must fit. For a law
+-- about a chain: the inductions `climb` and `along`.
 use Prim.Native.Nat.{ℕ, zero, suc, _≤_, _<_}
 use native.Mathlib.Omega.{arith}
 use mathlib.Core.Path.{_≡_, refl, ap, sym, _∙_}

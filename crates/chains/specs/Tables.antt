@@ -1,4 +1,7 @@
--- A table of numbers: `size` places, the first `from` of them 0, then the numbers xs as far as the table reaches, then 0.
+-- A table of numbers: `size` places, the first `from` of them 0, then the numbers xs as far as the table reaches, then 0. `list_chain` leaves such
+-- a table, with xs the records of the chain.
+-- What stands at a place: `table-at`; of a table that is filled from 0 or from 1, `from-zero` and `from-one`, with `inl` of a place inside it, or with
+-- `inr` of a table that reaches to the end of xs.
 use Prim.Native.Nat.{ℕ, zero, suc, _+_, _-_, _≤_, _<_}
 use native.Mathlib.Omega.{arith}
 use native.Mathlib.Decide.{decLt}

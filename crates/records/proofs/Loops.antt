@@ -9,10 +9,11 @@ use lib.ListN.{length, getD, replicate}
 use borrow.Author.Tests.{eq-eqb, ne-eqb}
 use Rattle.sets.specs.Tests.{_&_}
 use Rattle.language.specs.Lists.{all, upFrom}
-use Rattle.language.specs.File.{kLiteral, kSum, kAssign, kConstruct, kSwitch, kIf, kCall, kPrint, kCreate, kRemove, Kind, kNone, kHeader, kType, kFunctor, kProcedure, kVariable, kRegion, kEdge, kArm, kArgument, kGoal, Use, row, rowIn, padded, kindOf, kindAt, wordsOk, recordOk, leading, references, referencesOf, onceIn, formOk}
+use Rattle.language.specs.File.{kLiteral, kSum, kAssign, kConstruct, kSwitch, kIf, kCall, kPrint, kCreate, kRemove, Kind, kNone, kHeader, kType, kFunctor, kProcedure, kVariable, kRegion, kEdge, kArm, kArgument, kGoal}
+use Rattle.language.specs.File.{Use, row, rowIn, padded, kindOf, kindAt, wordsOk, recordOk, leading, references, referencesOf, onceIn, formOk}
 use Rattle.records.specs.Lists.{all-same, from-here, from-end, tally, tally-append, tally-once}
 use Rattle.records.specs.Table.{digit, pack, packed, uses, pack-first, pack-rest}
-use Rattle.records.specs.Form.{Passed, useOk, leads, words-cons, leading-cons, record-words, record-leading}
+use Rattle.records.specs.Form.{Passed, useOk, leads, words-cons, leading-cons, record-by-uses, references-by-uses}
 
 seven : (k : Kind) → length (uses (row k)) ≡ 7
 unfolding uses row rowIn padded
@@ -63,8 +64,8 @@ module _ (W : ℕ → ℕ → ℕ) (n i : ℕ) where
         many = omega (arith, seven (kindAt W n i));
         packs = ap (λ x. x / 16) (h ∙ ap (λ x. packed (row (kindOf x))) e) ∙ pack-rest _ _;
         same = refl;
-        says = record-words W n i;
-        counts = ap (tally seen) (sym (record-leading W n i));
+        says = record-by-uses W n i;
+        counts = ap (tally seen) (sym (references-by-uses W n i));
       }
 
   -- what word k says of itself
@@ -75,7 +76,8 @@ module _ (W : ℕ → ℕ → ℕ) (n i : ℕ) where
     pub words-next : b ≡ true → length after ≡ length seen → Words seen₀ after (digits / 16) (k + 1)
     words-next t m = go (h .ahead) (h .many) (h .packs) (h .says) (h .counts)
       where
-        go : (us : List Use) → k + length us ≡ 8 → digits ≡ pack us → recordOk W n i ≡ wordsOk W n i k us → tally seen (leading W n i k us) ≡ tally seen₀ (references W n i) → Words seen₀ after (digits / 16) (k + 1)
+        go : (us : List Use) → k + length us ≡ 8 → digits ≡ pack us → recordOk W n i ≡ wordsOk W n i k us
+            → tally seen (leading W n i k us) ≡ tally seen₀ (references W n i) → Words seen₀ after (digits / 16) (k + 1)
         go [] e p q r = absurd (omega arith)
         go (u ∷ us) e p q r =
             let g : suc k ≡ k + 1 = omega arith in
@@ -104,7 +106,8 @@ module _ (W : ℕ → ℕ → ℕ) (n i : ℕ) where
   unfolding wordsOk leading tally
   words-last {seen₀ = seen₀} {seen = seen} {k = k} h l = go (h .ahead) (h .many) (h .says) (h .counts)
     where
-      go : (us : List Use) → k + length us ≡ 8 → recordOk W n i ≡ wordsOk W n i k us → tally seen (leading W n i k us) ≡ tally seen₀ (references W n i) → Passed true (recordOk W n i) (references W n i) seen₀ seen
+      go : (us : List Use) → k + length us ≡ 8 → recordOk W n i ≡ wordsOk W n i k us
+          → tally seen (leading W n i k us) ≡ tally seen₀ (references W n i) → Passed true (recordOk W n i) (references W n i) seen₀ seen
       go [] e q r = record { says = sym q; counts = λ _. r }
       go (u ∷ us) e q r = absurd (omega arith)
 

@@ -40,7 +40,8 @@ module _ (W : ℕ → ℕ → ℕ) (n i : ℕ) (c : Chain) (r : ℕ) where
   unfolding referenceOk kindAt _or_ _&_
   reference-up z h l = rw (ne-eqb r 0 z, lt-ltb i r h, lt-ltb r n l)
 
-  pub reference-chain : {w p d : ℕ} → (r ≡ 0 → ⊥) → i < r → r < n → w ≡ W r 0 → p ≡ packed (row (kindOf w)) → d ≡ digit (first c) → eqb (p % 16) d ≡ referenceOk W n i c r
+  pub reference-chain : {w p d : ℕ} → (r ≡ 0 → ⊥) → i < r → r < n → w ≡ W r 0 → p ≡ packed (row (kindOf w)) → d ≡ digit (first c)
+      → eqb (p % 16) d ≡ referenceOk W n i c r
   unfolding standsIn digit
   reference-chain {w = w} z h l a b e =
       rw (b, packed-chain (row (kindOf w)), e, same-digit (code (row (kindOf w) .chain)) (code c), a) (sym (reference-up z h l))
@@ -62,14 +63,16 @@ module _ (W : ℕ → ℕ → ℕ) (n i k : ℕ) (seen : List ℕ) where
   abbrev pub Said : ℕ → ℕ → Bool → Type 0
   Said d w b = (c : Chain) → d ≡ digit (first c) → b ≡ referenceOk W n i c w
 
-  pub use-refused : {d w : ℕ} {b : Bool} (u : Use) → (d ≡ 0 → ⊥) → (d ≡ 1 → ⊥) → w ≡ W i k → Said d w b → b ≡ false → d ≡ digit u → Passed false (useOk W n i k u) (leads W n i k u) seen seen
+  pub use-refused : {d w : ℕ} {b : Bool} (u : Use) → (d ≡ 0 → ⊥) → (d ≡ 1 → ⊥) → w ≡ W i k → Said d w b → b ≡ false → d ≡ digit u
+      → Passed false (useOk W n i k u) (leads W n i k u) seen seen
   unfolding useOk leads digit
   use-refused number y z a s f e = absurd (omega arith)
   use-refused unused y z a s f e = absurd (omega arith)
   use-refused (first c) y z a s f e =
       record { says = sym f ∙ s c e ∙ ap (referenceOk W n i c) a; counts = λ t. absurd (false≢true t) }
 
-  pub use-counted : {d w : ℕ} {b : Bool} {after : List ℕ} (u : Use) → (d ≡ 0 → ⊥) → (d ≡ 1 → ⊥) → w ≡ W i k → Said d w b → b ≡ true → after ≡ counted seen w → d ≡ digit u → Passed true (useOk W n i k u) (leads W n i k u) seen after
+  pub use-counted : {d w : ℕ} {b : Bool} {after : List ℕ} (u : Use) → (d ≡ 0 → ⊥) → (d ≡ 1 → ⊥) → w ≡ W i k → Said d w b → b ≡ true
+      → after ≡ counted seen w → d ≡ digit u → Passed true (useOk W n i k u) (leads W n i k u) seen after
   unfolding useOk leads digit tally
   use-counted number y z a s t g e = absurd (omega arith)
   use-counted unused y z a s t g e = absurd (omega arith)

@@ -40,10 +40,10 @@ module _ (W : ℕ → ℕ → ℕ) (n i : ℕ) where
   leading-cons k (first c) us = refl
 
   -- w1 is a word like the others
-  pub record-words : recordOk W n i ≡ wordsOk W n i 1 (uses (row (kindAt W n i)))
+  pub record-by-uses : recordOk W n i ≡ wordsOk W n i 1 (uses (row (kindAt W n i)))
   unfolding recordOk wordsOk uses
-  record-words = refl
+  record-by-uses = refl
 
-  pub record-leading : references W n i ≡ leading W n i 1 (uses (row (kindAt W n i)))
+  pub references-by-uses : references W n i ≡ leading W n i 1 (uses (row (kindAt W n i)))
   unfolding references leading uses
-  record-leading = refl
+  references-by-uses = refl

@@ -8,10 +8,11 @@ use mathlib.Core.List.{List, [], _∷_}
 use borrow.Author.Tests.{eqb-true, ltb-true}
 use Rattle.sets.specs.Tests.{and-true, or-true}
 use Rattle.language.specs.Lists.{nth, upFrom, count}
-use Rattle.language.specs.File.{GoalKind, kLiteral, kSum, kAssign, kConstruct, kSwitch, kIf, kCall, kPrint, kCreate, kRemove, Kind, kNone, kHeader, kType, kFunctor, kProcedure, kVariable, kRegion, kEdge, kArm, kArgument, kGoal, Chain, nowhere, types, functors, procedures, variables, regions, edges, goals, arms, arguments, Use, unused, first, row, rowIn, code, standsIn, kindAt, referenceOk, wordsOk, recordOk, referencesOf, onceIn, formOk}
+use Rattle.language.specs.File.{GoalKind, kLiteral, kSum, kAssign, kConstruct, kSwitch, kIf, kCall, kPrint, kCreate, kRemove, Kind, kNone, kHeader, kType, kFunctor, kProcedure, kVariable, kRegion, kEdge, kArm, kArgument, kGoal}
+use Rattle.language.specs.File.{Chain, nowhere, types, functors, procedures, variables, regions, edges, goals, arms, arguments, Use, unused, first, row, rowIn, code, standsIn, kindAt, referenceOk, wordsOk, recordOk, referencesOf, onceIn, formOk}
 use Rattle.records.specs.Lists.{all-at}
 use Rattle.records.specs.Table.{uses}
-use Rattle.records.specs.Form.{useOk, words-cons, record-words}
+use Rattle.records.specs.Form.{useOk, words-cons, record-by-uses}
 
 -- ---- the kinds that stand in a chain
 abbrev pub Standing : Chain → Kind → Type 0
@@ -102,6 +103,7 @@ module _ (W : ℕ → ℕ → ℕ) (n : ℕ) where
       ap (λ x. referenceOk W n i c (W i x)) q ∙ words-at i (suc k) us (and-true (sym (words-cons W n i k u us) ∙ e) .1) m c h
 
   -- word 1 + m of a record of kind k, where the table says that it leads to a chain
-  pub record-leads : (i : ℕ) {k : Kind} → recordOk W n i ≡ true → kindAt W n i ≡ k → (m : ℕ) (c : Chain) → nth unused (uses (row k)) m ≡ first c → referenceOk W n i c (W i (1 + m)) ≡ true
+  pub record-leads : (i : ℕ) {k : Kind} → recordOk W n i ≡ true → kindAt W n i ≡ k → (m : ℕ) (c : Chain) → nth unused (uses (row k)) m ≡ first c
+      → referenceOk W n i c (W i (1 + m)) ≡ true
   record-leads i e g m c h =
-      words-at i 1 (uses (row (kindAt W n i))) (sym (record-words W n i) ∙ e) m c (ap (λ k. nth unused (uses (row k)) m) g ∙ h)
+      words-at i 1 (uses (row (kindAt W n i))) (sym (record-by-uses W n i) ∙ e) m c (ap (λ k. nth unused (uses (row k)) m) g ∙ h)

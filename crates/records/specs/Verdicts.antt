@@ -11,6 +11,7 @@ use Rattle.language.specs.Typing.{typingOk}
 use Rattle.language.specs.Values.{valuesOk}
 use Rattle.language.specs.Regions.{regionsOk}
 use Rattle.language.specs.Answers.{Stage, stage, lowest, program, fileStages}
+use Rattle.records.specs.Words.{Sized, header-in}
 
 -- numbers 1 and 2
 unfoldable pub formStages : List ℕ → List Stage
@@ -52,3 +53,7 @@ module _ (f : List ℕ) where
   pub form-mk : headerOk f ≡ true → formOk (word f) (recordCount f) ≡ true → formVerdict f ≡ Accepted
   unfolding formVerdict formStages lowest
   form-mk a b = rw (a, b)
+
+  -- then the count is from 1 to 4,096, and the length 16 times as much
+  pub form-sized : formVerdict f ≡ Accepted → Sized f
+  form-sized e = header-in f (form-in e .0)

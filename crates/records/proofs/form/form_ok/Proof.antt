@@ -29,7 +29,10 @@ all-once-requires : tie.Need-all-once-requires
 all-once-requires c κs = search needs
 
 returns-2 : tie.Need-returns-2
-returns-2 c = c .all-once .ensures ∙ form-counted _ _ (c .before .before .before .before .records-ok .ensures) (not-false _ (c .before .before .if1 .left)) (c .before .before .before .before .before .before .before .nothing-seen .ensures) (omega arith)
+returns-2 c =
+    let b = c .before .before .before .before in
+    c .all-once .ensures
+    ∙ form-counted _ _ (b .records-ok .ensures) (not-false _ (c .before .before .if1 .left)) (b .before .before .before .nothing-seen .ensures) (omega arith)
 
 pub form-ok-spec : {M : Type 1} → statement M
 form-ok-spec =

@@ -31,7 +31,9 @@ same-length : tie.Need-same-length Inv-loop μ-loop
 same-length c = c .before .before .before .word-ok .kept .1 .1 .0 ∙ c .before .before .before .before .before .before .loop .inv .same
 
 returns : tie.Need-returns Inv-loop μ-loop
-returns c = words-refused _ _ _ (c .before .before .before .before .before .before .loop .inv) (omega arith) (c .before .before .before .word-ok .ensures) (not-true _ (c .if1 .taken))
+returns c =
+    let b = c .before .before .before in
+    words-refused _ _ _ (b .before .before .before .loop .inv) (omega arith) (b .word-ok .ensures) (not-true _ (c .if1 .taken))
 
 add-k : tie.Need-add-k Inv-loop μ-loop
 add-k c = search needs
@@ -40,7 +42,9 @@ loop-less : tie.Need-loop-less Inv-loop μ-loop
 loop-less c = search needs
 
 loop-again : tie.Need-loop-again Inv-loop μ-loop
-loop-again c = words-next _ _ _ (c .before .before .before .before .before .before .loop .inv) (omega arith) (c .before .before .before .word-ok .ensures) (not-false _ (c .if1 .left)) (c .before .before .before .word-ok .kept .1 .1 .0)
+loop-again c =
+    let b = c .before .before .before in
+    words-next _ _ _ (b .before .before .before .loop .inv) (omega arith) (b .word-ok .ensures) (not-false _ (c .if1 .left)) (b .word-ok .kept .1 .1 .0)
 
 same-length-2 : tie.Need-same-length-2 Inv-loop μ-loop
 same-length-2 c = c .before .loop .inv .same

@@ -25,7 +25,9 @@ same-length : tie.Need-same-length Inv-loop μ-loop
 same-length c = c .before .before .before .record-ok .kept .1 .1 .0 ∙ c .before .before .before .before .before .before .loop .inv .same
 
 returns : tie.Need-returns Inv-loop μ-loop
-returns c = records-refused _ _ (c .before .before .before .before .before .before .loop .inv) (omega arith) (c .before .before .before .record-ok .ensures) (not-true _ (c .if1 .taken))
+returns c =
+    let b = c .before .before .before in
+    records-refused _ _ (b .before .before .before .loop .inv) (omega arith) (b .record-ok .ensures) (not-true _ (c .if1 .taken))
 
 add-i : tie.Need-add-i Inv-loop μ-loop
 add-i c = search needs
@@ -34,7 +36,9 @@ loop-less : tie.Need-loop-less Inv-loop μ-loop
 loop-less c = search needs
 
 loop-again : tie.Need-loop-again Inv-loop μ-loop
-loop-again c = records-next _ _ (c .before .before .before .before .before .before .loop .inv) (omega arith) (c .before .before .before .record-ok .ensures) (not-false _ (c .if1 .left)) (c .before .before .before .record-ok .kept .1 .1 .0)
+loop-again c =
+    let b = c .before .before .before in
+    records-next _ _ (b .before .before .before .loop .inv) (omega arith) (b .record-ok .ensures) (not-false _ (c .if1 .left)) (b .record-ok .kept .1 .1 .0)
 
 same-length-2 : tie.Need-same-length-2 Inv-loop μ-loop
 same-length-2 c = c .before .loop .inv .same

@@ -19,7 +19,10 @@ reference-ok-requires : tie.Need-reference-ok-requires
 reference-ok-requires c κs = search needs
 
 returns-3 : tie.Need-returns-3
-returns-3 c = λ u e. use-refused _ _ _ _ _ u (c .before .before .before .before .if1 .left) (c .before .before .if2 .left) (c .before .before .before .word .ensures .0) (c .before .reference-ok .ensures .0) (not-true _ (c .if3 .taken)) e
+returns-3 c =
+    let b = c .before in
+    λ u e. use-refused _ _ _ _ _ u (b .before .before .before .if1 .left) (b .before .if2 .left) (b .before .before .word .ensures .0)
+    (b .reference-ok .ensures .0) (not-true _ (c .if3 .taken)) e
 
 count-requires : tie.Need-count-requires
 count-requires c κs = let h = c .before .before .reference-ok .ensures .1 (not-false _ (c .before .if3 .left)) in omega arith
@@ -28,7 +31,10 @@ same-length : tie.Need-same-length
 same-length c = search needs
 
 returns-4 : tie.Need-returns-4
-returns-4 c = λ u e. use-counted _ _ _ _ _ u (c .before .before .before .before .before .before .before .before .if1 .left) (c .before .before .before .before .before .before .if2 .left) (c .before .before .before .before .before .before .before .word .ensures .0) (c .before .before .before .before .before .reference-ok .ensures .0) (not-false _ (c .before .before .before .before .if3 .left)) (c .before .before .count .ensures) e
+returns-4 c =
+    let b = c .before .before .before .before .before in
+    λ u e. use-counted _ _ _ _ _ u (b .before .before .before .if1 .left) (b .before .if2 .left) (b .before .before .word .ensures .0)
+    (b .reference-ok .ensures .0) (not-false _ (c .before .before .before .before .if3 .left)) (c .before .before .count .ensures) e
 
 pub word-ok-spec : {M : Type 1} → statement M
 word-ok-spec =

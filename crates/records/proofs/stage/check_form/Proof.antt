@@ -18,10 +18,14 @@ form-ok-requires : tie.Need-form-ok-requires
 form-ok-requires c κs = count-most _ (c .before .before .header-ok .ensures) (not-false _ (c .before .if1 .left)) (c .word .ensures .0)
 
 returns-2 : tie.Need-returns-2
-returns-2 c = form-form _ (c .before .before .before .before .header-ok .ensures) (c .before .before .word .ensures .0) (c .before .form-ok .ensures) (not-false _ (c .before .before .before .if1 .left)) (not-true _ (c .if2 .taken))
+returns-2 c =
+    let b = c .before .before .before in
+    form-form _ (b .before .header-ok .ensures) (c .before .before .word .ensures .0) (c .before .form-ok .ensures) (not-false _ (b .if1 .left)) (not-true _ (c .if2 .taken))
 
 returns-3 : tie.Need-returns-3
-returns-3 c = form-accepted _ (c .before .before .before .before .header-ok .ensures) (c .before .before .word .ensures .0) (c .before .form-ok .ensures) (not-false _ (c .before .before .before .if1 .left)) (not-false _ (c .if2 .left))
+returns-3 c =
+    let b = c .before .before .before in
+    form-accepted _ (b .before .header-ok .ensures) (c .before .before .word .ensures .0) (c .before .form-ok .ensures) (not-false _ (b .if1 .left)) (not-false _ (c .if2 .left))
 
 pub check-form-spec : {M : Type 1} → statement M
 check-form-spec =
