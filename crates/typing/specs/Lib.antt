@@ -1,0 +1,14 @@
+pub mod Both
+pub mod Names
+pub mod Functors
+pub mod Types
+pub mod Edges
+pub mod Signatures
+pub mod Arguments
+pub mod Calls
+pub mod EdgeLaws
+pub mod Agree
+pub mod Settings
+pub mod Walk
+pub mod Tabled
+pub mod Procedures

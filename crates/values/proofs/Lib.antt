@@ -1,0 +1,4 @@
+mod Turning
+mod Stepping
+mod Walking
+mod Staging

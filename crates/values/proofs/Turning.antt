@@ -1,0 +1,82 @@
+-- One turn of each loop along a chain of variables, over the code's own values.
+use Prim.Native.Nat.{ℕ, _+_, _<_}
+use native.Mathlib.Omega.{arith}
+use mathlib.Core.Path.{_≡_, refl, sym, ap, _∙_}
+use mathlib.Core.List.{List}
+use Rattle.sets.specs.Sets.{single, _∪_}
+use Rattle.sets.specs.declared.Set.{Set}
+use Rattle.language.specs.File.{variables, arguments, word}
+use Rattle.chains.specs.Formed.{Formed, Stands, Onward, ahead, variablesAt, argumentsAt, variables-none, arguments-none}
+use Rattle.chains.specs.Declared.{VariableAt, variable-at}
+use Rattle.chains.specs.Parts.{ArgumentAt, argument-at}
+use Rattle.chains.specs.Is.{variable-is, argument-is}
+use Rattle.values.specs.declared.Access.{Access}
+use Rattle.values.specs.Gathering.{passedIn}
+use Rattle.values.specs.Matching.{Matches, Matching, match-local, match-passed, match-short, match-last}
+use Rattle.values.specs.Modes.{Finding, find-one, find-other, Local, local-next, local-stop}
+
+module _ {f : List ℕ} (F : Formed f) {v : ℕ} (s : Stands f variables v) (z : v ≡ 0 → ⊥) where
+  pub variable-here : VariableAt f v (word f v 1) (word f v 2) (word f v 3) (word f v 4)
+  variable-here = variable-at F refl (variable-is s z)
+
+  pub to-next : {w : ℕ} → w ≡ word f v 1 → Onward f variables v w
+  to-next e = rw e (variable-here .to-next)
+
+-- ---- a call's arguments
+pub record Going (f : List ℕ) (v0 y0 : ℕ) (a : Access) (v y : ℕ) : Type 0 where
+  pub variable : Stands f variables v
+  pub argument : Stands f arguments y
+  pub matching : Matching (variablesAt f v0) (argumentsAt f y0) a (variablesAt f v) (argumentsAt f y)
+
+module _ {f : List ℕ} {v0 y0 : ℕ} {a : Access} {v y : ℕ} (F : Formed f) (h : Going f v0 y0 a v y) (z : v ≡ 0 → ⊥) {mode : ℕ} (m : mode ≡ word f v 2) where
+  pub going-local : {w u : ℕ} {b : Access} → mode ≡ 0 → b ≡ a → u ≡ y → w ≡ word f v 1 → Going f v0 y0 b w u
+  going-local o i j e =
+      let n = variable-here F (h .variable) z in
+      record {
+        variable = to-next F (h .variable) z e .stands;
+        argument = rw j (h .argument);
+        matching = rw (e, i, j) (match-local (h .matching) (n .view) (sym m ∙ o));
+      }
+
+  pub going-short : (mode ≡ 0 → ⊥) → y ≡ 0 → Matches (variablesAt f v0) (argumentsAt f y0) a
+  going-short o e = match-short (h .matching) (variable-here F (h .variable) z .view) (λ q. o (m ∙ q)) (arguments-none f e)
+
+  pub going-passed : {w x u : ℕ} {b : Access} → (mode ≡ 0 → ⊥) → (y ≡ 0 → ⊥) → x ≡ word f y 2 → b ≡ passedIn mode a x → u ≡ word f y 1 → w ≡ word f v 1
+      → Going f v0 y0 b w u
+  going-passed o p i j k e =
+      let n = variable-here F (h .variable) z in
+      let l : ArgumentAt f y (word f y 1) (word f y 2) = argument-at F refl (argument-is (h .argument) p) in
+      record {
+        variable = to-next F (h .variable) z e .stands;
+        argument = rw k (l .to-next .stands);
+        matching = rw (j, i, k, e, m) (match-passed (h .matching) (n .view) (λ q. o (m ∙ q)) (l .view));
+      }
+
+pub going-last : {f : List ℕ} {v0 y0 : ℕ} {a : Access} {v y : ℕ} → Going f v0 y0 a v y → v ≡ 0 → Matches (variablesAt f v0) (argumentsAt f y0) a
+going-last {f} h e = match-last (h .matching) (variables-none f e)
+
+-- ---- the variables of one mode
+pub record Found (f : List ℕ) (start mode : ℕ) (found : Set) (i x : ℕ) : Type 0 where
+  pub variable : Stands f variables i
+  pub few : x + ahead f i < 4097
+  pub finding : Finding mode (variablesAt f start) found x (variablesAt f i)
+
+module _ {f : List ℕ} {start mode : ℕ} {found : Set} {i x : ℕ} (F : Formed f) (p : 0 < mode) (h : Found f start mode found i x) (z : i ≡ 0 → ⊥) {m w : ℕ}
+    (e : m ≡ word f i 2) (n : w ≡ word f i 1) where
+  pub found-one : {s u : Set} → m ≡ mode → s ≡ single x → u ≡ found ∪ s → Found f start mode u w (x + 1)
+  found-one q j k =
+      let o = to-next F (h .variable) z n in
+      record {
+        variable = o .stands;
+        few = omega (arith, o .falls, h .few);
+        finding = rw n (find-one p (h .finding) (variable-here F (h .variable) z .view) (sym e ∙ q) j k);
+      }
+
+  pub found-other : {u : Set} → (m ≡ mode → ⊥) → u ≡ found → Found f start mode u w (x + 1)
+  found-other q k =
+      let o = to-next F (h .variable) z n in
+      record {
+        variable = o .stands;
+        few = omega (arith, o .falls, h .few);
+        finding = rw (n, k) (find-other p (h .finding) (variable-here F (h .variable) z .view) (λ r. q (e ∙ r)));
+      }

@@ -1,0 +1,12 @@
+-- `no_access` meets its contract.
+use Rattle.values.specs.Gathering.{noAccess}
+use mathlib.Core.Path.{_≡_, refl, sym, ap, _∙_}
+use Rattle.values.proofs.steps.no_access.Statement.{statement}
+use Rattle.values.proofs.steps.no_access.Tie as tie
+
+returns : tie.Need-returns
+unfolding noAccess
+returns c = refl
+
+pub no-access-spec : {M : Type 1} → statement M
+no-access-spec = tie.close (tie.spec returns)

@@ -1,0 +1,135 @@
+-- What the code gathers of a goal, variable by variable, and the lists that it stands for.
+use Prim.Native.Nat.{ℕ, zero, suc}
+use mathlib.Core.Path.{_≡_, refl, sym, ap, _∙_}
+use mathlib.Core.Bool.{Bool, true, false, _&&_, not}
+use mathlib.Core.List.{List, [], _∷_, _++_, append-nil, append-assoc}
+use lib.Dec.{eqb}
+use borrow.Author.Tests.{ne-eqb}
+use Rattle.sets.specs.Tests.{_&_, neg}
+use Rattle.sets.specs.Sets.{member, emptySet, single, _∪_, single-zero}
+use Rattle.sets.specs.SetLaws.{union-empty}
+use Rattle.sets.specs.Members.{setOf}
+use Rattle.sets.specs.declared.Set.{Set}
+use Rattle.language.specs.Lists.{count, choose}
+use Rattle.language.specs.Program.{Four, four, fourWords, argumentsOf, trimmed, inMode, outMode}
+use Rattle.language.specs.Values.{distinct}
+use Rattle.values.specs.declared.Access.{Access}
+use Rattle.values.specs.Ranged.{InRange, Ranged, ranged-front, set-snoc, fresh-is, distinct-snoc, trim-fold}
+
+unfoldable pub noAccess : Access
+noAccess = record { reads = emptySet; gives = emptySet; once = true }
+
+-- y is read too
+unfoldable pub readIn : Access → ℕ → Access
+readIn a y = record { reads = a .reads ∪ single y; gives = a .gives; once = a .once }
+
+-- x is given a value too
+unfoldable pub givenIn : Access → ℕ → Access
+givenIn a x = record { reads = a .reads; gives = a .gives ∪ single x; once = a .once & neg (member (a .gives) x) }
+
+-- y stands at the place of a variable of that mode
+unfoldable pub passedIn : ℕ → Access → ℕ → Access
+passedIn m a y = choose (eqb m inMode) (readIn a y) (choose (eqb m outMode) (givenIn a y) a)
+
+-- a list of them
+unfoldable pub readAll : Access → List ℕ → Access
+readAll a [] = a
+readAll a (y ∷ ys) = readAll (readIn a y) ys
+
+unfoldable pub giveAll : Access → List ℕ → Access
+giveAll a [] = a
+giveAll a (x ∷ xs) = giveAll (givenIn a x) xs
+
+unfoldable pub fourRead : Four → Access
+fourRead ws = readAll noAccess (fourWords ws)
+
+unfoldable pub fourGiven : Four → Access
+fourGiven ws = giveAll noAccess (fourWords ws)
+
+-- ---- it has read the variables ys and given the variables xs
+pub record Gathers (a : Access) (ys xs : List ℕ) : Type 0 where
+  pub read : a .reads ≡ setOf ys
+  pub given : a .gives ≡ setOf xs
+  pub twice : Ranged xs → a .once ≡ distinct xs
+
+pub gathers-none : Gathers noAccess [] []
+unfolding noAccess setOf distinct
+gathers-none = record { read = refl; given = refl; twice = λ r. refl }
+
+module _ {a : Access} {ys xs : List ℕ} (h : Gathers a ys xs) where
+  pub gathers-read : (y : ℕ) → Gathers (readIn a y) (ys ++ y ∷ []) xs
+  unfolding readIn
+  gathers-read y = record { read = ap (λ s. s ∪ single y) (h .read) ∙ sym (set-snoc ys y); given = h .given; twice = h .twice }
+
+  pub gathers-give : (x : ℕ) → Gathers (givenIn a x) ys (xs ++ x ∷ [])
+  unfolding givenIn
+  gathers-give x =
+      record {
+        read = h .read;
+        given = ap (λ s. s ∪ single x) (h .given) ∙ sym (set-snoc xs x);
+        twice = λ r.
+            let p = ranged-front xs r in
+            rw (h .twice (p .0), h .given) (ap (λ b. distinct xs & b) (sym (fresh-is xs x (p .1))) ∙ sym (distinct-snoc xs x));
+      }
+
+pub gathers-read-all : (zs : List ℕ) {a : Access} {ys xs : List ℕ} → Gathers a ys xs → Gathers (readAll a zs) (ys ++ zs) xs
+unfolding readAll
+gathers-read-all [] {a} {ys} {xs} h = rw (append-nil ys) h
+gathers-read-all (z ∷ zs) {a} {ys} {xs} h = rw (append-assoc ys (z ∷ []) zs) at (gathers-read-all zs (gathers-read h z))
+
+pub gathers-give-all : (zs : List ℕ) {a : Access} {ys xs : List ℕ} → Gathers a ys xs → Gathers (giveAll a zs) ys (xs ++ zs)
+unfolding giveAll
+gathers-give-all [] {a} {ys} {xs} h = rw (append-nil xs) h
+gathers-give-all (z ∷ zs) {a} {ys} {xs} h = rw (append-assoc xs (z ∷ []) zs) at (gathers-give-all zs (gathers-give h z))
+
+-- ---- the arguments of a construct or an arm: 0 is no variable
+read-zero : (a : Access) → readIn a 0 ≡ a
+unfolding readIn
+read-zero a = rw (single-zero, union-empty (a .reads))
+
+and-yes : (b : Bool) → b & neg false ≡ b
+unfolding _&_ neg
+and-yes true = refl
+and-yes false = refl
+
+give-zero : (a : Access) → givenIn a 0 ≡ a
+unfolding givenIn member
+give-zero a = rw (single-zero, union-empty (a .gives), and-yes (a .once))
+
+pub four-read : (ws : Four) → Gathers (fourRead ws) (argumentsOf ws) []
+unfolding fourRead argumentsOf readAll
+four-read ws =
+    let e = trim-fold readIn read-zero readAll (λ a. refl) (λ a x xs. refl) (fourWords ws) noAccess in
+    rw e (gathers-read-all (trimmed (fourWords ws)) gathers-none)
+
+pub four-given : (ws : Four) → Gathers (fourGiven ws) [] (argumentsOf ws)
+unfolding fourGiven argumentsOf giveAll
+four-given ws =
+    let e = trim-fold givenIn give-zero giveAll (λ a. refl) (λ a x xs. refl) (fourWords ws) noAccess in
+    rw e (gathers-give-all (trimmed (fourWords ws)) gathers-none)
+
+-- ---- what the code makes
+and-not : (a b : Bool) → (a && not b) ≡ (a & neg b)
+unfolding _&_ neg
+and-not true true = refl
+and-not true false = refl
+and-not false b = refl
+
+pub given-is : (a : Access) (x : ℕ) {b : Bool} {s u : Set} → b ≡ member (a .gives) x → s ≡ single x → u ≡ a .gives ∪ s
+    → _≡_ {A = Access} (record { reads = a .reads; gives = u; once = a .once && not b }) (givenIn a x)
+unfolding givenIn
+given-is a x h i j = rw (j, i, h, and-not (a .once) (member (a .gives) x)) refl
+
+-- ---- by the mode
+module _ {m : ℕ} (a : Access) (y : ℕ) where
+  pub pass-in : {r : Access} → m ≡ inMode → r ≡ readIn a y → r ≡ passedIn m a y
+  unfolding passedIn choose
+  pass-in e h = h ∙ rw e refl
+
+  pub pass-out : {r : Access} → m ≡ outMode → r ≡ givenIn a y → r ≡ passedIn m a y
+  unfolding passedIn choose
+  pass-out e h = h ∙ rw e refl
+
+pub pass-none : (m y : ℕ) (a : Access) → (m ≡ inMode → ⊥) → (m ≡ outMode → ⊥) → a ≡ passedIn m a y
+unfolding passedIn choose
+pass-none m y a p q = rw (ne-eqb m inMode p, ne-eqb m outMode q) refl

@@ -1,0 +1,9 @@
+pub mod Ranged
+pub mod Gathering
+pub mod Matching
+pub mod Modes
+pub mod Callees
+pub mod Accesses
+pub mod Typed
+pub mod Meaning
+pub mod Shapes

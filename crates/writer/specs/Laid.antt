@@ -1,0 +1,155 @@
+-- What a writer promises: these records stand from here on, every other byte is as it was, the length is kept. How such promises are joined.
+use Prim.Native.Nat.{ℕ, zero, suc, _+_, _*_, _/_, _%_, _≤_, _<_}
+use native.Mathlib.Omega.{arith}
+use mathlib.Core.List.{List, [], _∷_, _++_}
+use mathlib.Core.Path.{_≡_, refl, ap₂, subst, _∙_}
+use lib.ListN.{length, getD, set, length-set, length-append}
+use lib.Seq.{getD-set-same, getD-set-other}
+use Rattle.language.specs.File.{word}
+use Rattle.layout.specs.Standing.{Spelled, Stand}
+use Rattle.layout.specs.Bytes.{Eights}
+use Rattle.layout.specs.Writing.{stand-join, stand-same}
+
+-- each word fits in 16 bits
+abbrev pub Small : List ℕ → Type 0
+Small [] = Unit {0}
+Small (x ∷ xs) = (x < 65536) × Small xs
+
+-- ---- one word
+-- word k of record i is x now, and no other byte changed
+pub record Put (a b : List ℕ) (i k x : ℕ) : Type 0 where
+  pub same : length b ≡ length a
+  pub there : word b i k ≡ x
+  pub below : (j : ℕ) → j < 16 * i + 2 * k → getD b j 0 ≡ getD a j 0
+  pub past : (j : ℕ) → 16 * i + 2 * k + 2 ≤ j → getD b j 0 ≡ getD a j 0
+
+pub put-made : (a : List ℕ) (i k x : ℕ) {p q : ℕ} → 16 * i + 16 ≤ length a → k < 8 → p ≡ x % 256 → q ≡ x / 256
+    → Put a (set (set a (16 * i + 2 * k) p) (16 * i + 2 * k + 1) q) i k x
+unfolding word
+put-made a i k x {p = p} {q = q} l h e f =
+    let c = set a (16 * i + 2 * k) p in
+    let d = set c (16 * i + 2 * k + 1) q in
+    let n : length c ≡ length a = length-set a (16 * i + 2 * k) p in
+    record {
+      same = length-set c (16 * i + 2 * k + 1) q ∙ n;
+      there =
+          let s : getD d (16 * i + 2 * k) 0 ≡ p = getD-set-other c (16 * i + 2 * k + 1) (16 * i + 2 * k) q 0 (λ z. omega arith) ∙ getD-set-same a (16 * i + 2 * k) p 0 (omega arith) in
+          let t : getD d (16 * i + 2 * k + 1) 0 ≡ q = getD-set-same c (16 * i + 2 * k + 1) q 0 (omega arith) in
+          omega arith;
+      below = λ j g.
+          getD-set-other c (16 * i + 2 * k + 1) j q 0 (λ z. omega arith) ∙ getD-set-other a (16 * i + 2 * k) j p 0 (λ z. omega arith);
+      past = λ j g.
+          getD-set-other c (16 * i + 2 * k + 1) j q 0 (λ z. omega arith) ∙ getD-set-other a (16 * i + 2 * k) j p 0 (λ z. omega arith);
+    }
+
+-- ---- the words of a record, from word k on
+-- words k and up of record i are xs now, and no other byte changed
+pub record Row (a b : List ℕ) (i k : ℕ) (xs : List ℕ) : Type 0 where
+  pub same : length b ≡ length a
+  pub there : Spelled (word b i) k xs
+  pub below : (j : ℕ) → j < 16 * i + 2 * k → getD b j 0 ≡ getD a j 0
+  pub past : (j : ℕ) → 16 * i + 2 * (k + length xs) ≤ j → getD b j 0 ≡ getD a j 0
+
+pub row-none : (a : List ℕ) (i k : ℕ) → Row a a i k []
+row-none a i k = record { same = refl; there = tt; below = λ j l. refl; past = λ j l. refl }
+
+pub row-more : {a b d : List ℕ} {i k x : ℕ} {xs : List ℕ} → Put a b i k x → Row b d i (suc k) xs → Row a d i k (x ∷ xs)
+unfolding word
+row-more {b = b} {d = d} {i = i} {k = k} p q =
+    record {
+      same = q .same ∙ p .same;
+      there = (ap₂ (λ u v. u + 256 * v) (q .below (16 * i + 2 * k) (omega arith)) (q .below (16 * i + 2 * k + 1) (omega arith)) ∙ p .there, q .there);
+      below = λ j l. q .below j (omega arith) ∙ p .below j l;
+      past = λ j l. q .past j (omega arith) ∙ p .past j (omega arith);
+    }
+
+-- ---- records
+-- the records rs stand from record c on now, and no other byte changed
+pub record Laid (a b : List ℕ) (c : ℕ) (rs : List (List ℕ)) : Type 0 where
+  pub same : length b ≡ length a
+  pub eights : Eights rs
+  pub there : Stand (word b) c rs
+  pub below : (j : ℕ) → j < 16 * c → getD b j 0 ≡ getD a j 0
+  pub past : (j : ℕ) → 16 * (c + length rs) ≤ j → getD b j 0 ≡ getD a j 0
+
+pub laid-none : (a : List ℕ) (c : ℕ) → Laid a a c []
+laid-none a c = record { same = refl; eights = tt; there = tt; below = λ j l. refl; past = λ j l. refl }
+
+pub laid-row : {a b : List ℕ} {c : ℕ} {r : List ℕ} → length r ≡ 8 → Row a b c 0 r → Laid a b c (r ∷ [])
+laid-row e h =
+    record {
+      same = h .same;
+      eights = (e, tt);
+      there = (h .there, tt);
+      below = λ j l. h .below j (omega arith);
+      past = λ j l. h .past j (omega (arith, e));
+    }
+
+-- the words may be written otherwise
+pub laid-as : {a b : List ℕ} {c : ℕ} {r s : List ℕ} → r ≡ s → Laid a b c (r ∷ []) → Laid a b c (s ∷ [])
+laid-as {a} {b} {c} e h = subst (λ x. Laid a b c (x ∷ [])) e h
+
+words-same : (a b : List ℕ) (i k : ℕ) → getD b (16 * i + 2 * k) 0 ≡ getD a (16 * i + 2 * k) 0
+    → getD b (16 * i + 2 * k + 1) 0 ≡ getD a (16 * i + 2 * k + 1) 0 → word b i k ≡ word a i k
+unfolding word
+words-same a b i k e f = ap₂ (λ u v. u + 256 * v) e f
+
+eights-join : (xs ys : List (List ℕ)) → Eights xs → Eights ys → Eights (xs ++ ys)
+eights-join [] ys h g = g
+eights-join (x ∷ xs) ys h g = (h .0, eights-join xs ys (h .1) g)
+
+module _ {a b d : List ℕ} {c e : ℕ} {xs ys : List (List ℕ)} (q : c + length xs ≡ e) where
+  -- first the front, then what follows it
+  pub laid-then : Laid a b c xs → Laid b d e ys → Laid a d c (xs ++ ys)
+  laid-then p r =
+      record {
+        same = r .same ∙ p .same;
+        eights = eights-join xs ys (p .eights) (r .eights);
+        there =
+            stand-join xs ys (word d) c e q
+            (stand-same xs (word b) (word d) c (p .eights) (λ i k l m n. words-same b d i k (r .below _ (omega arith)) (r .below _ (omega arith))) (p .there))
+            (r .there);
+        below = λ j l. r .below j (omega arith) ∙ p .below j l;
+        past = λ j l. r .past j (omega (arith, length-append xs ys)) ∙ p .past j (omega (arith, length-append xs ys));
+      }
+
+  -- first what follows, then the front
+  pub laid-before : Laid a b e ys → Laid b d c xs → Laid a d c (xs ++ ys)
+  laid-before p r =
+      record {
+        same = r .same ∙ p .same;
+        eights = eights-join xs ys (r .eights) (p .eights);
+        there =
+            stand-join xs ys (word d) c e q (r .there)
+            (stand-same ys (word b) (word d) e (p .eights) (λ i k l m n. words-same b d i k (r .past _ (omega arith)) (r .past _ (omega arith))) (p .there));
+        below = λ j l. r .below j l ∙ p .below j (omega arith);
+        past = λ j l. r .past j (omega (arith, length-append xs ys)) ∙ p .past j (omega (arith, length-append xs ys));
+      }
+
+-- ---- record i of the file f, but for the next of its chain
+unfoldable pub withNext : List ℕ → ℕ → ℕ → List ℕ
+withNext f i n = word f i 0 ∷ n ∷ word f i 2 ∷ word f i 3 ∷ word f i 4 ∷ word f i 5 ∷ word f i 6 ∷ word f i 7 ∷ []
+
+pub laid-next : (f : List ℕ) (i : ℕ) {a b : List ℕ} {c : ℕ} {u0 n u2 u3 u4 u5 u6 u7 : ℕ} → u0 ≡ word f i 0 → u2 ≡ word f i 2 → u3 ≡ word f i 3 → u4 ≡ word f i 4
+    → u5 ≡ word f i 5 → u6 ≡ word f i 6 → u7 ≡ word f i 7 → Laid a b c ((u0 ∷ n ∷ u2 ∷ u3 ∷ u4 ∷ u5 ∷ u6 ∷ u7 ∷ []) ∷ []) → Laid a b c (withNext f i n ∷ [])
+unfolding withNext
+laid-next f i p q r s t u v h = rw (← p, ← q, ← r, ← s, ← t, ← u, ← v) h
+
+-- ---- references
+unfoldable pub linked : ℕ → ℕ → ℕ
+linked zero c = 0
+linked (suc w) c = c
+
+pub linked-none : {w : ℕ} (c : ℕ) → w ≡ 0 → 0 ≡ linked w c
+unfolding linked
+linked-none c z = rw z
+
+pub linked-some : (w c : ℕ) → (w ≡ 0 → ⊥) → c ≡ linked w c
+unfolding linked
+linked-some zero c z = absurd (z refl)
+linked-some (suc w) c z = refl
+
+pub linked-small : (w c : ℕ) {x : ℕ} → x ≡ linked w c → c < 65536 → x < 65536
+unfolding linked
+linked-small zero c e h = omega arith
+linked-small (suc w) c e h = omega arith
