@@ -1,0 +1,133 @@
+-- The mapping of a call: the regions of the callee's in and out variables, and those of the call's arguments, as chains of records have them.
+use Prim.Native.Nat.{ℕ, zero, suc, _+_, _≤_}
+use native.Mathlib.Omega.{arith}
+use mathlib.Core.Bool.{Bool, true}
+use mathlib.Core.List.{List, [], _∷_, _++_, append-assoc}
+use mathlib.Core.Logic.{_≢_}
+use mathlib.Core.Path.{_≡_, refl, sym, ap, ap₂, _∙_, fun-ext}
+use lib.ListN.{length, getD, length-append}
+use Rattle.language.specs.Lists.{nth, nth1}
+use Rattle.language.specs.Program.{Variable, Signature, Parameter, regionOf, variableAt, parameterIn, parametersFrom, parametersOf, parameterVariables}
+use Rattle.language.specs.Typing.{haveTypes, parameterTypes}
+use Rattle.language.specs.Regions.{Mapping, mapEach, mapRegion, mapping, pairs, regionsOf}
+use Rattle.region_graph.specs.Typed.{regions-few}
+use Rattle.region_graph.specs.Alike.{Paired, Alike, arguments-alike}
+use Rattle.region_graph.specs.Unmapped.{unmapped-all}
+use Rattle.chains.specs.Formed.{variablesAt, argumentsAt}
+use Rattle.chains.specs.Fields.{fieldOf}
+use Rattle.chains.specs.Lookups.{VariableTable}
+use Rattle.regions.specs.Mapped.{imagesIn, answer, Sides, Ready, ListsMapped, RestMapped}
+
+-- ---- the regions of in and out variables
+unfoldable pub parameterRegion : ℕ → ℕ → List ℕ → List ℕ
+parameterRegion zero r rs = rs
+parameterRegion (suc m) r rs = r ∷ rs
+
+unfoldable pub regionsOfParameters : List Variable → List ℕ
+regionsOfParameters [] = []
+regionsOfParameters (v ∷ vs) = parameterRegion (v .mode) (v .region) (regionsOfParameters vs)
+
+pub parameters-none : {vs : List Variable} → vs ≡ [] → regionsOfParameters vs ≡ []
+unfolding regionsOfParameters
+parameters-none e = ap regionsOfParameters e
+
+pub parameters-local : {us vs : List Variable} {m t r : ℕ} → us ≡ record { mode = m; type = t; region = r } ∷ vs → m ≡ 0
+    → regionsOfParameters us ≡ regionsOfParameters vs
+unfolding regionsOfParameters parameterRegion
+parameters-local {vs = vs} {r = r} e z = ap regionsOfParameters e ∙ ap (λ (m : ℕ). parameterRegion m r (regionsOfParameters vs)) z
+
+parameter-some : (m r : ℕ) (rs : List ℕ) → m ≢ 0 → parameterRegion m r rs ≡ r ∷ rs
+unfolding parameterRegion
+parameter-some zero r rs n = absurd (n refl)
+parameter-some (suc m) r rs n = refl
+
+pub parameters-next : {us vs : List Variable} {m t r : ℕ} → us ≡ record { mode = m; type = t; region = r } ∷ vs → m ≢ 0
+    → regionsOfParameters us ≡ r ∷ regionsOfParameters vs
+unfolding regionsOfParameters
+parameters-next {m = m} {r = r} e n = ap regionsOfParameters e ∙ parameter-some m r _ n
+
+-- they are the definition's
+nth-front : {A : Type 0} (d : A) (xs ys : List A) (y : A) → nth d (xs ++ y ∷ ys) (length xs) ≡ y
+unfolding nth
+nth-front d [] ys y = refl
+nth-front d (x ∷ xs) ys y = nth-front d xs ys y
+
+region-front : (Q : Signature) (front vs : List Variable) (v : Variable) → Q .variables ≡ front ++ v ∷ vs → regionOf Q (suc (length front)) ≡ v .region
+unfolding regionOf variableAt nth1
+region-front Q front vs v e = ap (λ (w : List Variable). nth (record { mode = 0; type = 0; region = 0 }) w (length front) .region) e ∙ ap (λ (w : Variable). w .region) (nth-front _ front vs v)
+
+one-parameter : (Q : Signature) (m x r : ℕ) (ps : List Parameter) (rs : List ℕ) → regionOf Q x ≡ r → regionsOf Q (parameterVariables ps) ≡ rs
+    → regionsOf Q (parameterVariables (parameterIn m x ps)) ≡ parameterRegion m r rs
+unfolding parameterIn parameterVariables regionsOf parameterRegion
+one-parameter Q zero x r ps rs e g = g
+one-parameter Q (suc m) x r ps rs e g = ap₂ _∷_ e g
+
+from-front : (Q : Signature) (front vs : List Variable) → Q .variables ≡ front ++ vs
+    → regionsOf Q (parameterVariables (parametersFrom (suc (length front)) vs)) ≡ regionsOfParameters vs
+unfolding regionsOfParameters parametersFrom parameterVariables regionsOf
+from-front Q front [] e = refl
+from-front Q front (v ∷ vs) e =
+    let k : suc (length (front ++ v ∷ [])) ≡ suc (suc (length front)) = omega (arith, length-append front (v ∷ [])) in
+    one-parameter Q (v .mode) (suc (length front)) (v .region) _ _ (region-front Q front vs v e)
+    (ap (λ (n : ℕ). regionsOf Q (parameterVariables (parametersFrom n vs))) (sym k)
+    ∙ from-front Q (front ++ v ∷ []) vs (e ∙ sym (append-assoc front (v ∷ []) vs)))
+
+pub parameter-regions : (Q : Signature) → regionsOf Q (parameterVariables (parametersOf Q)) ≡ regionsOfParameters (Q .variables)
+unfolding parametersOf
+parameter-regions Q = from-front Q [] (Q .variables) refl
+
+-- ---- the regions of arguments, by the table of the caller's variables
+unfoldable pub homesOf : List ℕ → List ℕ → List ℕ → List ℕ
+homesOf f t [] = []
+homesOf f t (y ∷ ys) = fieldOf f (getD t y 0) 4 ∷ homesOf f t ys
+
+pub homes-none : (f t : List ℕ) {ys : List ℕ} → ys ≡ [] → homesOf f t ys ≡ []
+unfolding homesOf
+homes-none f t e = ap (homesOf f t) e
+
+pub homes-next : (f t : List ℕ) {ys zs : List ℕ} {y n u : ℕ} → ys ≡ y ∷ zs → n ≡ getD t y 0 → u ≡ fieldOf f n 4 → homesOf f t ys ≡ u ∷ homesOf f t zs
+unfolding homesOf
+homes-next f t {zs = zs} e g h = ap (homesOf f t) e ∙ ap (λ (x : ℕ). x ∷ homesOf f t zs) (sym (h ∙ ap (λ (m : ℕ). fieldOf f m 4) g))
+
+homes-regions : {f t : List ℕ} (C : Signature) → VariableTable f C t → (ys : List ℕ) → homesOf f t ys ≡ regionsOf C ys
+unfolding homesOf regionsOf
+homes-regions C h [] = refl
+homes-regions C h (y ∷ ys) = ap₂ _∷_ (sym (h .region y)) (homes-regions C h ys)
+
+-- a variable of the callee's own takes no argument
+pub rest-skips : (f callers callees : List ℕ) {rs₀ us₀ t₀ rs rs′ us t : List ℕ} → rs ≡ rs′ → RestMapped f callers callees rs₀ us₀ t₀ rs us t
+    → RestMapped f callers callees rs₀ us₀ t₀ rs′ us t
+rest-skips f callers callees e h = rw (← e) h
+
+-- ---- the definition's mapping
+-- a table of 65 places without an image
+pub record Blank (t : List ℕ) : Type 0 where
+  pub room : length t ≡ 65
+  pub none : (q : ℕ) → getD t q 0 ≡ 0
+
+abbrev pub CallMapped : List ℕ → List ℕ → List ℕ → List ℕ → ℕ → ℕ → List ℕ → Bool → List ℕ → Type 0
+CallMapped f vars callers callees ps args t b t′ =
+    (C Q : Signature) → Sides f C Q callers callees → VariableTable f C vars → Q .variables ≡ variablesAt f ps
+    → haveTypes C (parameterTypes Q) (argumentsAt f args) ≡ true → Blank t → mapping C Q (argumentsAt f args) ≡ answer b t′
+
+nothing-mapped : (t : List ℕ) → ((q : ℕ) → getD t q 0 ≡ 0) → imagesIn t ≡ (λ (r : ℕ). 0)
+unfolding imagesIn
+nothing-mapped t h = fun-ext h
+
+args-alike : {f callers callees : List ℕ} (C Q : Signature) → Sides f C Q callers callees → (ys : List ℕ) → haveTypes C (parameterTypes Q) ys ≡ true
+    → Paired (Alike C Q) (regionsOf Q (parameterVariables (parametersOf Q))) (regionsOf C ys)
+unfolding parameterTypes
+args-alike C Q s ys h = arguments-alike (s .types) C Q (s .okC) (s .okQ) (parameterVariables (parametersOf Q)) ys h
+
+pub call-mapped : (f vars callers callees : List ℕ) (ps args : ℕ) (t : List ℕ) (b : Bool) (t′ : List ℕ)
+    → ListsMapped f callers callees (regionsOfParameters (variablesAt f ps)) (homesOf f vars (argumentsAt f args)) t b t′
+    → CallMapped f vars callers callees ps args t b t′
+unfolding mapping
+call-mapped f vars callers callees ps args t b t′ h C Q s v e y k =
+    let rs : regionsOfParameters (variablesAt f ps) ≡ regionsOf Q (parameterVariables (parametersOf Q)) = ap regionsOfParameters (sym e) ∙ sym (parameter-regions Q) in
+    let us = homes-regions C v (argumentsAt f args) in
+    let few = regions-few (s .types) Q (s .okQ) in
+    let m = nothing-mapped t (k .none) in
+    rw (← m, ← rs, ← us)
+    (h C Q s (rw (rs, us) (args-alike C Q s (argumentsAt f args) y)) (length (Q .regions))
+    (record { room = k .room; first = k .none 0; few = unmapped-all Q few (imagesIn t) }))
