@@ -9,13 +9,14 @@ use mathlib.Core.List.{List, [], _∷_}
 use lib.Dec.{ltb, eqb}
 use lib.ListN.{length}
 use Rattle.sets.specs.Tests.{_&_}
-use Rattle.language.specs.File.{arguments}
+use Rattle.language.specs.File.{variables, arms, arguments, word}
 use Rattle.language.specs.Program.{Variable, Signature, signatureOf}
 use Rattle.language.specs.Answers.{program}
 use Rattle.language.specs.Typing.{hasType, haveTypes, parameterTypes}
 use Rattle.chains.specs.Formed.{Formed, Stands, argumentsAt, arguments-none, variablesAt}
-use Rattle.chains.specs.Is.{argument-is}
-use Rattle.chains.specs.Parts.{ArgumentAt, argument-at}
+use Rattle.chains.specs.Is.{argument-is, variable-is, arm-is}
+use Rattle.chains.specs.Declared.{VariableAt, variable-at}
+use Rattle.chains.specs.Parts.{ArgumentAt, argument-at, ArmAt, arm-at}
 use Rattle.typing.specs.Both.{refuse, pass}
 use Rattle.typing.specs.Names.{listedIn, typedIn, wordIn, ProcedureTable}
 use Rattle.typing.specs.declared.Rest.{Rest}
@@ -122,3 +123,15 @@ module _ (f procedures t : List ℕ) (q y : ℕ) (T : ProcedureTable f procedure
 
   pub call-some : r ≡ true → {w : ℕ} {k : Bool} → w ≡ wordIn f procedures 2 q → Matched f t (variablesAt f w) y k → callFits f procedures t q y k
   call-some p ew m S a = pass (e ∙ T .known q) p (m S a ∙ ap (λ us. haveTypes S (takenTypes us) (argumentsAt f y)) (ap (variablesAt f) ew ∙ T .variables-are q))
+
+-- ---- records that are read word by word
+pub argument-of : {f : List ℕ} {i next x : ℕ} → Formed f → Stands f arguments i → (i ≡ 0 → ⊥) → next ≡ word f i 1 → x ≡ word f i 2 → ArgumentAt f i next x
+argument-of F s z e1 e2 = rw (e1, e2) (argument-at F refl (argument-is s z))
+
+pub variable-of : {f : List ℕ} {i next mode type : ℕ} → Formed f → Stands f variables i → (i ≡ 0 → ⊥) → next ≡ word f i 1 → mode ≡ word f i 2 → type ≡ word f i 3
+    → VariableAt f i next mode type (word f i 4)
+variable-of F s z e1 e2 e3 = rw (e1, e2, e3) (variable-at F refl (variable-is s z))
+
+pub arm-of : {f : List ℕ} {i next gs functor a1 a2 a3 a4 : ℕ} → Formed f → Stands f arms i → (i ≡ 0 → ⊥) → next ≡ word f i 1 → gs ≡ word f i 2 → functor ≡ word f i 3
+    → a1 ≡ word f i 4 → a2 ≡ word f i 5 → a3 ≡ word f i 6 → a4 ≡ word f i 7 → ArmAt f i next gs functor a1 a2 a3 a4
+arm-of F s z e1 e2 e3 e4 e5 e6 e7 = rw (e1, e2, e3, e4, e5, e6, e7) (arm-at F refl (arm-is s z))

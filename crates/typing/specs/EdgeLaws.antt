@@ -143,6 +143,11 @@ module _ {f t : List ℕ} (g e : ℕ) {i next arity t1 t2 t3 t4 : ℕ} (v : Func
             → Passed f t (placesIn (program f .types) g 1 (typesIn (functorAtRecord f i))) e r4
         functor-all h3 k4 = passed-same (places-here g v) (passed-more k1 h1 (passed-more k2 h2 (passed-more k3 h3 k4)))
 
+pub functor-none : {f t : List ℕ} (g i : ℕ) {e w : ℕ} → Stands f edges e → w ≡ word f i 2 → w ≡ 0
+    → Passed f t (placesIn (program f .types) g 1 (typesIn (functorAtRecord f i))) e (At e)
+unfolding typesIn functorAtRecord placesIn
+functor-none {f} g i s h z = let a : word f i 2 ≡ 0 = sym h ∙ z in rw a (passed-none s)
+
 -- ---- all functors
 pub functors-onward : {f : List ℕ} {i w : ℕ} → Formed f → Stands f functors i → (i ≡ 0 → ⊥) → w ≡ word f i 1 → Onward f functors i w
 functors-onward F s z e = rw e (functor-at F refl (functor-is s z) .to-next)

@@ -1,10 +1,10 @@
-// A call's arguments against the callee's in and out variables, in chain order.
+// A call's arguments against the callee's in and out variables, in chain order. Records are read word by word: this code stands in the
+// frames of the walk over goals, where a whole record each would take the recursion past its stack.
 use crate::Rest;
 use crate::names::has_type;
 use crate::names::listed;
 use crate::names::word_of;
-use records::Record;
-use records::record_at;
+use records::word;
 ghost use mathlib.Core.Path.{_≡_};
 ghost use Rattle.language.specs.File.{variables, arguments};
 ghost use Rattle.chains.specs.Formed.{Formed, Stands, variablesAt, argumentsAt};
@@ -23,12 +23,11 @@ fn parameter_ok(file: &[u8], table: &[usize], mode: usize, t: usize, y: usize) -
     if y == 0 {
         return Rest::Wrong;
     }
-    let Record::Argument { next, variable } = record_at(file, y) else {
-        return Rest::Wrong;
-    };
+    let variable = word(file, y, 2);
     if !has_type(file, table, t, variable) {
         return Rest::Wrong;
     }
+    let next = word(file, y, 1);
     Rest::At(next)
 }
 
@@ -42,20 +41,13 @@ fn match_arguments(file: &[u8], table: &[usize], start: usize, first: usize) -> 
     let mut v = start;
     let mut y = first;
     while v != 0 {
-        let Record::Variable {
-            next,
-            mode,
-            of_type,
-            region: _,
-        } = record_at(file, v)
-        else {
-            return false;
-        };
+        let mode = word(file, v, 2);
+        let of_type = word(file, v, 3);
         let Rest::At(after) = parameter_ok(file, table, mode, of_type, y) else {
             return false;
         };
         y = after;
-        v = next;
+        v = word(file, v, 1);
     }
     y == 0
 }

@@ -3,6 +3,7 @@ use crate::Rest;
 use crate::names::is_region_of;
 use records::Record;
 use records::record_at;
+use records::word;
 ghost use mathlib.Core.Path.{_≡_};
 ghost use mathlib.Core.List.{[], _∷_};
 ghost use Rattle.language.specs.File.{functors, edges};
@@ -65,7 +66,7 @@ fn position_ok(
     place_ok(file, regions, e, g, k, t)
 }
 
-// The edges from record e on, for all places of functor number g, which record i holds.
+// The edges from record e on, for all places of functor number g, which record i holds: none at arity 0.
 fn functor_edges(file: &[u8], regions: &[usize], e: usize, g: usize, i: usize) -> Rest
     requires { ⌜ Formed (now file) ⌝ }
     requires { ⌜ Stands (now file) edges e ⌝ }
@@ -73,6 +74,9 @@ fn functor_edges(file: &[u8], regions: &[usize], e: usize, g: usize, i: usize) -
     requires { ⌜ (i ≡ 0 → ⊥) ⌝ }
     ensures { λ r. ⌜ Passed (now (file .entry)) (now (regions .entry)) (placesIn (program (now (file .entry)) .types) g 1 (typesIn (functorAtRecord (now (file .entry)) i))) e r ⌝ }
 {
+    if word(file, i, 2) == 0 {
+        return Rest::At(e);
+    }
     let Record::Functor {
         next: _,
         arity,
@@ -112,7 +116,7 @@ pub fn edges_ok(file: &[u8], regions: &[usize], start: usize, first: usize) -> b
         };
         e = after;
         g += 1;
-        i = records::word(file, i, 1);
+        i = word(file, i, 1);
     }
     e == 0
 }

@@ -11,6 +11,7 @@ use crate::names::type_of;
 use crate::names::word_of;
 use records::Record;
 use records::record_at;
+use records::word;
 ghost use mathlib.Core.Path.{_≡_};
 ghost use Rattle.language.specs.File.{functors, goals, arms};
 ghost use Rattle.language.specs.Program.{switch, ifLess};
@@ -36,7 +37,7 @@ pub fn goals_ok(
         if !goal_ok(file, types, procedures, variables, regions, i) {
             return false;
         }
-        i = records::word(file, i, 1);
+        i = word(file, i, 1);
     }
     true
 }
@@ -144,7 +145,8 @@ fn switch_ok(
     )
 }
 
-// The arms from record first on against the functors from record start on.
+// The arms from record first on against the functors from record start on. An arm is read word by word: a whole record in each frame would
+// take the recursion past its stack.
 fn arms_ok(
     file: &[u8],
     types: &[usize; 65],
@@ -166,30 +168,24 @@ fn arms_ok(
         if g == 0 {
             return false;
         }
-        let Record::Arm {
-            next,
-            goals,
-            functor,
-            a1,
-            a2,
-            a3,
-            a4,
-        } = record_at(file, i)
-        else {
-            return false;
-        };
+        let functor = word(file, i, 3);
         if functor != n {
             return false;
         }
+        let a1 = word(file, i, 4);
+        let a2 = word(file, i, 5);
+        let a3 = word(file, i, 6);
+        let a4 = word(file, i, 7);
         if !arguments_ok(file, variables, g, a1, a2, a3, a4) {
             return false;
         }
+        let goals = word(file, i, 2);
         if !goals_ok(file, types, procedures, variables, regions, goals) {
             return false;
         }
         n += 1;
-        g = records::word(file, g, 1);
-        i = next;
+        g = word(file, g, 1);
+        i = word(file, i, 1);
     }
     g == 0
 }

@@ -9,10 +9,11 @@ use Rattle.language.specs.File.{functors, goals, arms}
 use Rattle.language.specs.Answers.{program}
 use Rattle.language.specs.Typing.{goalsOk, armsOk}
 use Rattle.chains.specs.Formed.{Stands, goalsAt, armsAt, functorsAt, ahead, ahead-below}
-use Rattle.chains.specs.Is.{goal-else, arm-else}
+use Rattle.chains.specs.Is.{goal-else}
 use Rattle.chains.specs.Goals.{literal-at, sum-at, assign-at, construct-at, print-at, create-at, remove-at}
-use Rattle.chains.specs.Parts.{switch-at, if-at, call-at, arm-at}
+use Rattle.chains.specs.Parts.{switch-at, if-at, call-at}
 use Rattle.typing.specs.Names.{stands-same}
+use Rattle.typing.specs.Calls.{arm-of}
 use Rattle.typing.specs.EdgeLaws.{functors-onward}
 use Rattle.typing.specs.Settings.{declared}
 use Rattle.typing.specs.Walk.{goal-onward, first-is, goals-no, goals-yes, goals-end, literal-is, print-is, create-is, remove-is, sum-is, assign-is, construct-is, call-is, if-compared, if-first, if-second, switch-none, switch-number, switch-arms, arms-short, arms-order, arms-arguments, arms-goals, arms-next, arms-end}
@@ -92,7 +93,7 @@ arms-ok-μ-loop file types procedures variables regions first start i₀ g₀ n�
 -- what each member's callees ask and give
 abbrev arms-ok-calls : ℕ → arms-ok-lts.Claims
 arms-ok-calls t =
-    (record-at-reads.Asked, record-at-reads.Learnt, arguments-ok-reads.Asked, arguments-ok-reads.Learnt, goals-ok-below t, goals-ok.Post, word-reads.Asked, word-reads.Learnt)
+    (word-reads.Asked, word-reads.Learnt, arguments-ok-reads.Asked, arguments-ok-reads.Learnt, goals-ok-below t, goals-ok.Post)
 
 abbrev goal-ok-calls : ℕ → goal-ok-lts.Claims
 goal-ok-calls t =
@@ -112,44 +113,56 @@ arms-ok-loop-holds t c = let s = c .before in (s .pre .1 .1 .0, s .pre .1 .1 .1,
 arms-ok-returns : (t : ℕ) → arms-ok-lts.Need-returns (arms-ok-calls t) (arms-ok-at t) arms-ok.Post arms-ok-Inv-loop arms-ok-μ-loop
 arms-ok-returns t c = let l = c .before .before in let s = l .before .before in arms-short (s .pre .1 .0) _ _ _ (l .loop .inv .0) (c .before .loop-test .taken) (c .if1 .taken) ∙ l .loop .inv .4
 
-arms-ok-record-at-requires : (t : ℕ) → arms-ok-lts.Need-record-at-requires (arms-ok-calls t) (arms-ok-at t) arms-ok.Post arms-ok-Inv-loop arms-ok-μ-loop
-arms-ok-record-at-requires t c κs = search needs
-
-arms-ok-enum-known-next : (t : ℕ) → arms-ok-lts.Need-enum-known-next (arms-ok-calls t) (arms-ok-at t) arms-ok.Post arms-ok-Inv-loop arms-ok-μ-loop
-arms-ok-enum-known-next t c = search needs
-
-arms-ok-returns-2 : (t : ℕ) → arms-ok-lts.Need-returns-2 (arms-ok-calls t) (arms-ok-at t) arms-ok.Post arms-ok-Inv-loop arms-ok-μ-loop
-arms-ok-returns-2 t c = absurd (arm-else (c .before .before .before .before .loop .inv .0) (c .before .before .before .loop-test .taken) (c .before .record-at .ensures) (c .match .keys2))
-
-arms-ok-returns-3 : (t : ℕ) → arms-ok-lts.Need-returns-3 (arms-ok-calls t) (arms-ok-at t) arms-ok.Post arms-ok-Inv-loop arms-ok-μ-loop
-arms-ok-returns-3 t c = let l = c .before .before .before .before .before .before .before in let s = c .before .before .before .before .before .before .before .before .before in let k = s .pre .1 .0 in let z = c .before .before .before .before .before .if1 .left in let v = arm-at (k .formed) (c .before .before .before .before .record-at .ensures) (c .before .before .next .given .1) in arms-order k _ _ _ (l .loop .inv .1) z v (c .if2 .taken) ∙ l .loop .inv .4
-
-arms-ok-arguments-ok-requires : (t : ℕ) → arms-ok-lts.Need-arguments-ok-requires (arms-ok-calls t) (arms-ok-at t) arms-ok.Post arms-ok-Inv-loop arms-ok-μ-loop
-arms-ok-arguments-ok-requires t c κs = let l = c .before .before .before .before .before .before .before .before in let s = c .before .before .before .before .before .before .before .before .before .before in let k = s .pre .1 .0 in let z = c .before .before .before .before .before .before .if1 .left in let v = arm-at (k .formed) (c .before .before .before .before .before .record-at .ensures) (c .before .before .before .next .given .1) in (k .formed, (l .loop .inv .1, z))
-
-arms-ok-returns-4 : (t : ℕ) → arms-ok-lts.Need-returns-4 (arms-ok-calls t) (arms-ok-at t) arms-ok.Post arms-ok-Inv-loop arms-ok-μ-loop
-arms-ok-returns-4 t c = let l = c .before .before .before .before .before .before .before .before .before .before in let s = c .before .before .before .before .before .before .before .before .before .before .before .before in let k = s .pre .1 .0 in let z = c .before .before .before .before .before .before .before .before .if1 .left in let v = arm-at (k .formed) (c .before .before .before .before .before .before .before .record-at .ensures) (c .before .before .before .before .before .next .given .1) in arms-arguments k _ _ _ (l .loop .inv .1) z v (c .before .before .before .if2 .left) (c .before .arguments-ok .ensures) (not-true _ (c .if3 .taken)) ∙ l .loop .inv .4
-
-arms-ok-goals-ok-requires : (t : ℕ) → arms-ok-lts.Need-goals-ok-requires (arms-ok-calls t) (arms-ok-at t) arms-ok.Post arms-ok-Inv-loop arms-ok-μ-loop
-arms-ok-goals-ok-requires t c κs = let l = c .before .before .before .before .before .before .before .before .before .before in let s = c .before .before .before .before .before .before .before .before .before .before .before .before in let k = s .pre .1 .0 in let z = c .before .before .before .before .before .before .before .before .if1 .left in let v = arm-at (k .formed) (c .before .before .before .before .before .before .before .record-at .ensures) (c .before .before .before .before .before .next .given .1) in (omega (arith, v .to-goals .falls, l .loop .inv .2, s .pre .0), (k, v .to-goals .stands))
-
-arms-ok-returns-5 : (t : ℕ) → arms-ok-lts.Need-returns-5 (arms-ok-calls t) (arms-ok-at t) arms-ok.Post arms-ok-Inv-loop arms-ok-μ-loop
-arms-ok-returns-5 t c = let l = c .before .before .before .before .before .before .before .before .before .before .before .before in let s = c .before .before .before .before .before .before .before .before .before .before .before .before .before .before in let k = s .pre .1 .0 in let z = c .before .before .before .before .before .before .before .before .before .before .if1 .left in let v = arm-at (k .formed) (c .before .before .before .before .before .before .before .before .before .record-at .ensures) (c .before .before .before .before .before .before .before .next .given .1) in arms-goals k _ _ _ (l .loop .inv .1) z v (c .before .before .before .before .before .if2 .left) (c .before .before .before .arguments-ok .ensures) (not-false _ (c .before .before .if3 .left)) (c .before .goals-ok .ensures) (not-true _ (c .if4 .taken)) ∙ l .loop .inv .4
-
-arms-ok-add-n : (t : ℕ) → arms-ok-lts.Need-add-n (arms-ok-calls t) (arms-ok-at t) arms-ok.Post arms-ok-Inv-loop arms-ok-μ-loop
-arms-ok-add-n t c = let l = c .before .before .before .before .before .before .before .before .before .before .before .before in omega (arith, l .loop .inv .3)
-
 arms-ok-word-requires : (t : ℕ) → arms-ok-lts.Need-word-requires (arms-ok-calls t) (arms-ok-at t) arms-ok.Post arms-ok-Inv-loop arms-ok-μ-loop
 arms-ok-word-requires t c κs = search needs
 
+arms-ok-returns-2 : (t : ℕ) → arms-ok-lts.Need-returns-2 (arms-ok-calls t) (arms-ok-at t) arms-ok.Post arms-ok-Inv-loop arms-ok-μ-loop
+arms-ok-returns-2 t c = let l = c .before .before .before .before in let s = c .before .before .before .before .before .before in let k = s .pre .1 .0 in let z = c .before .before .if1 .left in let v = arm-of (k .formed) (l .loop .inv .0) (c .before .before .before .loop-test .taken) refl refl (c .before .word .ensures .0) refl refl refl refl in arms-order k _ _ _ (l .loop .inv .1) z v (c .if2 .taken) ∙ l .loop .inv .4
+
+arms-ok-word-requires-2 : (t : ℕ) → arms-ok-lts.Need-word-requires-2 (arms-ok-calls t) (arms-ok-at t) arms-ok.Post arms-ok-Inv-loop arms-ok-μ-loop
+arms-ok-word-requires-2 t c κs = search needs
+
+arms-ok-word-requires-3 : (t : ℕ) → arms-ok-lts.Need-word-requires-3 (arms-ok-calls t) (arms-ok-at t) arms-ok.Post arms-ok-Inv-loop arms-ok-μ-loop
+arms-ok-word-requires-3 t c κs = search needs
+
+arms-ok-word-requires-4 : (t : ℕ) → arms-ok-lts.Need-word-requires-4 (arms-ok-calls t) (arms-ok-at t) arms-ok.Post arms-ok-Inv-loop arms-ok-μ-loop
+arms-ok-word-requires-4 t c κs = search needs
+
+arms-ok-word-requires-5 : (t : ℕ) → arms-ok-lts.Need-word-requires-5 (arms-ok-calls t) (arms-ok-at t) arms-ok.Post arms-ok-Inv-loop arms-ok-μ-loop
+arms-ok-word-requires-5 t c κs = search needs
+
+arms-ok-arguments-ok-requires : (t : ℕ) → arms-ok-lts.Need-arguments-ok-requires (arms-ok-calls t) (arms-ok-at t) arms-ok.Post arms-ok-Inv-loop arms-ok-μ-loop
+arms-ok-arguments-ok-requires t c κs = let l = c .before .before .before .before .before .before .before .before .before in let s = c .before .before .before .before .before .before .before .before .before .before .before in (s .pre .1 .0 .formed, (l .loop .inv .1, c .before .before .before .before .before .before .before .if1 .left))
+
+arms-ok-returns-3 : (t : ℕ) → arms-ok-lts.Need-returns-3 (arms-ok-calls t) (arms-ok-at t) arms-ok.Post arms-ok-Inv-loop arms-ok-μ-loop
+arms-ok-returns-3 t c = let l = c .before .before .before .before .before .before .before .before .before .before .before in let s = c .before .before .before .before .before .before .before .before .before .before .before .before .before in let k = s .pre .1 .0 in let z = c .before .before .before .before .before .before .before .before .before .if1 .left in let v = arm-of (k .formed) (l .loop .inv .0) (c .before .before .before .before .before .before .before .before .before .before .loop-test .taken) refl refl (c .before .before .before .before .before .before .before .before .word .ensures .0) (c .before .before .before .before .before .before .word2 .ensures .0) (c .before .before .before .before .before .word3 .ensures .0) (c .before .before .before .before .word4 .ensures .0) (c .before .before .before .word5 .ensures .0) in arms-arguments k _ _ _ (l .loop .inv .1) z v (c .before .before .before .before .before .before .before .if2 .left) (c .before .arguments-ok .ensures) (not-true _ (c .if3 .taken)) ∙ l .loop .inv .4
+
+arms-ok-word-requires-6 : (t : ℕ) → arms-ok-lts.Need-word-requires-6 (arms-ok-calls t) (arms-ok-at t) arms-ok.Post arms-ok-Inv-loop arms-ok-μ-loop
+arms-ok-word-requires-6 t c κs = search needs
+
+arms-ok-goals-ok-requires : (t : ℕ) → arms-ok-lts.Need-goals-ok-requires (arms-ok-calls t) (arms-ok-at t) arms-ok.Post arms-ok-Inv-loop arms-ok-μ-loop
+arms-ok-goals-ok-requires t c κs = let l = c .before .before .before .before .before .before .before .before .before .before .before .before in let s = c .before .before .before .before .before .before .before .before .before .before .before .before .before .before in let k = s .pre .1 .0 in let z = c .before .before .before .before .before .before .before .before .before .before .if1 .left in let v = arm-of (k .formed) (l .loop .inv .0) (c .before .before .before .before .before .before .before .before .before .before .before .loop-test .taken) refl (c .word6 .ensures .0) (c .before .before .before .before .before .before .before .before .before .word .ensures .0) (c .before .before .before .before .before .before .before .word2 .ensures .0) (c .before .before .before .before .before .before .word3 .ensures .0) (c .before .before .before .before .before .word4 .ensures .0) (c .before .before .before .before .word5 .ensures .0) in (omega (arith, v .to-goals .falls, l .loop .inv .2, s .pre .0), (k, v .to-goals .stands))
+
+arms-ok-returns-4 : (t : ℕ) → arms-ok-lts.Need-returns-4 (arms-ok-calls t) (arms-ok-at t) arms-ok.Post arms-ok-Inv-loop arms-ok-μ-loop
+arms-ok-returns-4 t c = let l = c .before .before .before .before .before .before .before .before .before .before .before .before .before .before in let s = c .before .before .before .before .before .before .before .before .before .before .before .before .before .before .before .before in let k = s .pre .1 .0 in let z = c .before .before .before .before .before .before .before .before .before .before .before .before .if1 .left in let v = arm-of (k .formed) (l .loop .inv .0) (c .before .before .before .before .before .before .before .before .before .before .before .before .before .loop-test .taken) refl (c .before .before .word6 .ensures .0) (c .before .before .before .before .before .before .before .before .before .before .before .word .ensures .0) (c .before .before .before .before .before .before .before .before .before .word2 .ensures .0) (c .before .before .before .before .before .before .before .before .word3 .ensures .0) (c .before .before .before .before .before .before .before .word4 .ensures .0) (c .before .before .before .before .before .before .word5 .ensures .0) in arms-goals k _ _ _ (l .loop .inv .1) z v (c .before .before .before .before .before .before .before .before .before .before .if2 .left) (c .before .before .before .before .arguments-ok .ensures) (not-false _ (c .before .before .before .if3 .left)) (c .before .goals-ok .ensures) (not-true _ (c .if4 .taken)) ∙ l .loop .inv .4
+
+arms-ok-add-n : (t : ℕ) → arms-ok-lts.Need-add-n (arms-ok-calls t) (arms-ok-at t) arms-ok.Post arms-ok-Inv-loop arms-ok-μ-loop
+arms-ok-add-n t c = let l = c .before .before .before .before .before .before .before .before .before .before .before .before .before .before in omega (arith, l .loop .inv .3)
+
+arms-ok-word-requires-7 : (t : ℕ) → arms-ok-lts.Need-word-requires-7 (arms-ok-calls t) (arms-ok-at t) arms-ok.Post arms-ok-Inv-loop arms-ok-μ-loop
+arms-ok-word-requires-7 t c κs = search needs
+
+arms-ok-word-requires-8 : (t : ℕ) → arms-ok-lts.Need-word-requires-8 (arms-ok-calls t) (arms-ok-at t) arms-ok.Post arms-ok-Inv-loop arms-ok-μ-loop
+arms-ok-word-requires-8 t c κs = search needs
+
 arms-ok-loop-less : (t : ℕ) → arms-ok-lts.Need-loop-less (arms-ok-calls t) (arms-ok-at t) arms-ok.Post arms-ok-Inv-loop arms-ok-μ-loop
-arms-ok-loop-less t c = let l = c .before .before .before .before .before .before .before .before .before .before .before .before .before in let s = c .before .before .before .before .before .before .before .before .before .before .before .before .before .before .before in let k = s .pre .1 .0 in let z = c .before .before .before .before .before .before .before .before .before .before .before .if1 .left in let v = arm-at (k .formed) (c .before .before .before .before .before .before .before .before .before .before .record-at .ensures) (c .before .before .before .before .before .before .before .before .next .given .1) in v .to-next .falls
+arms-ok-loop-less t c = let l = c .before .before .before .before .before .before .before .before .before .before .before .before .before .before .before .before in let s = c .before .before .before .before .before .before .before .before .before .before .before .before .before .before .before .before .before .before in let k = s .pre .1 .0 in let z = c .before .before .before .before .before .before .before .before .before .before .before .before .before .before .if1 .left in let v = arm-of (k .formed) (l .loop .inv .0) (c .before .before .before .before .before .before .before .before .before .before .before .before .before .before .before .loop-test .taken) (c .word8 .ensures .0) (c .before .before .before .before .word6 .ensures .0) (c .before .before .before .before .before .before .before .before .before .before .before .before .before .word .ensures .0) (c .before .before .before .before .before .before .before .before .before .before .before .word2 .ensures .0) (c .before .before .before .before .before .before .before .before .before .before .word3 .ensures .0) (c .before .before .before .before .before .before .before .before .before .word4 .ensures .0) (c .before .before .before .before .before .before .before .before .word5 .ensures .0) in v .to-next .falls
 
 arms-ok-loop-again : (t : ℕ) → arms-ok-lts.Need-loop-again (arms-ok-calls t) (arms-ok-at t) arms-ok.Post arms-ok-Inv-loop arms-ok-μ-loop
-arms-ok-loop-again t c = let l = c .before .before .before .before .before .before .before .before .before .before .before .before .before in let s = c .before .before .before .before .before .before .before .before .before .before .before .before .before .before .before in let k = s .pre .1 .0 in let z = c .before .before .before .before .before .before .before .before .before .before .before .if1 .left in let v = arm-at (k .formed) (c .before .before .before .before .before .before .before .before .before .before .record-at .ensures) (c .before .before .before .before .before .before .before .before .next .given .1) in (v .to-next .stands, functors-onward (k .formed) (l .loop .inv .1) z (c .word .ensures .0) .stands, omega (arith, v .to-next .falls, l .loop .inv .2), omega (arith, v .to-next .falls, l .loop .inv .3), arms-next k _ _ _ (l .loop .inv .1) z v (c .before .before .before .before .before .before .if2 .left) (c .before .before .before .before .arguments-ok .ensures) (not-false _ (c .before .before .before .if3 .left)) (c .before .before .goals-ok .ensures) (not-false _ (c .before .if4 .left)) (c .word .ensures .0) (add-one (l .loop .n)) ∙ l .loop .inv .4)
+arms-ok-loop-again t c = let l = c .before .before .before .before .before .before .before .before .before .before .before .before .before .before .before .before in let s = c .before .before .before .before .before .before .before .before .before .before .before .before .before .before .before .before .before .before in let k = s .pre .1 .0 in let z = c .before .before .before .before .before .before .before .before .before .before .before .before .before .before .if1 .left in let v = arm-of (k .formed) (l .loop .inv .0) (c .before .before .before .before .before .before .before .before .before .before .before .before .before .before .before .loop-test .taken) (c .word8 .ensures .0) (c .before .before .before .before .word6 .ensures .0) (c .before .before .before .before .before .before .before .before .before .before .before .before .before .word .ensures .0) (c .before .before .before .before .before .before .before .before .before .before .before .word2 .ensures .0) (c .before .before .before .before .before .before .before .before .before .before .word3 .ensures .0) (c .before .before .before .before .before .before .before .before .before .word4 .ensures .0) (c .before .before .before .before .before .before .before .before .word5 .ensures .0) in (v .to-next .stands, functors-onward (k .formed) (l .loop .inv .1) z (c .before .word7 .ensures .0) .stands, omega (arith, v .to-next .falls, l .loop .inv .2), omega (arith, v .to-next .falls, l .loop .inv .3), arms-next k _ _ _ (l .loop .inv .1) z v (c .before .before .before .before .before .before .before .before .before .before .before .before .if2 .left) (c .before .before .before .before .before .before .arguments-ok .ensures) (not-false _ (c .before .before .before .before .before .if3 .left)) (c .before .before .before .goals-ok .ensures) (not-false _ (c .before .before .if4 .left)) (c .before .word7 .ensures .0) (add-one (l .loop .n)) ∙ l .loop .inv .4)
 
-arms-ok-returns-6 : (t : ℕ) → arms-ok-lts.Need-returns-6 (arms-ok-calls t) (arms-ok-at t) arms-ok.Post arms-ok-Inv-loop arms-ok-μ-loop
-arms-ok-returns-6 t c = let l = c .before in let s = l .before .before in arms-end (s .pre .1 .0) _ _ _ (l .loop .inv .1) (c .loop-test .left) ∙ l .loop .inv .4
+arms-ok-returns-5 : (t : ℕ) → arms-ok-lts.Need-returns-5 (arms-ok-calls t) (arms-ok-at t) arms-ok.Post arms-ok-Inv-loop arms-ok-μ-loop
+arms-ok-returns-5 t c = let l = c .before in let s = l .before .before in arms-end (s .pre .1 .0) _ _ _ (l .loop .inv .1) (c .loop-test .left) ∙ l .loop .inv .4
 
 goal-ok-record-at-requires : (t : ℕ) → goal-ok-lts.Need-record-at-requires (goal-ok-calls t) (goal-ok-at t) goal-ok.Post
 goal-ok-record-at-requires t c κs = search needs
@@ -316,19 +329,23 @@ pub +arms-ok+goal-ok+goals-ok+switch-ok-spec : {M : Type 1} → statement M
     arms-ok-μ-loop
     (arms-ok-loop-holds t)
     (arms-ok-returns t)
-    (arms-ok-record-at-requires t)
-    (arms-ok-enum-known-next t)
-    (arms-ok-returns-2 t)
-    (arms-ok-returns-3 t)
-    (arms-ok-arguments-ok-requires t)
-    (arms-ok-returns-4 t)
-    (arms-ok-goals-ok-requires t)
-    (arms-ok-returns-5 t)
-    (arms-ok-add-n t)
     (arms-ok-word-requires t)
+    (arms-ok-returns-2 t)
+    (arms-ok-word-requires-2 t)
+    (arms-ok-word-requires-3 t)
+    (arms-ok-word-requires-4 t)
+    (arms-ok-word-requires-5 t)
+    (arms-ok-arguments-ok-requires t)
+    (arms-ok-returns-3 t)
+    (arms-ok-word-requires-6 t)
+    (arms-ok-goals-ok-requires t)
+    (arms-ok-returns-4 t)
+    (arms-ok-add-n t)
+    (arms-ok-word-requires-7 t)
+    (arms-ok-word-requires-8 t)
     (arms-ok-loop-less t)
     (arms-ok-loop-again t)
-    (arms-ok-returns-6 t))
+    (arms-ok-returns-5 t))
     (λ t. goal-ok-lts.spec (goal-ok-calls t)
     (goal-ok-at t)
     goal-ok.Post
