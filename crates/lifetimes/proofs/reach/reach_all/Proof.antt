@@ -1,0 +1,64 @@
+-- `reach_all` meets its contract: a walk over the members.
+use Prim.Native.Nat.{_-_}
+use borrow.Author.Needs.{needs}
+use Rattle.lifetimes.specs.Walks.{Gathering, gather-first, gather-more, gather-last, next-falls}
+use Rattle.lifetimes.specs.Reaching.{reachBy, reach-here, reach-all-is}
+use Rattle.lifetimes.proofs.reach.reach_all.Statement.{statement}
+use Rattle.lifetimes.proofs.reach.reach_all.Tie as tie
+
+abbrev Inv-loop : tie.InvT-loop
+Inv-loop file variables reaches xs found₀ x₀ found x = Gathering (reachBy file variables reaches) xs found x
+
+abbrev μ-loop : tie.MeasureT-loop
+μ-loop file variables reaches xs found₀ x₀ found x = 65 - x
+
+after-requires : tie.Need-after-requires Inv-loop μ-loop
+after-requires c κs = search needs
+
+loop-holds : tie.Need-loop-holds Inv-loop μ-loop
+loop-holds c = gather-first _ _ (c .after .ensures)
+
+entry-requires : tie.Need-entry-requires Inv-loop μ-loop
+entry-requires c κs = search needs
+
+field-requires : tie.Need-field-requires Inv-loop μ-loop
+field-requires c κs = search needs
+
+reach-of-requires : tie.Need-reach-of-requires Inv-loop μ-loop
+reach-of-requires c κs = search needs
+
+union-requires : tie.Need-union-requires Inv-loop μ-loop
+union-requires c κs = search needs
+
+after-requires-2 : tie.Need-after-requires-2 Inv-loop μ-loop
+after-requires-2 c κs = search needs
+
+loop-less : tie.Need-loop-less Inv-loop μ-loop
+loop-less c = next-falls _ (c .before .before .before .before .before .loop-test .taken) (c .after2 .ensures)
+
+loop-again : tie.Need-loop-again Inv-loop μ-loop
+loop-again c =
+    let a = c .before .before .before .before .before .before .before .before .before .before .before .args in
+    gather-more _ _ (c .before .before .before .before .before .before .loop .inv) (c .before .before .before .before .before .loop-test .taken)
+    (reach-here (a .file .now) (a .variables .now) (a .reaches .now) _ (c .before .before .before .before .entry .ensures) (c .before .before .before .field .ensures) (c .before .before .reach-of .ensures))
+    (c .before .union .ensures) (c .after2 .ensures)
+
+returns : tie.Need-returns Inv-loop μ-loop
+returns c = λ S h. reach-all-is S h _ (gather-last _ _ (c .before .loop .inv) (c .loop-test .left))
+
+pub reach-all-spec : {M : Type 1} → statement M
+reach-all-spec =
+    tie.close
+    (tie.spec
+    Inv-loop
+    μ-loop
+    after-requires
+    loop-holds
+    entry-requires
+    field-requires
+    reach-of-requires
+    union-requires
+    after-requires-2
+    loop-less
+    loop-again
+    returns)

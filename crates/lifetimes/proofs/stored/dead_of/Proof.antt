@@ -1,0 +1,14 @@
+-- `dead_of` meets its contract.
+use borrow.Author.Needs.{needs}
+use Rattle.lifetimes.specs.Stored.{dead-found}
+use Rattle.lifetimes.proofs.stored.dead_of.Statement.{statement}
+use Rattle.lifetimes.proofs.stored.dead_of.Tie as tie
+
+class-set-requires : tie.Need-class-set-requires
+class-set-requires c κs = search needs
+
+returns : tie.Need-returns
+returns c = λ P h l. dead-found h l (c .class-set .ensures)
+
+pub dead-of-spec : {M : Type 1} → statement M
+dead-of-spec = tie.close (tie.spec class-set-requires returns)

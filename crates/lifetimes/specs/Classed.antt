@@ -1,0 +1,97 @@
+-- A procedure's regions by class: what the code's sets are.
+use Prim.Native.Nat.{ℕ, zero, suc, _≤_}
+use native.Mathlib.Omega.{arith}
+use mathlib.Core.Bool.{Bool, true, false}
+use mathlib.Core.List.{List}
+use mathlib.Core.Logic.{⊎-elim}
+use mathlib.Core.Path.{_≡_, refl, sym, ap, ap₂, _∙_}
+use Rattle.sets.specs.Tests.{_&_, clash, false-of}
+use Rattle.sets.specs.Sets.{member, _∪_, _∖_, subset, union-in, union-left, union-right, difference-in, difference-mk, subset-mk}
+use Rattle.sets.specs.SetLaws.{subset-antisym, apart-in}
+use Rattle.sets.specs.Members.{setOf}
+use Rattle.sets.specs.declared.Set.{Set}
+use Rattle.language.specs.Program.{Functor, Signature, regionAt, inMode, outMode}
+use Rattle.language.specs.Values.{insOf, outsOf}
+use Rattle.language.specs.Regions.{reachAll}
+use Rattle.language.specs.Lifetimes.{inputs, outputs, ofClass, declared, born, dead, kept, classesOk}
+use Rattle.region_graph.specs.Laws.{Declared, shared}
+use Rattle.region_graph.specs.Typed.{regions-few}
+use Rattle.region_graph.specs.Procedure
+use Rattle.region_graph.specs.Classes.{born-in, dead-in, kept-in, shared-classed, born-kept, dead-kept}
+use Rattle.chains.specs.Formed.{variablesAt, regionsAt}
+use Rattle.values.specs.Modes.{ofMode, variables-in}
+use Rattle.lifetimes.specs.Sorting.{ofClassIn, of-class}
+use Rattle.lifetimes.specs.Tabled.{SignatureAt}
+use Rattle.lifetimes.specs.declared.Classes.{Classes}
+
+pub record Classed (S : Signature) (c : Classes) : Type 0 where
+  pub inputs : c .inputs ≡ inputs S
+  pub outputs : c .outputs ≡ outputs S
+  pub born : c .born ≡ born S
+  pub dead : c .dead ≡ dead S
+  pub kept : c .kept ≡ kept S
+
+-- "Kept: those of either kind whose class is 0": the input and output regions that are neither born nor dead
+kept-rest : (T : List (List Functor)) (S : Signature) → Declared T S → (inputs S ∪ outputs S) ∖ (born S ∪ dead S) ≡ kept S
+kept-rest T S D = subset-antisym _ (kept S) (subset-mk _ _ there) (subset-mk _ _ back)
+  where
+    there : (r : ℕ) → member ((inputs S ∪ outputs S) ∖ (born S ∪ dead S)) r ≡ true → member (kept S) r ≡ true
+    there r m =
+        let d = difference-in (inputs S ∪ outputs S) (born S ∪ dead S) r m in
+        ⊎-elim (λ p. ⊎-elim (λ k. k) (λ b. absurd (clash (union-left (born S) (dead S) r b) (d .1))) (union-in (kept S) (born S) r p))
+        (λ q. absurd (clash (union-right (born S) (dead S) r q) (d .1))) (union-in (kept S ∪ born S) (dead S) r (shared-classed T S D r (d .0)))
+
+    back : (r : ℕ) → member (kept S) r ≡ true → member ((inputs S ∪ outputs S) ∖ (born S ∪ dead S)) r ≡ true
+    back r m =
+        difference-mk (inputs S ∪ outputs S) (born S ∪ dead S) r (kept-in S r m .0)
+        (false-of (λ q. ⊎-elim (λ b. clash m (apart-in (born S) (kept S) (born-kept S) r b)) (λ d. clash m (apart-in (dead S) (kept S) (dead-kept S) r d)) (union-in (born S) (dead S) r q)))
+
+-- ---- what the code gathers
+module _ {f : List ℕ} {v r : ℕ} (S : Signature) (h : SignatureAt f v r S) where
+  pub ins-are : {xs : Set} → xs ≡ setOf (ofMode inMode (variablesAt f v)) → xs ≡ insOf S
+  unfolding insOf
+  ins-are e = e ∙ ap (λ vs. setOf (ofMode inMode vs)) (sym (h .variables)) ∙ ap setOf (sym (variables-in inMode S))
+
+  pub outs-are : {xs : Set} → xs ≡ setOf (ofMode outMode (variablesAt f v)) → xs ≡ outsOf S
+  unfolding outsOf
+  outs-are e = e ∙ ap (λ vs. setOf (ofMode outMode vs)) (sym (h .variables)) ∙ ap setOf (sym (variables-in outMode S))
+
+  of-class-is : (c : ℕ) {s : Set} → s ≡ setOf (ofClassIn c (regionsAt f r)) → s ≡ ofClass S c (declared S)
+  of-class-is c e = e ∙ ap (λ rs. setOf (ofClassIn c rs)) (sym (h .regions)) ∙ of-class S c (regions-few (h .types) S (h .ok))
+
+  pub sorted : {xs ys ins outs b d u w k : Set} → xs ≡ setOf (ofMode inMode (variablesAt f v)) → ins ≡ reachAll S xs
+      → ys ≡ setOf (ofMode outMode (variablesAt f v)) → outs ≡ reachAll S ys → b ≡ setOf (ofClassIn 1 (regionsAt f r))
+      → d ≡ setOf (ofClassIn 2 (regionsAt f r)) → u ≡ ins ∪ outs → w ≡ b ∪ d → k ≡ u ∖ w
+      → Classed S (record { inputs = ins; outputs = outs; born = b; dead = d; kept = k })
+  unfolding inputs outputs born dead
+  sorted ex ei ey eo eb ed eu ew ek =
+      let i = ei ∙ ap (reachAll S) (ins-are ex) in
+      let o = eo ∙ ap (reachAll S) (outs-are ey) in
+      let b = of-class-is 1 eb in
+      let d = of-class-is 2 ed in
+      record {
+        inputs = i;
+        outputs = o;
+        born = b;
+        dead = d;
+        kept = ek ∙ ap₂ _∖_ (eu ∙ ap₂ _∪_ i o) (ew ∙ ap₂ _∪_ b d) ∙ kept-rest (h .types) S (Procedure.declared (h .types) S (h .ok));
+      }
+
+-- ---- number 7 for every program
+false-and : (b : Bool) → false ≡ (false & b)
+unfolding _&_
+false-and b = refl
+
+true-and-is : (b : Bool) → b ≡ (true & b)
+unfolding _&_
+true-and-is b = refl
+
+module _ (S : Signature) {c : Classes} (h : Classed S c) where
+  pub born-wrong : {d : Set} {b : Bool} → d ≡ c .outputs ∖ c .inputs → b ≡ subset (c .born) d → b ≡ false → false ≡ classesOk S
+  unfolding classesOk
+  born-wrong e g z = rw (← h .outputs, ← h .inputs, ← h .born, ← e) (rw (sym g ∙ z) (false-and _))
+
+  pub both-right : {d w : Set} {b o : Bool} → d ≡ c .outputs ∖ c .inputs → b ≡ subset (c .born) d → b ≡ true → w ≡ c .inputs ∖ c .outputs
+      → o ≡ subset (c .dead) w → o ≡ classesOk S
+  unfolding classesOk
+  both-right e g z k m = rw (← h .outputs, ← h .inputs, ← h .born, ← h .dead, ← e, ← k) (rw (sym g ∙ z) (m ∙ true-and-is _))

@@ -1,0 +1,26 @@
+// The sets of "Lifetimes": what variables reach, a procedure's born, dead and kept regions, what is wanted, and number 7 for every program.
+mod reach;
+mod sorting;
+mod stage;
+mod stored;
+
+pub use reach::list_tables;
+pub use reach::reach_all;
+pub use reach::wanted;
+use sets::Set;
+pub use sorting::sorted_regions;
+pub use stage::declared_classes_ok;
+pub use stage::list_classes;
+pub use stage::procedure_classes;
+pub use stored::born_of;
+pub use stored::dead_of;
+pub use stored::kept_of;
+
+// A procedure's input and output regions, and its regions by class.
+pub struct Classes {
+    pub inputs: Set,
+    pub outputs: Set,
+    pub born: Set,
+    pub dead: Set,
+    pub kept: Set,
+}
