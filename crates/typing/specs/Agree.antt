@@ -1,19 +1,19 @@
 -- The tests by tables are the definition's tests, for a signature that the tables have.
-use Prim.Native.Nat.{ℕ, zero, suc, _+_, _≤_, _<_}
+use Prim.Native.Nat.{ℕ, zero, suc, _+_, _<_}
 use native.Mathlib.Omega.{arith}
 use mathlib.Core.Path.{_≡_, refl, ap, sym, _∙_}
 use mathlib.Core.Bool.{Bool, true, false}
 use mathlib.Core.List.{List, [], _∷_}
-use lib.Dec.{eqb, leb, ltb, eqb·suc-zero}
+use lib.Dec.{eqb, eqb·suc-zero}
 use lib.ListN.{length, take}
 use borrow.Author.Tests.{lt-ltb}
 use Rattle.sets.specs.Tests.{_&_}
 use Rattle.language.specs.Lists.{choose, among, nth, nth1}
 use Rattle.language.specs.Program.{Four, four, fourWords, trimOnto, trimmed, argumentsOf, Functor, Variable, Signature, variableAt, typeOf, parameterIn, parametersFrom, parametersOf, parameterVariables}
 use Rattle.language.specs.Typing.{typesIn, isVariable, hasType, haveTypes, argumentsOk, typesOf, parameterTypes}
-use Rattle.typing.specs.Names.{typedIn}
 use Rattle.typing.specs.Arguments.{argumentSlot, argumentSlots, argumentsFit}
-use Rattle.typing.specs.Calls.{VariablesAgree, takes, takenTypes}
+use Rattle.typing.specs.Settings.{VariablesAgree}
+use Rattle.typing.specs.Calls.{takes, takenTypes}
 
 module _ (S : Signature) where
   -- 0 is no variable

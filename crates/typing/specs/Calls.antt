@@ -1,30 +1,28 @@
 -- A call's arguments against the callee's variables in chain order: local variables take none.
-use Prim.Native.Nat.{ℕ, zero, suc, _+_}
+use Prim.Native.Nat.{ℕ, zero, suc}
 use native.Mathlib.Omega.{arith}
 use native.Mathlib.Decide.{decLt}
 use borrow.Author.Tests.{eq-eqb, ne-eqb}
 use mathlib.Core.Path.{_≡_, refl, ap, sym, _∙_}
-use mathlib.Core.Bool.{Bool, true, false, false≢true}
+use mathlib.Core.Bool.{Bool, true, false}
 use mathlib.Core.List.{List, [], _∷_}
 use lib.Dec.{ltb, eqb}
 use lib.ListN.{length}
 use Rattle.sets.specs.Tests.{_&_}
-use Rattle.language.specs.File.{variables, arms, arguments, word}
+use Rattle.language.specs.File.{variables, arguments, word}
 use Rattle.language.specs.Program.{Variable, Signature, signatureOf}
 use Rattle.language.specs.Answers.{program}
-use Rattle.language.specs.Typing.{hasType, haveTypes, parameterTypes}
+use Rattle.language.specs.Typing.{hasType, haveTypes}
 use Rattle.chains.specs.Formed.{Formed, Stands, argumentsAt, arguments-none, variablesAt}
-use Rattle.chains.specs.Is.{argument-is, variable-is, arm-is}
+use Rattle.chains.specs.Is.{argument-is, variable-is}
 use Rattle.chains.specs.Declared.{VariableAt, variable-at}
-use Rattle.chains.specs.Parts.{ArgumentAt, argument-at, ArmAt, arm-at}
-use Rattle.typing.specs.Both.{refuse, pass}
-use Rattle.typing.specs.Names.{listedIn, typedIn, wordIn, ProcedureTable}
-use Rattle.typing.specs.declared.Rest.{Rest}
-use Rattle.typing.specs.declared.Rest.the-variants.{At, Wrong}
-
--- the table has the variables of S
-abbrev pub VariablesAgree : List ℕ → List ℕ → Signature → Type 0
-VariablesAgree f t S = (ty x : ℕ) → typedIn f t 3 ty x ≡ hasType S ty x
+use Rattle.chains.specs.Parts.{ArgumentAt, argument-at}
+use Rattle.declarations.specs.Both.{refuse, pass}
+use Rattle.declarations.specs.Names.{listedIn, typedIn, wordIn}
+use Rattle.declarations.specs.Edges.{at-same, wrong-at}
+use Rattle.declarations.specs.declared.Rest.{Rest}
+use Rattle.declarations.specs.declared.Rest.the-variants.{At, Wrong}
+use Rattle.typing.specs.Settings.{ProcedureTable, VariablesAgree}
 
 -- the types of the variables that take an argument
 unfoldable pub takes : ℕ → ℕ → List ℕ → List ℕ
@@ -52,18 +50,6 @@ abbrev pub callFits : List ℕ → List ℕ → List ℕ → ℕ → ℕ → Boo
 callFits f procedures t q y r =
     (S : Signature) → VariablesAgree f t S
     → r ≡ (ltb q (length (program f .procedures)) & haveTypes S (takenTypes (signatureOf (program f) q .variables)) (argumentsAt f y))
-
--- ---- two rests
-pub at-same : {a b : ℕ} → At a ≡ At b → a ≡ b
-at-same e = cc
-
-isAt : Rest → Bool
-isAt (At a) = true
-isAt Wrong = false
-
-pub wrong-at : {b : ℕ} → Wrong ≡ At b → ⊥
-unfolding isAt
-wrong-at e = false≢true (ap isAt e)
 
 -- a variable that is no local takes one argument
 takes-none : (S : Signature) (ts : List ℕ) (ty mode : ℕ) {ys : List ℕ} → (mode ≡ 0 → ⊥) → ys ≡ [] → haveTypes S (takes mode ty ts) ys ≡ false
@@ -131,7 +117,3 @@ argument-of F s z e1 e2 = rw (e1, e2) (argument-at F refl (argument-is s z))
 pub variable-of : {f : List ℕ} {i next mode type : ℕ} → Formed f → Stands f variables i → (i ≡ 0 → ⊥) → next ≡ word f i 1 → mode ≡ word f i 2 → type ≡ word f i 3
     → VariableAt f i next mode type (word f i 4)
 variable-of F s z e1 e2 e3 = rw (e1, e2, e3) (variable-at F refl (variable-is s z))
-
-pub arm-of : {f : List ℕ} {i next gs functor a1 a2 a3 a4 : ℕ} → Formed f → Stands f arms i → (i ≡ 0 → ⊥) → next ≡ word f i 1 → gs ≡ word f i 2 → functor ≡ word f i 3
-    → a1 ≡ word f i 4 → a2 ≡ word f i 5 → a3 ≡ word f i 6 → a4 ≡ word f i 7 → ArmAt f i next gs functor a1 a2 a3 a4
-arm-of F s z e1 e2 e3 e4 e5 e6 e7 = rw (e1, e2, e3, e4, e5, e6, e7) (arm-at F refl (arm-is s z))

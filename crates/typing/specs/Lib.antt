@@ -1,14 +1,8 @@
-pub mod Both
-pub mod Names
-pub mod Functors
-pub mod Types
-pub mod Edges
-pub mod Signatures
+pub mod Settings
 pub mod Arguments
 pub mod Calls
-pub mod EdgeLaws
 pub mod Agree
-pub mod Settings
+pub mod Steps
 pub mod Walk
-pub mod Tabled
+pub mod Tables
 pub mod Procedures

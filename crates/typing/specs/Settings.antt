@@ -1,18 +1,30 @@
 -- What the walk over a procedure's goals knows of its tables.
 use Prim.Native.Nat.{ℕ}
 use mathlib.Core.Path.{_≡_}
-use mathlib.Core.Bool.{Bool, true}
 use mathlib.Core.List.{List}
-use lib.ListN.{getD}
-use Rattle.language.specs.Program.{Goals, done, _then_, Signature, Program, typeOf}
-use Rattle.language.specs.Typing.{isVariable, isRegion, hasType, goalOk}
-use Rattle.chains.specs.Formed.{Formed, variablesAt, regionsAt}
-use Rattle.typing.specs.Names.{listedIn, wordIn, typedIn, TypeTable, ProcedureTable}
-use Rattle.typing.specs.Calls.{VariablesAgree}
+use lib.Dec.{ltb}
+use lib.ListN.{length, getD}
+use Rattle.language.specs.File.{variables}
+use Rattle.language.specs.Program.{Signature, signatureOf, typeOf}
+use Rattle.language.specs.Answers.{program}
+use Rattle.language.specs.Typing.{isVariable, isRegion, hasType}
+use Rattle.chains.specs.Formed.{Formed, Stands, variablesAt}
+use Rattle.declarations.specs.Names.{listedIn, wordIn, typedIn, TypeTable}
+use Rattle.declarations.specs.Signatures.{signatureFrom}
+
+-- the table of the procedures, from 0: each leads to its variables
+pub record ProcedureTable (f t : List ℕ) : Type 0 where
+  pub known : (q : ℕ) → listedIn t q ≡ ltb q (length (program f .procedures))
+  pub starts : (q : ℕ) → Stands f variables (wordIn f t 2 q)
+  pub variables-are : (q : ℕ) → variablesAt f (wordIn f t 2 q) ≡ signatureOf (program f) q .variables
+
+-- the table has the variables of S
+abbrev pub VariablesAgree : List ℕ → List ℕ → Signature → Type 0
+VariablesAgree f t S = (ty x : ℕ) → typedIn f t 3 ty x ≡ hasType S ty x
 
 -- the procedure's signature: the tables' first records start its chains
 unfoldable pub declared : List ℕ → List ℕ → List ℕ → Signature
-declared f variables regions = record { variables = variablesAt f (getD variables 1 0); regions = regionsAt f (getD regions 1 0) }
+declared f vs rs = signatureFrom f (getD vs 1 0) (getD rs 1 0)
 
 pub record Setting (f types procedures variables regions : List ℕ) : Type 0 where
   pub formed : Formed f
@@ -22,8 +34,3 @@ pub record Setting (f types procedures variables regions : List ℕ) : Type 0 wh
   pub type-is : (x : ℕ) → wordIn f variables 3 x ≡ typeOf (declared f variables regions) x
   pub has-type : VariablesAgree f variables (declared f variables regions)
   pub is-region : (r : ℕ) → listedIn regions r ≡ isRegion (declared f variables regions) r
-
--- the first goal of a chain is in order
-unfoldable pub firstOk : Program → Signature → Goals → Bool
-firstOk P S done = true
-firstOk P S (g then gs) = goalOk P S g

@@ -1,14 +1,13 @@
 // A call's arguments against the callee's in and out variables, in chain order. Records are read word by word: this code stands in the
 // frames of the walk over goals, where a whole record each would take the recursion past its stack.
-use crate::Rest;
-use crate::names::has_type;
-use crate::names::listed;
-use crate::names::word_of;
+use declarations::Rest;
+use declarations::has_type;
+use declarations::listed;
+use declarations::word_of;
 use records::word;
-ghost use mathlib.Core.Path.{_≡_};
 ghost use Rattle.language.specs.File.{variables, arguments};
-ghost use Rattle.chains.specs.Formed.{Formed, Stands, variablesAt, argumentsAt};
-ghost use Rattle.typing.specs.Names.{ProcedureTable};
+ghost use Rattle.chains.specs.Formed.{Formed, Stands, variablesAt};
+ghost use Rattle.typing.specs.Settings.{ProcedureTable};
 ghost use Rattle.typing.specs.Calls.{Taken, Matched, callFits};
 
 // The argument at record y against a variable of the callee.

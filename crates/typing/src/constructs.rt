@@ -1,130 +1,61 @@
-// The arguments of a construct or an arm against a functor, and the goals without parts but the call.
-use crate::names::has_type;
-use crate::names::listed;
-use crate::names::type_of;
-use crate::names::word_of;
+// A construct, and the arguments of a construct or an arm.
 use chains::chain_at;
-use records::Record;
-use records::record_at;
+use declarations::has_type;
+use declarations::listed;
+use declarations::type_of;
+use declarations::word_of;
+use records::word;
 ghost use mathlib.Core.Path.{_≡_};
-ghost use Rattle.language.specs.File.{functors};
-ghost use Rattle.language.specs.Program.{four};
-ghost use Rattle.chains.specs.Formed.{Formed, Stands};
-ghost use Rattle.typing.specs.Names.{TypeTable};
-ghost use Rattle.typing.specs.Functors.{functorAtRecord};
-ghost use Rattle.typing.specs.Arguments.{argumentSlot, argumentsFit, constructFits, sumFits, assignFits, comparedFits};
+ghost use Prim.Native.Nat.{_+_, _<_};
+ghost use Rattle.language.specs.File.{word};
+ghost use Rattle.chains.specs.Formed.{Formed};
+ghost use Rattle.declarations.specs.Names.{TypeTable};
+ghost use Rattle.declarations.specs.Functors.{functorAtRecord};
+ghost use Rattle.typing.specs.Arguments.{argumentSlot, argumentsFit, argumentsAtRecord, constructFits};
 
-// Argument k, counted from 0: a variable of its type within the arity, 0 past it.
-fn argument_ok(file: &[u8], variables: &[usize], arity: usize, k: usize, t: usize, a: usize) -> bool
-    ensures { λ r. ⌜ r ≡ argumentSlot (now (file .entry)) (now (variables .entry)) arity k t a ⌝ }
+// Argument k, counted from 0, of record i, against the functor of record g and that arity: a variable of its type, or 0 past the arity.
+fn argument_ok(file: &[u8], variables: &[usize], arity: usize, g: usize, k: usize, i: usize) -> bool
+    requires { ⌜ k < 4 ⌝ }
+    ensures { λ r. ⌜ r ≡ argumentSlot (now (file .entry)) (now (variables .entry)) arity k (word (now (file .entry)) g (3 + k)) (word (now (file .entry)) i (4 + k)) ⌝ }
 {
+    let a = word(file, i, 4 + k);
     if k < arity {
-        return has_type(file, variables, t, a);
+        return has_type(file, variables, word(file, g, 3 + k), a);
     }
     a == 0
 }
 
-// The four arguments against the functor of record g.
-pub fn arguments_ok(
-    file: &[u8],
-    variables: &[usize],
-    g: usize,
-    a1: usize,
-    a2: usize,
-    a3: usize,
-    a4: usize,
-) -> bool
-    requires { ⌜ Formed (now file) ⌝ }
-    requires { ⌜ Stands (now file) functors g ⌝ }
-    requires { ⌜ (g ≡ 0 → ⊥) ⌝ }
-    ensures { λ r. ⌜ r ≡ argumentsFit (now (file .entry)) (now (variables .entry)) (functorAtRecord (now (file .entry)) g) (four a1 a2 a3 a4) ⌝ }
+// The four arguments of record i against the functor of record g.
+pub fn arguments_ok(file: &[u8], variables: &[usize], g: usize, i: usize) -> bool
+    ensures { λ r. ⌜ r ≡ argumentsFit (now (file .entry)) (now (variables .entry)) (functorAtRecord (now (file .entry)) g) (argumentsAtRecord (now (file .entry)) i) ⌝ }
 {
-    let Record::Functor {
-        next: _,
-        arity,
-        t1,
-        t2,
-        t3,
-        t4,
-    } = record_at(file, g)
-    else {
-        return false;
-    };
-    if !argument_ok(file, variables, arity, 0, t1, a1) {
+    let arity = word(file, g, 2);
+    if !argument_ok(file, variables, arity, g, 0, i) {
         return false;
     }
-    if !argument_ok(file, variables, arity, 1, t2, a2) {
+    if !argument_ok(file, variables, arity, g, 1, i) {
         return false;
     }
-    if !argument_ok(file, variables, arity, 2, t3, a3) {
+    if !argument_ok(file, variables, arity, g, 2, i) {
         return false;
     }
-    argument_ok(file, variables, arity, 3, t4, a4)
+    argument_ok(file, variables, arity, g, 3, i)
 }
 
-pub fn construct_ok(
-    file: &[u8],
-    types: &[usize],
-    variables: &[usize],
-    x: usize,
-    functor: usize,
-    a1: usize,
-    a2: usize,
-    a3: usize,
-    a4: usize,
-) -> bool
+// The construct of record i.
+pub fn construct_ok(file: &[u8], types: &[usize], variables: &[usize], i: usize) -> bool
     requires { ⌜ Formed (now file) ⌝ }
     requires { ⌜ TypeTable (now file) (now types) ⌝ }
-    ensures { λ r. ⌜ r ≡ constructFits (now (file .entry)) (now (types .entry)) (now (variables .entry)) x functor (four a1 a2 a3 a4) ⌝ }
+    ensures { λ r. ⌜ r ≡ constructFits (now (file .entry)) (now (types .entry)) (now (variables .entry)) i ⌝ }
 {
+    let x = word(file, i, 2);
     if !listed(variables, x) {
         return false;
     }
     let start = word_of(file, types, type_of(file, variables, x), 2);
-    let g = chain_at(file, start, functor);
+    let g = chain_at(file, start, word(file, i, 3));
     if g == 0 {
         return false;
     }
-    arguments_ok(file, variables, g, a1, a2, a3, a4)
-}
-
-pub fn sum_ok(
-    file: &[u8],
-    variables: &[usize],
-    x: usize,
-    operation: usize,
-    y: usize,
-    z: usize,
-) -> bool
-    ensures { λ r. ⌜ r ≡ sumFits (now (file .entry)) (now (variables .entry)) x operation y z ⌝ }
-{
-    if !has_type(file, variables, 0, x) {
-        return false;
-    }
-    if 1 < operation {
-        return false;
-    }
-    if !has_type(file, variables, 0, y) {
-        return false;
-    }
-    has_type(file, variables, 0, z)
-}
-
-pub fn assign_ok(file: &[u8], variables: &[usize], x: usize, y: usize) -> bool
-    ensures { λ r. ⌜ r ≡ assignFits (now (file .entry)) (now (variables .entry)) x y ⌝ }
-{
-    if !listed(variables, x) {
-        return false;
-    }
-    has_type(file, variables, type_of(file, variables, x), y)
-}
-
-// The two variables that an if compares.
-pub fn compared_ok(file: &[u8], variables: &[usize], y: usize, z: usize) -> bool
-    ensures { λ r. ⌜ r ≡ comparedFits (now (file .entry)) (now (variables .entry)) y z ⌝ }
-{
-    if !has_type(file, variables, 0, y) {
-        return false;
-    }
-    has_type(file, variables, 0, z)
+    arguments_ok(file, variables, g, i)
 }

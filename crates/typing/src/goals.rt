@@ -1,25 +1,19 @@
-// The walk over goals: a chain of goals, a goal, a switch with its arms, the two parts of an if.
-use crate::calls::call_ok;
+// The walk over goals: a chain of goals, a goal, the two parts of an if, a switch with its arms.
 use crate::constructs::arguments_ok;
-use crate::constructs::assign_ok;
-use crate::constructs::compared_ok;
-use crate::constructs::construct_ok;
-use crate::constructs::sum_ok;
-use crate::names::has_type;
-use crate::names::listed;
-use crate::names::type_of;
-use crate::names::word_of;
-use records::Record;
-use records::record_at;
+use crate::steps::compared_ok;
+use crate::steps::step_ok;
+use declarations::listed;
+use declarations::type_of;
+use declarations::word_of;
 use records::word;
 ghost use mathlib.Core.Path.{_≡_};
-ghost use Rattle.language.specs.File.{functors, goals, arms};
-ghost use Rattle.language.specs.Program.{switch, ifLess};
+ghost use Rattle.language.specs.File.{word, functors, goals, arms};
 ghost use Rattle.language.specs.Answers.{program};
 ghost use Rattle.language.specs.Typing.{goalsOk, goalOk, armsOk};
-ghost use Rattle.chains.specs.Formed.{Formed, Stands, Onward, goalsAt, armsAt, functorsAt};
-ghost use Rattle.typing.specs.Settings.{Setting, declared, firstOk};
+ghost use Rattle.chains.specs.Formed.{Stands, goalsAt, goalAt, armsAt, functorsAt};
+ghost use Rattle.typing.specs.Settings.{Setting, declared};
 
+// The goals from record start on.
 pub fn goals_ok(
     file: &[u8],
     types: &[usize; 65],
@@ -42,6 +36,7 @@ pub fn goals_ok(
     true
 }
 
+// The goal of record i.
 fn goal_ok(
     file: &[u8],
     types: &[usize; 65],
@@ -51,82 +46,54 @@ fn goal_ok(
     i: usize,
 ) -> bool
     requires { ⌜ Setting (now file) (now types) (now procedures) (now variables) (now regions) ⌝ }
-    requires { ⌜ Stands (now file) goals i ⌝ }
-    requires { ⌜ (i ≡ 0 → ⊥) ⌝ }
-    ensures { λ r. ⌜ r ≡ firstOk (program (now (file .entry))) (declared (now (file .entry)) (now (variables .entry)) (now (regions .entry))) (goalsAt (now (file .entry)) i) ⌝ }
+    requires { ⌜ Stands (now file) goals i × (i ≡ 0 → ⊥) ⌝ }
+    ensures { λ r. ⌜ r ≡ goalOk (program (now (file .entry))) (declared (now (file .entry)) (now (variables .entry)) (now (regions .entry))) (goalAt (now (file .entry)) i) ⌝ }
 {
-    match record_at(file, i) {
-        Record::Literal {
-            next: _,
-            x,
-            value: _,
-        } => has_type(file, variables, 0, x),
-        Record::Sum {
-            next: _,
-            x,
-            operation,
-            y,
-            z,
-        } => sum_ok(file, variables, x, operation, y, z),
-        Record::Assign { next: _, x, y } => assign_ok(file, variables, x, y),
-        Record::Construct {
-            next: _,
-            x,
-            functor,
-            a1,
-            a2,
-            a3,
-            a4,
-        } => construct_ok(file, types, variables, x, functor, a1, a2, a3, a4),
-        Record::Switch { next: _, x, arms } => switch_ok(
-            file,
-            types,
-            procedures,
-            variables,
-            regions,
-            x,
-            arms,
-        ),
-        Record::If {
-            next: _,
-            y,
-            z,
-            then_part,
-            else_part,
-        } => {
-            if !compared_ok(file, variables, y, z) {
-                return false;
-            }
-            if !goals_ok(file, types, procedures, variables, regions, then_part) {
-                return false;
-            }
-            goals_ok(file, types, procedures, variables, regions, else_part)
-        }
-        Record::Call {
-            next: _,
-            procedure,
-            arguments,
-        } => call_ok(file, procedures, variables, procedure, arguments),
-        Record::Print { next: _, y } => has_type(file, variables, 0, y),
-        Record::Create { next: _, region } => listed(regions, region),
-        Record::Remove { next: _, region } => listed(regions, region),
-        _ => false,
+    match word(file, i, 0) {
+        12 => switch_ok(file, types, procedures, variables, regions, i),
+        14 => branches_ok(file, types, procedures, variables, regions, i),
+        _ => step_ok(file, types, procedures, variables, regions, i),
     }
 }
 
+// The if of record i.
+fn branches_ok(
+    file: &[u8],
+    types: &[usize; 65],
+    procedures: &[usize; 256],
+    variables: &[usize; 65],
+    regions: &[usize; 65],
+    i: usize,
+) -> bool
+    requires { ⌜ Setting (now file) (now types) (now procedures) (now variables) (now regions) ⌝ }
+    requires { ⌜ word (now file) i 0 ≡ 14 ⌝ }
+    ensures { λ r. ⌜ r ≡ goalOk (program (now (file .entry))) (declared (now (file .entry)) (now (variables .entry)) (now (regions .entry))) (goalAt (now (file .entry)) i) ⌝ }
+{
+    if !compared_ok(file, variables, i) {
+        return false;
+    }
+    let first = word(file, i, 4);
+    if !goals_ok(file, types, procedures, variables, regions, first) {
+        return false;
+    }
+    let second = word(file, i, 5);
+    goals_ok(file, types, procedures, variables, regions, second)
+}
+
+// The switch of record i.
 fn switch_ok(
     file: &[u8],
     types: &[usize; 65],
     procedures: &[usize; 256],
     variables: &[usize; 65],
     regions: &[usize; 65],
-    x: usize,
-    first: usize,
+    i: usize,
 ) -> bool
     requires { ⌜ Setting (now file) (now types) (now procedures) (now variables) (now regions) ⌝ }
-    requires { ⌜ Stands (now file) arms first ⌝ }
-    ensures { λ r. ⌜ r ≡ goalOk (program (now (file .entry))) (declared (now (file .entry)) (now (variables .entry)) (now (regions .entry))) (switch x (armsAt (now (file .entry)) first)) ⌝ }
+    requires { ⌜ word (now file) i 0 ≡ 12 ⌝ }
+    ensures { λ r. ⌜ r ≡ goalOk (program (now (file .entry))) (declared (now (file .entry)) (now (variables .entry)) (now (regions .entry))) (goalAt (now (file .entry)) i) ⌝ }
 {
+    let x = word(file, i, 2);
     if !listed(variables, x) {
         return false;
     }
@@ -134,19 +101,12 @@ fn switch_ok(
     if t == 0 {
         return false;
     }
-    arms_ok(
-        file,
-        types,
-        procedures,
-        variables,
-        regions,
-        first,
-        word_of(file, types, t, 2),
-    )
+    let start = word_of(file, types, t, 2);
+    let first = word(file, i, 3);
+    arms_ok(file, types, procedures, variables, regions, first, start)
 }
 
-// The arms from record first on against the functors from record start on. An arm is read word by word: a whole record in each frame would
-// take the recursion past its stack.
+// The arms from record first on against the functors from record start on.
 fn arms_ok(
     file: &[u8],
     types: &[usize; 65],
@@ -172,11 +132,7 @@ fn arms_ok(
         if functor != n {
             return false;
         }
-        let a1 = word(file, i, 4);
-        let a2 = word(file, i, 5);
-        let a3 = word(file, i, 6);
-        let a4 = word(file, i, 7);
-        if !arguments_ok(file, variables, g, a1, a2, a3, a4) {
+        if !arguments_ok(file, variables, g, i) {
             return false;
         }
         let goals = word(file, i, 2);

@@ -1,22 +1,16 @@
 // Number 3 for a whole file.
-use crate::bodies::bodies_ok;
-use crate::bodies::signatures_ok;
-use crate::types::types_ok;
+use crate::procedures::each_procedure_ok;
 use chains::list_chain;
+use declarations::no_numbers;
+use declarations::types_ok;
 use records::word;
 ghost use mathlib.Core.Path.{_≡_};
 ghost use lib.ListN.{length};
 ghost use Rattle.language.specs.Answers.{program};
 ghost use Rattle.language.specs.Typing.{typingOk};
 ghost use Rattle.chains.specs.Formed.{Formed};
-ghost use Rattle.typing.specs.Names.{TypeTable};
+ghost use Rattle.declarations.specs.Names.{TypeTable};
 ghost use Rattle.typing.specs.Procedures.{proceduresOk};
-
-fn no_types() -> [usize; 65]
-    ensures { λ r. ⌜ 65 ≡ length r ⌝ }
-{
-    [0; 65]
-}
 
 fn no_procedures() -> [usize; 256]
     ensures { λ r. ⌜ 256 ≡ length r ⌝ }
@@ -40,10 +34,7 @@ fn procedures_ok(file: &[u8], types: &[usize; 65], n: usize) -> bool
     if 256 < count {
         return false;
     }
-    if !signatures_ok(file, types, n, first) {
-        return false;
-    }
-    bodies_ok(file, types, &procedures, first)
+    each_procedure_ok(file, types, &procedures, n, first)
 }
 
 // Whether number 3 does not apply to a file that passes numbers 1 and 2.
@@ -52,12 +43,9 @@ pub fn typing_ok(file: &[u8]) -> bool
     ensures { λ r. ⌜ r ≡ typingOk (program (now (file .entry))) ⌝ }
 {
     let first = word(file, 0, 2);
-    let mut types = no_types();
+    let mut types = no_numbers();
     let n = list_chain(file, first, 1, &mut types);
-    if 64 < n {
-        return false;
-    }
-    if !types_ok(file, n, first) {
+    if !types_ok(file, n) {
         return false;
     }
     procedures_ok(file, &types, n)

@@ -1,7 +1,7 @@
 -- `call_ok` meets its contract.
 use borrow.Author.Tests.{not-true, not-false}
 use borrow.Author.Needs.{needs}
-use Rattle.typing.specs.Names.{stands-same}
+use Rattle.declarations.specs.Names.{stands-same}
 use Rattle.typing.specs.Calls.{call-none, call-some}
 use Rattle.typing.proofs.calls.call_ok.Statement.{statement}
 use Rattle.typing.proofs.calls.call_ok.Tie as tie

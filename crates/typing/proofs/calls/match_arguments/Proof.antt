@@ -5,7 +5,8 @@ use Rattle.language.specs.File.{variables, arguments}
 use Rattle.language.specs.Typing.{haveTypes}
 use Rattle.language.specs.Program.{Signature}
 use Rattle.chains.specs.Formed.{Stands, variablesAt, argumentsAt, variables-none, ahead}
-use Rattle.typing.specs.Calls.{VariablesAgree, takenTypes, variable-of, match-wrong, match-next, match-end}
+use Rattle.typing.specs.Settings.{VariablesAgree}
+use Rattle.typing.specs.Calls.{takenTypes, variable-of, match-wrong, match-next, match-end}
 use Rattle.typing.proofs.calls.match_arguments.Statement.{statement}
 use Rattle.typing.proofs.calls.match_arguments.Tie as tie
 

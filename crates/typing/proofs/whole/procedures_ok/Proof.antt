@@ -1,12 +1,11 @@
 -- `procedures_ok` meets its contract.
-use mathlib.Core.Path.{sym, _∙_}
 use native.Mathlib.Omega.{arith}
-use borrow.Author.Tests.{not-true, not-false}
 use borrow.Author.Needs.{needs}
 use Rattle.chains.specs.Formed.{procedures-stand}
-use Rattle.typing.specs.Names.{stands-same}
-use Rattle.typing.specs.Tabled.{procedure-table}
-use Rattle.typing.specs.Procedures.{sized, no-procedure, many-procedures, wrong-signature, procedures-all}
+use Rattle.declarations.specs.Names.{stands-same}
+use Rattle.declarations.specs.Tabled.{sized}
+use Rattle.typing.specs.Tables.{procedure-table}
+use Rattle.typing.specs.Procedures.{no-procedure, many-procedures, procedures-all}
 use Rattle.typing.proofs.whole.procedures_ok.Statement.{statement}
 use Rattle.typing.proofs.whole.procedures_ok.Tie as tie
 
@@ -28,17 +27,11 @@ returns c = let s = c .before .before .before .before .before .before .before in
 returns-2 : tie.Need-returns-2
 returns-2 c = let s = c .before .before .before .before .before .before .before .before in many-procedures _ _ (s .pre .0) (c .before .before .before .before .before .before .word .ensures .0) (c .before .before .before .list-chain .ensures .0) (c .before .if1 .left) (c .if2 .taken)
 
-signatures-ok-requires : tie.Need-signatures-ok-requires
-signatures-ok-requires c κs = let s = c .before .before .before .before .before .before .before .before in (s .pre .0, (s .pre .1 .0, (s .pre .1 .1, stands-same (c .before .before .before .before .before .before .word .ensures .0) (procedures-stand (s .pre .0)))))
+each-procedure-ok-requires : tie.Need-each-procedure-ok-requires
+each-procedure-ok-requires c κs = let l = c .before .before .before .before in let w = l .before .before .before in let s = w .before .before in (s .pre .0, (s .pre .1 .0, (rw (sized 0 _ (l .before .before .no-procedures .ensures) (l .list-chain .ensures .1)) (procedure-table (s .pre .0) (w .word .ensures .0) (omega (arith, l .list-chain .ensures .0, c .before .if2 .left))), (s .pre .1 .1, stands-same (w .word .ensures .0) (procedures-stand (s .pre .0))))))
 
 returns-3 : tie.Need-returns-3
-returns-3 c = let s = c .before .before .before .before .before .before .before .before .before .before in wrong-signature _ _ (s .pre .0) (c .before .before .before .before .before .before .before .before .word .ensures .0) (c .before .before .before .before .before .list-chain .ensures .0) (c .before .before .before .if1 .left) (c .before .before .if2 .left) (c .before .signatures-ok .ensures) (not-true _ (c .if3 .taken))
-
-bodies-ok-requires : tie.Need-bodies-ok-requires
-bodies-ok-requires c κs = let s = c .before .before .before .before .before .before .before .before .before .before .before in let t = sized 0 _ (c .before .before .before .before .before .before .before .before .no-procedures .ensures) (c .before .before .before .before .before .before .list-chain .ensures .1) in (s .pre .0, (s .pre .1 .0, (rw t (procedure-table (s .pre .0) (c .before .before .before .before .before .before .before .before .before .word .ensures .0) (omega (arith, (c .before .before .before .before .before .before .list-chain .ensures .0), c .before .before .before .if2 .left))), (stands-same (c .before .before .before .before .before .before .before .before .before .word .ensures .0) (procedures-stand (s .pre .0)), sym (c .before .before .signatures-ok .ensures) ∙ not-false _ (c .before .if3 .left)))))
-
-returns-4 : tie.Need-returns-4
-returns-4 c = let s = c .before .before .before .before .before .before .before .before .before .before .before .before in procedures-all _ _ (s .pre .0) (c .before .before .before .before .before .before .before .before .before .before .word .ensures .0) (c .before .before .before .before .before .before .before .list-chain .ensures .0) (c .before .before .before .before .before .if1 .left) (c .before .before .before .before .if2 .left) (c .before .before .before .signatures-ok .ensures) (not-false _ (c .before .before .if3 .left)) (c .bodies-ok .ensures)
+returns-3 c = let l = c .before .before .before .before .before in let w = l .before .before .before in let s = w .before .before in procedures-all _ _ (s .pre .0) (w .word .ensures .0) (l .list-chain .ensures .0) (c .before .before .before .if1 .left) (c .before .before .if2 .left) (c .each-procedure-ok .ensures)
 
 pub procedures-ok-spec : {M : Type 1} → statement M
 procedures-ok-spec =
@@ -50,7 +43,5 @@ procedures-ok-spec =
     list-chain-requires
     returns
     returns-2
-    signatures-ok-requires
-    returns-3
-    bodies-ok-requires
-    returns-4)
+    each-procedure-ok-requires
+    returns-3)

@@ -1,19 +1,21 @@
 -- `typing_ok` meets its contract: number 3.
+use mathlib.Core.Path.{sym, _∙_}
 use native.Mathlib.Omega.{arith}
 use borrow.Author.Tests.{not-true, not-false}
 use borrow.Author.Needs.{needs}
 use Rattle.chains.specs.Formed.{types-stand}
-use Rattle.typing.specs.Names.{stands-same}
-use Rattle.typing.specs.Tabled.{type-table}
-use Rattle.typing.specs.Procedures.{sized, type-count, many-types, wrong-type, typing-all}
+use Rattle.declarations.specs.Names.{stands-same}
+use Rattle.declarations.specs.Tabled.{type-table, sized}
+use Rattle.declarations.specs.TypeLaws.{type-count, few-types}
+use Rattle.typing.specs.Procedures.{wrong-types, typing-all}
 use Rattle.typing.proofs.whole.typing_ok.Statement.{statement}
 use Rattle.typing.proofs.whole.typing_ok.Tie as tie
 
 word-requires : tie.Need-word-requires
 word-requires c κs = search needs
 
-no-types-requires : tie.Need-no-types-requires
-no-types-requires c κs = search needs
+no-numbers-requires : tie.Need-no-numbers-requires
+no-numbers-requires c κs = search needs
 
 slice-aggregate-list-chain : tie.Need-slice-aggregate-list-chain
 slice-aggregate-list-chain c = search needs
@@ -21,31 +23,27 @@ slice-aggregate-list-chain c = search needs
 list-chain-requires : tie.Need-list-chain-requires
 list-chain-requires c κs = let s = c .before .before .before .before in (s .pre, stands-same (c .before .before .word .ensures .0) (types-stand (s .pre)) .below)
 
-returns : tie.Need-returns
-returns c = let s = c .before .before .before .before .before .before .before in many-types _ _ (s .pre) (c .before .before .before .before .before .word .ensures .0) (c .before .before .list-chain .ensures .0) (c .if1 .taken)
-
 types-ok-requires : tie.Need-types-ok-requires
-types-ok-requires c κs = let s = c .before .before .before .before .before .before .before in (s .pre, stands-same (c .before .before .before .before .before .word .ensures .0) (types-stand (s .pre)))
+types-ok-requires c κs = let s = c .before .before .before .before .before .before in (s .pre, type-count _ _ (s .pre) (c .before .before .before .before .word .ensures .0) (c .before .list-chain .ensures .0))
 
-returns-2 : tie.Need-returns-2
-returns-2 c = let s = c .before .before .before .before .before .before .before .before .before in wrong-type _ _ (s .pre) (c .before .before .before .before .before .before .before .word .ensures .0) (c .before .before .before .before .list-chain .ensures .0) (c .before .before .if1 .left) (c .before .types-ok .ensures) (not-true _ (c .if2 .taken))
+returns : tie.Need-returns
+returns c = wrong-types _ (c .before .types-ok .ensures) (not-true _ (c .if1 .taken))
 
 procedures-ok-requires : tie.Need-procedures-ok-requires
-procedures-ok-requires c κs = let s = c .before .before .before .before .before .before .before .before .before .before in let t = sized 1 _ (c .before .before .before .before .before .before .before .no-types .ensures) (c .before .before .before .before .before .list-chain .ensures .1) in (s .pre, (rw t (type-table (s .pre) (c .before .before .before .before .before .before .before .before .word .ensures .0) (omega (arith, (c .before .before .before .before .before .list-chain .ensures .0), c .before .before .before .if1 .left))), type-count _ _ (s .pre) (c .before .before .before .before .before .before .before .before .word .ensures .0) (c .before .before .before .before .before .list-chain .ensures .0)))
+procedures-ok-requires c κs = let l = c .before .before .before .before in let w = l .before .before .before in let s = w .before .before in let n = type-count _ _ (s .pre) (w .word .ensures .0) (l .list-chain .ensures .0) in let h = few-types _ (sym (c .before .before .types-ok .ensures) ∙ not-false _ (c .before .if1 .left)) in (s .pre, (rw (sized 1 _ (l .before .before .no-numbers .ensures) (l .list-chain .ensures .1)) (type-table (s .pre) (w .word .ensures .0) (omega (arith, n, h, l .list-chain .ensures .0))), n))
 
-returns-3 : tie.Need-returns-3
-returns-3 c = let s = c .before .before .before .before .before .before .before .before .before .before .before in typing-all _ _ (s .pre) (c .before .before .before .before .before .before .before .before .before .word .ensures .0) (c .before .before .before .before .before .before .list-chain .ensures .0) (c .before .before .before .before .if1 .left) (c .before .before .before .types-ok .ensures) (not-false _ (c .before .before .if2 .left)) (c .procedures-ok .ensures)
+returns-2 : tie.Need-returns-2
+returns-2 c = typing-all _ (c .before .before .before .types-ok .ensures) (not-false _ (c .before .before .if1 .left)) (c .procedures-ok .ensures)
 
 pub typing-ok-spec : {M : Type 1} → statement M
 typing-ok-spec =
     tie.close
     (tie.spec
     word-requires
-    no-types-requires
+    no-numbers-requires
     slice-aggregate-list-chain
     list-chain-requires
-    returns
     types-ok-requires
-    returns-2
+    returns
     procedures-ok-requires
-    returns-3)
+    returns-2)

@@ -1,0 +1,62 @@
+-- `functors_ok` meets its contract: the rest of the chain decides as the whole does.
+use mathlib.Core.Path.{_≡_, refl, _∙_}
+use borrow.Author.Tests.{not-true, not-false}
+use borrow.Author.Needs.{needs}
+use Rattle.language.specs.Lists.{all}
+use Rattle.language.specs.File.{functors}
+use Rattle.chains.specs.Formed.{Stands, functorsAt, functors-none, ahead}
+use Rattle.chains.specs.Is.{functor-else}
+use Rattle.chains.specs.Declared.{functor-at}
+use Rattle.declarations.specs.Both.{all-end, all-no, all-yes}
+use Rattle.declarations.specs.Types.{functorFits}
+use Rattle.declarations.proofs.types.functors_ok.Statement.{statement}
+use Rattle.declarations.proofs.types.functors_ok.Tie as tie
+
+abbrev Inv-loop : tie.InvT-loop
+Inv-loop file n start i₀ i = Stands file functors i × (all (functorFits n) (functorsAt file i) ≡ all (functorFits n) (functorsAt file start))
+
+abbrev μ-loop : tie.MeasureT-loop
+μ-loop file n start i₀ i = ahead file i
+
+loop-holds : tie.Need-loop-holds Inv-loop μ-loop
+loop-holds c = let s = c .before in (s .pre .1, refl)
+
+record-at-requires : tie.Need-record-at-requires Inv-loop μ-loop
+record-at-requires c κs = search needs
+
+enum-known-next : tie.Need-enum-known-next Inv-loop μ-loop
+enum-known-next c = search needs
+
+returns : tie.Need-returns Inv-loop μ-loop
+returns c = absurd (functor-else (c .before .before .before .loop .inv .0) (c .before .before .loop-test .taken) (c .before .record-at .ensures) (c .match .keys2))
+
+functor-ok-requires : tie.Need-functor-ok-requires Inv-loop μ-loop
+functor-ok-requires c κs = search needs
+
+returns-2 : tie.Need-returns-2 Inv-loop μ-loop
+returns-2 c = let b = c .before in let t = b .before .before in let e = t .before .before in let l = e .before .before in let s = l .before .before in let v = functor-at (s .pre .0) (e .record-at .ensures) (t .next .given .1) in all-no _ (v .view) (b .functor-ok .ensures) (not-true _ (c .if1 .taken)) ∙ l .loop .inv .1
+
+loop-less : tie.Need-loop-less Inv-loop μ-loop
+loop-less c = let b = c .before in let t = b .before .before in let e = t .before .before in let l = e .before .before in let s = l .before .before in let v = functor-at (s .pre .0) (e .record-at .ensures) (t .next .given .1) in v .to-next .falls
+
+loop-again : tie.Need-loop-again Inv-loop μ-loop
+loop-again c = let b = c .before in let t = b .before .before in let e = t .before .before in let l = e .before .before in let s = l .before .before in let v = functor-at (s .pre .0) (e .record-at .ensures) (t .next .given .1) in (v .to-next .stands, all-yes _ (v .view) (b .functor-ok .ensures) (not-false _ (c .if1 .left)) ∙ l .loop .inv .1)
+
+returns-3 : tie.Need-returns-3 Inv-loop μ-loop
+returns-3 c = all-end _ (functors-none _ (c .loop-test .left)) ∙ c .before .loop .inv .1
+
+pub functors-ok-spec : {M : Type 1} → statement M
+functors-ok-spec =
+    tie.close
+    (tie.spec
+    Inv-loop
+    μ-loop
+    loop-holds
+    record-at-requires
+    enum-known-next
+    returns
+    functor-ok-requires
+    returns-2
+    loop-less
+    loop-again
+    returns-3)

@@ -1,0 +1,31 @@
+-- `type_ok` meets its contract.
+use mathlib.Core.Path.{_∙_}
+use Rattle.declarations.specs.Functors.{functors-length}
+use Rattle.declarations.specs.Types.{type-none, type-many, type-all}
+use Rattle.declarations.proofs.types.type_ok.Statement.{statement}
+use Rattle.declarations.proofs.types.type_ok.Tie as tie
+
+chain-length-requires : tie.Need-chain-length-requires
+chain-length-requires c κs = (c .before .pre .0, c .before .pre .1 .below)
+
+returns : tie.Need-returns
+returns c = type-none _ _ ((c .before .chain-length .ensures) ∙ functors-length (c .before .before .before .pre .0) _ (c .before .before .before .pre .1)) (c .if1 .taken)
+
+returns-2 : tie.Need-returns-2
+returns-2 c = type-many _ _ ((c .before .before .chain-length .ensures) ∙ functors-length (c .before .before .before .before .pre .0) _ (c .before .before .before .before .pre .1)) (c .if2 .taken)
+
+functors-ok-requires : tie.Need-functors-ok-requires
+functors-ok-requires c κs = (c .before .before .before .before .pre .0, c .before .before .before .before .pre .1)
+
+returns-3 : tie.Need-returns-3
+returns-3 c = type-all _ _ ((c .before .before .before .chain-length .ensures) ∙ functors-length (c .before .before .before .before .before .pre .0) _ (c .before .before .before .before .before .pre .1)) (c .before .before .if1 .left) (c .before .if2 .left) (c .functors-ok .ensures)
+
+pub type-ok-spec : {M : Type 1} → statement M
+type-ok-spec =
+    tie.close
+    (tie.spec
+    chain-length-requires
+    returns
+    returns-2
+    functors-ok-requires
+    returns-3)

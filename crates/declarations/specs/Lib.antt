@@ -1,0 +1,10 @@
+pub mod Both
+pub mod Names
+pub mod Functors
+pub mod Types
+pub mod Edges
+pub mod Signatures
+pub mod EdgeLaws
+pub mod Tabled
+pub mod TypeLaws
+pub mod SignatureLaws

@@ -1,0 +1,63 @@
+-- What a procedure declares: what the code tests, by a table of its regions, is what the definition says.
+use Prim.Native.Nat.{ℕ, _≤_, _<_}
+use native.Mathlib.Omega.{arith}
+use borrow.Author.Tests.{le-leb, lt-leb, leb-true}
+use mathlib.Core.Path.{_≡_, refl, _∙_}
+use mathlib.Core.Bool.{Bool, true, false}
+use mathlib.Core.List.{List}
+use lib.Dec.{leb}
+use lib.ListN.{length}
+use Rattle.sets.specs.Tests.{and-true}
+use Rattle.language.specs.Lists.{all}
+use Rattle.language.specs.File.{variables, regions}
+use Rattle.language.specs.Program.{Variable, Signature, Functor}
+use Rattle.language.specs.Answers.{program}
+use Rattle.language.specs.Typing.{isType, regioned, variableOk, signatureOk}
+use Rattle.chains.specs.Formed.{Formed, Stands, variablesAt, regionsAt}
+use Rattle.chains.specs.Records.{chainRecords}
+use Rattle.chains.specs.Tables.{tableOf}
+use Rattle.declarations.specs.Both.{fails, holds, refuse, pass, all-same}
+use Rattle.declarations.specs.Edges.{RegionsAgree}
+use Rattle.declarations.specs.Signatures.{signatureFrom, variableFits, RegionsPassed}
+use Rattle.declarations.specs.Tabled.{variables-length, regions-length, region-agrees}
+
+module _ (f : List ℕ) (v r : ℕ) (F : Formed f) (sv : Stands f variables v) (sr : Stands f regions r) where
+  pub many-variables : {l : ℕ} → l ≡ length (chainRecords f v) → 64 < l → false ≡ signatureOk (program f .types) (signatureFrom f v r)
+  unfolding signatureOk signatureFrom
+  many-variables e h = fails _ (lt-leb (length (variablesAt f v)) 64 (omega (arith, variables-length F v sv)))
+
+  module _ {l : ℕ} (e : l ≡ length (chainRecords f v)) (h : l ≤ 64) {m : ℕ} (d : m ≡ length (chainRecords f r)) where
+    few : leb (length (variablesAt f v)) 64 ≡ true
+    few = le-leb (length (variablesAt f v)) 64 (omega (arith, variables-length F v sv))
+
+    pub many-regions : 64 < m → false ≡ signatureOk (program f .types) (signatureFrom f v r)
+    unfolding signatureOk signatureFrom
+    many-regions k = holds few (fails _ (lt-leb (length (regionsAt f r)) 64 (omega (arith, regions-length F r sr))))
+
+    module _ (k : m ≤ 64) {t : List ℕ} (et : t ≡ tableOf 1 65 (chainRecords f r)) where
+      agree : RegionsAgree f t (signatureFrom f v r)
+      unfolding signatureFrom
+      agree = rw et (region-agrees F r sr (omega arith) (signatureFrom f v r) refl)
+
+      module _ {n : ℕ} (en : n ≡ length (program f .types)) where
+        variable-fits : (u : Variable) → variableFits f t n u ≡ variableOk (program f .types) (signatureFrom f v r) u
+        unfolding variableFits variableOk isType regioned
+        variable-fits u = rw (en, agree (u .type) (u .region))
+
+        module _ {q : Bool} (eq : q ≡ all (variableFits f t n) (variablesAt f v)) where
+          variables-pass : q ≡ all (variableOk (program f .types) (signatureFrom f v r)) (variablesAt f v)
+          variables-pass = eq ∙ all-same _ _ variable-fits (variablesAt f v)
+
+          pub wrong-variable : q ≡ false → false ≡ signatureOk (program f .types) (signatureFrom f v r)
+          unfolding signatureOk signatureFrom
+          wrong-variable p = holds few (holds (le-leb (length (regionsAt f r)) 64 (omega (arith, regions-length F r sr))) (refuse _ variables-pass p))
+
+          pub signature-all : q ≡ true → {b : Bool} → RegionsPassed f t n r b → b ≡ signatureOk (program f .types) (signatureFrom f v r)
+          unfolding signatureOk signatureFrom
+          signature-all p g = holds few (holds (le-leb (length (regionsAt f r)) 64 (omega (arith, regions-length F r sr))) (pass variables-pass p (g (signatureFrom f v r) agree en)))
+
+pub few-declared : (T : List (List Functor)) (S : Signature) → signatureOk T S ≡ true → (length (S .variables) ≤ 64) × (length (S .regions) ≤ 64)
+unfolding signatureOk
+few-declared T S h =
+    let d = and-true h in
+    (leb-true (length (S .variables)) 64 (d .0), leb-true (length (S .regions)) 64 (and-true (d .1) .0))

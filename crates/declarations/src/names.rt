@@ -1,0 +1,57 @@
+// Numbers that name a record of a table: whether there is such a record, and its words.
+use chains::entry;
+use chains::field;
+ghost use mathlib.Core.Path.{_≡_};
+ghost use Prim.Native.Nat.{_<_};
+ghost use lib.ListN.{length};
+ghost use Rattle.declarations.specs.Names.{listedIn, wordIn, typedIn};
+
+// A table for the numbers 1 to 64, empty.
+pub fn no_numbers() -> [usize; 65]
+    ensures { λ r. ⌜ 65 ≡ length r ⌝ }
+{
+    [0; 65]
+}
+
+pub fn listed(table: &[usize], n: usize) -> bool
+    ensures { λ r. ⌜ r ≡ listedIn (now (table .entry)) n ⌝ }
+{
+    0 < entry(table, n)
+}
+
+// Word k of the record numbered n; 0 where there is none.
+pub fn word_of(file: &[u8], table: &[usize], n: usize, k: usize) -> usize
+    requires { ⌜ k < 8 ⌝ }
+    ensures { λ r. ⌜ r ≡ wordIn (now (file .entry)) (now (table .entry)) k n ⌝ }
+{
+    field(file, entry(table, n), k)
+}
+
+// Whether there is a record numbered n whose word k, its type, is t.
+fn is_of(file: &[u8], table: &[usize], k: usize, t: usize, n: usize) -> bool
+    requires { ⌜ k < 8 ⌝ }
+    ensures { λ r. ⌜ r ≡ typedIn (now (file .entry)) (now (table .entry)) k t n ⌝ }
+{
+    if !listed(table, n) {
+        return false;
+    }
+    word_of(file, table, n, k) == t
+}
+
+pub fn type_of(file: &[u8], variables: &[usize], x: usize) -> usize
+    ensures { λ r. ⌜ r ≡ wordIn (now (file .entry)) (now (variables .entry)) 3 x ⌝ }
+{
+    word_of(file, variables, x, 3)
+}
+
+pub fn has_type(file: &[u8], variables: &[usize], t: usize, x: usize) -> bool
+    ensures { λ r. ⌜ r ≡ typedIn (now (file .entry)) (now (variables .entry)) 3 t x ⌝ }
+{
+    is_of(file, variables, 3, t, x)
+}
+
+pub fn is_region_of(file: &[u8], regions: &[usize], t: usize, region: usize) -> bool
+    ensures { λ r. ⌜ r ≡ typedIn (now (file .entry)) (now (regions .entry)) 2 t region ⌝ }
+{
+    is_of(file, regions, 2, t, region)
+}
