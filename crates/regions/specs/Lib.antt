@@ -4,3 +4,6 @@ pub mod Reaches
 pub mod Mapped
 pub mod Calls
 pub mod Arguments
+pub mod Number
+pub mod Checked
+pub mod Stage

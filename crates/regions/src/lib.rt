@@ -3,8 +3,11 @@ mod arguments;
 mod mapping;
 mod places;
 mod reach;
+mod stage;
+mod walk;
 
 pub use mapping::map_call;
 pub use reach::list_reaches;
 pub use reach::reach_from;
 pub use reach::reach_of;
+pub use stage::regions_ok;
