@@ -1,0 +1,98 @@
+-- The stages of every program up to a number, and what a stage's answer says of them.
+use Prim.Native.Nat.{ℕ}
+use mathlib.Core.Path.{_≡_, refl, sym, _∙_, ap}
+use mathlib.Core.Bool.{Bool, true, false, false≢true}
+use mathlib.Core.List.{List, [], _∷_, _++_}
+use Rattle.language.specs.declared.Refusal.{Refusal}
+use Rattle.language.specs.declared.Refusal.the-variants.{Typing, Values, Regions, Classes}
+use Rattle.language.specs.declared.Verdict.{Verdict}
+use Rattle.language.specs.declared.Verdict.the-variants.{Refused, Accepted}
+use Rattle.language.specs.Typing.{typingOk}
+use Rattle.language.specs.Values.{valuesOk}
+use Rattle.language.specs.Regions.{regionsOk}
+use Rattle.language.specs.Lifetimes.{declaredClassesOk}
+use Rattle.language.specs.Answers.{Stage, stage, lowest, program, fileStages}
+use Rattle.records.specs.Verdicts.{formStages, formVerdict, after, lowest-append}
+use Rattle.chains.specs.Formed.{Formed, formed}
+
+module _ (f : List ℕ) where
+  -- numbers 1 to 3
+  abbrev pub typingStages : List Stage
+  typingStages = formStages f ++ (stage Typing (typingOk (program f)) ∷ [])
+
+  -- numbers 1 to 4
+  abbrev pub valuesStages : List Stage
+  valuesStages = typingStages ++ (stage Values (valuesOk (program f)) ∷ [])
+
+  -- numbers 1 to 5
+  abbrev pub regionsStages : List Stage
+  regionsStages = valuesStages ++ (stage Regions (regionsOk (program f)) ∷ [])
+
+  -- numbers 1 to 5 and 7's part for every program
+  abbrev pub classesStages : List Stage
+  classesStages = regionsStages ++ (stage Classes (declaredClassesOk (program f)) ∷ [])
+
+  -- numbers 1 to 5 are the front part of every program's stages
+  pub file-stages : regionsStages ≡ fileStages f
+  unfolding formStages fileStages
+  file-stages = refl
+
+-- ---- one stage more
+both : (q : Refusal) (w : Verdict) (c : Bool) → after w (lowest (stage q c ∷ [])) ≡ Accepted → (w ≡ Accepted) × (c ≡ true)
+unfolding after lowest
+both q (Refused r) c h = absurd (false≢true cc)
+both q Accepted true h = (refl, refl)
+both q Accepted false h = absurd (false≢true cc)
+
+module _ (ss : List Stage) where
+  -- a refusal is passed up
+  pub passed-up : (q : Refusal) (b : Bool) {v : Verdict} {r : Refusal} → v ≡ lowest ss → v ≡ Refused r → v ≡ lowest (ss ++ (stage q b ∷ []))
+  unfolding after
+  passed-up q b e g = g ∙ sym (lowest-append ss (stage q b ∷ []) ∙ ap (λ (w : Verdict). after w (lowest (stage q b ∷ []))) (sym e ∙ g))
+
+  -- all before were passed, and this one decides
+  pub decides : (q : Refusal) (b : Bool) {v : Verdict} → v ≡ lowest ss → v ≡ Accepted → lowest (ss ++ (stage q b ∷ [])) ≡ lowest (stage q b ∷ [])
+  unfolding after
+  decides q b e g = lowest-append ss (stage q b ∷ []) ∙ ap (λ (w : Verdict). after w (lowest (stage q b ∷ []))) (sym e ∙ g)
+
+  pub refused-here : (q : Refusal) {b : Bool} {v : Verdict} → v ≡ lowest ss → v ≡ Accepted → b ≡ false → Refused q ≡ lowest (ss ++ (stage q b ∷ []))
+  unfolding lowest
+  refused-here q e g z = sym (decides q _ e g ∙ ap (λ (c : Bool). lowest (stage q c ∷ [])) z)
+
+  pub passed-here : (q : Refusal) {b : Bool} {v : Verdict} → v ≡ lowest ss → v ≡ Accepted → b ≡ true → Accepted ≡ lowest (ss ++ (stage q b ∷ []))
+  unfolding lowest
+  passed-here q e g z = sym (decides q _ e g ∙ ap (λ (c : Bool). lowest (stage q c ∷ [])) z)
+
+  -- both were passed
+  pub passed-both : (q : Refusal) {b : Bool} {v : Verdict} → v ≡ lowest (ss ++ (stage q b ∷ [])) → v ≡ Accepted → (lowest ss ≡ Accepted) × (b ≡ true)
+  passed-both q {b} e g = both q (lowest ss) b (sym (lowest-append ss (stage q b ∷ [])) ∙ sym e ∙ g)
+
+-- ---- what an accepting stage has found
+pub record Passing (f : List ℕ) : Type 0 where
+  pub formed : Formed f
+  pub typing : typingOk (program f) ≡ true
+  pub values : valuesOk (program f) ≡ true
+  pub regions : regionsOk (program f) ≡ true
+
+module _ (f : List ℕ) where
+  pub form-lowest : {v : Verdict} → v ≡ formVerdict f → v ≡ lowest (formStages f)
+  unfolding formVerdict
+  form-lowest e = e
+
+  pub typing-found : {v : Verdict} → v ≡ lowest (typingStages f) → v ≡ Accepted → Formed f × (typingOk (program f) ≡ true)
+  unfolding formVerdict
+  typing-found e g = let p = passed-both (formStages f) Typing e g in (formed refl (p .0), p .1)
+
+  pub values-found : {v : Verdict} → v ≡ lowest (valuesStages f) → v ≡ Accepted → (Formed f × (typingOk (program f) ≡ true)) × (valuesOk (program f) ≡ true)
+  values-found e g = let p = passed-both (typingStages f) Values e g in (typing-found refl (p .0), p .1)
+
+  -- numbers 1 to 5
+  pub regions-found : {v : Verdict} → v ≡ lowest (regionsStages f) → v ≡ Accepted → Passing f
+  regions-found e g =
+      let p = passed-both (valuesStages f) Regions e g in
+      let q = values-found refl (p .0) in
+      record { formed = q .0 .0; typing = q .0 .1; values = q .1; regions = p .1 }
+
+  -- and number 7's part for every program
+  pub classes-found : {v : Verdict} → v ≡ lowest (classesStages f) → v ≡ Accepted → Passing f × (declaredClassesOk (program f) ≡ true)
+  classes-found e g = let p = passed-both (regionsStages f) Classes e g in (regions-found refl (p .0), p .1)
