@@ -1,24 +1,24 @@
 -- A procedure's regions by class: what the code's sets are.
-use Prim.Native.Nat.{ℕ, zero, suc, _≤_}
-use native.Mathlib.Omega.{arith}
+use Prim.Native.Nat.{ℕ}
 use mathlib.Core.Bool.{Bool, true, false}
 use mathlib.Core.List.{List}
 use mathlib.Core.Logic.{⊎-elim}
-use mathlib.Core.Path.{_≡_, refl, sym, ap, ap₂, _∙_}
-use Rattle.sets.specs.Tests.{_&_, clash, false-of}
+use mathlib.Core.Path.{_≡_, sym, ap, ap₂, _∙_}
+use Rattle.sets.specs.Tests.{clash, false-of}
 use Rattle.sets.specs.Sets.{member, _∪_, _∖_, subset, union-in, union-left, union-right, difference-in, difference-mk, subset-mk}
 use Rattle.sets.specs.SetLaws.{subset-antisym, apart-in}
 use Rattle.sets.specs.Members.{setOf}
 use Rattle.sets.specs.declared.Set.{Set}
-use Rattle.language.specs.Program.{Functor, Signature, regionAt, inMode, outMode}
+use Rattle.language.specs.Program.{Functor, Signature, inMode, outMode}
 use Rattle.language.specs.Values.{insOf, outsOf}
 use Rattle.language.specs.Regions.{reachAll}
 use Rattle.language.specs.Lifetimes.{inputs, outputs, ofClass, declared, born, dead, kept, classesOk}
-use Rattle.region_graph.specs.Laws.{Declared, shared}
+use Rattle.region_graph.specs.Laws.{Declared}
 use Rattle.region_graph.specs.Typed.{regions-few}
 use Rattle.region_graph.specs.Procedure
-use Rattle.region_graph.specs.Classes.{born-in, dead-in, kept-in, shared-classed, born-kept, dead-kept}
+use Rattle.region_graph.specs.Classes.{kept-in, shared-classed, born-kept, dead-kept}
 use Rattle.chains.specs.Formed.{variablesAt, regionsAt}
+use Rattle.regions.specs.Arguments.{and-stop, and-on}
 use Rattle.values.specs.Modes.{ofMode, variables-in}
 use Rattle.lifetimes.specs.Sorting.{ofClassIn, of-class}
 use Rattle.lifetimes.specs.Tabled.{SignatureAt}
@@ -78,20 +78,12 @@ module _ {f : List ℕ} {v r : ℕ} (S : Signature) (h : SignatureAt f v r S) wh
       }
 
 -- ---- number 7 for every program
-false-and : (b : Bool) → false ≡ (false & b)
-unfolding _&_
-false-and b = refl
-
-true-and-is : (b : Bool) → b ≡ (true & b)
-unfolding _&_
-true-and-is b = refl
-
 module _ (S : Signature) {c : Classes} (h : Classed S c) where
   pub born-wrong : {d : Set} {b : Bool} → d ≡ c .outputs ∖ c .inputs → b ≡ subset (c .born) d → b ≡ false → false ≡ classesOk S
   unfolding classesOk
-  born-wrong e g z = rw (← h .outputs, ← h .inputs, ← h .born, ← e) (rw (sym g ∙ z) (false-and _))
+  born-wrong e g z = rw (← h .outputs, ← h .inputs, ← h .born, ← e) (and-stop _ (sym g ∙ z))
 
   pub both-right : {d w : Set} {b o : Bool} → d ≡ c .outputs ∖ c .inputs → b ≡ subset (c .born) d → b ≡ true → w ≡ c .inputs ∖ c .outputs
       → o ≡ subset (c .dead) w → o ≡ classesOk S
   unfolding classesOk
-  both-right e g z k m = rw (← h .outputs, ← h .inputs, ← h .born, ← h .dead, ← e, ← k) (rw (sym g ∙ z) (m ∙ true-and-is _))
+  both-right e g z k m = rw (← h .outputs, ← h .inputs, ← h .born, ← h .dead, ← e, ← k) (and-on (sym g ∙ z) m)

@@ -5,3 +5,8 @@ pub mod Sorting
 pub mod Classed
 pub mod Stored
 pub mod Listing
+pub mod Doubled
+pub mod Unshared
+pub mod Imaging
+pub mod Effects
+pub mod Calling

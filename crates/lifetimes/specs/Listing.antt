@@ -1,18 +1,19 @@
 -- Going through the procedures: those before record i are stored and looked at, those from it on are still to come.
-use Prim.Native.Nat.{ℕ, zero, suc, _+_, _*_, _≤_, _<_}
+use Prim.Native.Nat.{ℕ, suc, _+_, _*_, _≤_, _<_}
 use native.Mathlib.Omega.{arith}
 use native.Mathlib.Decide.{ℕ-discrete}
 use mathlib.Core.Bool.{Bool, true, false, _&&_}
-use mathlib.Core.List.{List, [], _∷_}
-use mathlib.Core.Path.{_≡_, refl, sym, ap, ap₂, _∙_}
+use mathlib.Core.List.{List}
+use mathlib.Core.Path.{_≡_, refl, sym, ap, _∙_}
 use lib.ListN.{length}
 use Rattle.sets.specs.Tests.{_&_}
 use Rattle.language.specs.File.{procedures, word}
 use Rattle.language.specs.Lists.{all, nth}
-use Rattle.language.specs.Program.{Procedure, Program, procedureAt, signatureOf}
+use Rattle.language.specs.Program.{Procedure, procedureAt, signatureOf}
 use Rattle.language.specs.Typing.{typingOk}
 use Rattle.language.specs.Lifetimes.{classesOk, declaredClassesOk}
 use Rattle.language.specs.Answers.{program}
+use Rattle.laws.specs.Tests.{and-assoc, and-yes}
 use Rattle.region_graph.specs.Typed.{noProcedure, signature-typed, procedures-count}
 use Rattle.chains.specs.Formed.{Formed, Stands, proceduresAt, procedures-none, procedures-stand, program-procedures}
 use Rattle.chains.specs.Declared.{ProcedureAt}
@@ -34,16 +35,6 @@ and-same : (a b : Bool) → (a && b) ≡ (a & b)
 unfolding _&_
 and-same true b = refl
 and-same false b = refl
-
-and-assoc : (a b c : Bool) → ((a & b) & c) ≡ (a & (b & c))
-unfolding _&_
-and-assoc true b c = refl
-and-assoc false b c = refl
-
-and-true-is : (a : Bool) → (a & true) ≡ a
-unfolding _&_
-and-true-is true = refl
-and-true-is false = refl
 
 pub listing-first : {f : List ℕ} (t : List ℕ) {i : ℕ} → Formed f → i ≡ word f 0 1 → Listing f t true i 0
 unfolding procedureAt declaredClassesOk _&_
@@ -104,7 +95,7 @@ module _ {f t : List ℕ} {right : Bool} {i q next vs rs gs : ℕ} (T : typingOk
 module _ {f t : List ℕ} {right : Bool} {i q : ℕ} (h : Listing f t right i q) (z : i ≡ 0) where
   pub listing-right : right ≡ declaredClassesOk (program f)
   unfolding all
-  listing-right = sym (and-true-is right) ∙ ap (λ (ps : List Procedure). right & rightAll ps) (sym (procedures-none f z)) ∙ h .same
+  listing-right = sym (and-yes right) ∙ ap (λ (ps : List Procedure). right & rightAll ps) (sym (procedures-none f z)) ∙ h .same
 
   pub listing-table : typingOk (program f) ≡ true → ClassTable (program f) t
   listing-table T =

@@ -1,7 +1,7 @@
 -- The reach of variables, by a procedure's tables: place x of `variables` has the record of variable x, place r of `reaches` the reach of region r.
 use Prim.Native.Nat.{ℕ}
 use mathlib.Core.List.{List}
-use mathlib.Core.Path.{_≡_, refl, sym, ap, ap₂, _∙_, fun-ext}
+use mathlib.Core.Path.{_≡_, ap, ap₂, _∙_, fun-ext}
 use lib.ListN.{getD}
 use Rattle.sets.specs.Sets.{_∪_, loaded}
 use Rattle.sets.specs.Members.{unionOver}

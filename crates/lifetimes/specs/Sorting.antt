@@ -10,7 +10,7 @@ use lib.Dec.{eqb}
 use lib.ListN.{length}
 use Rattle.sets.specs.Sets.{emptySet, single, _∪_}
 use Rattle.sets.specs.SetLaws.{union-empty, empty-union, union-assoc}
-use Rattle.sets.specs.Members.{consIf, members, setOf, filtered, keep, inList}
+use Rattle.sets.specs.Members.{consIf, members, setOf, filtered, keep}
 use Rattle.sets.specs.Rising.{Rising, rising-nil, rising-cons, members-setOf}
 use Rattle.sets.specs.declared.Set.{Set}
 use Rattle.language.specs.Lists.{nth, nth1, upFrom}

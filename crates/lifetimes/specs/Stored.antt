@@ -4,12 +4,12 @@ use native.Mathlib.Omega.{arith}
 use mathlib.Core.Bool.{Bool}
 use mathlib.Core.List.{List}
 use mathlib.Core.Logic.{_≢_}
-use mathlib.Core.Path.{_≡_, refl, sym, ap, _∙_}
+use mathlib.Core.Path.{_≡_, ap, _∙_}
 use lib.ListN.{length, getD, set, length-set}
 use lib.Seq.{getD-set-same, getD-set-other}
 use Rattle.sets.specs.Sets.{stored, loaded, loaded-stored}
 use Rattle.sets.specs.declared.Set.{Set}
-use Rattle.language.specs.Program.{Signature, Procedure, Program, signatureOf}
+use Rattle.language.specs.Program.{Signature, Program, signatureOf}
 use Rattle.language.specs.Lifetimes.{born, dead, kept, classesOk}
 use Rattle.lifetimes.specs.Classed.{Classed}
 use Rattle.lifetimes.specs.declared.Classes.{Classes}

@@ -5,7 +5,7 @@ use native.Mathlib.Decide.{decLt}
 use mathlib.Core.Bool.{true}
 use mathlib.Core.List.{List}
 use mathlib.Core.Logic.{inl}
-use mathlib.Core.Path.{_≡_, refl, sym, ap, _∙_}
+use mathlib.Core.Path.{_≡_, refl, ap, _∙_}
 use lib.ListN.{length, getD}
 use Rattle.language.specs.File
 use Rattle.language.specs.Program.{Functor, Signature}
@@ -19,7 +19,7 @@ use Rattle.chains.specs.Records.{chainRecords}
 use Rattle.chains.specs.Tables.{tableOf, from-one, table-past}
 use Rattle.chains.specs.Elements.{variables-count, regions-count}
 use Rattle.chains.specs.Reached.{stands-nth1, region-edges}
-use Rattle.chains.specs.Lookups.{VariableTable, RegionTable, variable-table, region-table}
+use Rattle.chains.specs.Lookups.{RegionTable, variable-table, region-table}
 use Rattle.regions.specs.Places
 use Rattle.regions.specs.Places.{EdgesStand, EdgeTable, firstEdge}
 use Rattle.regions.specs.Reaches.{ReachesBelow, reach-found}

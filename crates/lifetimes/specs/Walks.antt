@@ -1,7 +1,7 @@
 -- Going through the members of a set by `Set::after`: what is gathered so far, with what the members ahead give, is the whole.
 use Prim.Native.Nat.{ℕ, _-_, _≤_, _<_}
 use native.Mathlib.Omega.{arith}
-use mathlib.Core.Path.{_≡_, refl, sym, ap, _∙_}
+use mathlib.Core.Path.{_≡_, sym, ap, _∙_}
 use Rattle.sets.specs.Sets.{emptySet, _∪_}
 use Rattle.sets.specs.SetLaws.{union-empty, empty-union, union-assoc}
 use Rattle.sets.specs.Members.{nextMember, unionAll, unionOver}

@@ -6,18 +6,29 @@ use regions::list_reaches;
 use regions::reach_of;
 use sets::Set;
 ghost use mathlib.Core.Path.{_≡_};
-ghost use mathlib.Core.Bool.{true};
-ghost use mathlib.Core.List.{List};
 ghost use Prim.Native.Nat.{_≤_};
 ghost use lib.ListN.{length};
 ghost use Rattle.language.specs.File;
-ghost use Rattle.language.specs.Program.{Functor, Signature};
-ghost use Rattle.language.specs.Typing.{signatureOk};
+ghost use Rattle.language.specs.Program.{Signature};
 ghost use Rattle.language.specs.Regions.{reachAll};
 ghost use Rattle.language.specs.Lifetimes;
 ghost use Rattle.chains.specs.Formed.{Formed, Stands};
+ghost use Rattle.regions.specs.Places.{EdgesStand};
 ghost use Rattle.lifetimes.specs.Reaching.{ReachTables};
 ghost use Rattle.lifetimes.specs.Tabled.{SignatureAt, Tables};
+
+// Places for 64 variables or regions, numbered from 1.
+pub fn record_table() -> [usize; 65]
+    ensures { λ r. ⌜ 65 ≡ length r ⌝ }
+{
+    [0; 65]
+}
+
+pub fn reach_table() -> [u64; 65]
+    ensures { λ r. ⌜ 65 ≡ length r ⌝ }
+{
+    [0; 65]
+}
 
 // Fills the tables of a procedure with these variables and regions: the variables' records and the regions' records by number, and the reach
 // of each region.
@@ -32,6 +43,7 @@ pub fn list_tables(
     requires { ⌜ Formed (now file) ⌝ }
     requires { ⌜ Stands (now file) File.variables v × Stands (now file) File.regions r ⌝ }
     requires { ⌜ (65 ≤ length (now variables)) × (65 ≤ length (now regions)) × (65 ≤ length (now reaches)) ⌝ }
+    ensures { λ _. ⌜ EdgesStand (now (file .entry)) (now (regions .exit)) ⌝ }
     ensures { λ _. ⌜ ((S : Signature) → SignatureAt (now (file .entry)) v r S → Tables (now (file .entry)) S (now (variables .exit)) (now (regions .exit)) (now (reaches .exit))) ⌝ }
 {
     list_chain(file, v, 1, variables);

@@ -1,6 +1,8 @@
 // Number 7 for every program, and the table of all procedures' classes.
 use crate::Classes;
 use crate::reach::list_tables;
+use crate::reach::reach_table;
+use crate::reach::record_table;
 use crate::sorting::sorted_regions;
 use crate::stored::put_classes;
 use records::Record;
@@ -20,18 +22,7 @@ ghost use Rattle.lifetimes.specs.Tabled.{SignatureAt};
 ghost use Rattle.lifetimes.specs.Classed.{Classed};
 ghost use Rattle.lifetimes.specs.Stored.{ClassTable, StoredClasses};
 
-fn record_table() -> [usize; 65]
-    ensures { λ r. ⌜ 65 ≡ length r ⌝ }
-{
-    [0; 65]
-}
-
-fn reach_table() -> [u64; 65]
-    ensures { λ r. ⌜ 65 ≡ length r ⌝ }
-{
-    [0; 65]
-}
-
+// Places for 256 procedures.
 fn class_table() -> [u64; 768]
     ensures { λ r. ⌜ 768 ≡ length r ⌝ }
 {
@@ -40,7 +31,7 @@ fn class_table() -> [u64; 768]
 
 impl Classes {
     // Number 7 does not apply: "class 1 not output-only or class 2 not input-only".
-    pub fn right(self) -> bool
+    fn right(self) -> bool
         ensures { λ b. ⌜ ((S : Signature) → Classed S self → b ≡ classesOk S) ⌝ }
     {
         let inputs = self.inputs;
@@ -55,7 +46,7 @@ impl Classes {
 }
 
 // The classes of a procedure with these variables and regions.
-pub fn procedure_classes(file: &[u8], v: usize, r: usize) -> Classes
+fn procedure_classes(file: &[u8], v: usize, r: usize) -> Classes
     requires { ⌜ Formed (now file) ⌝ }
     requires { ⌜ Stands (now file) File.variables v × Stands (now file) File.regions r ⌝ }
     ensures { λ c. ⌜ ((S : Signature) → SignatureAt (now (file .entry)) v r S → Classed S c) ⌝ }

@@ -13,7 +13,7 @@ use Rattle.language.specs.Program.{Four, four, fourWords, trimOnto, trimmed, ar
 use Rattle.language.specs.Typing.{typesIn, isVariable, hasType, haveTypes, argumentsOk, typesOf, parameterTypes}
 use Rattle.typing.specs.Arguments.{argumentSlot, argumentSlots, argumentsFit}
 use Rattle.typing.specs.Settings.{VariablesAgree}
-use Rattle.typing.specs.Calls.{takes, takenTypes}
+use Rattle.typing.specs.Parameters.{takes, takenTypes}
 
 module _ (S : Signature) where
   -- 0 is no variable

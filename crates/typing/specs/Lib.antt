@@ -1,3 +1,5 @@
+pub mod Numbers
+pub mod Parameters
 pub mod Settings
 pub mod Arguments
 pub mod Calls

@@ -4,43 +4,27 @@ use native.Mathlib.Omega.{arith}
 use mathlib.Core.Path.{_≡_, refl, ap, sym, _∙_}
 use mathlib.Core.Bool.{Bool}
 use mathlib.Core.List.{List}
-use mathlib.Core.Logic.{_⊎_, inl, inr}
 use lib.Dec.{ltb}
 use lib.ListN.{length}
 use Rattle.sets.specs.Tests.{_&_}
-use Rattle.language.specs.File.{GoalKind, kLiteral, kSum, kAssign, kConstruct, kSwitch, kIf, kCall, kPrint, kCreate, kRemove, Kind, kNone, kGoal, goals, row, kindOf, word, recordCount}
+use Rattle.language.specs.File.{GoalKind, kLiteral, kSum, kAssign, kConstruct, kSwitch, kIf, kCall, kPrint, kCreate, kRemove, kGoal, goals, kindOf, word, recordCount}
 use Rattle.language.specs.Program.{Goal, step, call, Signature, functorsOf, functorAt, signatureOf}
 use Rattle.language.specs.Answers.{program}
 use Rattle.language.specs.Typing.{haveTypes, functorsFor, stepOk, goalOk}
-use Rattle.layout.specs.Table.{all-rows, number-is, number-kind}
+use Rattle.layout.specs.Table.{all-rows}
 use Rattle.layout.specs.Chains.{starts-kind, goals-kind}
-use Rattle.records.specs.Records.{recordAs, recordAt}
 use Rattle.chains.specs.Formed.{Stands, stands-starts, goalAt, argumentsAt}
 use Rattle.chains.specs.Kinds.{same-read}
 use Rattle.chains.specs.Goals.{literal-at, sum-at, assign-at, construct-at, print-at, create-at, remove-at}
 use Rattle.chains.specs.Parts.{CallAt, call-at}
 use Rattle.declarations.specs.Names.{listedIn, wordIn, typedIn}
+use Rattle.typing.specs.Numbers.{by-number, goal-number}
 use Rattle.typing.specs.Settings.{declared, Setting}
 use Rattle.typing.specs.Arguments.{sumFits, assignFits, argumentsAtRecord, functorsHere, constructFits}
 use Rattle.typing.specs.Calls.{callFits}
 use Rattle.typing.specs.Agree.{arguments-are, parameters-are}
 
--- the record that a number stands for
-pub by-number : (f : List ℕ) (i : ℕ) {w : ℕ} (k : Kind) → w ≡ word f i 0 → w ≡ row k .kind → recordAt f i ≡ recordAs k (word f i)
-by-number f i k e n = same-read f i refl (number-is k (word f i 0) (sym e ∙ n))
-
--- a goal's kind has its number
-goal-some : (g : GoalKind) → kGoal g ≡ kNone → ⊥
-goal-some g e = let z : _≡_ {A = ℕ} 0 1 = cc in omega arith
-
-goal-number : (w : ℕ) (g : GoalKind) → kindOf w ≡ kGoal g → w ≡ row (kGoal g) .kind
-goal-number w g e = go (number-kind w)
-  where
-    go : (kindOf w ≡ kNone) ⊎ (w ≡ row (kindOf w) .kind) → w ≡ row (kGoal g) .kind
-    go (inl z) = absurd (goal-some g (sym e ∙ z))
-    go (inr z) = z ∙ ap (λ l. row l .kind) e
-
-module _ {f types procedures variables regions : List ℕ} (K : Setting f types procedures variables regions) where
+module _ {f types procedures parameters variables regions : List ℕ} (K : Setting f types procedures parameters variables regions) where
   abbrev own : Signature
   own = declared f variables regions
 
@@ -76,7 +60,7 @@ module _ {f types procedures variables regions : List ℕ} (K : Setting f types 
     unfolding all-rows
     call-here n = call-at (K .formed) refl (by-number f i (kGoal kCall) e n)
 
-    pub call-is : w ≡ 15 → {q y : ℕ} {r : Bool} → q ≡ word f i 2 → y ≡ word f i 3 → callFits f procedures variables q y r → r ≡ goalOk (program f) own (goalAt f i)
+    pub call-is : w ≡ 15 → {q y : ℕ} {r : Bool} → q ≡ word f i 2 → y ≡ word f i 3 → callFits f variables q y r → r ≡ goalOk (program f) own (goalAt f i)
     unfolding goalOk stepOk
     call-is n {q} {y} eq ey h =
         goal-as i {g = step (call q (argumentsAt f y))} (rw (eq, ey) (call-here n .goal))

@@ -25,6 +25,7 @@ use Rattle.declarations.specs.Functors.{length-map}
 use Rattle.declarations.specs.Signatures.{variableAtRecord, signatureFrom}
 use Rattle.declarations.specs.Tabled.{Nothing, Something, found-zero, listed-zero, found-one, listed-one, first-place, variables-map, variables-length, regions-length, region-listed}
 use Rattle.declarations.specs.SignatureLaws.{few-declared}
+use Rattle.typing.specs.Parameters.{ParameterTable}
 use Rattle.typing.specs.Settings.{ProcedureTable, declared, Setting}
 
 module _ {f : List ℕ} (F : Formed f) where
@@ -84,7 +85,7 @@ module _ {f : List ℕ} (F : Formed f) where
     variable-agrees ty x = rw (variable-listed x, variable-typed x)
 
 -- ---- the tables of a procedure
-module _ {f types called : List ℕ} (F : Formed f) (T : TypeTable f types) (C : ProcedureTable f called) (v r : ℕ) (sv : Stands f variables v) (sr : Stands f regions r)
+module _ {f types called parameters : List ℕ} (F : Formed f) (T : TypeTable f types) (C : ProcedureTable f called) (P : ParameterTable f parameters) (v r : ℕ) (sv : Stands f variables v) (sr : Stands f regions r)
     (ok : signatureOk (program f .types) (signatureFrom f v r) ≡ true) {tv tr : List ℕ} (ev : tv ≡ tableOf 1 65 (chainRecords f v)) (er : tr ≡ tableOf 1 65 (chainRecords f r)) where
   few-variables : length (chainRecords f v) ≤ 64
   unfolding signatureFrom
@@ -98,12 +99,13 @@ module _ {f types called : List ℕ} (F : Formed f) (T : TypeTable f types) (C :
   unfolding declared
   declared-same = rw (ev, er, first-place F 65 v variables sv (omega (arith, few-variables)), first-place F 65 r regions sr (omega (arith, few-regions)))
 
-  pub setting : Setting f types called tv tr
+  pub setting : Setting f types called parameters tv tr
   unfolding signatureFrom
   setting = record {
     formed = F;
     type-table = T;
     procedure-table = C;
+    parameter-table = P;
     is-variable = λ x. rw (declared-same, ev) (variable-listed F v sv few-variables (signatureFrom f v r) refl x);
     type-is = λ x. rw (declared-same, ev) (variable-typed F v sv few-variables (signatureFrom f v r) refl x);
     has-type = λ ty x. rw (declared-same, ev) (variable-agrees F v sv few-variables (signatureFrom f v r) refl ty x);

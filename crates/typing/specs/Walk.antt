@@ -22,7 +22,7 @@ use Rattle.declarations.specs.Functors.{functorAtRecord, functors-step}
 use Rattle.typing.specs.Settings.{declared, Setting}
 use Rattle.typing.specs.Arguments.{argumentsFit, argumentsAtRecord, comparedFits}
 use Rattle.typing.specs.Agree.{arguments-are}
-use Rattle.typing.specs.Steps.{by-number}
+use Rattle.typing.specs.Numbers.{by-number}
 
 -- ---- a chain of goals
 module _ (f : List ℕ) (S : Signature) where
@@ -46,7 +46,7 @@ unfolding _&_
 and-assoc true b c = refl
 and-assoc false b c = refl
 
-module _ {f types procedures variables regions : List ℕ} (K : Setting f types procedures variables regions) where
+module _ {f types procedures parameters variables regions : List ℕ} (K : Setting f types procedures parameters variables regions) where
   abbrev own : Signature
   own = declared f variables regions
 

@@ -18,17 +18,18 @@ pub fn goals_ok(
     file: &[u8],
     types: &[usize; 65],
     procedures: &[usize; 256],
+    parameters: &[usize; 4096],
     variables: &[usize; 65],
     regions: &[usize; 65],
     start: usize,
 ) -> bool
-    requires { ⌜ Setting (now file) (now types) (now procedures) (now variables) (now regions) ⌝ }
+    requires { ⌜ Setting (now file) (now types) (now procedures) (now parameters) (now variables) (now regions) ⌝ }
     requires { ⌜ Stands (now file) goals start ⌝ }
     ensures { λ r. ⌜ r ≡ goalsOk (program (now (file .entry))) (declared (now (file .entry)) (now (variables .entry)) (now (regions .entry))) (goalsAt (now (file .entry)) start) ⌝ }
 {
     let mut i = start;
     while i != 0 {
-        if !goal_ok(file, types, procedures, variables, regions, i) {
+        if !goal_ok(file, types, procedures, parameters, variables, regions, i) {
             return false;
         }
         i = word(file, i, 1);
@@ -41,18 +42,19 @@ fn goal_ok(
     file: &[u8],
     types: &[usize; 65],
     procedures: &[usize; 256],
+    parameters: &[usize; 4096],
     variables: &[usize; 65],
     regions: &[usize; 65],
     i: usize,
 ) -> bool
-    requires { ⌜ Setting (now file) (now types) (now procedures) (now variables) (now regions) ⌝ }
+    requires { ⌜ Setting (now file) (now types) (now procedures) (now parameters) (now variables) (now regions) ⌝ }
     requires { ⌜ Stands (now file) goals i × (i ≡ 0 → ⊥) ⌝ }
     ensures { λ r. ⌜ r ≡ goalOk (program (now (file .entry))) (declared (now (file .entry)) (now (variables .entry)) (now (regions .entry))) (goalAt (now (file .entry)) i) ⌝ }
 {
     match word(file, i, 0) {
-        12 => switch_ok(file, types, procedures, variables, regions, i),
-        14 => branches_ok(file, types, procedures, variables, regions, i),
-        _ => step_ok(file, types, procedures, variables, regions, i),
+        12 => switch_ok(file, types, procedures, parameters, variables, regions, i),
+        14 => branches_ok(file, types, procedures, parameters, variables, regions, i),
+        _ => step_ok(file, types, procedures, parameters, variables, regions, i),
     }
 }
 
@@ -61,11 +63,12 @@ fn branches_ok(
     file: &[u8],
     types: &[usize; 65],
     procedures: &[usize; 256],
+    parameters: &[usize; 4096],
     variables: &[usize; 65],
     regions: &[usize; 65],
     i: usize,
 ) -> bool
-    requires { ⌜ Setting (now file) (now types) (now procedures) (now variables) (now regions) ⌝ }
+    requires { ⌜ Setting (now file) (now types) (now procedures) (now parameters) (now variables) (now regions) ⌝ }
     requires { ⌜ word (now file) i 0 ≡ 14 ⌝ }
     ensures { λ r. ⌜ r ≡ goalOk (program (now (file .entry))) (declared (now (file .entry)) (now (variables .entry)) (now (regions .entry))) (goalAt (now (file .entry)) i) ⌝ }
 {
@@ -73,11 +76,27 @@ fn branches_ok(
         return false;
     }
     let first = word(file, i, 4);
-    if !goals_ok(file, types, procedures, variables, regions, first) {
+    if !goals_ok(
+        file,
+        types,
+        procedures,
+        parameters,
+        variables,
+        regions,
+        first,
+    ) {
         return false;
     }
     let second = word(file, i, 5);
-    goals_ok(file, types, procedures, variables, regions, second)
+    goals_ok(
+        file,
+        types,
+        procedures,
+        parameters,
+        variables,
+        regions,
+        second,
+    )
 }
 
 // The switch of record i.
@@ -85,11 +104,12 @@ fn switch_ok(
     file: &[u8],
     types: &[usize; 65],
     procedures: &[usize; 256],
+    parameters: &[usize; 4096],
     variables: &[usize; 65],
     regions: &[usize; 65],
     i: usize,
 ) -> bool
-    requires { ⌜ Setting (now file) (now types) (now procedures) (now variables) (now regions) ⌝ }
+    requires { ⌜ Setting (now file) (now types) (now procedures) (now parameters) (now variables) (now regions) ⌝ }
     requires { ⌜ word (now file) i 0 ≡ 12 ⌝ }
     ensures { λ r. ⌜ r ≡ goalOk (program (now (file .entry))) (declared (now (file .entry)) (now (variables .entry)) (now (regions .entry))) (goalAt (now (file .entry)) i) ⌝ }
 {
@@ -103,7 +123,16 @@ fn switch_ok(
     }
     let start = word_of(file, types, t, 2);
     let first = word(file, i, 3);
-    arms_ok(file, types, procedures, variables, regions, first, start)
+    arms_ok(
+        file,
+        types,
+        procedures,
+        parameters,
+        variables,
+        regions,
+        first,
+        start,
+    )
 }
 
 // The arms from record first on against the functors from record start on.
@@ -111,12 +140,13 @@ fn arms_ok(
     file: &[u8],
     types: &[usize; 65],
     procedures: &[usize; 256],
+    parameters: &[usize; 4096],
     variables: &[usize; 65],
     regions: &[usize; 65],
     first: usize,
     start: usize,
 ) -> bool
-    requires { ⌜ Setting (now file) (now types) (now procedures) (now variables) (now regions) ⌝ }
+    requires { ⌜ Setting (now file) (now types) (now procedures) (now parameters) (now variables) (now regions) ⌝ }
     requires { ⌜ Stands (now file) arms first ⌝ }
     requires { ⌜ Stands (now file) functors start ⌝ }
     ensures { λ r. ⌜ r ≡ armsOk (program (now (file .entry))) (declared (now (file .entry)) (now (variables .entry)) (now (regions .entry))) (armsAt (now (file .entry)) first) (functorsAt (now (file .entry)) start) 0 ⌝ }
@@ -136,7 +166,15 @@ fn arms_ok(
             return false;
         }
         let goals = word(file, i, 2);
-        if !goals_ok(file, types, procedures, variables, regions, goals) {
+        if !goals_ok(
+            file,
+            types,
+            procedures,
+            parameters,
+            variables,
+            regions,
+            goals,
+        ) {
             return false;
         }
         n += 1;

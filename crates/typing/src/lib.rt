@@ -2,6 +2,7 @@
 mod calls;
 mod constructs;
 mod goals;
+mod parameters;
 mod procedures;
 mod steps;
 mod whole;

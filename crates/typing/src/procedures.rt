@@ -15,6 +15,7 @@ ghost use Rattle.language.specs.Typing.{signatureOk, goalsOk, procedureOk};
 ghost use Rattle.chains.specs.Formed.{Formed, Stands, goalsAt, proceduresAt};
 ghost use Rattle.declarations.specs.Names.{TypeTable};
 ghost use Rattle.declarations.specs.Signatures.{signatureFrom};
+ghost use Rattle.typing.specs.Parameters.{ParameterTable};
 ghost use Rattle.typing.specs.Settings.{ProcedureTable};
 ghost use Rattle.typing.specs.Procedures.{procedureFrom};
 
@@ -23,6 +24,7 @@ fn body_ok(
     file: &[u8],
     types: &[usize; 65],
     called: &[usize; 256],
+    parameters: &[usize; 4096],
     vs: usize,
     rs: usize,
     gs: usize,
@@ -30,6 +32,7 @@ fn body_ok(
     requires { ⌜ Formed (now file) ⌝ }
     requires { ⌜ TypeTable (now file) (now types) ⌝ }
     requires { ⌜ ProcedureTable (now file) (now called) ⌝ }
+    requires { ⌜ ParameterTable (now file) (now parameters) ⌝ }
     requires { ⌜ Stands (now file) variables vs × Stands (now file) regions rs × Stands (now file) goals gs ⌝ }
     requires { ⌜ signatureOk (program (now file) .types) (signatureFrom (now file) vs rs) ≡ true ⌝ }
     ensures { λ r. ⌜ r ≡ goalsOk (program (now (file .entry))) (signatureFrom (now (file .entry)) vs rs) (goalsAt (now (file .entry)) gs) ⌝ }
@@ -38,13 +41,14 @@ fn body_ok(
     let mut regions = no_numbers();
     list_chain(file, vs, 1, &mut variables);
     list_chain(file, rs, 1, &mut regions);
-    goals_ok(file, types, called, &variables, &regions, gs)
+    goals_ok(file, types, called, parameters, &variables, &regions, gs)
 }
 
 fn procedure_ok(
     file: &[u8],
     types: &[usize; 65],
     called: &[usize; 256],
+    parameters: &[usize; 4096],
     n: usize,
     vs: usize,
     rs: usize,
@@ -53,6 +57,7 @@ fn procedure_ok(
     requires { ⌜ Formed (now file) ⌝ }
     requires { ⌜ TypeTable (now file) (now types) ⌝ }
     requires { ⌜ ProcedureTable (now file) (now called) ⌝ }
+    requires { ⌜ ParameterTable (now file) (now parameters) ⌝ }
     requires { ⌜ n ≡ length (program (now file) .types) ⌝ }
     requires { ⌜ Stands (now file) variables vs × Stands (now file) regions rs × Stands (now file) goals gs ⌝ }
     ensures { λ r. ⌜ r ≡ procedureOk (program (now (file .entry))) (procedureFrom (now (file .entry)) vs rs gs) ⌝ }
@@ -60,7 +65,7 @@ fn procedure_ok(
     if !signature_ok(file, types, n, vs, rs) {
         return false;
     }
-    body_ok(file, types, called, vs, rs, gs)
+    body_ok(file, types, called, parameters, vs, rs, gs)
 }
 
 // The procedures from record start on. There are n types.
@@ -68,12 +73,14 @@ pub fn each_procedure_ok(
     file: &[u8],
     types: &[usize; 65],
     called: &[usize; 256],
+    parameters: &[usize; 4096],
     n: usize,
     start: usize,
 ) -> bool
     requires { ⌜ Formed (now file) ⌝ }
     requires { ⌜ TypeTable (now file) (now types) ⌝ }
     requires { ⌜ ProcedureTable (now file) (now called) ⌝ }
+    requires { ⌜ ParameterTable (now file) (now parameters) ⌝ }
     requires { ⌜ n ≡ length (program (now file) .types) ⌝ }
     requires { ⌜ Stands (now file) procedures start ⌝ }
     ensures { λ r. ⌜ r ≡ all (procedureOk (program (now (file .entry)))) (proceduresAt (now (file .entry)) start) ⌝ }
@@ -89,7 +96,16 @@ pub fn each_procedure_ok(
         else {
             return false;
         };
-        if !procedure_ok(file, types, called, n, variables, regions, goals) {
+        if !procedure_ok(
+            file,
+            types,
+            called,
+            parameters,
+            n,
+            variables,
+            regions,
+            goals,
+        ) {
             return false;
         }
         i = next;

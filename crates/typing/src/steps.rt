@@ -68,11 +68,12 @@ pub fn step_ok(
     file: &[u8],
     types: &[usize; 65],
     procedures: &[usize; 256],
+    parameters: &[usize; 4096],
     variables: &[usize; 65],
     regions: &[usize; 65],
     i: usize,
 ) -> bool
-    requires { ⌜ Setting (now file) (now types) (now procedures) (now variables) (now regions) ⌝ }
+    requires { ⌜ Setting (now file) (now types) (now procedures) (now parameters) (now variables) (now regions) ⌝ }
     requires { ⌜ Stands (now file) goals i × (i ≡ 0 → ⊥) ⌝ }
     requires { ⌜ (word (now file) i 0 ≡ 12 → ⊥) × (word (now file) i 0 ≡ 14 → ⊥) ⌝ }
     ensures { λ r. ⌜ r ≡ goalOk (program (now (file .entry))) (declared (now (file .entry)) (now (variables .entry)) (now (regions .entry))) (goalAt (now (file .entry)) i) ⌝ }
@@ -84,7 +85,14 @@ pub fn step_ok(
         11 => construct_ok(file, types, variables, i),
         15 => {
             let callee = word(file, i, 2);
-            call_ok(file, procedures, variables, callee, word(file, i, 3))
+            call_ok(
+                file,
+                procedures,
+                parameters,
+                variables,
+                callee,
+                word(file, i, 3),
+            )
         }
         17 => is_number(file, variables, i, 2),
         _ => listed(regions, word(file, i, 2)),

@@ -1,4 +1,5 @@
 // Number 3 for a whole file.
+use crate::parameters::list_parameters;
 use crate::procedures::each_procedure_ok;
 use chains::list_chain;
 use declarations::no_numbers;
@@ -18,6 +19,12 @@ fn no_procedures() -> [usize; 256]
     [0; 256]
 }
 
+fn no_parameters() -> [usize; 4096]
+    ensures { λ r. ⌜ 4096 ≡ length r ⌝ }
+{
+    [0; 4096]
+}
+
 // The procedures, of a file whose n types are in order.
 fn procedures_ok(file: &[u8], types: &[usize; 65], n: usize) -> bool
     requires { ⌜ Formed (now file) ⌝ }
@@ -34,7 +41,9 @@ fn procedures_ok(file: &[u8], types: &[usize; 65], n: usize) -> bool
     if 256 < count {
         return false;
     }
-    each_procedure_ok(file, types, &procedures, n, first)
+    let mut parameters = no_parameters();
+    list_parameters(file, &mut parameters);
+    each_procedure_ok(file, types, &procedures, &parameters, n, first)
 }
 
 // Whether number 3 does not apply to a file that passes numbers 1 and 2.

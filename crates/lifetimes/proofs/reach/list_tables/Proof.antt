@@ -29,11 +29,14 @@ same-length-3 : tie.Need-same-length-3
 same-length-3 c = search needs
 
 returns : tie.Need-returns
-returns c = λ S h.
+returns c =
     let p = c .before .before .before .before .before .before .before .before .before .before .before .before .before .before .before .before .before .before .pre in
     let l = p .1 .1 in
-    let r = c .before .before .before .before .before .before .before .before .list-chain2 .ensures in
-    tables-filled (p .0) S h (p .1 .0 .0) (p .1 .0 .1) (c .before .before .before .before .before .before .before .before .before .before .before .before .list-chain .ensures .1) (l .0) (r .1) (l .1) (r .0) (c .before .before .list-reaches .ensures)
+    let r = c .before .before .before .before .before .before .before .before .list-chain2 .ensures in (
+      listed-edges _ (p .0) (p .1 .0 .1) (r .1),
+      λ S h.
+          tables-filled (p .0) S h (p .1 .0 .0) (p .1 .0 .1) (c .before .before .before .before .before .before .before .before .before .before .before .before .list-chain .ensures .1) (l .0) (r .1) (l .1) (r .0) (c .before .before .list-reaches .ensures),
+    )
 
 same-length-4 : tie.Need-same-length-4
 same-length-4 c = search needs
@@ -42,9 +45,12 @@ same-length-5 : tie.Need-same-length-5
 same-length-5 c = search needs
 
 returns-2 : tie.Need-returns-2
-returns-2 c = λ S h.
+returns-2 c =
     let p = c .before .before .before .before .before .before .before .before .before .before .before .before .before .pre in
-    not-filled (p .0) S h (p .1 .0 .0) (p .1 .0 .1) (c .before .before .before .list-chain2 .ensures .0) (p .1 .1 .2) (c .if1 .left)
+    let r = c .before .before .before .list-chain2 .ensures in (
+      listed-edges _ (p .0) (p .1 .0 .1) (r .1),
+      λ S h. not-filled (p .0) S h (p .1 .0 .0) (p .1 .0 .1) (r .0) (p .1 .1 .2) (c .if1 .left),
+    )
 
 pub list-tables-spec : {M : Type 1} → statement M
 list-tables-spec =

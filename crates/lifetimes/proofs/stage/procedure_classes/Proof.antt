@@ -35,7 +35,7 @@ sorted-regions-requires : tie.Need-sorted-regions-requires
 sorted-regions-requires c κs = search needs
 
 returns : tie.Need-returns
-returns c = λ S h. c .sorted-regions .ensures S h (c .before .before .before .before .before .before .list-tables .ensures S h .reach)
+returns c = λ S h. c .sorted-regions .ensures S h (c .before .before .before .before .before .before .list-tables .ensures .1 S h .reach)
 
 pub procedure-classes-spec : {M : Type 1} → statement M
 procedure-classes-spec =

@@ -42,60 +42,60 @@ use Rattle.typing.proofs.steps.step_ok.Reads as step-ok-reads
 use Rattle.typing.proofs.goals.+arms_ok+branches_ok+goal_ok+goals_ok+switch_ok.{statement}
 use Rattle.typing.proofs.goals.+arms_ok+branches_ok+goal_ok+goals_ok+switch_ok.Tie.{close}
 
-abbrev μ-arms-ok : Measures 5 arms-ok-kinds.ps ℕ
-μ-arms-ok κs a = 3 * ahead (a .0 .now) (a .1 .1 .1 .1 .1 .0) + 2
+abbrev μ-arms-ok : Measures 6 arms-ok-kinds.ps ℕ
+μ-arms-ok κs a = 3 * ahead (a .0 .now) (a .1 .1 .1 .1 .1 .1 .0) + 2
 
-abbrev μ-branches-ok : Measures 5 branches-ok-kinds.ps ℕ
-μ-branches-ok κs a = 3 * ahead (a .0 .now) (a .1 .1 .1 .1 .1 .0)
+abbrev μ-branches-ok : Measures 6 branches-ok-kinds.ps ℕ
+μ-branches-ok κs a = 3 * ahead (a .0 .now) (a .1 .1 .1 .1 .1 .1 .0)
 
-abbrev μ-goal-ok : Measures 5 goal-ok-kinds.ps ℕ
-μ-goal-ok κs a = 3 * ahead (a .0 .now) (a .1 .1 .1 .1 .1 .0) + 1
+abbrev μ-goal-ok : Measures 6 goal-ok-kinds.ps ℕ
+μ-goal-ok κs a = 3 * ahead (a .0 .now) (a .1 .1 .1 .1 .1 .1 .0) + 1
 
-abbrev μ-goals-ok : Measures 5 goals-ok-kinds.ps ℕ
-μ-goals-ok κs a = 3 * ahead (a .0 .now) (a .1 .1 .1 .1 .1 .0) + 2
+abbrev μ-goals-ok : Measures 6 goals-ok-kinds.ps ℕ
+μ-goals-ok κs a = 3 * ahead (a .0 .now) (a .1 .1 .1 .1 .1 .1 .0) + 2
 
-abbrev μ-switch-ok : Measures 5 switch-ok-kinds.ps ℕ
-μ-switch-ok κs a = 3 * ahead (a .0 .now) (a .1 .1 .1 .1 .1 .0)
+abbrev μ-switch-ok : Measures 6 switch-ok-kinds.ps ℕ
+μ-switch-ok κs a = 3 * ahead (a .0 .now) (a .1 .1 .1 .1 .1 .1 .0)
 
-abbrev arms-ok-at : ℕ → In 5 arms-ok-kinds.ps
-arms-ok-at t = and 5 arms-ok-kinds.ps (is 5 arms-ok-kinds.ps μ-arms-ok t) arms-ok.Pre
+abbrev arms-ok-at : ℕ → In 6 arms-ok-kinds.ps
+arms-ok-at t = and 6 arms-ok-kinds.ps (is 6 arms-ok-kinds.ps μ-arms-ok t) arms-ok.Pre
 
-abbrev arms-ok-below : ℕ → In 5 arms-ok-kinds.ps
-arms-ok-below t = and 5 arms-ok-kinds.ps (falls 5 arms-ok-kinds.ps _<_ μ-arms-ok t) arms-ok.Pre
+abbrev arms-ok-below : ℕ → In 6 arms-ok-kinds.ps
+arms-ok-below t = and 6 arms-ok-kinds.ps (falls 6 arms-ok-kinds.ps _<_ μ-arms-ok t) arms-ok.Pre
 
-abbrev branches-ok-at : ℕ → In 5 branches-ok-kinds.ps
+abbrev branches-ok-at : ℕ → In 6 branches-ok-kinds.ps
 branches-ok-at t =
-    and 5 branches-ok-kinds.ps (is 5 branches-ok-kinds.ps μ-branches-ok t) branches-ok.Pre
+    and 6 branches-ok-kinds.ps (is 6 branches-ok-kinds.ps μ-branches-ok t) branches-ok.Pre
 
-abbrev branches-ok-below : ℕ → In 5 branches-ok-kinds.ps
+abbrev branches-ok-below : ℕ → In 6 branches-ok-kinds.ps
 branches-ok-below t =
-    and 5 branches-ok-kinds.ps (falls 5 branches-ok-kinds.ps _<_ μ-branches-ok t) branches-ok.Pre
+    and 6 branches-ok-kinds.ps (falls 6 branches-ok-kinds.ps _<_ μ-branches-ok t) branches-ok.Pre
 
-abbrev goal-ok-at : ℕ → In 5 goal-ok-kinds.ps
-goal-ok-at t = and 5 goal-ok-kinds.ps (is 5 goal-ok-kinds.ps μ-goal-ok t) goal-ok.Pre
+abbrev goal-ok-at : ℕ → In 6 goal-ok-kinds.ps
+goal-ok-at t = and 6 goal-ok-kinds.ps (is 6 goal-ok-kinds.ps μ-goal-ok t) goal-ok.Pre
 
-abbrev goal-ok-below : ℕ → In 5 goal-ok-kinds.ps
-goal-ok-below t = and 5 goal-ok-kinds.ps (falls 5 goal-ok-kinds.ps _<_ μ-goal-ok t) goal-ok.Pre
+abbrev goal-ok-below : ℕ → In 6 goal-ok-kinds.ps
+goal-ok-below t = and 6 goal-ok-kinds.ps (falls 6 goal-ok-kinds.ps _<_ μ-goal-ok t) goal-ok.Pre
 
-abbrev goals-ok-at : ℕ → In 5 goals-ok-kinds.ps
-goals-ok-at t = and 5 goals-ok-kinds.ps (is 5 goals-ok-kinds.ps μ-goals-ok t) goals-ok.Pre
+abbrev goals-ok-at : ℕ → In 6 goals-ok-kinds.ps
+goals-ok-at t = and 6 goals-ok-kinds.ps (is 6 goals-ok-kinds.ps μ-goals-ok t) goals-ok.Pre
 
-abbrev goals-ok-below : ℕ → In 5 goals-ok-kinds.ps
+abbrev goals-ok-below : ℕ → In 6 goals-ok-kinds.ps
 goals-ok-below t =
-    and 5 goals-ok-kinds.ps (falls 5 goals-ok-kinds.ps _<_ μ-goals-ok t) goals-ok.Pre
+    and 6 goals-ok-kinds.ps (falls 6 goals-ok-kinds.ps _<_ μ-goals-ok t) goals-ok.Pre
 
-abbrev switch-ok-at : ℕ → In 5 switch-ok-kinds.ps
-switch-ok-at t = and 5 switch-ok-kinds.ps (is 5 switch-ok-kinds.ps μ-switch-ok t) switch-ok.Pre
+abbrev switch-ok-at : ℕ → In 6 switch-ok-kinds.ps
+switch-ok-at t = and 6 switch-ok-kinds.ps (is 6 switch-ok-kinds.ps μ-switch-ok t) switch-ok.Pre
 
-abbrev switch-ok-below : ℕ → In 5 switch-ok-kinds.ps
+abbrev switch-ok-below : ℕ → In 6 switch-ok-kinds.ps
 switch-ok-below t =
-    and 5 switch-ok-kinds.ps (falls 5 switch-ok-kinds.ps _<_ μ-switch-ok t) switch-ok.Pre
+    and 6 switch-ok-kinds.ps (falls 6 switch-ok-kinds.ps _<_ μ-switch-ok t) switch-ok.Pre
 
 abbrev arms-ok-Inv-loop : arms-ok-lts.InvT-loop
-arms-ok-Inv-loop file types procedures variables regions first start i₀ g₀ n₀ i g n = Stands file arms i × Stands file functors g × (ahead file i ≤ ahead file first) × (n + ahead file i < 4096) × (armsOk (program file) (declared file variables regions) (armsAt file i) (functorsAt file g) n ≡ armsOk (program file) (declared file variables regions) (armsAt file first) (functorsAt file start) 0)
+arms-ok-Inv-loop file types procedures parameters variables regions first start i₀ g₀ n₀ i g n = Stands file arms i × Stands file functors g × (ahead file i ≤ ahead file first) × (n + ahead file i < 4096) × (armsOk (program file) (declared file variables regions) (armsAt file i) (functorsAt file g) n ≡ armsOk (program file) (declared file variables regions) (armsAt file first) (functorsAt file start) 0)
 
 abbrev arms-ok-μ-loop : arms-ok-lts.MeasureT-loop
-arms-ok-μ-loop file types procedures variables regions first start i₀ g₀ n₀ i g n = ahead file i
+arms-ok-μ-loop file types procedures parameters variables regions first start i₀ g₀ n₀ i g n = ahead file i
 
 -- what each member's callees ask and give
 abbrev arms-ok-calls : ℕ → arms-ok-lts.Claims
@@ -209,10 +209,10 @@ goal-ok-returns-3 : (t : ℕ) → goal-ok-lts.Need-returns-3 (goal-ok-calls t) (
 goal-ok-returns-3 t c = c .step-ok .ensures
 
 abbrev goals-ok-Inv-loop : goals-ok-lts.InvT-loop
-goals-ok-Inv-loop file types procedures variables regions start i₀ i = Stands file goals i × (ahead file i ≤ ahead file start) × (goalsOk (program file) (declared file variables regions) (goalsAt file i) ≡ goalsOk (program file) (declared file variables regions) (goalsAt file start))
+goals-ok-Inv-loop file types procedures parameters variables regions start i₀ i = Stands file goals i × (ahead file i ≤ ahead file start) × (goalsOk (program file) (declared file variables regions) (goalsAt file i) ≡ goalsOk (program file) (declared file variables regions) (goalsAt file start))
 
 abbrev goals-ok-μ-loop : goals-ok-lts.MeasureT-loop
-goals-ok-μ-loop file types procedures variables regions start i₀ i = ahead file i
+goals-ok-μ-loop file types procedures parameters variables regions start i₀ i = ahead file i
 
 goals-ok-loop-holds : (t : ℕ) → goals-ok-lts.Need-loop-holds (goals-ok-calls t) (goals-ok-at t) goals-ok.Post goals-ok-Inv-loop goals-ok-μ-loop
 goals-ok-loop-holds t c = (c .before .pre .1 .1, omega arith, refl)

@@ -15,13 +15,13 @@ use Rattle.typing.proofs.procedures.each_procedure_ok.Statement.{statem
 use Rattle.typing.proofs.procedures.each_procedure_ok.Tie as tie
 
 abbrev Inv-loop : tie.InvT-loop
-Inv-loop file types called n start i₀ i = Stands file procedures i × (all (procedureOk (program file)) (proceduresAt file i) ≡ all (procedureOk (program file)) (proceduresAt file start))
+Inv-loop file types called parameters n start i₀ i = Stands file procedures i × (all (procedureOk (program file)) (proceduresAt file i) ≡ all (procedureOk (program file)) (proceduresAt file start))
 
 abbrev μ-loop : tie.MeasureT-loop
-μ-loop file types called n start i₀ i = ahead file i
+μ-loop file types called parameters n start i₀ i = ahead file i
 
 loop-holds : tie.Need-loop-holds Inv-loop μ-loop
-loop-holds c = (c .before .pre .1 .1 .1 .1, refl)
+loop-holds c = (c .before .pre .1 .1 .1 .1 .1, refl)
 
 record-at-requires : tie.Need-record-at-requires Inv-loop μ-loop
 record-at-requires c κs = search needs
@@ -33,7 +33,7 @@ returns : tie.Need-returns Inv-loop μ-loop
 returns c = absurd (procedure-else (c .before .before .before .loop .inv .0) (c .before .before .loop-test .taken) (c .before .record-at .ensures) (c .match .keys2))
 
 procedure-ok-requires : tie.Need-procedure-ok-requires Inv-loop μ-loop
-procedure-ok-requires c κs = let s = c .before .before .before .before .before .before .before .pre in let v = procedure-at (s .0) (c .before .before .before .record-at .ensures) (c .before .next .given .1) in (s .0, (s .1 .0, (s .1 .1 .0, (s .1 .1 .1 .0, (v .to-variables .stands, v .to-regions .stands, v .to-goals .stands)))))
+procedure-ok-requires c κs = let s = c .before .before .before .before .before .before .before .pre in let v = procedure-at (s .0) (c .before .before .before .record-at .ensures) (c .before .next .given .1) in (s .0, (s .1 .0, (s .1 .1 .0, (s .1 .1 .1 .0, (s .1 .1 .1 .1 .0, (v .to-variables .stands, v .to-regions .stands, v .to-goals .stands))))))
 
 returns-2 : tie.Need-returns-2 Inv-loop μ-loop
 returns-2 c = let v = procedure-at (c .before .before .before .before .before .before .before .before .before .pre .0) (c .before .before .before .before .before .record-at .ensures) (c .before .before .before .next .given .1) in procedures-no _ v (c .before .procedure-ok .ensures) (not-true _ (c .if1 .taken)) ∙ c .before .before .before .before .before .before .before .loop .inv .1

@@ -28,7 +28,7 @@ word-requires-3 : tie.Need-word-requires-3
 word-requires-3 c κs = search needs
 
 call-ok-requires : tie.Need-call-ok-requires
-call-ok-requires c κs = let k = c .before .before .before .before .before .before .before .pre .0 in (k .formed, (k .procedure-table, stands-same (c .word3 .ensures .0) (call-here k _ (c .before .before .before .before .before .word .ensures .0) (c .before .before .before .before .match .keys5) .to-arguments .stands)))
+call-ok-requires c κs = let k = c .before .before .before .before .before .before .before .before .pre .0 in (k .formed, (k .procedure-table, (k .parameter-table, stands-same (c .word3 .ensures .0) (call-here k _ (c .before .before .before .before .before .before .word .ensures .0) (c .before .before .before .before .before .match .keys5) .to-arguments .stands))))
 
 is-number-requires-2 : tie.Need-is-number-requires-2
 is-number-requires-2 c κs = search needs
@@ -52,7 +52,7 @@ returns-4 : tie.Need-returns-4
 returns-4 c = construct-is (c .before .before .before .before .before .before .pre .0) _ (c .before .before .before .before .word .ensures .0) (c .before .before .before .match .keys4) (c .construct-ok .ensures)
 
 returns-5 : tie.Need-returns-5
-returns-5 c = call-is (c .before .before .before .before .before .before .before .before .pre .0) _ (c .before .before .before .before .before .before .word .ensures .0) (c .before .before .before .before .before .match .keys5) (c .before .before .before .before .word2 .ensures .0) (c .before .word3 .ensures .0) (c .call-ok .ensures)
+returns-5 c = call-is (c .before .before .before .before .before .before .before .before .before .pre .0) _ (c .before .before .before .before .before .before .before .word .ensures .0) (c .before .before .before .before .before .before .match .keys5) (c .before .before .before .before .before .word2 .ensures .0) (c .before .word3 .ensures .0) (c .call-ok .ensures)
 
 returns-6 : tie.Need-returns-6
 returns-6 c = print-is (c .before .before .before .before .before .pre .0) _ (c .before .before .before .word .ensures .0) (c .before .before .match .keys6) (c .is-number2 .ensures)

@@ -27,11 +27,20 @@ returns c = let s = c .before .before .before .before .before .before .before in
 returns-2 : tie.Need-returns-2
 returns-2 c = let s = c .before .before .before .before .before .before .before .before in many-procedures _ _ (s .pre .0) (c .before .before .before .before .before .before .word .ensures .0) (c .before .before .before .list-chain .ensures .0) (c .before .if1 .left) (c .if2 .taken)
 
+no-parameters-requires : tie.Need-no-parameters-requires
+no-parameters-requires c κs = search needs
+
+slice-aggregate-list-parameters : tie.Need-slice-aggregate-list-parameters
+slice-aggregate-list-parameters c = search needs
+
+list-parameters-requires : tie.Need-list-parameters-requires
+list-parameters-requires c κs = (c .before .before .before .before .before .before .before .before .before .before .pre .0, omega (arith, c .before .no-parameters .ensures))
+
 each-procedure-ok-requires : tie.Need-each-procedure-ok-requires
-each-procedure-ok-requires c κs = let l = c .before .before .before .before in let w = l .before .before .before in let s = w .before .before in (s .pre .0, (s .pre .1 .0, (rw (sized 0 _ (l .before .before .no-procedures .ensures) (l .list-chain .ensures .1)) (procedure-table (s .pre .0) (w .word .ensures .0) (omega (arith, l .list-chain .ensures .0, c .before .if2 .left))), (s .pre .1 .1, stands-same (w .word .ensures .0) (procedures-stand (s .pre .0))))))
+each-procedure-ok-requires c κs = let s = c .before .before .before .before .before .before .before .before .before .before .before .before .before .before .pre in let l = c .before .before .before .before .before .before .before .before .before .list-chain in let e = c .before .before .before .before .before .before .before .before .before .before .before .before .word .ensures .0 in (s .0, (s .1 .0, (rw (sized 0 _ (c .before .before .before .before .before .before .before .before .before .before .before .no-procedures .ensures) (l .ensures .1)) (procedure-table (s .0) e (omega (arith, l .ensures .0, c .before .before .before .before .before .before .if2 .left))), (c .before .before .before .list-parameters .ensures, (s .1 .1, stands-same e (procedures-stand (s .0)))))))
 
 returns-3 : tie.Need-returns-3
-returns-3 c = let l = c .before .before .before .before .before in let w = l .before .before .before in let s = w .before .before in procedures-all _ _ (s .pre .0) (w .word .ensures .0) (l .list-chain .ensures .0) (c .before .before .before .if1 .left) (c .before .before .if2 .left) (c .each-procedure-ok .ensures)
+returns-3 c = procedures-all _ _ (c .before .before .before .before .before .before .before .before .before .before .before .before .before .before .before .pre .0) (c .before .before .before .before .before .before .before .before .before .before .before .before .before .word .ensures .0) (c .before .before .before .before .before .before .before .before .before .before .list-chain .ensures .0) (c .before .before .before .before .before .before .before .before .if1 .left) (c .before .before .before .before .before .before .before .if2 .left) (c .each-procedure-ok .ensures)
 
 pub procedures-ok-spec : {M : Type 1} → statement M
 procedures-ok-spec =
@@ -43,5 +52,8 @@ procedures-ok-spec =
     list-chain-requires
     returns
     returns-2
+    no-parameters-requires
+    slice-aggregate-list-parameters
+    list-parameters-requires
     each-procedure-ok-requires
     returns-3)
