@@ -6,6 +6,7 @@ mod whole;
 use sets::Set;
 pub use table::live_after;
 pub use table::live_before;
+pub use walk::arm_gives;
 pub use walk::fill_goals;
 pub use whole::list_live;
 

@@ -175,7 +175,7 @@ fn fill_arms(
     let other = others.live;
     let own = fill_part(file, procedures, i, 2, after, others.start, table);
     let live = own.live;
-    let bound = arguments(file, i);
+    let bound = arm_gives(file, i);
     Filled {
         live: live.difference(bound).union(other),
         start: own.start,
@@ -183,7 +183,7 @@ fn fill_arms(
 }
 
 // The variables that the arm at record i gives a value.
-fn arguments(file: &[u8], i: usize) -> Set
+pub fn arm_gives(file: &[u8], i: usize) -> Set
     ensures { λ r. ⌜ r ≡ setOf (argumentsOf (four (word (now (file .entry)) i 4) (word (now (file .entry)) i 5) (word (now (file .entry)) i 6) (word (now (file .entry)) i 7))) ⌝ }
 {
     let a = Set::of(word(file, i, 4));

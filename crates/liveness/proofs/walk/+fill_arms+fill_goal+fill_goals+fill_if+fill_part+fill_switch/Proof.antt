@@ -28,7 +28,7 @@ use Rattle.liveness.proofs.walk.fill_switch.Reads as fill-switch
 use Rattle.liveness.proofs.walk.fill_switch.Kinds as fill-switch-kinds
 use Rattle.liveness.proofs.walk.+fill_arms+fill_goal+fill_goals+fill_if+fill_part+fill_switch.Lts-fill_switch as fill-switch-lts
 use Rattle.liveness.proofs.table.note.Reads as note-reads
-use Rattle.liveness.proofs.walk.arguments.Reads as arguments-reads
+use Rattle.liveness.proofs.walk.arm_gives.Reads as arm-gives-reads
 use Rattle.liveness.proofs.walk.live_step.Reads as live-step-reads
 use Rattle.records.proofs.word.Reads as word-reads
 use Rattle.sets.proofs.Set.difference.Reads as difference-reads
@@ -105,7 +105,7 @@ fill-switch-below t =
 -- what each member's callees ask and give
 abbrev fill-arms-calls : ℕ → fill-arms-lts.Claims
 fill-arms-calls t =
-    (word-reads.Asked, word-reads.Learnt, fill-arms-below t, fill-arms.Post, fill-part-below t, fill-part.Post, arguments-reads.Asked, arguments-reads.Learnt, difference-reads.Asked, difference-reads.Learnt, union-reads.Asked, union-reads.Learnt)
+    (word-reads.Asked, word-reads.Learnt, fill-arms-below t, fill-arms.Post, fill-part-below t, fill-part.Post, arm-gives-reads.Asked, arm-gives-reads.Learnt, difference-reads.Asked, difference-reads.Learnt, union-reads.Asked, union-reads.Learnt)
 
 abbrev fill-goal-calls : ℕ → fill-goal-lts.Claims
 fill-goal-calls t =
@@ -151,8 +151,8 @@ fill-arms-fill-part-requires t c κs =
     let o = arm-here _ _ (p .0) (p .1 .1) (on-if1 .if1 .left) .to-goals in
     (omega (arith, o .falls, start .pre .0), (p .0, (p .1 .0, (omega arith, o .stands))))
 
-fill-arms-arguments-requires : (t : ℕ) → fill-arms-lts.Need-arguments-requires (fill-arms-calls t) (fill-arms-at t) fill-arms.Post
-fill-arms-arguments-requires t c κs = search needs
+fill-arms-arm-gives-requires : (t : ℕ) → fill-arms-lts.Need-arm-gives-requires (fill-arms-calls t) (fill-arms-at t) fill-arms.Post
+fill-arms-arm-gives-requires t c κs = search needs
 
 fill-arms-difference-requires : (t : ℕ) → fill-arms-lts.Need-difference-requires (fill-arms-calls t) (fill-arms-at t) fill-arms.Post
 fill-arms-difference-requires t c κs = search needs
@@ -169,14 +169,14 @@ fill-arms-same-length t c =
 fill-arms-returns-2 : (t : ℕ) → fill-arms-lts.Need-returns-2 (fill-arms-calls t) (fill-arms-at t) fill-arms.Post
 fill-arms-returns-2 t c =
     let on-difference = c .before in
-    let on-arguments = on-difference .before in
-    let on-fill-part = on-arguments .before .before .before .before in
+    let on-arm-gives = on-difference .before in
+    let on-fill-part = on-arm-gives .before .before .before .before in
     let on-fill-arms = on-fill-part .before .before .before .before .before in
     let on-word = on-fill-arms .before .before in
     let on-if1 = on-word .before in
     let start = on-if1 .before .before .before .before in
     let p = start .pre .1 in
-    arms-more _ _ (p .0) (p .1 .1) (on-if1 .if1 .left) _ (on-word .word .ensures .0) (on-fill-arms .fill-arms .ensures) (on-fill-part .fill-part .ensures) (on-arguments .arguments .ensures) (on-difference .difference .ensures) (c .union .ensures)
+    arms-more _ _ (p .0) (p .1 .1) (on-if1 .if1 .left) _ (on-word .word .ensures .0) (on-fill-arms .fill-arms .ensures) (on-fill-part .fill-part .ensures) (on-arm-gives .arm-gives .ensures) (on-difference .difference .ensures) (c .union .ensures)
 
 fill-goal-word-requires : (t : ℕ) → fill-goal-lts.Need-word-requires (fill-goal-calls t) (fill-goal-at t) fill-goal.Post
 fill-goal-word-requires t c κs = search needs
@@ -416,7 +416,7 @@ pub +fill-arms+fill-goal+fill-goals+fill-if+fill-part+fill-switch-spec : {M : Ty
     (fill-arms-word-requires t)
     (fill-arms-fill-arms-requires t)
     (fill-arms-fill-part-requires t)
-    (fill-arms-arguments-requires t)
+    (fill-arms-arm-gives-requires t)
     (fill-arms-difference-requires t)
     (fill-arms-union-requires t)
     (fill-arms-same-length t)

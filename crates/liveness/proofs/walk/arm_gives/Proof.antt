@@ -1,8 +1,8 @@
--- `arguments` meets its contract.
+-- `arm_gives` meets its contract.
 use Rattle.liveness.proofs.Walking.{arguments-done}
 use borrow.Author.Needs.{needs}
-use Rattle.liveness.proofs.walk.arguments.Statement.{statement}
-use Rattle.liveness.proofs.walk.arguments.Tie as tie
+use Rattle.liveness.proofs.walk.arm_gives.Statement.{statement}
+use Rattle.liveness.proofs.walk.arm_gives.Tie as tie
 
 word-requires : tie.Need-word-requires
 word-requires c κs = search needs
@@ -47,8 +47,8 @@ returns c =
     (on-of4 .before .word4 .ensures .0) (on-of .of .ensures) (on-of2 .of2 .ensures) (on-of3 .of3 .ensures) (on-of4 .of4 .ensures)
     (c .before .before .union .ensures) (c .before .union2 .ensures) (c .union3 .ensures)
 
-pub arguments-spec : {M : Type 1} → statement M
-arguments-spec =
+pub arm-gives-spec : {M : Type 1} → statement M
+arm-gives-spec =
     tie.close
     (tie.spec
     word-requires
