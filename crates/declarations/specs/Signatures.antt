@@ -28,9 +28,6 @@ signatureFrom f v r = record { variables = variablesAt f v; regions = regionsAt 
 unfoldable pub variableFits : List ℕ → List ℕ → ℕ → Variable → Bool
 variableFits f t n v = leb (v .mode) 2 & leb (v .type) n & choose (leb 1 (v .type)) (typedIn f t 2 (v .type) (v .region)) (eqb (v .region) 0)
 
-unfoldable pub variableAtRecord : List ℕ → ℕ → Variable
-variableAtRecord f i = record { mode = word f i 2; type = word f i 3; region = word f i 4 }
-
 unfoldable pub regionAtRecord : List ℕ → ℕ → Region
 regionAtRecord f i = record { type = word f i 2; class = word f i 3; edges = edgesAt f (word f i 4) }
 

@@ -14,11 +14,11 @@ use Rattle.language.specs.Program.{Four, four, fourWords, Functor}
 use Rattle.language.specs.Answers.{program}
 use Rattle.language.specs.Typing.{typesIn, isType, functorOk, typeOk, typesOk}
 use Rattle.chains.specs.Formed.{Formed, types-stand, program-types, typesAt}
+use Rattle.chains.specs.Elements.{types-count}
 use Rattle.chains.specs.Records.{chainRecords}
 use Rattle.declarations.specs.Both.{fails, holds, all-same}
 use Rattle.declarations.specs.Names.{stands-same}
 use Rattle.declarations.specs.Types.{typeSlot, typeSlots, functorFits, typeFits}
-use Rattle.declarations.specs.Tabled.{types-length}
 
 -- ---- functors, slot by slot
 flat0 : (a b c d : Bool) → (a & b & c & d) ≡ (a & b & c & d & true)
@@ -94,7 +94,7 @@ module _ (f : List ℕ) (i : ℕ) (F : Formed f) (e : i ≡ word f 0 2) where
   types-are = program-types F ∙ ap (typesAt f) (sym e)
 
   pub type-count : {n : ℕ} → n ≡ length (chainRecords f i) → n ≡ length (program f .types)
-  type-count d = d ∙ types-length F i (stands-same e (types-stand F)) ∙ ap length (sym types-are)
+  type-count d = d ∙ sym (types-count F i (stands-same e (types-stand F))) ∙ ap length (sym types-are)
 
   pub types-all : {n : ℕ} {q : Bool} → n ≡ length (program f .types) → n ≤ 64 → q ≡ all (typeFits n) (typesAt f i) → q ≡ typesOk (program f .types)
   types-all {n} d h k = holds (le-leb n 64 h) (k ∙ ap (all (typeFits n)) (sym types-are)) ∙ types-fit (program f .types) d

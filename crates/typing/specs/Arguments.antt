@@ -1,11 +1,10 @@
 -- The arguments of a construct or an arm, slot by slot, and the goals without parts but the call, by a table of the variables.
 use Prim.Native.Nat.{ℕ, _≤_, _<_}
 use native.Mathlib.Omega.{arith}
-use native.Mathlib.Decide.{decLt}
-use borrow.Author.Tests.{lt-ltb, le-ltb, le-leb, lt-leb}
+use borrow.Author.Tests.{lt-ltb, le-ltb, le-leb, lt-leb, eq-eqb, ne-eqb}
 use mathlib.Core.Path.{_≡_, ap, sym, _∙_}
-use mathlib.Core.Bool.{Bool, true, false}
-use mathlib.Core.List.{List, map}
+use mathlib.Core.Bool.{Bool, true, false, false≢true}
+use mathlib.Core.List.{List}
 use lib.Dec.{eqb, leb, ltb}
 use lib.ListN.{length}
 use Rattle.sets.specs.Tests.{_&_}
@@ -13,10 +12,14 @@ use Rattle.language.specs.Lists.{choose, nth}
 use Rattle.language.specs.File.{word}
 use Rattle.language.specs.Program.{Four, four, Functor, functorAt}
 use Rattle.chains.specs.Formed.{Formed, functorsAt}
+use Rattle.chains.specs.Elements.{functors-count}
+use Rattle.chains.specs.Reached.{place-below, place-past}
+use Rattle.chains.specs.Lookups.{functor-of}
 use Rattle.chains.specs.Records.{chainRecords, records-some}
 use Rattle.declarations.specs.Both.{fails, holds, refuse, pass}
-use Rattle.declarations.specs.Names.{listedIn, wordIn, typedIn, TypeTable, stands-same}
-use Rattle.declarations.specs.Functors.{functorAtRecord, functors-map, length-map, nth-map, nth-out, nth-some}
+use Rattle.declarations.specs.Names.{listedIn, wordIn, typedIn}
+use Rattle.declarations.specs.Functors.{functorAtRecord, functor-same}
+use Rattle.typing.specs.Places.{placeIn, FunctorTable}
 
 module _ (f t : List ℕ) where
   unfoldable pub argumentSlot : ℕ → ℕ → ℕ → ℕ → Bool
@@ -44,16 +47,37 @@ module _ (f t : List ℕ) where
 unfoldable pub argumentsAtRecord : List ℕ → ℕ → Four
 argumentsAtRecord f i = four (word f i 4) (word f i 5) (word f i 6) (word f i 7)
 
+-- an arm against functor n, of record g: the number and the arguments
+unfoldable pub armFits : List ℕ → List ℕ → ℕ → ℕ → ℕ → Bool
+armFits f t g n i = ltb 0 g & eqb (word f i 3) n & argumentsFit f t (functorAtRecord f g) (argumentsAtRecord f i)
+
 -- the functors of x's type
 unfoldable pub functorsHere : List ℕ → List ℕ → List ℕ → ℕ → List Functor
-functorsHere f types t x = functorsAt f (wordIn f types 2 (wordIn f t 3 x))
+functorsHere f fs t x = functorsAt f (placeIn fs (wordIn f t 3 x) 0)
 
 unfoldable pub constructFits : List ℕ → List ℕ → List ℕ → ℕ → Bool
-constructFits f types t i =
-    listedIn t (word f i 2) & ltb (word f i 3) (length (functorsHere f types t (word f i 2)))
-    & argumentsFit f t (functorAt (functorsHere f types t (word f i 2)) (word f i 3)) (argumentsAtRecord f i)
+constructFits f fs t i =
+    listedIn t (word f i 2) & ltb (word f i 3) (length (functorsHere f fs t (word f i 2)))
+    & argumentsFit f t (functorAt (functorsHere f fs t (word f i 2)) (word f i 3)) (argumentsAtRecord f i)
 
 -- ---- what the code computes
+module _ (f t : List ℕ) (g n i : ℕ) where
+  pub arm-none : g ≡ 0 → false ≡ armFits f t g n i
+  unfolding armFits
+  arm-none e = fails _ (le-ltb 0 g (omega arith))
+
+  pub arm-some : {r : Bool} → r ≡ armFits f t g n i → r ≡ true → g ≡ 0 → ⊥
+  arm-some e p z = false≢true (arm-none z ∙ sym e ∙ p)
+
+  module _ (z : g ≡ 0 → ⊥) {w : ℕ} (ew : w ≡ word f i 3) where
+    pub arm-order : (w ≡ n → ⊥) → false ≡ armFits f t g n i
+    unfolding armFits
+    arm-order h = holds (lt-ltb 0 g (omega arith)) (fails _ (rw (sym ew) (ne-eqb w n h)))
+
+    pub arm-all : w ≡ n → {q : Bool} → q ≡ argumentsFit f t (functorAtRecord f g) (argumentsAtRecord f i) → q ≡ armFits f t g n i
+    unfolding armFits
+    arm-all h k = holds (lt-ltb 0 g (omega arith)) (holds (rw (sym ew) (eq-eqb w n h)) k)
+
 module _ (f t : List ℕ) where
   module _ (arity k u : ℕ) {a v : ℕ} (ea : a ≡ v) where
     pub argument-in : {ty : ℕ} {r : Bool} → k < arity → ty ≡ u → r ≡ typedIn f t 3 ty a → r ≡ argumentSlot f t arity k u v
@@ -125,39 +149,35 @@ module _ (f t : List ℕ) where
     assign-all p et ey eq = pass (e ∙ ap (listedIn t) ex) p (rw (sym ex, sym et, sym ey) eq)
 
 -- the functor of x's type that the construct names
-module _ (f types t : List ℕ) (i : ℕ) {x : ℕ} {r : Bool} (ex : x ≡ word f i 2) (e : r ≡ listedIn t x) where
-  pub construct-unlisted : r ≡ false → false ≡ constructFits f types t i
+module _ (f fs t : List ℕ) (i : ℕ) {x : ℕ} {r : Bool} (ex : x ≡ word f i 2) (e : r ≡ listedIn t x) where
+  pub construct-unlisted : r ≡ false → false ≡ constructFits f fs t i
   unfolding constructFits
   construct-unlisted p = refuse _ (e ∙ ap (listedIn t) ex) p
 
-  module _ (F : Formed f) (T : TypeTable f types) (p : r ≡ true) {ty st n g : ℕ}
-      (et : ty ≡ wordIn f t 3 x) (es : st ≡ wordIn f types 2 ty) (en : n ≡ word f i 3) (eg : g ≡ nth 0 (chainRecords f st) n) where
-    construct-as : {q : Bool} → q ≡ (ltb n (length (functorsHere f types t x)) & argumentsFit f t (functorAt (functorsHere f types t x) n) (argumentsAtRecord f i)) → q ≡ constructFits f types t i
+  module _ (F : Formed f) (T : FunctorTable f fs) (p : r ≡ true) {ty n g : ℕ}
+      (et : ty ≡ wordIn f t 3 x) (en : n ≡ word f i 3) (ep : g ≡ placeIn fs ty n) where
+    abbrev st : ℕ
+    st = placeIn fs ty 0
+
+    eg : g ≡ nth 0 (chainRecords f st) n
+    eg = ep ∙ T .type ty .places n
+
+    construct-as : {q : Bool} → q ≡ (ltb n (length (functorsHere f fs t x)) & argumentsFit f t (functorAt (functorsHere f fs t x) n) (argumentsAtRecord f i)) → q ≡ constructFits f fs t i
     unfolding constructFits
     construct-as k = pass (e ∙ ap (listedIn t) ex) p (rw (sym ex, sym en) k)
 
-    here-same : functorsHere f types t x ≡ map (functorAtRecord f) (chainRecords f st)
+    here-same : functorsHere f fs t x ≡ functorsAt f st
     unfolding functorsHere
-    here-same = ap (functorsAt f) (sym (es ∙ ap (wordIn f types 2) et)) ∙ functors-map F st (stands-same es (T .starts ty))
+    here-same = ap (λ k. functorsAt f (placeIn fs k 0)) (sym et)
 
-    here-length : length (functorsHere f types t x) ≡ length (chainRecords f st)
-    here-length = ap length here-same ∙ length-map (functorAtRecord f) (chainRecords f st)
+    here-length : length (functorsHere f fs t x) ≡ length (chainRecords f st)
+    here-length = ap length here-same ∙ functors-count F st (T .type ty .starts)
 
-    pub construct-none : g ≡ 0 → false ≡ constructFits f types t i
+    pub construct-none : g ≡ 0 → false ≡ constructFits f fs t i
     construct-none z =
-        let h : length (chainRecords f st) ≤ n = elim (decLt n (length (chainRecords f st))) [
-          | yes l ↦ absurd (omega (arith, nth-some (chainRecords f st) (records-some f st) n l))
-          | no l ↦ omega arith
-        ] in
-        construct-as (fails _ (le-ltb n (length (functorsHere f types t x)) (omega (arith, here-length))))
+        construct-as (fails _ (le-ltb n (length (functorsHere f fs t x)) (omega (arith, here-length, place-past (chainRecords f st) (records-some f st) n (sym eg ∙ z)))))
 
-    pub construct-some : {q : Bool} → (g ≡ 0 → ⊥) → q ≡ argumentsFit f t (functorAtRecord f g) (argumentsAtRecord f i) → q ≡ constructFits f types t i
-    unfolding functorAt
+    pub construct-some : {q : Bool} → (g ≡ 0 → ⊥) → q ≡ argumentsFit f t (functorAtRecord f g) (argumentsAtRecord f i) → q ≡ constructFits f fs t i
     construct-some z eq =
-        let h : n < length (chainRecords f st) = elim (decLt n (length (chainRecords f st))) [
-          | yes l ↦ l
-          | no l ↦ absurd (z (eg ∙ nth-out 0 (chainRecords f st) n (omega arith)))
-        ] in
-        let d : nth (record { arity = 0; argumentTypes = four 0 0 0 0 }) (functorsHere f types t x) n ≡ functorAtRecord f g =
-        ap (λ fs. nth (record { arity = 0; argumentTypes = four 0 0 0 0 }) fs n) here-same ∙ nth-map (functorAtRecord f) _ (chainRecords f st) n h ∙ ap (functorAtRecord f) (sym eg) in
-        construct-as (holds (lt-ltb n (length (functorsHere f types t x)) (omega (arith, here-length))) (eq ∙ ap (λ k. argumentsFit f t k (argumentsAtRecord f i)) (sym d)))
+        let d : functorAt (functorsHere f fs t x) n ≡ functorAtRecord f g = functor-of F (T .type ty .starts) here-same n eg ∙ functor-same f g z in
+        construct-as (holds (lt-ltb n (length (functorsHere f fs t x)) (omega (arith, here-length, place-below (chainRecords f st) n (λ q. z (eg ∙ q))))) (eq ∙ ap (λ k. argumentsFit f t k (argumentsAtRecord f i)) (sym d)))

@@ -1,5 +1,6 @@
 pub mod Numbers
 pub mod Parameters
+pub mod Places
 pub mod Settings
 pub mod Arguments
 pub mod Calls

@@ -1,24 +1,25 @@
 -- The procedures one by one, and the whole.
 use Prim.Native.Nat.{ℕ, _≤_, _<_}
 use native.Mathlib.Omega.{arith}
-use mathlib.Core.Path.{_≡_, ap, sym, _∙_}
+use mathlib.Core.Path.{_≡_, refl, ap, sym, _∙_}
 use mathlib.Core.Bool.{Bool, true, false}
-use mathlib.Core.List.{List}
+use mathlib.Core.List.{List, _∷_}
 use lib.ListN.{length}
 use borrow.Author.Tests.{le-leb, lt-leb}
 use Rattle.sets.specs.Tests.{_&_}
 use Rattle.language.specs.Lists.{all, among}
-use Rattle.language.specs.File.{word}
+use Rattle.language.specs.File.{procedures, word}
 use Rattle.language.specs.Program.{Procedure, Program}
 use Rattle.language.specs.Answers.{program}
 use Rattle.language.specs.Typing.{typesOk, signatureOk, goalsOk, procedureOk, typingOk}
-use Rattle.chains.specs.Formed.{Formed, procedures-stand, program-procedures, goalsAt, proceduresAt}
-use Rattle.chains.specs.Declared.{ProcedureAt}
+use Rattle.chains.specs.Formed.{Formed, Stands, procedures-stand, program-procedures, goalsAt, proceduresAt}
+use Rattle.chains.specs.Is.{procedure-is}
+use Rattle.chains.specs.Declared.{ProcedureAt, procedure-at}
+use Rattle.chains.specs.Elements.{procedures-count}
 use Rattle.chains.specs.Records.{chainRecords}
 use Rattle.declarations.specs.Both.{fails, holds, refuse, pass, all-no, all-yes}
 use Rattle.declarations.specs.Names.{stands-same}
 use Rattle.declarations.specs.Signatures.{signatureFrom}
-use Rattle.typing.specs.Tables.{procedures-length}
 
 -- the procedure with these chains
 unfoldable pub procedureFrom : List ℕ → ℕ → ℕ → ℕ → Procedure
@@ -27,25 +28,34 @@ procedureFrom f v r g = record { signature = signatureFrom f v r; body = goalsAt
 unfoldable pub proceduresOk : Program → Bool
 proceduresOk P = among 256 (length (P .procedures)) & all (procedureOk P) (P .procedures)
 
--- ---- one procedure
-module _ (f : List ℕ) (v r g : ℕ) {q : Bool} (e : q ≡ signatureOk (program f .types) (signatureFrom f v r)) where
-  pub wrong-signature : q ≡ false → false ≡ procedureOk (program f) (procedureFrom f v r g)
-  unfolding procedureOk procedureFrom
-  wrong-signature p = refuse _ e p
+unfoldable pub procedureAtRecord : List ℕ → ℕ → Procedure
+procedureAtRecord f i = procedureFrom f (word f i 2) (word f i 3) (word f i 4)
 
-  pub procedure-all : q ≡ true → {b : Bool} → b ≡ goalsOk (program f) (signatureFrom f v r) (goalsAt f g) → b ≡ procedureOk (program f) (procedureFrom f v r g)
+-- ---- one procedure
+module _ (f : List ℕ) (i : ℕ) {next v r g : ℕ} (a : ProcedureAt f i next v r g) {q : Bool} (e : q ≡ signatureOk (program f .types) (signatureFrom f v r)) where
+  procedure-as : procedureOk (program f) (procedureFrom f v r g) ≡ procedureOk (program f) (procedureAtRecord f i)
+  unfolding procedureAtRecord
+  procedure-as = rw (a .w2, a .w3, a .w4)
+
+  pub wrong-signature : q ≡ false → false ≡ procedureOk (program f) (procedureAtRecord f i)
   unfolding procedureOk procedureFrom
-  procedure-all p h = pass e p h
+  wrong-signature p = refuse _ e p ∙ procedure-as
+
+  pub procedure-all : q ≡ true → {b : Bool} → b ≡ goalsOk (program f) (signatureFrom f v r) (goalsAt f g) → b ≡ procedureOk (program f) (procedureAtRecord f i)
+  unfolding procedureOk procedureFrom
+  procedure-all p h = pass e p h ∙ procedure-as
 
 -- ---- along the procedures
-module _ (f : List ℕ) {i next vs rs gs : ℕ} (a : ProcedureAt f i next vs rs gs) {q : Bool} (e : q ≡ procedureOk (program f) (procedureFrom f vs rs gs)) where
-  pub procedures-no : q ≡ false → false ≡ all (procedureOk (program f)) (proceduresAt f i)
-  unfolding procedureFrom signatureFrom
-  procedures-no p = all-no _ (a .view) e p
+module _ (f : List ℕ) (i : ℕ) (F : Formed f) (s : Stands f procedures i) (z : i ≡ 0 → ⊥) {q : Bool} (e : q ≡ procedureOk (program f) (procedureAtRecord f i)) where
+  step : proceduresAt f i ≡ procedureAtRecord f i ∷ proceduresAt f (word f i 1)
+  unfolding procedureAtRecord procedureFrom signatureFrom
+  step = procedure-at F refl (procedure-is s z) .view
 
-  pub procedures-yes : q ≡ true → all (procedureOk (program f)) (proceduresAt f next) ≡ all (procedureOk (program f)) (proceduresAt f i)
-  unfolding procedureFrom signatureFrom
-  procedures-yes p = all-yes _ (a .view) e p
+  pub procedures-no : q ≡ false → false ≡ all (procedureOk (program f)) (proceduresAt f i)
+  procedures-no p = all-no _ step e p
+
+  pub procedures-yes : {w : ℕ} → q ≡ true → w ≡ word f i 1 → all (procedureOk (program f)) (proceduresAt f w) ≡ all (procedureOk (program f)) (proceduresAt f i)
+  procedures-yes p ew = rw ew (all-yes _ step e p)
 
 -- ---- all procedures
 module _ (f : List ℕ) (i : ℕ) (F : Formed f) (e : i ≡ word f 0 1) {n : ℕ} (d : n ≡ length (chainRecords f i)) where
@@ -53,7 +63,7 @@ module _ (f : List ℕ) (i : ℕ) (F : Formed f) (e : i ≡ word f 0 1) {n : ℕ
   procedures-are = program-procedures F ∙ ap (proceduresAt f) (sym e)
 
   count-is : length (program f .procedures) ≡ n
-  count-is = ap length procedures-are ∙ sym (procedures-length F i (stands-same e (procedures-stand F))) ∙ sym d
+  count-is = ap length procedures-are ∙ procedures-count F i (stands-same e (procedures-stand F)) ∙ sym d
 
   pub no-procedure : n ≡ 0 → false ≡ proceduresOk (program f)
   unfolding proceduresOk among

@@ -9,9 +9,10 @@ use Rattle.language.specs.Program.{Signature, signatureOf, typeOf}
 use Rattle.language.specs.Answers.{program}
 use Rattle.language.specs.Typing.{isVariable, isRegion, hasType}
 use Rattle.chains.specs.Formed.{Formed, Stands, variablesAt}
-use Rattle.declarations.specs.Names.{listedIn, wordIn, typedIn, TypeTable}
+use Rattle.declarations.specs.Names.{listedIn, wordIn, typedIn}
 use Rattle.declarations.specs.Signatures.{signatureFrom}
 use Rattle.typing.specs.Parameters.{ParameterTable}
+use Rattle.typing.specs.Places.{FunctorTable}
 
 -- the table of the procedures, from 0: each leads to its variables
 pub record ProcedureTable (f t : List ℕ) : Type 0 where
@@ -27,11 +28,15 @@ VariablesAgree f t S = (ty x : ℕ) → typedIn f t 3 ty x ≡ hasType S ty x
 unfoldable pub declared : List ℕ → List ℕ → List ℕ → Signature
 declared f vs rs = signatureFrom f (getD vs 1 0) (getD rs 1 0)
 
-pub record Setting (f types procedures parameters variables regions : List ℕ) : Type 0 where
+-- the tables of the whole file
+pub record Tables (f fs qs ps : List ℕ) : Type 0 where
   pub formed : Formed f
-  pub type-table : TypeTable f types
-  pub procedure-table : ProcedureTable f procedures
-  pub parameter-table : ParameterTable f parameters
+  pub functor-table : FunctorTable f fs
+  pub procedure-table : ProcedureTable f qs
+  pub parameter-table : ParameterTable f ps
+
+pub record Setting (f functors procedures parameters variables regions : List ℕ) : Type 0 where
+  pub tables : Tables f functors procedures parameters
   pub is-variable : (x : ℕ) → listedIn variables x ≡ isVariable (declared f variables regions) x
   pub type-is : (x : ℕ) → wordIn f variables 3 x ≡ typeOf (declared f variables regions) x
   pub has-type : VariablesAgree f variables (declared f variables regions)

@@ -24,41 +24,41 @@ use Rattle.typing.specs.Arguments.{sumFits, assignFits, argumentsAtRecor
 use Rattle.typing.specs.Calls.{callFits}
 use Rattle.typing.specs.Agree.{arguments-are, parameters-are}
 
-module _ {f types procedures parameters variables regions : List ℕ} (K : Setting f types procedures parameters variables regions) where
+module _ {f fs procedures parameters variables regions : List ℕ} (K : Setting f fs procedures parameters variables regions) where
   abbrev own : Signature
   own = declared f variables regions
 
   goal-as : (i : ℕ) {g : Goal} {q : Bool} → goalAt f i ≡ g → q ≡ goalOk (program f) own g → q ≡ goalOk (program f) own (goalAt f i)
   goal-as i e h = h ∙ ap (goalOk (program f) own) (sym e)
 
-  pub functors-are : (x : ℕ) → functorsHere f types variables x ≡ functorsFor (program f) own x
+  pub functors-are : (x : ℕ) → functorsHere f fs variables x ≡ functorsFor (program f) own x
   unfolding functorsHere functorsFor
-  functors-are x = K .type-table .functors-are (wordIn f variables 3 x) ∙ ap (functorsOf (program f .types)) (K .type-is x)
+  functors-are x = K .tables .functor-table .type (wordIn f variables 3 x) .functors-are ∙ ap (functorsOf (program f .types)) (K .type-is x)
 
   module _ (i : ℕ) {w : ℕ} (e : w ≡ word f i 0) where
     pub literal-is : w ≡ 8 → {r : Bool} → r ≡ typedIn f variables 3 0 (word f i 2) → r ≡ goalOk (program f) own (goalAt f i)
     unfolding goalOk stepOk all-rows
-    literal-is n h = goal-as i (literal-at (K .formed) refl (by-number f i (kGoal kLiteral) e n) .goal) (h ∙ K .has-type 0 (word f i 2))
+    literal-is n h = goal-as i (literal-at (K .tables .formed) refl (by-number f i (kGoal kLiteral) e n) .goal) (h ∙ K .has-type 0 (word f i 2))
 
     pub sum-is : w ≡ 9 → {r : Bool} → r ≡ sumFits f variables i → r ≡ goalOk (program f) own (goalAt f i)
     unfolding goalOk stepOk sumFits all-rows
-    sum-is n h = goal-as i (sum-at (K .formed) refl (by-number f i (kGoal kSum) e n) .goal) (h ∙ rw (K .has-type 0 (word f i 2), K .has-type 0 (word f i 4), K .has-type 0 (word f i 5)))
+    sum-is n h = goal-as i (sum-at (K .tables .formed) refl (by-number f i (kGoal kSum) e n) .goal) (h ∙ rw (K .has-type 0 (word f i 2), K .has-type 0 (word f i 4), K .has-type 0 (word f i 5)))
 
     pub assign-is : w ≡ 10 → {r : Bool} → r ≡ assignFits f variables i → r ≡ goalOk (program f) own (goalAt f i)
     unfolding goalOk stepOk assignFits all-rows
     assign-is n h =
-        goal-as i (assign-at (K .formed) refl (by-number f i (kGoal kAssign) e n) .goal)
+        goal-as i (assign-at (K .tables .formed) refl (by-number f i (kGoal kAssign) e n) .goal)
         (h ∙ rw (K .is-variable (word f i 2), K .has-type (wordIn f variables 3 (word f i 2)) (word f i 3), K .type-is (word f i 2)))
 
-    pub construct-is : w ≡ 11 → {r : Bool} → r ≡ constructFits f types variables i → r ≡ goalOk (program f) own (goalAt f i)
+    pub construct-is : w ≡ 11 → {r : Bool} → r ≡ constructFits f fs variables i → r ≡ goalOk (program f) own (goalAt f i)
     unfolding goalOk stepOk constructFits argumentsAtRecord all-rows
     construct-is n h =
-        goal-as i (construct-at (K .formed) refl (by-number f i (kGoal kConstruct) e n) .goal)
+        goal-as i (construct-at (K .tables .formed) refl (by-number f i (kGoal kConstruct) e n) .goal)
         (h ∙ rw (K .is-variable (word f i 2), functors-are (word f i 2), arguments-are f variables own (K .has-type) (functorAt (functorsFor (program f) own (word f i 2)) (word f i 3)) (argumentsAtRecord f i)))
 
     pub call-here : w ≡ 15 → CallAt f i (word f i 1) (word f i 2) (word f i 3)
     unfolding all-rows
-    call-here n = call-at (K .formed) refl (by-number f i (kGoal kCall) e n)
+    call-here n = call-at (K .tables .formed) refl (by-number f i (kGoal kCall) e n)
 
     pub call-is : w ≡ 15 → {q y : ℕ} {r : Bool} → q ≡ word f i 2 → y ≡ word f i 3 → callFits f variables q y r → r ≡ goalOk (program f) own (goalAt f i)
     unfolding goalOk stepOk
@@ -68,7 +68,7 @@ module _ {f types procedures parameters variables regions : List ℕ} (K : Setti
 
     pub print-is : w ≡ 17 → {r : Bool} → r ≡ typedIn f variables 3 0 (word f i 2) → r ≡ goalOk (program f) own (goalAt f i)
     unfolding goalOk stepOk all-rows
-    print-is n h = goal-as i (print-at (K .formed) refl (by-number f i (kGoal kPrint) e n) .goal) (h ∙ K .has-type 0 (word f i 2))
+    print-is n h = goal-as i (print-at (K .tables .formed) refl (by-number f i (kGoal kPrint) e n) .goal) (h ∙ K .has-type 0 (word f i 2))
 
     -- what is left is a create or a remove
     region-as : (w ≡ 8 → ⊥) → (w ≡ 9 → ⊥) → (w ≡ 10 → ⊥) → (w ≡ 11 → ⊥) → (w ≡ 12 → ⊥) → (w ≡ 14 → ⊥) → (w ≡ 15 → ⊥) → (w ≡ 17 → ⊥)
@@ -82,8 +82,8 @@ module _ {f types procedures parameters variables regions : List ℕ} (K : Setti
     region-as n8 n9 n10 n11 n12 n14 n15 n17 kIf k h = absurd (n14 (e ∙ goal-number (word f i 0) kIf k))
     region-as n8 n9 n10 n11 n12 n14 n15 n17 kCall k h = absurd (n15 (e ∙ goal-number (word f i 0) kCall k))
     region-as n8 n9 n10 n11 n12 n14 n15 n17 kPrint k h = absurd (n17 (e ∙ goal-number (word f i 0) kPrint k))
-    region-as n8 n9 n10 n11 n12 n14 n15 n17 kCreate k h = goal-as i (create-at (K .formed) refl (same-read f i refl k) .goal) (h ∙ K .is-region (word f i 2))
-    region-as n8 n9 n10 n11 n12 n14 n15 n17 kRemove k h = goal-as i (remove-at (K .formed) refl (same-read f i refl k) .goal) (h ∙ K .is-region (word f i 2))
+    region-as n8 n9 n10 n11 n12 n14 n15 n17 kCreate k h = goal-as i (create-at (K .tables .formed) refl (same-read f i refl k) .goal) (h ∙ K .is-region (word f i 2))
+    region-as n8 n9 n10 n11 n12 n14 n15 n17 kRemove k h = goal-as i (remove-at (K .tables .formed) refl (same-read f i refl k) .goal) (h ∙ K .is-region (word f i 2))
 
     pub region-is : Stands f goals i → (i ≡ 0 → ⊥) → (w ≡ 8 → ⊥) → (w ≡ 9 → ⊥) → (w ≡ 10 → ⊥) → (w ≡ 11 → ⊥) → (w ≡ 12 → ⊥) → (w ≡ 14 → ⊥) → (w ≡ 15 → ⊥) → (w ≡ 17 → ⊥)
         → {x : ℕ} {r : Bool} → x ≡ word f i 2 → r ≡ listedIn regions x → r ≡ goalOk (program f) own (goalAt f i)

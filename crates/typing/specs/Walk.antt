@@ -6,7 +6,7 @@ use mathlib.Core.Path.{_≡_, refl, ap, sym, _∙_}
 use mathlib.Core.Bool.{Bool, true, false}
 use mathlib.Core.List.{List}
 use lib.Dec.{eqb, leb}
-use borrow.Author.Tests.{eq-eqb, ne-eqb, le-leb, lt-leb}
+use borrow.Author.Tests.{eq-eqb, ne-eqb, le-leb, lt-leb, lt-ltb, le-ltb}
 use Rattle.sets.specs.Tests.{_&_}
 use Rattle.language.specs.File.{kSwitch, kIf, kGoal, functors, goals, arms, word}
 use Rattle.language.specs.Program.{Goals, Goal, _then_, Signature, functorsOf, typeOf}
@@ -20,7 +20,8 @@ use Rattle.declarations.specs.Both.{fails, holds, refuse, pass}
 use Rattle.declarations.specs.Names.{listedIn, wordIn}
 use Rattle.declarations.specs.Functors.{functorAtRecord, functors-step}
 use Rattle.typing.specs.Settings.{declared, Setting}
-use Rattle.typing.specs.Arguments.{argumentsFit, argumentsAtRecord, comparedFits}
+use Rattle.typing.specs.Places.{placeIn}
+use Rattle.typing.specs.Arguments.{argumentsFit, argumentsAtRecord, armFits, comparedFits}
 use Rattle.typing.specs.Agree.{arguments-are}
 use Rattle.typing.specs.Numbers.{by-number}
 
@@ -46,7 +47,7 @@ unfolding _&_
 and-assoc true b c = refl
 and-assoc false b c = refl
 
-module _ {f types procedures parameters variables regions : List ℕ} (K : Setting f types procedures parameters variables regions) where
+module _ {f fs procedures parameters variables regions : List ℕ} (K : Setting f fs procedures parameters variables regions) where
   abbrev own : Signature
   own = declared f variables regions
 
@@ -54,7 +55,7 @@ module _ {f types procedures parameters variables regions : List ℕ} (K : Setti
   module _ (i : ℕ) (n : word f i 0 ≡ 14) where
     pub if-here : IfAt f i (word f i 1) (word f i 2) (word f i 3) (word f i 4) (word f i 5)
     unfolding all-rows
-    if-here = if-at (K .formed) refl (by-number f i (kGoal kIf) refl n)
+    if-here = if-at (K .tables .formed) refl (by-number f i (kGoal kIf) refl n)
 
     if-as : (comparedFits f variables i & goalsOk (program f) own (goalsAt f (word f i 4)) & goalsOk (program f) own (goalsAt f (word f i 5))) ≡ goalOk (program f) own (goalAt f i)
     unfolding goalOk comparedFits
@@ -75,7 +76,7 @@ module _ {f types procedures parameters variables regions : List ℕ} (K : Setti
   module _ (i : ℕ) (n : word f i 0 ≡ 12) where
     pub switch-here : SwitchAt f i (word f i 1) (word f i 2) (word f i 3)
     unfolding all-rows
-    switch-here = switch-at (K .formed) refl (by-number f i (kGoal kSwitch) refl n)
+    switch-here = switch-at (K .tables .formed) refl (by-number f i (kGoal kSwitch) refl n)
 
     module _ {x : ℕ} (ex : x ≡ word f i 2) where
       switch-as : (isVariable own x & leb 1 (typeOf own x) & armsOk (program f) own (armsAt f (word f i 3)) (functorsFor (program f) own x) 0) ≡ goalOk (program f) own (goalAt f i)
@@ -90,44 +91,42 @@ module _ {f types procedures parameters variables regions : List ℕ} (K : Setti
           pub switch-number : ty ≡ 0 → false ≡ goalOk (program f) own (goalAt f i)
           switch-number z = pass (e ∙ K .is-variable x) p (fails _ (lt-leb 1 (typeOf own x) (omega (arith, K .type-is x)))) ∙ switch-as
 
-          pub switch-arms : (ty ≡ 0 → ⊥) → {u v : ℕ} {q : Bool} → u ≡ wordIn f types 2 ty → v ≡ word f i 3 → q ≡ armsOk (program f) own (armsAt f v) (functorsAt f u) 0 → q ≡ goalOk (program f) own (goalAt f i)
+          pub switch-arms : (ty ≡ 0 → ⊥) → {u v : ℕ} {q : Bool} → u ≡ placeIn fs ty 0 → v ≡ word f i 3 → q ≡ armsOk (program f) own (armsAt f v) (functorsAt f u) 0 → q ≡ goalOk (program f) own (goalAt f i)
           unfolding functorsFor
           switch-arms z {u} eu ev eq =
               pass (e ∙ K .is-variable x) p (holds (le-leb 1 (typeOf own x) (omega (arith, K .type-is x)))
               (eq ∙ ap (λ j. armsOk (program f) own (armsAt f j) (functorsAt f u) 0) ev
-              ∙ ap (λ fs. armsOk (program f) own (armsAt f (word f i 3)) fs 0) (ap (functorsAt f) eu ∙ K .type-table .functors-are ty ∙ ap (functorsOf (program f .types)) (et ∙ K .type-is x)))) ∙ switch-as
+              ∙ ap (λ fs. armsOk (program f) own (armsAt f (word f i 3)) fs 0) (ap (functorsAt f) eu ∙ K .tables .functor-table .type ty .functors-are ∙ ap (functorsOf (program f .types)) (et ∙ K .type-is x)))) ∙ switch-as
 
   -- ---- the arms and the functors side by side
-  module _ (i g n : ℕ) where
-    pub arms-short : Stands f arms i → (i ≡ 0 → ⊥) → g ≡ 0 → false ≡ armsOk (program f) own (armsAt f i) (functorsAt f g) n
-    unfolding armsOk
-    arms-short s z e = rw (arm-at (K .formed) refl (arm-is s z) .view, functors-none f e)
-
-    module _ (sa : Stands f arms i) (za : i ≡ 0 → ⊥) (s : Stands f functors g) (z : g ≡ 0 → ⊥) {functor : ℕ} (ef : functor ≡ word f i 3) where
-      arms-as : armsOk (program f) own (armsAt f i) (functorsAt f g) n
-          ≡ (eqb functor n & argumentsFit f variables (functorAtRecord f g) (argumentsAtRecord f i) & goalsOk (program f) own (goalsAt f (word f i 2)) & armsOk (program f) own (armsAt f (word f i 1)) (functorsAt f (word f g 1)) (suc n))
-      unfolding armsOk argumentsAtRecord
-      arms-as = rw (arm-at (K .formed) refl (arm-is sa za) .view, functors-step (K .formed) g s z, arguments-are f variables own (K .has-type) (functorAtRecord f g) (argumentsAtRecord f i), ef)
-
-      pub arms-order : (functor ≡ n → ⊥) → false ≡ armsOk (program f) own (armsAt f i) (functorsAt f g) n
-      arms-order h = fails _ (ne-eqb functor n h) ∙ sym arms-as
-
-      module _ (o : functor ≡ n) {r1 : Bool} (e1 : r1 ≡ argumentsFit f variables (functorAtRecord f g) (argumentsAtRecord f i)) where
-        pub arms-arguments : r1 ≡ false → false ≡ armsOk (program f) own (armsAt f i) (functorsAt f g) n
-        arms-arguments p = holds (eq-eqb functor n o) (refuse _ e1 p) ∙ sym arms-as
-
-        module _ (p1 : r1 ≡ true) {u : ℕ} (eu : u ≡ word f i 2) {r2 : Bool} (e2 : r2 ≡ goalsOk (program f) own (goalsAt f u)) where
-          pub arms-goals : r2 ≡ false → false ≡ armsOk (program f) own (armsAt f i) (functorsAt f g) n
-          arms-goals p = holds (eq-eqb functor n o) (pass e1 p1 (refuse _ (e2 ∙ ap (λ j. goalsOk (program f) own (goalsAt f j)) eu) p)) ∙ sym arms-as
-
-          pub arms-next : {v w m : ℕ} → r2 ≡ true → v ≡ word f i 1 → w ≡ word f g 1 → m ≡ suc n
-              → armsOk (program f) own (armsAt f v) (functorsAt f w) m ≡ armsOk (program f) own (armsAt f i) (functorsAt f g) n
-          arms-next p ev ew em = rw (ev, ew, em) (holds (eq-eqb functor n o) (pass e1 p1 (pass (e2 ∙ ap (λ j. goalsOk (program f) own (goalsAt f j)) eu) p refl)) ∙ sym arms-as)
-
-    pub arms-end : Stands f functors g → i ≡ 0 → eqb g 0 ≡ armsOk (program f) own (armsAt f i) (functorsAt f g) n
-    unfolding armsOk
-    arms-end s z =
+  module _ (i g n : ℕ) (sa : Stands f arms i) (za : i ≡ 0 → ⊥) (s : Stands f functors g) {r1 : Bool} (e1 : r1 ≡ armFits f variables g n i) where
+    arms-as : (armFits f variables g n i & goalsOk (program f) own (goalsAt f (word f i 2)) & armsOk (program f) own (armsAt f (word f i 1)) (functorsAt f (word f g 1)) (suc n))
+        ≡ armsOk (program f) own (armsAt f i) (functorsAt f g) n
+    unfolding armsOk armFits argumentsAtRecord _&_
+    arms-as =
         elim (decLt 0 g) [
-          | yes l ↦ rw (ne-eqb g 0 (λ e. omega arith), arms-none f z, functors-step (K .formed) g s (λ e. omega arith))
-          | no l ↦ rw (eq-eqb g 0 (omega arith), arms-none f z, functors-none f {i = g} (omega arith))
+          | yes l ↦
+              ap (λ b. (b & eqb (word f i 3) n & argumentsFit f variables (functorAtRecord f g) (argumentsAtRecord f i)) & goalsOk (program f) own (goalsAt f (word f i 2)) & armsOk (program f) own (armsAt f (word f i 1)) (functorsAt f (word f g 1)) (suc n)) (lt-ltb 0 g l)
+              ∙ and-assoc (eqb (word f i 3) n) _ _
+              ∙ rw (arm-at (K .tables .formed) refl (arm-is sa za) .view, functors-step (K .tables .formed) g s (λ e. omega arith), arguments-are f variables own (K .has-type) (functorAtRecord f g) (argumentsAtRecord f i))
+          | no l ↦ rw (le-ltb 0 g (omega arith), arm-at (K .tables .formed) refl (arm-is sa za) .view, functors-none f {i = g} (omega arith))
         ]
+
+    pub arms-unfit : r1 ≡ false → false ≡ armsOk (program f) own (armsAt f i) (functorsAt f g) n
+    arms-unfit p = refuse _ e1 p ∙ arms-as
+
+    module _ (p1 : r1 ≡ true) {u : ℕ} (eu : u ≡ word f i 2) {r2 : Bool} (e2 : r2 ≡ goalsOk (program f) own (goalsAt f u)) where
+      pub arms-goals : r2 ≡ false → false ≡ armsOk (program f) own (armsAt f i) (functorsAt f g) n
+      arms-goals p = pass e1 p1 (refuse _ (e2 ∙ ap (λ j. goalsOk (program f) own (goalsAt f j)) eu) p) ∙ arms-as
+
+      pub arms-next : {v w m : ℕ} → r2 ≡ true → v ≡ word f i 1 → w ≡ word f g 1 → m ≡ suc n
+          → armsOk (program f) own (armsAt f v) (functorsAt f w) m ≡ armsOk (program f) own (armsAt f i) (functorsAt f g) n
+      arms-next p ev ew em = rw (ev, ew, em) (pass e1 p1 (pass (e2 ∙ ap (λ j. goalsOk (program f) own (goalsAt f j)) eu) p refl) ∙ arms-as)
+
+  pub arms-end : (i g n : ℕ) → Stands f functors g → i ≡ 0 → eqb g 0 ≡ armsOk (program f) own (armsAt f i) (functorsAt f g) n
+  unfolding armsOk
+  arms-end i g n s z =
+      elim (decLt 0 g) [
+        | yes l ↦ rw (ne-eqb g 0 (λ e. omega arith), arms-none f z, functors-step (K .tables .formed) g s (λ e. omega arith))
+        | no l ↦ rw (eq-eqb g 0 (omega arith), arms-none f z, functors-none f {i = g} (omega arith))
+      ]

@@ -1,17 +1,16 @@
 // A construct, and the arguments of a construct or an arm.
-use chains::chain_at;
+use crate::functors::functor_at;
 use declarations::has_type;
 use declarations::listed;
 use declarations::type_of;
-use declarations::word_of;
 use records::word;
 ghost use mathlib.Core.Path.{_≡_};
 ghost use Prim.Native.Nat.{_+_, _<_};
 ghost use Rattle.language.specs.File.{word};
 ghost use Rattle.chains.specs.Formed.{Formed};
-ghost use Rattle.declarations.specs.Names.{TypeTable};
 ghost use Rattle.declarations.specs.Functors.{functorAtRecord};
-ghost use Rattle.typing.specs.Arguments.{argumentSlot, argumentsFit, argumentsAtRecord, constructFits};
+ghost use Rattle.typing.specs.Places.{FunctorTable};
+ghost use Rattle.typing.specs.Arguments.{argumentSlot, argumentsFit, argumentsAtRecord, armFits, constructFits};
 
 // Argument k, counted from 0, of record i, against the functor of record g and that arity: a variable of its type, or 0 past the arity.
 fn argument_ok(file: &[u8], variables: &[usize], arity: usize, g: usize, k: usize, i: usize) -> bool
@@ -26,7 +25,7 @@ fn argument_ok(file: &[u8], variables: &[usize], arity: usize, g: usize, k: usiz
 }
 
 // The four arguments of record i against the functor of record g.
-pub fn arguments_ok(file: &[u8], variables: &[usize], g: usize, i: usize) -> bool
+fn arguments_ok(file: &[u8], variables: &[usize], g: usize, i: usize) -> bool
     ensures { λ r. ⌜ r ≡ argumentsFit (now (file .entry)) (now (variables .entry)) (functorAtRecord (now (file .entry)) g) (argumentsAtRecord (now (file .entry)) i) ⌝ }
 {
     let arity = word(file, g, 2);
@@ -42,18 +41,32 @@ pub fn arguments_ok(file: &[u8], variables: &[usize], g: usize, i: usize) -> boo
     argument_ok(file, variables, arity, g, 3, i)
 }
 
+// The arm of record i against functor n, of record g: the number and the arguments. There may be no such functor.
+pub fn arm_fits(file: &[u8], variables: &[usize], g: usize, n: usize, i: usize) -> bool
+    ensures { λ r. ⌜ r ≡ armFits (now (file .entry)) (now (variables .entry)) g n i ⌝ }
+{
+    if g == 0 {
+        return false;
+    }
+    let functor = word(file, i, 3);
+    if functor != n {
+        return false;
+    }
+    arguments_ok(file, variables, g, i)
+}
+
 // The construct of record i.
-pub fn construct_ok(file: &[u8], types: &[usize], variables: &[usize], i: usize) -> bool
+pub fn construct_ok(file: &[u8], places: &[usize], variables: &[usize], i: usize) -> bool
     requires { ⌜ Formed (now file) ⌝ }
-    requires { ⌜ TypeTable (now file) (now types) ⌝ }
-    ensures { λ r. ⌜ r ≡ constructFits (now (file .entry)) (now (types .entry)) (now (variables .entry)) i ⌝ }
+    requires { ⌜ FunctorTable (now file) (now places) ⌝ }
+    ensures { λ r. ⌜ r ≡ constructFits (now (file .entry)) (now (places .entry)) (now (variables .entry)) i ⌝ }
 {
     let x = word(file, i, 2);
     if !listed(variables, x) {
         return false;
     }
-    let start = word_of(file, types, type_of(file, variables, x), 2);
-    let g = chain_at(file, start, word(file, i, 3));
+    let t = type_of(file, variables, x);
+    let g = functor_at(places, t, word(file, i, 3));
     if g == 0 {
         return false;
     }

@@ -1,10 +1,10 @@
 // The walk over goals: a chain of goals, a goal, the two parts of an if, a switch with its arms.
-use crate::constructs::arguments_ok;
+use crate::constructs::arm_fits;
+use crate::functors::functor_at;
 use crate::steps::compared_ok;
 use crate::steps::step_ok;
 use declarations::listed;
 use declarations::type_of;
-use declarations::word_of;
 use records::word;
 ghost use mathlib.Core.Path.{_≡_};
 ghost use Rattle.language.specs.File.{word, functors, goals, arms};
@@ -16,20 +16,20 @@ ghost use Rattle.typing.specs.Settings.{Setting, declared};
 // The goals from record start on.
 pub fn goals_ok(
     file: &[u8],
-    types: &[usize; 65],
-    procedures: &[usize; 256],
+    places: &[usize; 2080],
+    called: &[usize; 256],
     parameters: &[usize; 4096],
     variables: &[usize; 65],
     regions: &[usize; 65],
     start: usize,
 ) -> bool
-    requires { ⌜ Setting (now file) (now types) (now procedures) (now parameters) (now variables) (now regions) ⌝ }
+    requires { ⌜ Setting (now file) (now places) (now called) (now parameters) (now variables) (now regions) ⌝ }
     requires { ⌜ Stands (now file) goals start ⌝ }
     ensures { λ r. ⌜ r ≡ goalsOk (program (now (file .entry))) (declared (now (file .entry)) (now (variables .entry)) (now (regions .entry))) (goalsAt (now (file .entry)) start) ⌝ }
 {
     let mut i = start;
     while i != 0 {
-        if !goal_ok(file, types, procedures, parameters, variables, regions, i) {
+        if !goal_ok(file, places, called, parameters, variables, regions, i) {
             return false;
         }
         i = word(file, i, 1);
@@ -40,35 +40,35 @@ pub fn goals_ok(
 // The goal of record i.
 fn goal_ok(
     file: &[u8],
-    types: &[usize; 65],
-    procedures: &[usize; 256],
+    places: &[usize; 2080],
+    called: &[usize; 256],
     parameters: &[usize; 4096],
     variables: &[usize; 65],
     regions: &[usize; 65],
     i: usize,
 ) -> bool
-    requires { ⌜ Setting (now file) (now types) (now procedures) (now parameters) (now variables) (now regions) ⌝ }
+    requires { ⌜ Setting (now file) (now places) (now called) (now parameters) (now variables) (now regions) ⌝ }
     requires { ⌜ Stands (now file) goals i × (i ≡ 0 → ⊥) ⌝ }
     ensures { λ r. ⌜ r ≡ goalOk (program (now (file .entry))) (declared (now (file .entry)) (now (variables .entry)) (now (regions .entry))) (goalAt (now (file .entry)) i) ⌝ }
 {
     match word(file, i, 0) {
-        12 => switch_ok(file, types, procedures, parameters, variables, regions, i),
-        14 => branches_ok(file, types, procedures, parameters, variables, regions, i),
-        _ => step_ok(file, types, procedures, parameters, variables, regions, i),
+        12 => switch_ok(file, places, called, parameters, variables, regions, i),
+        14 => branches_ok(file, places, called, parameters, variables, regions, i),
+        _ => step_ok(file, places, called, parameters, variables, regions, i),
     }
 }
 
 // The if of record i.
 fn branches_ok(
     file: &[u8],
-    types: &[usize; 65],
-    procedures: &[usize; 256],
+    places: &[usize; 2080],
+    called: &[usize; 256],
     parameters: &[usize; 4096],
     variables: &[usize; 65],
     regions: &[usize; 65],
     i: usize,
 ) -> bool
-    requires { ⌜ Setting (now file) (now types) (now procedures) (now parameters) (now variables) (now regions) ⌝ }
+    requires { ⌜ Setting (now file) (now places) (now called) (now parameters) (now variables) (now regions) ⌝ }
     requires { ⌜ word (now file) i 0 ≡ 14 ⌝ }
     ensures { λ r. ⌜ r ≡ goalOk (program (now (file .entry))) (declared (now (file .entry)) (now (variables .entry)) (now (regions .entry))) (goalAt (now (file .entry)) i) ⌝ }
 {
@@ -76,40 +76,24 @@ fn branches_ok(
         return false;
     }
     let first = word(file, i, 4);
-    if !goals_ok(
-        file,
-        types,
-        procedures,
-        parameters,
-        variables,
-        regions,
-        first,
-    ) {
+    if !goals_ok(file, places, called, parameters, variables, regions, first) {
         return false;
     }
     let second = word(file, i, 5);
-    goals_ok(
-        file,
-        types,
-        procedures,
-        parameters,
-        variables,
-        regions,
-        second,
-    )
+    goals_ok(file, places, called, parameters, variables, regions, second)
 }
 
 // The switch of record i.
 fn switch_ok(
     file: &[u8],
-    types: &[usize; 65],
-    procedures: &[usize; 256],
+    places: &[usize; 2080],
+    called: &[usize; 256],
     parameters: &[usize; 4096],
     variables: &[usize; 65],
     regions: &[usize; 65],
     i: usize,
 ) -> bool
-    requires { ⌜ Setting (now file) (now types) (now procedures) (now parameters) (now variables) (now regions) ⌝ }
+    requires { ⌜ Setting (now file) (now places) (now called) (now parameters) (now variables) (now regions) ⌝ }
     requires { ⌜ word (now file) i 0 ≡ 12 ⌝ }
     ensures { λ r. ⌜ r ≡ goalOk (program (now (file .entry))) (declared (now (file .entry)) (now (variables .entry)) (now (regions .entry))) (goalAt (now (file .entry)) i) ⌝ }
 {
@@ -121,12 +105,12 @@ fn switch_ok(
     if t == 0 {
         return false;
     }
-    let start = word_of(file, types, t, 2);
+    let start = functor_at(places, t, 0);
     let first = word(file, i, 3);
     arms_ok(
         file,
-        types,
-        procedures,
+        places,
+        called,
         parameters,
         variables,
         regions,
@@ -138,43 +122,27 @@ fn switch_ok(
 // The arms from record first on against the functors from record start on.
 fn arms_ok(
     file: &[u8],
-    types: &[usize; 65],
-    procedures: &[usize; 256],
+    places: &[usize; 2080],
+    called: &[usize; 256],
     parameters: &[usize; 4096],
     variables: &[usize; 65],
     regions: &[usize; 65],
     first: usize,
     start: usize,
 ) -> bool
-    requires { ⌜ Setting (now file) (now types) (now procedures) (now parameters) (now variables) (now regions) ⌝ }
-    requires { ⌜ Stands (now file) arms first ⌝ }
-    requires { ⌜ Stands (now file) functors start ⌝ }
+    requires { ⌜ Setting (now file) (now places) (now called) (now parameters) (now variables) (now regions) ⌝ }
+    requires { ⌜ Stands (now file) arms first × Stands (now file) functors start ⌝ }
     ensures { λ r. ⌜ r ≡ armsOk (program (now (file .entry))) (declared (now (file .entry)) (now (variables .entry)) (now (regions .entry))) (armsAt (now (file .entry)) first) (functorsAt (now (file .entry)) start) 0 ⌝ }
 {
     let mut i = first;
     let mut g = start;
     let mut n = 0;
     while i != 0 {
-        if g == 0 {
-            return false;
-        }
-        let functor = word(file, i, 3);
-        if functor != n {
-            return false;
-        }
-        if !arguments_ok(file, variables, g, i) {
+        if !arm_fits(file, variables, g, n, i) {
             return false;
         }
         let goals = word(file, i, 2);
-        if !goals_ok(
-            file,
-            types,
-            procedures,
-            parameters,
-            variables,
-            regions,
-            goals,
-        ) {
+        if !goals_ok(file, places, called, parameters, variables, regions, goals) {
             return false;
         }
         n += 1;

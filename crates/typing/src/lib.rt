@@ -1,6 +1,7 @@
 // Number 3 for a whole file: what it declares, then the goals of each procedure, as the definition `typingOk` says.
 mod calls;
 mod constructs;
+mod functors;
 mod goals;
 mod parameters;
 mod procedures;

@@ -5,6 +5,7 @@ use declarations::no_numbers;
 use declarations::signature_ok;
 use records::Record;
 use records::record_at;
+use records::word;
 ghost use mathlib.Core.Path.{_≡_};
 ghost use mathlib.Core.Bool.{true};
 ghost use lib.ListN.{length};
@@ -12,27 +13,23 @@ ghost use Rattle.language.specs.Lists.{all};
 ghost use Rattle.language.specs.File.{procedures, variables, regions, goals};
 ghost use Rattle.language.specs.Answers.{program};
 ghost use Rattle.language.specs.Typing.{signatureOk, goalsOk, procedureOk};
-ghost use Rattle.chains.specs.Formed.{Formed, Stands, goalsAt, proceduresAt};
+ghost use Rattle.chains.specs.Formed.{Stands, goalsAt, proceduresAt};
 ghost use Rattle.declarations.specs.Names.{TypeTable};
 ghost use Rattle.declarations.specs.Signatures.{signatureFrom};
-ghost use Rattle.typing.specs.Parameters.{ParameterTable};
-ghost use Rattle.typing.specs.Settings.{ProcedureTable};
-ghost use Rattle.typing.specs.Procedures.{procedureFrom};
+ghost use Rattle.typing.specs.Settings.{Tables};
+ghost use Rattle.typing.specs.Procedures.{procedureAtRecord};
 
 // The goals from record gs on, of a procedure whose variables and regions are in order.
 fn body_ok(
     file: &[u8],
-    types: &[usize; 65],
+    places: &[usize; 2080],
     called: &[usize; 256],
     parameters: &[usize; 4096],
     vs: usize,
     rs: usize,
     gs: usize,
 ) -> bool
-    requires { ⌜ Formed (now file) ⌝ }
-    requires { ⌜ TypeTable (now file) (now types) ⌝ }
-    requires { ⌜ ProcedureTable (now file) (now called) ⌝ }
-    requires { ⌜ ParameterTable (now file) (now parameters) ⌝ }
+    requires { ⌜ Tables (now file) (now places) (now called) (now parameters) ⌝ }
     requires { ⌜ Stands (now file) variables vs × Stands (now file) regions rs × Stands (now file) goals gs ⌝ }
     requires { ⌜ signatureOk (program (now file) .types) (signatureFrom (now file) vs rs) ≡ true ⌝ }
     ensures { λ r. ⌜ r ≡ goalsOk (program (now (file .entry))) (signatureFrom (now (file .entry)) vs rs) (goalsAt (now (file .entry)) gs) ⌝ }
@@ -41,74 +38,60 @@ fn body_ok(
     let mut regions = no_numbers();
     list_chain(file, vs, 1, &mut variables);
     list_chain(file, rs, 1, &mut regions);
-    goals_ok(file, types, called, parameters, &variables, &regions, gs)
+    goals_ok(file, places, called, parameters, &variables, &regions, gs)
 }
 
+// The procedure of record i. There are n types.
 fn procedure_ok(
     file: &[u8],
     types: &[usize; 65],
+    places: &[usize; 2080],
     called: &[usize; 256],
     parameters: &[usize; 4096],
     n: usize,
-    vs: usize,
-    rs: usize,
-    gs: usize,
+    i: usize,
 ) -> bool
-    requires { ⌜ Formed (now file) ⌝ }
-    requires { ⌜ TypeTable (now file) (now types) ⌝ }
-    requires { ⌜ ProcedureTable (now file) (now called) ⌝ }
-    requires { ⌜ ParameterTable (now file) (now parameters) ⌝ }
-    requires { ⌜ n ≡ length (program (now file) .types) ⌝ }
-    requires { ⌜ Stands (now file) variables vs × Stands (now file) regions rs × Stands (now file) goals gs ⌝ }
-    ensures { λ r. ⌜ r ≡ procedureOk (program (now (file .entry))) (procedureFrom (now (file .entry)) vs rs gs) ⌝ }
+    requires { ⌜ Tables (now file) (now places) (now called) (now parameters) ⌝ }
+    requires { ⌜ TypeTable (now file) (now types) × (n ≡ length (program (now file) .types)) ⌝ }
+    requires { ⌜ Stands (now file) procedures i × (i ≡ 0 → ⊥) ⌝ }
+    ensures { λ r. ⌜ r ≡ procedureOk (program (now (file .entry))) (procedureAtRecord (now (file .entry)) i) ⌝ }
 {
-    if !signature_ok(file, types, n, vs, rs) {
+    let Record::Procedure {
+        next: _,
+        variables,
+        regions,
+        goals,
+    } = record_at(file, i)
+    else {
+        return false;
+    };
+    if !signature_ok(file, types, n, variables, regions) {
         return false;
     }
-    body_ok(file, types, called, parameters, vs, rs, gs)
+    body_ok(file, places, called, parameters, variables, regions, goals)
 }
 
 // The procedures from record start on. There are n types.
 pub fn each_procedure_ok(
     file: &[u8],
     types: &[usize; 65],
+    places: &[usize; 2080],
     called: &[usize; 256],
     parameters: &[usize; 4096],
     n: usize,
     start: usize,
 ) -> bool
-    requires { ⌜ Formed (now file) ⌝ }
-    requires { ⌜ TypeTable (now file) (now types) ⌝ }
-    requires { ⌜ ProcedureTable (now file) (now called) ⌝ }
-    requires { ⌜ ParameterTable (now file) (now parameters) ⌝ }
-    requires { ⌜ n ≡ length (program (now file) .types) ⌝ }
+    requires { ⌜ Tables (now file) (now places) (now called) (now parameters) ⌝ }
+    requires { ⌜ TypeTable (now file) (now types) × (n ≡ length (program (now file) .types)) ⌝ }
     requires { ⌜ Stands (now file) procedures start ⌝ }
     ensures { λ r. ⌜ r ≡ all (procedureOk (program (now (file .entry)))) (proceduresAt (now (file .entry)) start) ⌝ }
 {
     let mut i = start;
     while i != 0 {
-        let Record::Procedure {
-            next,
-            variables,
-            regions,
-            goals,
-        } = record_at(file, i)
-        else {
-            return false;
-        };
-        if !procedure_ok(
-            file,
-            types,
-            called,
-            parameters,
-            n,
-            variables,
-            regions,
-            goals,
-        ) {
+        if !procedure_ok(file, types, places, called, parameters, n, i) {
             return false;
         }
-        i = next;
+        i = word(file, i, 1);
     }
     true
 }

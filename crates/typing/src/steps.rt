@@ -66,14 +66,14 @@ pub fn compared_ok(file: &[u8], variables: &[usize], i: usize) -> bool
 // The step of record i, by its kind; a create or a remove is what is left.
 pub fn step_ok(
     file: &[u8],
-    types: &[usize; 65],
-    procedures: &[usize; 256],
+    places: &[usize; 2080],
+    called: &[usize; 256],
     parameters: &[usize; 4096],
     variables: &[usize; 65],
     regions: &[usize; 65],
     i: usize,
 ) -> bool
-    requires { ⌜ Setting (now file) (now types) (now procedures) (now parameters) (now variables) (now regions) ⌝ }
+    requires { ⌜ Setting (now file) (now places) (now called) (now parameters) (now variables) (now regions) ⌝ }
     requires { ⌜ Stands (now file) goals i × (i ≡ 0 → ⊥) ⌝ }
     requires { ⌜ (word (now file) i 0 ≡ 12 → ⊥) × (word (now file) i 0 ≡ 14 → ⊥) ⌝ }
     ensures { λ r. ⌜ r ≡ goalOk (program (now (file .entry))) (declared (now (file .entry)) (now (variables .entry)) (now (regions .entry))) (goalAt (now (file .entry)) i) ⌝ }
@@ -82,12 +82,12 @@ pub fn step_ok(
         8 => is_number(file, variables, i, 2),
         9 => sum_ok(file, variables, i),
         10 => assign_ok(file, variables, i),
-        11 => construct_ok(file, types, variables, i),
+        11 => construct_ok(file, places, variables, i),
         15 => {
             let callee = word(file, i, 2);
             call_ok(
                 file,
-                procedures,
+                called,
                 parameters,
                 variables,
                 callee,

@@ -1,4 +1,5 @@
 // Number 3 for a whole file.
+use crate::functors::list_functors;
 use crate::parameters::list_parameters;
 use crate::procedures::each_procedure_ok;
 use chains::list_chain;
@@ -6,9 +7,10 @@ use declarations::no_numbers;
 use declarations::types_ok;
 use records::word;
 ghost use mathlib.Core.Path.{_≡_};
+ghost use mathlib.Core.Bool.{true};
 ghost use lib.ListN.{length};
 ghost use Rattle.language.specs.Answers.{program};
-ghost use Rattle.language.specs.Typing.{typingOk};
+ghost use Rattle.language.specs.Typing.{typesOk, typingOk};
 ghost use Rattle.chains.specs.Formed.{Formed};
 ghost use Rattle.declarations.specs.Names.{TypeTable};
 ghost use Rattle.typing.specs.Procedures.{proceduresOk};
@@ -25,11 +27,18 @@ fn no_parameters() -> [usize; 4096]
     [0; 4096]
 }
 
+fn no_functors() -> [usize; 2080]
+    ensures { λ r. ⌜ 2080 ≡ length r ⌝ }
+{
+    [0; 2080]
+}
+
 // The procedures, of a file whose n types are in order.
 fn procedures_ok(file: &[u8], types: &[usize; 65], n: usize) -> bool
     requires { ⌜ Formed (now file) ⌝ }
     requires { ⌜ TypeTable (now file) (now types) ⌝ }
     requires { ⌜ n ≡ length (program (now file) .types) ⌝ }
+    requires { ⌜ typesOk (program (now file) .types) ≡ true ⌝ }
     ensures { λ r. ⌜ r ≡ proceduresOk (program (now (file .entry))) ⌝ }
 {
     let first = word(file, 0, 1);
@@ -43,7 +52,9 @@ fn procedures_ok(file: &[u8], types: &[usize; 65], n: usize) -> bool
     }
     let mut parameters = no_parameters();
     list_parameters(file, &mut parameters);
-    each_procedure_ok(file, types, &procedures, &parameters, n, first)
+    let mut places = no_functors();
+    list_functors(file, types, &mut places);
+    each_procedure_ok(file, types, &places, &procedures, &parameters, n, first)
 }
 
 // Whether number 3 does not apply to a file that passes numbers 1 and 2.

@@ -20,13 +20,11 @@ use Rattle.records.specs.declared.Record.{Record}
 use Rattle.records.specs.declared.Record.the-variants.{Procedure as ProcedureRecord}
 use Rattle.chains.specs.Formed.{Formed, Stands, ahead, variablesAt, goalsAt, proceduresAt, procedures-none, procedures-stand, program-procedures}
 use Rattle.chains.specs.Declared.{ProcedureAt, procedure-at}
-use Rattle.chains.specs.Records.{chainRecords}
-use Rattle.chains.specs.Tables.{tableOf, table-length}
 use Rattle.values.specs.declared.Valued.{Valued as Answer}
 use Rattle.values.specs.declared.Valued.the-variants.{Faulty, Known}
 use Rattle.values.specs.Modes.{ofMode, variables-in}
-use Rattle.values.specs.Callees.{Listed, Declares, procedureIn, procedures-are}
-use Rattle.values.specs.Typed.{TypedGoals, TypedAll, TypedHead, typed-head, typed-all, typed-count}
+use Rattle.values.specs.Callees.{Declares}
+use Rattle.values.specs.Typed.{TypedGoals, TypedAll, TypedHead, typed-head, typed-all}
 use Rattle.values.specs.Meaning.{meant, procedure-stop, procedure-goes}
 
 -- ---- a procedure
@@ -97,20 +95,6 @@ unfolding all
 passing-last f first i h z = (rw (procedures-none f z) at (h .same))
 
 -- ---- the file
-length-map : {A : Type 0} (g : ℕ → A) (xs : List ℕ) → length (map g xs) ≡ length xs
-length-map g [] = refl
-length-map g (x ∷ xs) = ap suc (length-map g xs)
-
--- the table has every procedure
-pub listed-made : (f t₀ : List ℕ) {t : List ℕ} {i : ℕ} → Formed f → typingOk (program f) ≡ true → i ≡ word f 0 1 → 256 ≡ length t₀
-    → t ≡ tableOf 0 (length t₀) (chainRecords f i) → Listed f t
-listed-made f t₀ {t} {i} F T e l h =
-    let n : length t ≡ length t₀ = ap length h ∙ table-length 0 (length t₀) (chainRecords f i) in
-    let c = typed-count (program f) T in
-    let d : length (program f .procedures) ≡ length (chainRecords f (word f 0 1)) =
-    ap length (program-procedures F ∙ procedures-are F (word f 0 1) (procedures-stand F)) ∙ length-map (procedureIn f) (chainRecords f (word f 0 1)) in
-    record { table = h ∙ ap (λ m. tableOf 0 m (chainRecords f i)) (sym n) ∙ ap (λ m. tableOf 0 (length t) (chainRecords f m)) e; all = omega arith }
-
 pub procedures-typed : (f : List ℕ) {i : ℕ} → Formed f → typingOk (program f) ≡ true → i ≡ word f 0 1 → TypedAll (program f) (proceduresAt f i)
 procedures-typed f F T e = rw e (subst (λ ps. TypedAll (program f) ps) (program-procedures F) (typed-all (program f) T))
 

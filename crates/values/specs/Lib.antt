@@ -5,5 +5,6 @@ pub mod Modes
 pub mod Callees
 pub mod Accesses
 pub mod Typed
+pub mod Listing
 pub mod Meaning
 pub mod Shapes

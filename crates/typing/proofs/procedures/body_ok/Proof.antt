@@ -19,19 +19,19 @@ slice-aggregate-list-chain : tie.Need-slice-aggregate-list-chain
 slice-aggregate-list-chain c = search needs
 
 list-chain-requires : tie.Need-list-chain-requires
-list-chain-requires c κs = let s = c .before .before .before .before .pre in (s .0, s .1 .1 .1 .1 .0 .0 .below)
+list-chain-requires c κs = let s = c .before .before .before .before .pre in (s .0 .formed, s .1 .0 .0 .below)
 
 slice-aggregate-list-chain-2 : tie.Need-slice-aggregate-list-chain-2
 slice-aggregate-list-chain-2 c = search needs
 
 list-chain-requires-2 : tie.Need-list-chain-requires-2
-list-chain-requires-2 c κs = let s = c .before .before .before .before .before .before .before .pre in (s .0, s .1 .1 .1 .1 .0 .1 .below)
+list-chain-requires-2 c κs = let s = c .before .before .before .before .before .before .before .pre in (s .0 .formed, s .1 .0 .1 .below)
 
 goals-ok-requires : tie.Need-goals-ok-requires
-goals-ok-requires c κs = let s = c .before .before .before .before .before .before .before .before .before .before .before .pre in (setting (s .0) (s .1 .0) (s .1 .1 .0) (s .1 .1 .1 .0) _ _ (s .1 .1 .1 .1 .0 .0) (s .1 .1 .1 .1 .0 .1) (s .1 .1 .1 .1 .1) (sized 1 _ (c .before .before .before .before .before .before .before .before .before .no-numbers .ensures) (c .before .before .before .before .before .before .list-chain .ensures .1)) (sized 1 _ (c .before .before .before .before .before .before .before .before .no-numbers2 .ensures) (c .before .before .before .list-chain2 .ensures .1)), s .1 .1 .1 .1 .0 .2)
+goals-ok-requires c κs = let s = c .before .before .before .before .before .before .before .before .before .before .before .pre in (setting (s .0 .formed) (s .0) _ _ (s .1 .0 .0) (s .1 .0 .1) (s .1 .1) (sized 1 _ (c .before .before .before .before .before .before .before .before .before .no-numbers .ensures) (c .before .before .before .before .before .before .list-chain .ensures .1)) (sized 1 _ (c .before .before .before .before .before .before .before .before .no-numbers2 .ensures) (c .before .before .before .list-chain2 .ensures .1)), s .1 .0 .2)
 
 returns : tie.Need-returns
-returns c = let s = c .before .before .before .before .before .before .before .before .before .before .before .before .pre in let a = c .before .before .before .before .before .before .before .before .before .before .before .before .args in c .goals-ok .ensures ∙ ap (λ S. goalsOk (program (a .file .now)) S (goalsAt (a .file .now) (a .gs))) (declared-same (s .0) (s .1 .0) (s .1 .1 .0) (s .1 .1 .1 .0) _ _ (s .1 .1 .1 .1 .0 .0) (s .1 .1 .1 .1 .0 .1) (s .1 .1 .1 .1 .1) (sized 1 _ (c .before .before .before .before .before .before .before .before .before .before .no-numbers .ensures) (c .before .before .before .before .before .before .before .list-chain .ensures .1)) (sized 1 _ (c .before .before .before .before .before .before .before .before .before .no-numbers2 .ensures) (c .before .before .before .before .list-chain2 .ensures .1)))
+returns c = let s = c .before .before .before .before .before .before .before .before .before .before .before .before .pre in let a = c .before .before .before .before .before .before .before .before .before .before .before .before .args in c .goals-ok .ensures ∙ ap (λ S. goalsOk (program (a .file .now)) S (goalsAt (a .file .now) (a .gs))) (declared-same (s .0 .formed) (s .0) _ _ (s .1 .0 .0) (s .1 .0 .1) (s .1 .1) (sized 1 _ (c .before .before .before .before .before .before .before .before .before .before .no-numbers .ensures) (c .before .before .before .before .before .before .before .list-chain .ensures .1)) (sized 1 _ (c .before .before .before .before .before .before .before .before .before .no-numbers2 .ensures) (c .before .before .before .before .list-chain2 .ensures .1)))
 
 pub body-ok-spec : {M : Type 1} → statement M
 body-ok-spec =

@@ -19,7 +19,7 @@ assign-ok-requires : tie.Need-assign-ok-requires
 assign-ok-requires c κs = search needs
 
 construct-ok-requires : tie.Need-construct-ok-requires
-construct-ok-requires c κs = let k = c .before .before .before .before .before .pre .0 in (k .formed, k .type-table)
+construct-ok-requires c κs = let k = c .before .before .before .before .before .pre .0 .tables in (k .formed, k .functor-table)
 
 word-requires-2 : tie.Need-word-requires-2
 word-requires-2 c κs = search needs
@@ -28,7 +28,7 @@ word-requires-3 : tie.Need-word-requires-3
 word-requires-3 c κs = search needs
 
 call-ok-requires : tie.Need-call-ok-requires
-call-ok-requires c κs = let k = c .before .before .before .before .before .before .before .before .pre .0 in (k .formed, (k .procedure-table, (k .parameter-table, stands-same (c .word3 .ensures .0) (call-here k _ (c .before .before .before .before .before .before .word .ensures .0) (c .before .before .before .before .before .match .keys5) .to-arguments .stands))))
+call-ok-requires c κs = let k = c .before .before .before .before .before .before .before .before .pre .0 in let b = k .tables in (b .formed, (b .procedure-table, (b .parameter-table, stands-same (c .word3 .ensures .0) (call-here k _ (c .before .before .before .before .before .before .word .ensures .0) (c .before .before .before .before .before .match .keys5) .to-arguments .stands))))
 
 is-number-requires-2 : tie.Need-is-number-requires-2
 is-number-requires-2 c κs = search needs

@@ -30,7 +30,7 @@ returns : tie.Need-returns
 returns c = wrong-types _ (c .before .types-ok .ensures) (not-true _ (c .if1 .taken))
 
 procedures-ok-requires : tie.Need-procedures-ok-requires
-procedures-ok-requires c κs = let l = c .before .before .before .before in let w = l .before .before .before in let s = w .before .before in let n = type-count _ _ (s .pre) (w .word .ensures .0) (l .list-chain .ensures .0) in let h = few-types _ (sym (c .before .before .types-ok .ensures) ∙ not-false _ (c .before .if1 .left)) in (s .pre, (rw (sized 1 _ (l .before .before .no-numbers .ensures) (l .list-chain .ensures .1)) (type-table (s .pre) (w .word .ensures .0) (omega (arith, n, h, l .list-chain .ensures .0))), n))
+procedures-ok-requires c κs = let l = c .before .before .before .before .list-chain in let e = c .before .before .before .before .before .before .before .word .ensures .0 in let s = c .before .before .before .before .before .before .before .before .before .pre in let n = type-count _ _ s e (l .ensures .0) in let ok = sym (c .before .before .types-ok .ensures) ∙ not-false _ (c .before .if1 .left) in (s, (rw (sized 1 _ (c .before .before .before .before .before .before .no-numbers .ensures) (l .ensures .1)) (type-table s e (omega (arith, n, few-types _ ok, l .ensures .0))), (n, ok)))
 
 returns-2 : tie.Need-returns-2
 returns-2 c = typing-all _ (c .before .before .before .types-ok .ensures) (not-false _ (c .before .before .if1 .left)) (c .procedures-ok .ensures)

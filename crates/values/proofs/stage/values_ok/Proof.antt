@@ -1,6 +1,7 @@
 -- `values_ok` meets its contract.
-use Rattle.values.proofs.Staging.{listed-made, procedures-typed, procedures-start, values-entry, values-done}
+use Rattle.values.proofs.Staging.{procedures-typed, procedures-start, values-entry, values-done}
 use Rattle.values.specs.Callees.{entry-declares}
+use Rattle.values.specs.Listing.{listed-made}
 use borrow.Author.Tests.{not-true, not-false}
 use mathlib.Core.Path.{_≡_, refl, sym, ap, _∙_}
 use borrow.Author.Needs.{needs}
