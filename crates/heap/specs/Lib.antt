@@ -1,0 +1,15 @@
+pub mod Labels
+pub mod Pools
+pub mod Giving
+pub mod Words
+pub mod Counts
+pub mod Labelled
+pub mod LabelledCreate
+pub mod LabelledBuild
+pub mod LabelledRemove
+pub mod Standing
+pub mod Represents
+pub mod Reading
+pub mod Creating
+pub mod Building
+pub mod Removing

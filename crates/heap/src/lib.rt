@@ -1,0 +1,1 @@
+// The runner's memory stands for the definition's: see specs/.

@@ -1,0 +1,84 @@
+-- What each function comes to on each way through it.
+use Prim.Native.Nat.{ℕ, _+_, _*_, _/_, _≤_, _<_}
+use native.Mathlib.Nat.{div-zero}
+use native.Mathlib.Omega.{arith}
+use mathlib.Core.Path.{_≡_, refl}
+use mathlib.Core.List.{List}
+use lib.ListN.{set}
+use borrow.Author.Tests.{le-leb, lt-leb, eq-eqb, ne-eqb}
+use Rattle.language.specs.Lists.{choose}
+use Rattle.language.specs.Machine.{holds}
+use Rattle.memory.specs.declared.Contents.{Contents}
+use Rattle.memory.specs.declared.Pool.{Pool}
+use Rattle.memory.specs.declared.Taken.{Taken}
+use Rattle.memory.specs.declared.Taken.the-variants.{Place, Full}
+use Rattle.memory.specs.declared.Heap.{Heap}
+use Rattle.memory.specs.declared.Made.the-variants.{At, NoRoom}
+use Rattle.memory.specs.Memory.{link, first, last, headed, raised, taken, created, createdOf, createdRegions, createdRegionsOf, filled, hung, built, builtOf, builtCells, builtCellsOf, builtRegions, builtRegionsOf, removed, removedCells, removedRegions}
+
+module _ (p : Pool) (l : ℕ) where
+  pub take-full : p .limit ≤ p .head → taken p l ≡ Full
+  unfolding taken choose
+  take-full h = rw (le-leb _ _ h)
+
+  pub take-top : p .head < p .limit → p .head ≡ p .top → taken p l ≡ Place (p .head) (raised p)
+  unfolding taken choose
+  take-top h e = rw (lt-leb _ _ h, eq-eqb _ _ e)
+
+  pub take-link : p .head < p .limit → (p .head ≡ p .top → ⊥) → taken p l ≡ Place (p .head) (headed p l)
+  unfolding taken choose
+  take-link h e = rw (lt-leb _ _ h, ne-eqb _ _ e)
+
+module _ (h : Heap) (rs : List ℕ) (l : ℕ) (e : l ≡ first rs (h .regions .head)) (t : Taken) (d : t ≡ taken (h .regions) l) where
+  pub create-full : t ≡ Full → (NoRoom ≡ created h rs) × (rs ≡ createdRegions h rs)
+  unfolding created createdRegions createdOf createdRegionsOf
+  create-full f = rw (← e, ← d, f) (refl, refl)
+
+  pub create-made : (r : ℕ) (p : Pool) → t ≡ Place r p → (rs₁ : List ℕ) → rs₁ ≡ set rs (2 * r + 1) (h .cells .limit)
+      → (At r (record { cells = h .cells; regions = p }) ≡ created h rs) × (rs₁ ≡ createdRegions h rs)
+  unfolding created createdRegions createdOf createdRegionsOf
+  create-made r p f rs₁ g = rw (g, ← e, ← d, f) (refl, refl)
+
+module _ (h : Heap) (m rs : List ℕ) (r : ℕ) (c : Contents) (l : ℕ) (e : l ≡ link m (h .cells .head)) (t : Taken) (dt : t ≡ taken (h .cells) l) where
+  pub build-full : t ≡ Full → (NoRoom ≡ built h m) × (m ≡ builtCells h m rs r c) × (rs ≡ builtRegions h m rs r)
+  unfolding built builtCells builtRegions builtOf builtCellsOf builtRegionsOf
+  build-full g = rw (← e, ← dt, g) (refl, refl, refl)
+
+  pub build-made : (x : ℕ) (p : Pool) → t ≡ Place x p → (m₁ rs₁ : List ℕ) → m₁ ≡ filled m x c (first rs r)
+      → rs₁ ≡ hung rs r x (h .cells .limit)
+      → (At x (record { cells = p; regions = h .regions }) ≡ built h m) × (m₁ ≡ builtCells h m rs r c) × (rs₁ ≡ builtRegions h m rs r)
+  unfolding built builtCells builtRegions builtOf builtCellsOf builtRegionsOf
+  build-made x p g m₁ rs₁ em er = rw (em, er, ← e, ← dt, g) (refl, refl, refl)
+
+module _ (rs : List ℕ) (r x n l : ℕ) (e : l ≡ last rs r) (rs₁ : List ℕ) (e₁ : rs₁ ≡ set rs (2 * r) x) where
+  pub hang-first : n ≤ l → (rs₂ : List ℕ) → rs₂ ≡ set rs₁ (2 * r + 1) x → rs₂ ≡ hung rs r x n
+  unfolding hung choose
+  hang-first h rs₂ e₂ = rw (e₂, e₁, ← e, le-leb _ _ h)
+
+  pub hang-more : l < n → rs₁ ≡ hung rs r x n
+  unfolding hung choose
+  hang-more h = rw (e₁, ← e, lt-leb _ _ h)
+
+module _ (h : Heap) (m rs : List ℕ) (r x l : ℕ) (ex : x ≡ first rs r) (e : l ≡ last rs r) (rs₁ : List ℕ) (e₁ : rs₁ ≡ set rs (2 * r) (h .regions .head)) where
+  pub remove-empty : h .cells .limit ≤ l
+      → (record { cells = h .cells; regions = headed (h .regions) r } ≡ removed h rs r) × (m ≡ removedCells h m rs r) × (rs₁ ≡ removedRegions h rs r)
+  unfolding removed removedCells removedRegions choose
+  remove-empty g = rw (e₁, ← e, le-leb _ _ g) (refl, refl, refl)
+
+  pub remove-some : l < h .cells .limit → (m₁ : List ℕ) → m₁ ≡ set m (8 * l + 5) (h .cells .head)
+      → (record { cells = headed (h .cells) x; regions = headed (h .regions) r } ≡ removed h rs r) × (m₁ ≡ removedCells h m rs r) × (rs₁ ≡ removedRegions h rs r)
+  unfolding removed removedCells removedRegions choose
+  remove-some g m₁ em = rw (e₁, em, ex, ← e, lt-leb _ _ g) (refl, refl, refl)
+
+-- ---- room
+pub room-none : (n k : ℕ) → k ≡ 0 → 0 ≡ holds n k
+unfolding holds
+room-none n k e = rw e (omega (arith, div-zero n))
+
+pub room-all : (n k : ℕ) → n / k < 65535 → n / k ≡ holds n k
+unfolding holds
+room-all n k l = omega arith
+
+pub room-most : (n k : ℕ) → 65535 ≤ n / k → 65535 ≡ holds n k
+unfolding holds
+room-most n k l = omega arith

@@ -1,0 +1,47 @@
+// The runner's memory: cells of 8 lent words and regions of 2. Places are used again; the free ones are linked in the words themselves.
+mod cells;
+mod places;
+mod pools;
+mod words;
+
+pub use cells::cell_word;
+pub use places::build;
+pub use places::create;
+pub use places::empty;
+pub use places::remove;
+pub use pools::room;
+pub use words::put;
+pub use words::word;
+
+// The free places of a sort: a chain from `head` that ends at `top`, and the places from `top` on, never used yet. There are `limit` places.
+pub struct Pool {
+    pub head: u32,
+    pub top: u32,
+    pub limit: u32,
+}
+
+// What a pool gives: a place, and the pool without it.
+pub enum Taken {
+    Place(u32, Pool),
+    Full,
+}
+
+pub struct Heap {
+    pub cells: Pool,
+    pub regions: Pool,
+}
+
+// What a create or a construct makes: its place, and the heap after it.
+pub enum Made {
+    At(u32, Heap),
+    NoRoom,
+}
+
+// What a cell holds: its functor's number and its arguments' words. Words past the arity mean nothing.
+pub struct Contents {
+    pub functor: u32,
+    pub a: u32,
+    pub b: u32,
+    pub c: u32,
+    pub d: u32,
+}

@@ -1,0 +1,115 @@
+// Regions are created and removed, cells are built in them. No step looks through the memory.
+use crate::Contents;
+use crate::Heap;
+use crate::Made;
+use crate::Pool;
+use crate::Taken;
+use crate::cells::add;
+use crate::pools::fresh;
+use crate::pools::room;
+use crate::pools::take;
+use crate::words::put;
+use crate::words::word;
+ghost use mathlib.Core.Path.{_≡_};
+ghost use lib.ListN.{length};
+ghost use Rattle.language.specs.Machine.{holds};
+ghost use Rattle.memory.specs.Memory.{emptyHeap, created, createdRegions, built, builtCells, builtRegions, removed, removedCells, removedRegions};
+
+// Before the first step. The words keep what stands there.
+pub fn empty(cells: &[u32], regions: &[u32]) -> Heap
+    ensures { λ r. ⌜ r ≡ emptyHeap (holds (length (now (cells .entry))) 8) (holds (length (now (regions .entry))) 2) ⌝ }
+{
+    Heap {
+        cells: fresh(room(cells.len(), 8)),
+        regions: fresh(room(regions.len(), 2)),
+    }
+}
+
+// "Create makes a new region": one without cells.
+pub fn create(heap: Heap, regions: &mut [u32]) -> Made
+    ensures { λ r. ⌜ (r ≡ created heap (now (regions .entry))) × (now (regions .exit) ≡ createdRegions heap (now (regions .entry))) ⌝ }
+{
+    let cells = heap.cells;
+    let free = heap.regions;
+    let link = word(&regions[..], 2 * (free.head as usize));
+    let Taken::Place(region, left) = take(free, link) else {
+        return Made::NoRoom;
+    };
+    put(&mut regions[..], 2 * (region as usize) + 1, cells.limit);
+    Made::At(
+        region,
+        Heap {
+            cells,
+            regions: left,
+        },
+    )
+}
+
+// "A construct makes one cell": the first of a region's.
+pub fn build(
+    heap: Heap,
+    cells: &mut [u32],
+    regions: &mut [u32],
+    region: u32,
+    contents: Contents,
+) -> Made
+    ensures { λ r. ⌜ (r ≡ built heap (now (cells .entry)))
+        × (now (cells .exit) ≡ builtCells heap (now (cells .entry)) (now (regions .entry)) region contents)
+        × (now (regions .exit) ≡ builtRegions heap (now (cells .entry)) (now (regions .entry)) region) ⌝ }
+{
+    let free = heap.cells;
+    let places = heap.regions;
+    let link = word(&cells[..], 8 * (free.head as usize) + 5);
+    let Taken::Place(cell, left) = take(free, link) else {
+        return Made::NoRoom;
+    };
+    add(
+        &mut cells[..],
+        &mut regions[..],
+        region,
+        cell,
+        contents,
+        free.limit,
+    );
+    Made::At(
+        cell,
+        Heap {
+            cells: left,
+            regions: places,
+        },
+    )
+}
+
+// "Remove destroys one with its cells": they go before the free ones, all at once.
+pub fn remove(heap: Heap, cells: &mut [u32], regions: &mut [u32], region: u32) -> Heap
+    ensures { λ r. ⌜ (r ≡ removed heap (now (regions .entry)) region)
+        × (now (cells .exit) ≡ removedCells heap (now (cells .entry)) (now (regions .entry)) region)
+        × (now (regions .exit) ≡ removedRegions heap (now (regions .entry)) region) ⌝ }
+{
+    let free = heap.cells;
+    let places = heap.regions;
+    let at = 2 * (region as usize);
+    let first = word(&regions[..], at);
+    let last = word(&regions[..], at + 1);
+    put(&mut regions[..], at, places.head);
+    let left = Pool {
+        head: region,
+        top: places.top,
+        limit: places.limit,
+    };
+    if free.limit <= last {
+        return Heap {
+            cells: free,
+            regions: left,
+        };
+    }
+    put(&mut cells[..], 8 * (last as usize) + 5, free.head);
+    Heap {
+        cells: Pool {
+            head: first,
+            top: free.top,
+            limit: free.limit,
+        },
+        regions: left,
+    }
+}
