@@ -1,22 +1,26 @@
 -- The mapping of a call: the regions of the callee's in and out variables, and those of the call's arguments, as chains of records have them.
-use Prim.Native.Nat.{ℕ, zero, suc, _+_, _≤_}
+use Prim.Native.Nat.{ℕ, zero, suc}
 use native.Mathlib.Omega.{arith}
 use mathlib.Core.Bool.{Bool, true}
 use mathlib.Core.List.{List, [], _∷_, _++_, append-assoc}
 use mathlib.Core.Logic.{_≢_}
 use mathlib.Core.Path.{_≡_, refl, sym, ap, ap₂, _∙_, fun-ext}
 use lib.ListN.{length, getD, length-append}
+use Rattle.language.specs.File.{variables, arguments, word}
 use Rattle.language.specs.Lists.{nth, nth1}
 use Rattle.language.specs.Program.{Variable, Signature, Parameter, regionOf, variableAt, parameterIn, parametersFrom, parametersOf, parameterVariables}
 use Rattle.language.specs.Typing.{haveTypes, parameterTypes}
-use Rattle.language.specs.Regions.{Mapping, mapEach, mapRegion, mapping, pairs, regionsOf}
+use Rattle.language.specs.Regions.{mapping, regionsOf}
 use Rattle.region_graph.specs.Typed.{regions-few}
 use Rattle.region_graph.specs.Alike.{Paired, Alike, arguments-alike}
 use Rattle.region_graph.specs.Unmapped.{unmapped-all}
-use Rattle.chains.specs.Formed.{variablesAt, argumentsAt}
+use Rattle.chains.specs.Formed.{Formed, Stands, variablesAt, argumentsAt}
+use Rattle.chains.specs.Declared.{VariableAt, variable-at}
+use Rattle.chains.specs.Parts.{argument-at}
+use Rattle.chains.specs.Is.{variable-is, argument-is}
 use Rattle.chains.specs.Fields.{fieldOf}
 use Rattle.chains.specs.Lookups.{VariableTable}
-use Rattle.regions.specs.Mapped.{imagesIn, answer, Sides, Ready, ListsMapped, RestMapped}
+use Rattle.regions.specs.Mapped.{imagesIn, answer, Sides, ListsMapped, RestMapped}
 
 -- ---- the regions of in and out variables
 unfoldable pub parameterRegion : ℕ → ℕ → List ℕ → List ℕ
@@ -131,3 +135,20 @@ call-mapped f vars callers callees ps args t b t′ h C Q s v e y k =
     rw (← m, ← rs, ← us)
     (h C Q s (rw (rs, us) (args-alike C Q s (argumentsAt f args) y)) (length (Q .regions))
     (record { room = k .room; first = k .none 0; few = unmapped-all Q few (imagesIn t) }))
+
+-- ---- one at a time, over the words that the code has read
+module _ (f : List ℕ) (x : ℕ) (F : Formed f) (s : Stands f variables x) (z : x ≡ 0 → ⊥) where
+  variable-view : VariableAt f x (word f x 1) (word f x 2) (word f x 3) (word f x 4)
+  variable-view = variable-at F refl (variable-is s z)
+
+  -- a variable of the callee's own
+  pub parameter-passed : {m w : ℕ} → m ≡ word f x 2 → m ≡ 0 → w ≡ word f x 1 → regionsOfParameters (variablesAt f x) ≡ regionsOfParameters (variablesAt f w)
+  parameter-passed e q h = rw h (parameters-local (variable-view .view) (sym e ∙ q))
+
+  pub parameter-here : {m w r : ℕ} → m ≡ word f x 2 → m ≢ 0 → w ≡ word f x 1 → r ≡ word f x 4
+      → regionsOfParameters (variablesAt f x) ≡ r ∷ regionsOfParameters (variablesAt f w)
+  parameter-here e n h g = rw (h, g) (parameters-next (variable-view .view) (λ q. n (e ∙ q)))
+
+pub argument-here : (f t : List ℕ) (a : ℕ) → Formed f → Stands f arguments a → (a ≡ 0 → ⊥) → {y n u w : ℕ} → y ≡ word f a 2 → n ≡ getD t y 0
+    → u ≡ fieldOf f n 4 → w ≡ word f a 1 → homesOf f t (argumentsAt f a) ≡ u ∷ homesOf f t (argumentsAt f w)
+argument-here f t a F s z e g h k = rw k (homes-next f t (argument-at F refl (argument-is s z) .view) (g ∙ ap (λ (y : ℕ). getD t y 0) e) h)

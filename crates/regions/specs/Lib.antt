@@ -1,9 +1,12 @@
 pub mod Places
+pub mod Targets
 pub mod Reading
 pub mod Reaches
 pub mod Mapped
+pub mod Known
 pub mod Calls
 pub mod Arguments
 pub mod Number
 pub mod Checked
 pub mod Stage
+pub mod Edges

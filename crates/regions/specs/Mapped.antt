@@ -14,14 +14,14 @@ use lib.ListN.{length, getD, set, length-set}
 use lib.Seq.{getD-set-same, getD-set-other}
 use Rattle.sets.specs.Size.{size}
 use Rattle.language.specs.Lists.{put}
-use Rattle.language.specs.Program.{Functor, Edge, Signature}
+use Rattle.language.specs.Program.{Functor, Signature}
 use Rattle.language.specs.Typing.{isRegion, signatureOk}
 use Rattle.language.specs.Regions.{targets, targetsIn, Mapping, twoWays, images, pairs, afterMapping, mapEach, agreeing, visit, mapRegion}
 use Rattle.region_graph.specs.Typed.{region-in, regions-few}
-use Rattle.region_graph.specs.Alike.{Paired, paired-nil, paired-cons, Matched, Alike, targets-alike}
+use Rattle.region_graph.specs.Alike.{Paired, paired-cons, Alike, targets-alike}
 use Rattle.region_graph.specs.Unmapped.{put-here, put-other, unmapped, unmapped-falls, unmapped-shrinks, unmapped-none}
 use Rattle.chains.specs.Formed.{edgesAt}
-use Rattle.regions.specs.Places.{EdgeTable, firstEdge, targetsAt, targets-table, targets-same}
+use Rattle.regions.specs.Places.{EdgeTable, firstEdge, targets-table, targets-same}
 
 -- the images that a table stands for
 unfoldable pub imagesIn : List ℕ → ℕ → ℕ
@@ -134,15 +134,6 @@ ready-grown {Q} {t} {t′} few e g h = record {
 
 paired-head : {R : ℕ → ℕ → Type 0} {r u : ℕ} {rs us : List ℕ} → Paired R (r ∷ rs) (u ∷ us) → R r u × Paired R rs us
 paired-head (paired-cons h t) = (h, t)
-
--- ---- targets of a chain of edges
-pub targets-step : {es ds : List Edge} {f k t : ℕ} → es ≡ record { functor = f; position = k; target = t } ∷ ds → targetsIn es ≡ t ∷ targetsIn ds
-unfolding targetsIn
-targets-step e = ap targetsIn e
-
-pub targets-end : {es : List Edge} → es ≡ [] → targetsIn es ≡ []
-unfolding targetsIn
-targets-end e = ap targetsIn e
 
 -- ---- the definition, one case at a time
 same-answer : (b : Bool) (t : List ℕ) → agreeing b (imagesIn t) ≡ answer b t

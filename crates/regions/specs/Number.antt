@@ -4,7 +4,7 @@ use Prim.Native.Nat.{ℕ, suc}
 use mathlib.Core.Bool.{Bool, true, false}
 use mathlib.Core.List.{List, [], _∷_}
 use mathlib.Core.Path.{_≡_, refl, sym, ap, _∙_}
-use Rattle.sets.specs.Tests.{_&_, and-true, clash}
+use Rattle.sets.specs.Tests.{and-true, clash}
 use Rattle.language.specs.Program.{Four, four, argumentsOf, Functor, Goals, _then_, Goal, switch, ifLess, Arms, arm, Signature, Program, regionAt}
 use Rattle.language.specs.Typing.{signatureOk, goalsOk, goalOk, armsOk, typingOk}
 use Rattle.language.specs.Regions.{inTargets, goalsRegions, goalRegions, armsRegions}

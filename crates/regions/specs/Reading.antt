@@ -2,53 +2,40 @@
 -- the least set that has the region and is closed under edges, which is the definition's reach.
 use Prim.Native.Nat.{ℕ, _-_, _≤_, _<_}
 use mathlib.Core.Bool.{Bool, true, false}
-use mathlib.Core.List.{List, [], _∷_}
+use mathlib.Core.List.{List}
 use mathlib.Core.Logic.{_⊎_, inl, inr, ⊎-elim}
-use mathlib.Core.Path.{_≡_, refl, sym, ap, _∙_}
+use mathlib.Core.Path.{_≡_, sym, ap, _∙_}
 use native.Mathlib.Omega.{arith}
 use borrow.Author.Tests.{eqb-true, eq-eqb}
 use lib.Dec.{eqb}
 use Rattle.sets.specs.Tests.{_&_, truth, clash, and-true, true-and, false-of}
-use Rattle.sets.specs.Sets.{member, emptySet, single, _∪_, _∖_, subset, Small, single-mk, single-in, member-pos, member-empty, union-left, union-right, union-in, difference-mk, difference-in, subset-in, subset-mk}
-use Rattle.sets.specs.SetLaws.{subset-antisym, union-empty, union-assoc, small-single, small-union, small-difference, small-top}
-use Rattle.sets.specs.Members.{setOf, nextMember, inList, nil-in}
-use Rattle.sets.specs.MemberLaws.{setOf-in, setOf-mk, small-setOf}
-use Rattle.sets.specs.Walk.{Next, next-is}
+use Rattle.sets.specs.Sets.{member, single, _∪_, _∖_, single-mk, single-in, member-pos, member-empty, union-left, union-right, union-in, difference-mk, difference-in, subset-mk}
+use Rattle.sets.specs.SetLaws.{subset-antisym}
+use Rattle.sets.specs.Members.{nextMember, inList, nil-in}
+use Rattle.sets.specs.MemberLaws.{setOf-in, setOf-mk}
+use Rattle.sets.specs.Walk.{next-is}
 use Rattle.sets.specs.Size.{size, size-top, size-lt}
 use Rattle.sets.specs.declared.Set.{Set}
 use Rattle.language.specs.Lists.{nth1}
-use Rattle.language.specs.Program.{Functor, Edge, Signature, regionAt}
+use Rattle.language.specs.Program.{Functor, Signature, regionAt}
 use Rattle.language.specs.Typing.{isRegion}
 use Rattle.language.specs.Regions.{targets, targetsIn, reachFrom}
 use Rattle.region_graph.specs.Laws.{Declared}
 use Rattle.region_graph.specs.Reach.{reach-closed}
 use Rattle.region_graph.specs.Typed.{region-in}
-use Rattle.regions.specs.Places.{EdgeTable, targetsAt, targets-table}
-
--- ---- reading one chain of edges: what is found so far with what the rest leads to is the whole
-pub targets-none : {es : List Edge} {s w : Set} → es ≡ [] → s ∪ setOf (targetsIn es) ≡ w → s ≡ w
-unfolding targetsIn setOf
-targets-none {s = s} e h = sym (union-empty s) ∙ ap (λ (l : List Edge). s ∪ setOf (targetsIn l)) (sym e) ∙ h
-
-pub targets-more : {es ds : List Edge} {f k t : ℕ} {u w x : Set} (s : Set) → es ≡ record { functor = f; position = k; target = t } ∷ ds
-    → u ≡ single t → x ≡ s ∪ u → s ∪ setOf (targetsIn es) ≡ w → x ∪ setOf (targetsIn ds) ≡ w
-unfolding targetsIn setOf
-targets-more {ds = ds} s e i j h = rw (j, i) (union-assoc s _ (setOf (targetsIn ds)) ∙ ap (λ (l : List Edge). s ∪ setOf (targetsIn l)) (sym e) ∙ h)
+use Rattle.regions.specs.Targets.{setAt, TargetTable}
 
 -- ---- the worklist, where `next u` is where u's edges lead
-module _ (next : ℕ → List ℕ) (r : ℕ) where
+module _ (next : ℕ → Set) (r : ℕ) where
   pub record Reading (found unread : Set) : Type 0 where
-    pub small : Small found
     pub within : (n : ℕ) → member unread n ≡ true → member found n ≡ true
     pub start : 1 ≤ r → r ≤ 64 → member found r ≡ true
-    pub closed : (u t : ℕ) → member found u ≡ true → member unread u ≡ false → inList t (next u) ≡ true → 1 ≤ t → t ≤ 64
-        → member found t ≡ true
-    pub least : (test : ℕ → Bool) → test r ≡ true → ((u t : ℕ) → test u ≡ true → inList t (next u) ≡ true → test t ≡ true)
+    pub closed : (u t : ℕ) → member found u ≡ true → member unread u ≡ false → member (next u) t ≡ true → member found t ≡ true
+    pub least : (test : ℕ → Bool) → test r ≡ true → ((u t : ℕ) → test u ≡ true → member (next u) t ≡ true → test t ≡ true)
         → (u : ℕ) → member found u ≡ true → test u ≡ true
 
   pub first : Reading (single r) (single r)
   first = record {
-    small = small-single r;
     within = λ n m. m;
     start = single-mk r;
     closed = λ u t m k. absurd (clash m k);
@@ -63,14 +50,11 @@ module _ (next : ℕ → List ℕ) (r : ℕ) where
     is-unread : member unread u ≡ true
     is-unread = rw e (next-is unread 0 .found (rw (← e) l))
 
-    new : Set
-    new = setOf (next u) ∖ found
-
     abbrev found′ : Set
-    found′ = found ∪ (setOf (next u) ∖ found)
+    found′ = found ∪ (next u ∖ found)
 
     abbrev unread′ : Set
-    unread′ = (unread ∖ single u) ∪ (setOf (next u) ∖ found)
+    unread′ = (unread ∖ single u) ∪ (next u ∖ found)
 
     -- a region that is found and not to be read was read before, or is u
     was-read : (v : ℕ) → member found′ v ≡ true → member unread′ v ≡ false → (member found v ≡ true) × ((member unread v ≡ false) ⊎ (u ≡ v))
@@ -80,31 +64,30 @@ module _ (next : ℕ → List ℕ) (r : ℕ) where
             → (member unread v ≡ false) ⊎ (u ≡ v)
         go (inr p) q = inl p
         go (inl p) (inl q) = inr (single-in u v q)
-        go (inl p) (inr q) = absurd (clash (union-left _ (setOf (next u) ∖ found) v (difference-mk unread (single u) v p q)) k)
+        go (inl p) (inr q) = absurd (clash (union-left _ (next u ∖ found) v (difference-mk unread (single u) v p q)) k)
 
     -- what u's edges lead to is found now
-    is-found : (t : ℕ) → inList t (next u) ≡ true → 1 ≤ t → t ≤ 64 → member found′ t ≡ true
-    is-found t i a b = go (truth (member found t))
+    is-found : (t : ℕ) → member (next u) t ≡ true → member found′ t ≡ true
+    is-found t i = go (truth (member found t))
       where
         go : (member found t ≡ true) ⊎ (member found t ≡ false) → member found′ t ≡ true
         go (inl p) = union-left found _ t p
-        go (inr p) = union-right found _ t (difference-mk (setOf (next u)) found t (setOf-mk (next u) t i a b) p)
+        go (inr p) = union-right found _ t (difference-mk (next u) found t i p)
 
     turn : Reading found′ unread′
     turn = record {
-      small = small-union (h .small) (small-difference found (small-setOf (next u)));
       within = λ n m. ⊎-elim (λ p. union-left found _ n (h .within n (difference-in unread (single u) n p .0))) (λ q. union-right found _ n q) (union-in (unread ∖ single u) _ n m);
       start = λ a b. union-left found _ r (h .start a b);
-      closed = λ v t m k i a b. let w = was-read v m k in ⊎-elim (λ p. union-left found _ t (h .closed v t (w .0) p i a b)) (λ q. is-found t (ap (λ (x : ℕ). inList t (next x)) q ∙ i) a b) (w .1);
-      least = λ test o onward v m. ⊎-elim (h .least test o onward v) (λ q. onward u v (h .least test o onward u (h .within u is-unread)) (setOf-in (next u) v (difference-in (setOf (next u)) found v q .0))) (union-in found _ v m);
+      closed = λ v t m k i. let w = was-read v m k in ⊎-elim (λ p. union-left found _ t (h .closed v t (w .0) p i)) (λ q. is-found t (ap (λ (x : ℕ). member (next x) t) q ∙ i)) (w .1);
+      least = λ test o onward v m. ⊎-elim (h .least test o onward v) (λ q. onward u v (h .least test o onward u (h .within u is-unread)) (difference-in (next u) found v q .0)) (union-in found _ v m);
     }
 
     -- one more is read
     more-read : size (found ∖ unread) < size (found′ ∖ unread′)
     more-read = size-lt (found ∖ unread) (found′ ∖ unread′) u (subset-mk _ _ still) (false-of (λ m. clash is-unread (difference-in found unread u m .1))) here (omega arith)
       where
-        not-new : (v : ℕ) → member found v ≡ true → member (setOf (next u) ∖ found) v ≡ true → ⊥
-        not-new v m k = clash m (difference-in (setOf (next u)) found v k .1)
+        not-new : (v : ℕ) → member found v ≡ true → member (next u ∖ found) v ≡ true → ⊥
+        not-new v m k = clash m (difference-in (next u) found v k .1)
 
         still : (v : ℕ) → member (found ∖ unread) v ≡ true → member (found′ ∖ unread′) v ≡ true
         still v m =
@@ -121,28 +104,25 @@ module _ (next : ℕ → List ℕ) (r : ℕ) where
 
   -- the same in the code's terms
   pub goes : {found unread new found″ unread″ s o g : Set} {u : ℕ} → Reading found unread → u ≡ nextMember unread 0 → u < 65
-      → s ≡ setOf (next u) → new ≡ s ∖ found → found″ ≡ found ∪ new → o ≡ single u → g ≡ unread ∖ o → unread″ ≡ g ∪ new
+      → s ≡ next u → new ≡ s ∖ found → found″ ≡ found ∪ new → o ≡ single u → g ≡ unread ∖ o → unread″ ≡ g ∪ new
       → Reading found″ unread″ × (64 - size (found″ ∖ unread″) < 64 - size (found ∖ unread))
   goes {found} {unread} {u = u} h e l i j k a b d =
       rw (d, b, a, k, j, i) (turn h u e l, let m = more-read h u e l in omega (arith, size-top (found′ h u e l ∖ unread′ h u e l)))
 
   -- none is left
-  pub none-left : {found unread : Set} → Reading found unread → {u : ℕ} → u ≡ nextMember unread 0 → 65 ≤ u → (n : ℕ) → member unread n ≡ false
-  none-left {found} {unread} h e l n =
+  none-left : {found unread : Set} → Reading found unread → {u : ℕ} → u ≡ nextMember unread 0 → 65 ≤ u → (n : ℕ) → n ≤ 64 → member unread n ≡ false
+  none-left {unread = unread} h e l n k =
       let x = next-is unread 0 in
-      false-of (λ m. let t = small-top found (h .small) n (h .within n m) in clash m (x .none n (pos n m) (omega (arith, e))))
-    where
-      pos : (n : ℕ) → member unread n ≡ true → 0 < n
-      pos n m = member-pos unread n m
+      false-of (λ m. clash m (x .none n (member-pos unread n m) (omega (arith, e))))
 
 -- ---- the definition's reach
-module _ {f t : List ℕ} {r u : ℕ} {found unread : Set} (h : Reading (targetsAt f t) r found unread) (e : u ≡ nextMember unread 0) (l : 65 ≤ u)
-    (T : List (List Functor)) (S : Signature) (d : Declared T S) (q : EdgeTable f S t) where
+module _ {t : List ℕ} {r u : ℕ} {found unread : Set} (h : Reading (setAt t) r found unread) (e : u ≡ nextMember unread 0) (l : 65 ≤ u)
+    (T : List (List Functor)) (S : Signature) (d : Declared T S) (q : TargetTable S t) where
   leads : (u t : ℕ) → isRegion S u ≡ true → inList t (targets S u) ≡ true → isRegion S t ≡ true
   leads u t i m = d .onward u t i m .0
 
-  listed : (u v : ℕ) → inList v (targetsAt f t u) ≡ true → inList v (targets S u) ≡ true
-  listed u v m = ap (inList v) (sym (targets-table q u)) ∙ m
+  listed : (u v : ℕ) → u < 65 → member (setAt t u) v ≡ true → inList v (targets S u) ≡ true
+  listed u v k m = setOf-in (targets S u) v (ap (λ (s : Set). member s v) (sym (q .at u k)) ∙ m)
 
   home : (v : ℕ) → isRegion S v ≡ true → (1 ≤ v) × (v ≤ 64)
   home v i = let x = region-in S v i in (x .0, omega (arith, d .regions))
@@ -150,15 +130,20 @@ module _ {f t : List ℕ} {r u : ℕ} {found unread : Set} (h : Reading (targets
   reached-some : isRegion S r ≡ true → found ≡ reachFrom S r
   reached-some g = subset-antisym found (reachFrom S r) (subset-mk _ _ inside) (subset-mk _ _ outside)
     where
+      stays : (u v : ℕ) → member (reachFrom S r) u ≡ true → member (setAt t u) v ≡ true → member (reachFrom S r) v ≡ true
+      stays u v m i = let x = home u (d .ranged r u g m) in reach-closed S (d .regions) leads r u v g m (listed u v (omega arith) i)
+
       inside : (v : ℕ) → member found v ≡ true → member (reachFrom S r) v ≡ true
-      inside = h .least (member (reachFrom S r)) (d .self r g) (λ u v m i. reach-closed S (d .regions) leads r u v g m (listed u v i))
+      inside = h .least (member (reachFrom S r)) (d .self r g) stays
 
       onward : (u t : ℕ) → (member found u & isRegion S u) ≡ true → inList t (targets S u) ≡ true → (member found t & isRegion S t) ≡ true
       onward w v m i =
           let a = and-true m in
           let b = leads w v (a .1) i in
           let x = home v b in
-          true-and (h .closed w v (a .0) (none-left (targetsAt f t) r h e l w) (ap (inList v) (targets-table q w) ∙ i) (x .0) (x .1)) b
+          let y = home w (a .1) in
+          let j = ap (λ (s : Set). member s v) (q .at w (omega arith)) ∙ setOf-mk (targets S w) v i (x .0) (x .1) in
+          true-and (h .closed w v (a .0) (none-left (setAt t) r h e l w (y .1)) j) b
 
       outside : (v : ℕ) → member (reachFrom S r) v ≡ true → member found v ≡ true
       outside v m =
@@ -174,8 +159,8 @@ module _ {f t : List ℕ} {r u : ℕ} {found unread : Set} (h : Reading (targets
       subset-antisym found (reachFrom S r) (subset-mk _ _ (λ v m. absurd (omega (arith, member-pos found v m, eqb-true v 0 (zeros v m)))))
       (subset-mk _ _ (λ v m. absurd (clash m (ap (λ (s : Set). member s v) (ap (reachFrom S) z ∙ d .nowhere) ∙ member-empty v))))
     where
-      onward : (u v : ℕ) → eqb u 0 ≡ true → inList v (targetsAt f t u) ≡ true → eqb v 0 ≡ true
-      onward u v a i = absurd (nowhere-leads v (ap (λ (x : ℕ). inList v (targets S x)) (sym (eqb-true u 0 a)) ∙ listed u v i))
+      onward : (u v : ℕ) → eqb u 0 ≡ true → member (setAt t u) v ≡ true → eqb v 0 ≡ true
+      onward u v a i = absurd (nowhere-leads v (listed 0 v (omega arith) (ap (λ (x : ℕ). member (setAt t x) v) (sym (eqb-true u 0 a)) ∙ i)))
 
       zeros : (v : ℕ) → member found v ≡ true → eqb v 0 ≡ true
       zeros = h .least (λ v. eqb v 0) (eq-eqb r 0 z) onward

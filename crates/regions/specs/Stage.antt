@@ -5,7 +5,7 @@ use mathlib.Core.Bool.{Bool, true, false}
 use mathlib.Core.List.{List, _∷_}
 use mathlib.Core.Path.{_≡_, refl, sym, ap, _∙_}
 use lib.ListN.{length}
-use Rattle.sets.specs.Tests.{_&_, and-true}
+use Rattle.sets.specs.Tests.{and-true}
 use Rattle.language.specs.File
 use Rattle.language.specs.File.{procedures, word}
 use Rattle.language.specs.Lists.{all}

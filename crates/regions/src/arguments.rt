@@ -1,10 +1,9 @@
 // The arguments of a construct or an arm against the targets of their edges.
 use chains::entry;
 use chains::field;
-use records::Record;
-use records::record_at;
+use records::word;
 ghost use mathlib.Core.Path.{_≡_};
-ghost use lib.Dec.{eqb};
+ghost use Prim.Native.Nat.{ℕ};
 ghost use Rattle.sets.specs.Tests.{_&_};
 ghost use Rattle.language.specs.File.{edges};
 ghost use Rattle.language.specs.Program.{four, argumentsOf};
@@ -27,23 +26,32 @@ fn target_for(file: &[u8], start: usize, f: usize, k: usize) -> usize
 {
     let mut i = start;
     while i != 0 {
-        let Record::Edge {
-            next,
-            functor,
-            position,
-            target,
-        } = record_at(file, i)
-        else {
-            return 0;
-        };
-        if functor == f {
-            if position == k {
-                return target;
+        let next = word(file, i, 1);
+        if word(file, i, 2) == f {
+            if word(file, i, 3) == k {
+                return word(file, i, 4);
             }
         }
         i = next;
     }
     0
+}
+
+// The first edge for functor f in the chain at record start; 0 where there is none.
+pub fn edges_for(file: &[u8], start: usize, f: usize) -> usize
+    requires { ⌜ Formed (now file) ⌝ }
+    requires { ⌜ Stands (now file) edges start ⌝ }
+    ensures { λ r. ⌜ Stands (now (file .entry)) edges r ⌝ }
+    ensures { λ r. ⌜ ((k : ℕ) → targetFor (edgesAt (now (file .entry)) r) f k ≡ targetFor (edgesAt (now (file .entry)) start) f k) ⌝ }
+{
+    let mut i = start;
+    while i != 0 {
+        if word(file, i, 2) == f {
+            return i;
+        }
+        i = word(file, i, 1);
+    }
+    i
 }
 
 // Whether variable y, the argument at position k of functor f, is in its edge's target, of the edges in the chain at record start.

@@ -4,10 +4,10 @@ mod mapping;
 mod places;
 mod reach;
 mod stage;
+mod steps;
 mod walk;
 
 pub use mapping::map_call;
 pub use reach::list_reaches;
-pub use reach::reach_from;
 pub use reach::reach_of;
 pub use stage::regions_ok;

@@ -2,8 +2,7 @@
 use crate::places::first_edge;
 use chains::entry;
 use chains::field;
-use records::Record;
-use records::record_at;
+use records::word;
 ghost use mathlib.Core.Path.{_≡_};
 ghost use mathlib.Core.Bool.{true, false};
 ghost use mathlib.Core.Logic.{_⊎_};
@@ -57,7 +56,7 @@ fn map_region(
     map_edges(file, callers, callees, i, j, images)
 }
 
-// The same for the targets of two chains of edges, side by side.
+// The same for the targets of two chains of edges, side by side. A pair that the table has already asks for nothing.
 fn map_edges(
     file: &[u8],
     callers: &[usize],
@@ -77,29 +76,18 @@ fn map_edges(
     let mut i = from;
     let mut j = onto;
     while i != 0 {
-        let Record::Edge {
-            next: i_next,
-            functor: _,
-            position: _,
-            target: r,
-        } = record_at(file, i)
-        else {
+        if j == 0 {
             return true;
-        };
-        let Record::Edge {
-            next: j_next,
-            functor: _,
-            position: _,
-            target: u,
-        } = record_at(file, j)
-        else {
-            return true;
-        };
-        if !map_region(file, callers, callees, r, u, images) {
-            return false;
         }
-        i = i_next;
-        j = j_next;
+        let r = word(file, i, 4);
+        let u = word(file, j, 4);
+        if entry(images, r) != u {
+            if !map_region(file, callers, callees, r, u, images) {
+                return false;
+            }
+        }
+        i = word(file, i, 1);
+        j = word(file, j, 1);
     }
     true
 }
@@ -124,28 +112,17 @@ pub fn map_call(
     let mut x = parameters;
     let mut a = arguments;
     while x != 0 {
-        let Record::Variable {
-            next,
-            mode,
-            of_type: _,
-            region,
-        } = record_at(file, x)
-        else {
-            return true;
-        };
-        if mode != 0 {
-            let Record::Argument {
-                next: a_next,
-                variable,
-            } = record_at(file, a)
-            else {
+        let next = word(file, x, 1);
+        if word(file, x, 2) != 0 {
+            if a == 0 {
                 return true;
-            };
-            let u = field(file, entry(variables, variable), 4);
-            if !map_region(file, callers, callees, region, u, images) {
+            }
+            let r = word(file, x, 4);
+            let u = field(file, entry(variables, word(file, a, 2)), 4);
+            if !map_region(file, callers, callees, r, u, images) {
                 return false;
             }
-            a = a_next;
+            a = word(file, a, 1);
         }
         x = next;
     }

@@ -1,7 +1,6 @@
 // Reach along edges.
 use crate::places::first_edge;
-use records::Record;
-use records::record_at;
+use records::word;
 use sets::Set;
 ghost use mathlib.Core.Path.{_≡_};
 ghost use mathlib.Core.Bool.{true};
@@ -18,6 +17,7 @@ ghost use Rattle.language.specs.Regions.{targetsIn, reachFrom};
 ghost use Rattle.region_graph.specs.Laws.{Declared};
 ghost use Rattle.chains.specs.Formed.{Formed, Stands, edgesAt};
 ghost use Rattle.regions.specs.Places.{EdgesStand, EdgeTable};
+ghost use Rattle.regions.specs.Targets.{TargetTable};
 ghost use Rattle.regions.specs.Reaches.{ReachesBelow};
 
 // Where the edges of the chain at record start lead.
@@ -29,32 +29,43 @@ fn targets_of(file: &[u8], start: usize) -> Set
     let mut found = Set::EMPTY;
     let mut i = start;
     while i != 0 {
-        let Record::Edge {
-            next,
-            functor: _,
-            position: _,
-            target,
-        } = record_at(file, i)
-        else {
-            return found;
-        };
-        found = found.union(Set::of(target));
-        i = next;
+        found = found.union(Set::of(word(file, i, 4)));
+        i = word(file, i, 1);
     }
     found
 }
 
-// The regions that edges lead to from region r, with r.
-pub fn reach_from(file: &[u8], regions: &[usize], r: usize) -> Set
+// Places for the targets of 64 regions, numbered from 1.
+fn target_table() -> [u64; 65]
+    ensures { λ r. ⌜ 65 ≡ length r ⌝ }
+{
+    [0; 65]
+}
+
+// Where the edges of each region r lead, in place r of a table.
+fn list_targets(file: &[u8], regions: &[usize], targets: &mut [u64])
     requires { ⌜ Formed (now file) ⌝ }
     requires { ⌜ EdgesStand (now file) (now regions) ⌝ }
-    ensures { λ x. ⌜ ((T : List (List Functor)) (S : Signature) → Declared T S → EdgeTable (now (file .entry)) S (now (regions .entry)) → (r ≡ 0) ⊎ (isRegion S r ≡ true) → x ≡ reachFrom S r) ⌝ }
+    requires { ⌜ 65 ≡ length (now targets) ⌝ }
+    ensures { λ _. ⌜ ((S : Signature) → EdgeTable (now (file .entry)) S (now (regions .entry)) → TargetTable S (now (targets .exit))) ⌝ }
+{
+    let mut r: usize = 0;
+    while r < 65 {
+        targets[r] = targets_of(file, first_edge(file, regions, r)).stored();
+        r += 1;
+    }
+}
+
+// The regions that edges lead to from region r, with r, by that table.
+fn reach_from(targets: &[u64], r: usize) -> Set
+    requires { ⌜ 65 ≡ length (now targets) ⌝ }
+    ensures { λ x. ⌜ ((T : List (List Functor)) (S : Signature) → Declared T S → TargetTable S (now (targets .entry)) → (r ≡ 0) ⊎ (isRegion S r ≡ true) → x ≡ reachFrom S r) ⌝ }
 {
     let mut found = Set::of(r);
     let mut unread = Set::of(r);
     let mut u = unread.after(0);
     while u < 65 {
-        let new = targets_of(file, first_edge(file, regions, u)).difference(found);
+        let new = Set::loaded(targets[u]).difference(found);
         found = found.union(new);
         unread = unread.difference(Set::of(u)).union(new);
         u = unread.after(0);
@@ -69,9 +80,11 @@ pub fn list_reaches(file: &[u8], regions: &[usize], n: usize, reaches: &mut [u64
     requires { ⌜ n ≤ length (now reaches) ⌝ }
     ensures { λ _. ⌜ ((T : List (List Functor)) (S : Signature) → Declared T S → EdgeTable (now (file .entry)) S (now (regions .entry)) → ReachesBelow S n (now (reaches .exit))) ⌝ }
 {
+    let mut targets = target_table();
+    list_targets(file, regions, &mut targets);
     let mut r: usize = 0;
     while r < n {
-        reaches[r] = reach_from(file, regions, r).stored();
+        reaches[r] = reach_from(&targets, r).stored();
         r += 1;
     }
 }

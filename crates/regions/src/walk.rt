@@ -1,21 +1,15 @@
 // The walk over goals for number 5. The tables of the procedures, and of the variables and regions of the procedure that the goals are of, are
 // lent down; callees and images are room for a call's own tables.
-use crate::arguments::arguments_ok;
-use crate::arguments::home;
-use crate::mapping::map_call;
-use crate::places::first_edge;
-use chains::entry;
-use chains::field;
-use chains::list_chain;
+use crate::steps::assign_ok;
+use crate::steps::call_ok;
+use crate::steps::construct_ok;
+use crate::steps::edges_from;
+use crate::steps::in_edges;
 use records::word;
 ghost use mathlib.Core.Path.{_≡_};
-ghost use lib.Dec.{eqb};
 ghost use Rattle.language.specs.File;
 ghost use Rattle.language.specs.File.{goals, arms, word};
-ghost use Rattle.language.specs.Program.{four, argumentsOf};
-ghost use Rattle.chains.specs.Formed.{Formed, Stands, edgesAt};
-ghost use Rattle.regions.specs.Places.{firstEdge, EdgesStand};
-ghost use Rattle.regions.specs.Arguments.{homeOf, allInTargets};
+ghost use Rattle.chains.specs.Formed.{Formed, Stands};
 ghost use Rattle.regions.specs.Number.{Tables, GoalsChecked, GoalChecked, ArmsChecked};
 
 // The goals from record start on.
@@ -66,81 +60,6 @@ fn goal_ok(
         15 => call_ok(file, procedures, variables, regions, callees, images, i),
         _ => true,
     }
-}
-
-// The two variables of an assign are in one region.
-fn assign_ok(file: &[u8], variables: &[usize; 65], i: usize) -> bool
-    ensures { λ b. ⌜ b ≡ eqb (homeOf (now (file .entry)) (now (variables .entry)) (word (now (file .entry)) i 2)) (homeOf (now (file .entry)) (now (variables .entry)) (word (now (file .entry)) i 3)) ⌝ }
-{
-    let x = home(file, variables, word(file, i, 2));
-    let y = home(file, variables, word(file, i, 3));
-    x == y
-}
-
-// The first edge of the region of variable x.
-fn edges_from(file: &[u8], variables: &[usize; 65], regions: &[usize; 65], x: usize) -> usize
-    ensures { λ e. ⌜ e ≡ firstEdge (now (file .entry)) (now (regions .entry)) (homeOf (now (file .entry)) (now (variables .entry)) x) ⌝ }
-{
-    first_edge(file, regions, home(file, variables, x))
-}
-
-// The arguments at record i, of a construct or an arm, are in the targets of their edges, from record edges on.
-fn in_edges(file: &[u8], variables: &[usize; 65], edges: usize, i: usize) -> bool
-    requires { ⌜ Formed (now file) ⌝ }
-    requires { ⌜ Stands (now file) File.edges edges ⌝ }
-    ensures { λ b. ⌜ b ≡ allInTargets (now (file .entry)) (now (variables .entry)) (edgesAt (now (file .entry)) edges) (word (now (file .entry)) i 3) 1 (argumentsOf (four (word (now (file .entry)) i 4) (word (now (file .entry)) i 5) (word (now (file .entry)) i 6) (word (now (file .entry)) i 7))) ⌝ }
-{
-    arguments_ok(
-        file,
-        variables,
-        edges,
-        word(file, i, 3),
-        word(file, i, 4),
-        word(file, i, 5),
-        word(file, i, 6),
-        word(file, i, 7),
-    )
-}
-
-fn construct_ok(file: &[u8], variables: &[usize; 65], regions: &[usize; 65], i: usize) -> bool
-    requires { ⌜ Formed (now file) ⌝ }
-    requires { ⌜ EdgesStand (now file) (now regions) ⌝ }
-    requires { ⌜ word (now file) i 0 ≡ 11 ⌝ }
-    ensures { λ b. ⌜ GoalChecked (now (file .entry)) (now (variables .entry)) (now (regions .entry)) i b ⌝ }
-{
-    let edges = edges_from(file, variables, regions, word(file, i, 2));
-    in_edges(file, variables, edges, i)
-}
-
-// A call maps no region two ways.
-fn call_ok(
-    file: &[u8],
-    procedures: &[usize; 256],
-    variables: &[usize; 65],
-    regions: &[usize; 65],
-    callees: &mut [usize; 65],
-    images: &mut [usize; 65],
-    i: usize,
-) -> bool
-    requires { ⌜ Formed (now file) ⌝ }
-    requires { ⌜ Tables (now file) (now procedures) (now regions) ⌝ }
-    requires { ⌜ word (now file) i 0 ≡ 15 ⌝ }
-    ensures { λ b. ⌜ GoalChecked (now (file .entry)) (now (variables .entry)) (now (regions .entry)) i b ⌝ }
-{
-    let callee = entry(procedures, word(file, i, 2));
-    list_chain(file, field(file, callee, 3), 1, callees);
-    list_chain(file, 0, 1, images);
-    let parameters = field(file, callee, 2);
-    let arguments = word(file, i, 3);
-    map_call(
-        file,
-        variables,
-        regions,
-        callees,
-        parameters,
-        arguments,
-        images,
-    )
 }
 
 fn switch_ok(

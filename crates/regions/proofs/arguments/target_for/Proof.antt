@@ -3,9 +3,9 @@ use mathlib.Core.Path.{_≡_, refl, _∙_}
 use Rattle.language.specs.File.{edges}
 use Rattle.language.specs.Regions.{targetFor}
 use Rattle.chains.specs.Formed.{Stands, ahead, edgesAt, edges-none}
-use Rattle.chains.specs.Declared.{edge-at}
-use Rattle.chains.specs.Is.{edge-else}
-use Rattle.regions.specs.Arguments.{target-none, target-here, target-position, target-functor}
+use Rattle.chains.specs.Is.{chain-next}
+use Rattle.regions.specs.Arguments.{target-none}
+use Rattle.regions.specs.Edges.{functor-passed, position-passed, edge-found}
 use borrow.Author.Needs.{needs}
 use Rattle.regions.proofs.arguments.target_for.Statement.{statement}
 use Rattle.regions.proofs.arguments.target_for.Tie as tie
@@ -19,64 +19,61 @@ abbrev μ-loop : tie.MeasureT-loop
 loop-holds : tie.Need-loop-holds Inv-loop μ-loop
 loop-holds c = (c .before .pre .1, refl)
 
-record-at-requires : tie.Need-record-at-requires Inv-loop μ-loop
-record-at-requires c κs = search needs
+word-requires : tie.Need-word-requires Inv-loop μ-loop
+word-requires c κs = search needs
 
-enum-known-next : tie.Need-enum-known-next Inv-loop μ-loop
-enum-known-next c = search needs
+word-requires-2 : tie.Need-word-requires-2 Inv-loop μ-loop
+word-requires-2 c κs = search needs
+
+word-requires-3 : tie.Need-word-requires-3 Inv-loop μ-loop
+word-requires-3 c κs = search needs
+
+word-requires-4 : tie.Need-word-requires-4 Inv-loop μ-loop
+word-requires-4 c κs = search needs
 
 returns : tie.Need-returns Inv-loop μ-loop
 returns c =
-    let b = c .before in
-    absurd (edge-else (b .before .before .loop .inv .0) (b .before .loop-test .taken) (b .record-at .ensures) (c .match .keys2))
-
-returns-2 : tie.Need-returns-2 Inv-loop μ-loop
-returns-2 c =
-    let x = c .before .before .before in
-    let b = x .before .before in
-    let l = b .before .before in
+    let l = c .before .before .before .before .before .before .before in
     let a = l .before .before in
-    let v = edge-at (a .pre .0) (b .record-at .ensures) (x .next .given .1) in
-    target-here (a .args .f) (a .args .k) (v .view) (c .before .if1 .taken) (c .if2 .taken) ∙ l .loop .inv .1
+    let z = c .before .before .before .before .before .before .loop-test .taken in
+    edge-found _ _ (a .pre .0) (l .loop .inv .0) z (a .args .f) (a .args .k) (c .before .before .before .before .word2 .ensures .0) (c .before .before .before .if1 .taken) (c .before .before .word3 .ensures .0) (c .before .if2 .taken) (c .word4 .ensures .0) ∙ l .loop .inv .1
 
 loop-less : tie.Need-loop-less Inv-loop μ-loop
 loop-less c =
-    let x = c .before .before .before in
-    let b = x .before .before in
-    let l = b .before .before in
+    let l = c .before .before .before .before .before .before in
     let a = l .before .before in
-    let v = edge-at (a .pre .0) (b .record-at .ensures) (x .next .given .1) in
-    v .to-next .falls
+    let z = c .before .before .before .before .before .loop-test .taken in
+    let n = c .before .before .before .before .word .ensures .0 in
+    chain-next (a .pre .0) (l .loop .inv .0) z n .falls
 
 loop-again : tie.Need-loop-again Inv-loop μ-loop
 loop-again c =
-    let x = c .before .before .before in
-    let b = x .before .before in
-    let l = b .before .before in
+    let l = c .before .before .before .before .before .before in
     let a = l .before .before in
-    let v = edge-at (a .pre .0) (b .record-at .ensures) (x .next .given .1) in
-    (v .to-next .stands, target-position (a .args .f) (a .args .k) (v .view) (c .before .if1 .taken) (c .if2 .left) ∙ l .loop .inv .1)
+    let z = c .before .before .before .before .before .loop-test .taken in
+    let n = c .before .before .before .before .word .ensures .0 in
+    let o = chain-next (a .pre .0) (l .loop .inv .0) z n in
+    (o .stands, position-passed _ _ (a .pre .0) (l .loop .inv .0) z (a .args .f) (a .args .k) (c .before .before .before .word2 .ensures .0) (c .before .before .if1 .taken) (c .before .word3 .ensures .0) (c .if2 .left) n ∙ l .loop .inv .1)
 
 loop-less-2 : tie.Need-loop-less-2 Inv-loop μ-loop
 loop-less-2 c =
-    let x = c .before .before in
-    let b = x .before .before in
-    let l = b .before .before in
+    let l = c .before .before .before .before in
     let a = l .before .before in
-    let v = edge-at (a .pre .0) (b .record-at .ensures) (x .next .given .1) in
-    v .to-next .falls
+    let z = c .before .before .before .loop-test .taken in
+    let n = c .before .before .word .ensures .0 in
+    chain-next (a .pre .0) (l .loop .inv .0) z n .falls
 
 loop-again-2 : tie.Need-loop-again-2 Inv-loop μ-loop
 loop-again-2 c =
-    let x = c .before .before in
-    let b = x .before .before in
-    let l = b .before .before in
+    let l = c .before .before .before .before in
     let a = l .before .before in
-    let v = edge-at (a .pre .0) (b .record-at .ensures) (x .next .given .1) in
-    (v .to-next .stands, target-functor (a .args .f) (a .args .k) (v .view) (c .if1 .left) ∙ l .loop .inv .1)
+    let z = c .before .before .before .loop-test .taken in
+    let n = c .before .before .word .ensures .0 in
+    let o = chain-next (a .pre .0) (l .loop .inv .0) z n in
+    (o .stands, functor-passed _ _ (a .pre .0) (l .loop .inv .0) z (a .args .f) (a .args .k) (c .before .word2 .ensures .0) (c .if1 .left) n ∙ l .loop .inv .1)
 
-returns-3 : tie.Need-returns-3 Inv-loop μ-loop
-returns-3 c =
+returns-2 : tie.Need-returns-2 Inv-loop μ-loop
+returns-2 c =
     let l = c .before in
     target-none (l .before .before .args .f) (l .before .before .args .k) (edges-none (l .before .before .args .file .now) (c .loop-test .left)) ∙ l .loop .inv .1
 
@@ -87,12 +84,13 @@ target-for-spec =
     Inv-loop
     μ-loop
     loop-holds
-    record-at-requires
-    enum-known-next
+    word-requires
+    word-requires-2
+    word-requires-3
+    word-requires-4
     returns
-    returns-2
     loop-less
     loop-again
     loop-less-2
     loop-again-2
-    returns-3)
+    returns-2)

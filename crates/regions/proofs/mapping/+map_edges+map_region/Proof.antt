@@ -1,20 +1,20 @@
 -- `map_region` and `map_edges` meet their contracts: the laws of the table of images are in Mapped; the places without an image fall in number.
 use Prim.Native.Nat.{ℕ, _<_, _*_, _+_}
-use mathlib.Core.Path.{_≡_, refl, sym, ap, _∙_}
-use mathlib.Core.Logic.{inl, inr}
+use mathlib.Core.Path.{_≡_, refl, _∙_}
+use mathlib.Core.Logic.{inl, inr, ⊎-elim}
 use mathlib.Core.List.{List}
 use native.Mathlib.Omega.{arith}
-use native.Mathlib.Decide.{ℕ-discrete}
 use borrow.Author.Needs.{needs}
 use borrow.Author.Tests.{not-true, not-false}
-use lib.ListN.{length, set, length-set}
+use lib.ListN.{length, length-set}
 use Rattle.language.specs.File.{edges}
 use Rattle.language.specs.Regions.{targetsIn}
-use Rattle.chains.specs.Formed.{Stands, ahead, edgesAt, edges-none}
-use Rattle.chains.specs.Declared.{edge-at}
-use Rattle.chains.specs.Is.{edge-else}
+use Rattle.chains.specs.Formed.{Stands, ahead, edgesAt}
+use Rattle.chains.specs.Is.{chain-next}
 use Rattle.regions.specs.Places.{edges-stand}
-use Rattle.regions.specs.Mapped.{zeros, zeros-grown, zeros-set, Grown, grown-refl, grown-trans, grown-set, RestMapped, rest-first, rest-next, rest-stops, rest-ends, region-none, region-again, region-new, targets-step, targets-end}
+use Rattle.regions.specs.Targets.{targets-end, targets-here}
+use Rattle.regions.specs.Known.{PairMapped, pair-mapped, pair-known}
+use Rattle.regions.specs.Mapped.{zeros, zeros-grown, zeros-set, Grown, grown-refl, grown-trans, grown-set, RestMapped, rest-first, rest-next, rest-stops, rest-ends, region-none, region-again, region-new}
 use borrow.Fn.Kinds.{In}
 use borrow.Fn.PlainCycle.{Measures, is, falls, and}
 use Rattle.regions.proofs.mapping.map_edges.Reads as map-edges
@@ -23,7 +23,8 @@ use Rattle.regions.proofs.mapping.+map_edges+map_region.Lts-map_edges a
 use Rattle.regions.proofs.mapping.map_region.Reads as map-region
 use Rattle.regions.proofs.mapping.map_region.Kinds as map-region-kinds
 use Rattle.regions.proofs.mapping.+map_edges+map_region.Lts-map_region as map-region-lts
-use Rattle.records.proofs.record_at.Reads as record-at-reads
+use Rattle.chains.proofs.entry.Reads as entry-reads
+use Rattle.records.proofs.word.Reads as word-reads
 use Rattle.regions.proofs.mapping.is_pair.Reads as is-pair-reads
 use Rattle.regions.proofs.places.first_edge.Reads as first-edge-reads
 use Rattle.regions.proofs.mapping.+map_edges+map_region.{statement}
@@ -61,7 +62,7 @@ map-edges-μ-loop file callers callees from onto images₀ i₀ j₀ images i j 
 -- what each member's callees ask and give
 abbrev map-edges-calls : ℕ → map-edges-lts.Claims
 map-edges-calls t =
-    (record-at-reads.Asked, record-at-reads.Learnt, map-region-below t, map-region.Post)
+    (word-reads.Asked, word-reads.Learnt, entry-reads.Asked, entry-reads.Learnt, map-region-below t, map-region.Post)
 
 abbrev map-region-calls : ℕ → map-region-lts.Claims
 map-region-calls t =
@@ -73,100 +74,95 @@ map-edges-loop-holds t c =
     let f : List ℕ = a .args .file .now in
     (a .pre .1 .1 .1 .1 .0, a .pre .1 .1 .1 .1 .1, refl, grown-refl _, rest-first f _ _ (targetsIn (edgesAt f (a .args .from))) (targetsIn (edgesAt f (a .args .onto))) _)
 
-map-edges-record-at-requires : (t : ℕ) → map-edges-lts.Need-record-at-requires (map-edges-calls t) (map-edges-at t) map-edges.Post map-edges-Inv-loop map-edges-μ-loop
-map-edges-record-at-requires t c κs = search needs
-
-map-edges-enum-known-i-next : (t : ℕ) → map-edges-lts.Need-enum-known-i-next (map-edges-calls t) (map-edges-at t) map-edges.Post map-edges-Inv-loop map-edges-μ-loop
-map-edges-enum-known-i-next t c = search needs
-
 map-edges-same-length : (t : ℕ) → map-edges-lts.Need-same-length (map-edges-calls t) (map-edges-at t) map-edges.Post map-edges-Inv-loop map-edges-μ-loop
-map-edges-same-length t c = c .before .before .before .loop .inv .2
+map-edges-same-length t c = c .before .before .loop .inv .2
 
 map-edges-returns : (t : ℕ) → map-edges-lts.Need-returns (map-edges-calls t) (map-edges-at t) map-edges.Post map-edges-Inv-loop map-edges-μ-loop
 map-edges-returns t c =
-    let b = c .before in
-    absurd (edge-else (b .before .before .loop .inv .0) (b .before .loop-test .taken) (b .record-at .ensures) (c .match .keys2))
+    let l = c .before .before in
+    let f : List ℕ = l .before .before .before .before .before .args .file .now in
+    (l .loop .inv .3, rest-ends f _ _ (l .loop .inv .4) (inr (targets-end f (c .if1 .taken))))
 
-map-edges-record-at-requires-2 : (t : ℕ) → map-edges-lts.Need-record-at-requires-2 (map-edges-calls t) (map-edges-at t) map-edges.Post map-edges-Inv-loop map-edges-μ-loop
-map-edges-record-at-requires-2 t c κs = search needs
+map-edges-word-requires : (t : ℕ) → map-edges-lts.Need-word-requires (map-edges-calls t) (map-edges-at t) map-edges.Post map-edges-Inv-loop map-edges-μ-loop
+map-edges-word-requires t c κs = search needs
 
-map-edges-enum-known-j-next : (t : ℕ) → map-edges-lts.Need-enum-known-j-next (map-edges-calls t) (map-edges-at t) map-edges.Post map-edges-Inv-loop map-edges-μ-loop
-map-edges-enum-known-j-next t c = search needs
+map-edges-word-requires-2 : (t : ℕ) → map-edges-lts.Need-word-requires-2 (map-edges-calls t) (map-edges-at t) map-edges.Post map-edges-Inv-loop map-edges-μ-loop
+map-edges-word-requires-2 t c κs = search needs
 
-map-edges-same-length-2 : (t : ℕ) → map-edges-lts.Need-same-length-2 (map-edges-calls t) (map-edges-at t) map-edges.Post map-edges-Inv-loop map-edges-μ-loop
-map-edges-same-length-2 t c = c .before .before .before .before .before .before .before .loop .inv .2
-
-map-edges-returns-2 : (t : ℕ) → map-edges-lts.Need-returns-2 (map-edges-calls t) (map-edges-at t) map-edges.Post map-edges-Inv-loop map-edges-μ-loop
-map-edges-returns-2 t c =
-    let l = c .before .before .before .before .before .before .before in
-    let a = l .before .before .before .before .before in
-    let f : List ℕ = a .args .file .now in (
-      l .loop .inv .3,
-      rest-ends f _ _ (l .loop .inv .4) (inr (targets-end (edges-none f (elim (ℕ-discrete (l .loop .j) 0) [
-        | yes z ↦ z
-        | no z ↦ absurd (edge-else (l .loop .inv .1) z (c .before .record-at2 .ensures) (c .match2 .keys2))
-      ])))),
-    )
+map-edges-entry-requires : (t : ℕ) → map-edges-lts.Need-entry-requires (map-edges-calls t) (map-edges-at t) map-edges.Post map-edges-Inv-loop map-edges-μ-loop
+map-edges-entry-requires t c κs = search needs
 
 map-edges-map-region-requires : (t : ℕ) → map-edges-lts.Need-map-region-requires (map-edges-calls t) (map-edges-at t) map-edges.Post map-edges-Inv-loop map-edges-μ-loop
 map-edges-map-region-requires t c κs =
-    let l = c .before .before .before .before .before .before .before .before .before .before in
+    let l = c .before .before .before .before .before .before .before .before in
     let a = l .before .before .before .before .before in
     (omega (arith, zeros-grown (l .loop .inv .2) (l .loop .inv .3), a .pre .0), (a .pre .1 .0, (a .pre .1 .1 .0, a .pre .1 .1 .1 .0)))
 
-map-edges-same-length-3 : (t : ℕ) → map-edges-lts.Need-same-length-3 (map-edges-calls t) (map-edges-at t) map-edges.Post map-edges-Inv-loop map-edges-μ-loop
-map-edges-same-length-3 t c =
+map-edges-same-length-2 : (t : ℕ) → map-edges-lts.Need-same-length-2 (map-edges-calls t) (map-edges-at t) map-edges.Post map-edges-Inv-loop map-edges-μ-loop
+map-edges-same-length-2 t c =
     let m = c .before .before .before in
-    m .map-region .kept .1 .1 .1 .1 .1 .0 ∙ m .before .before .before .before .before .before .before .before .before .before .before .loop .inv .2
+    m .map-region .kept .1 .1 .1 .1 .1 .0 ∙ m .before .before .before .before .before .before .before .before .before .loop .inv .2
 
-map-edges-returns-3 : (t : ℕ) → map-edges-lts.Need-returns-3 (map-edges-calls t) (map-edges-at t) map-edges.Post map-edges-Inv-loop map-edges-μ-loop
-map-edges-returns-3 t c =
+map-edges-returns-2 : (t : ℕ) → map-edges-lts.Need-returns-2 (map-edges-calls t) (map-edges-at t) map-edges.Post map-edges-Inv-loop map-edges-μ-loop
+map-edges-returns-2 t c =
     let m = c .before .before .before in
-    let x = m .before .before .before in
-    let y = x .before .before .before .before in
-    let l = y .before .before .before .before in
+    let w = m .before .before .before .before .before in
+    let x = w .before .before in
+    let l = x .before .before in
     let a = l .before .before .before .before .before in
     let f : List ℕ = a .args .file .now in
-    let v = edge-at (a .pre .1 .0) (y .before .before .record-at .ensures) (y .i-next .given .1) in
-    let w = edge-at (a .pre .1 .0) (x .before .before .record-at2 .ensures) (x .j-next .given .1) in
-    let k = l .loop .inv in (
+    let k = l .loop .inv in
+    let rs = targets-here f (l .loop .i) (a .pre .1 .0) (k .0) (x .before .loop-test .taken) (w .before .word .ensures .0) refl in
+    let us = targets-here f (l .loop .j) (a .pre .1 .0) (k .1) (x .if1 .left) (w .word2 .ensures .0) refl in (
       grown-trans (k .3) (m .map-region .ensures .0),
-      rest-stops f _ _ (k .4) _ (targets-step (v .view)) (targets-step (w .view)) (m .map-region .ensures .1) (not-true _ (c .if1 .taken)),
+      rest-stops f _ _ (k .4) _ rs us (m .map-region .ensures .1) (not-true _ (c .if3 .taken)),
     )
+
+map-edges-word-requires-3 : (t : ℕ) → map-edges-lts.Need-word-requires-3 (map-edges-calls t) (map-edges-at t) map-edges.Post map-edges-Inv-loop map-edges-μ-loop
+map-edges-word-requires-3 t c κs = search needs
+
+map-edges-word-requires-4 : (t : ℕ) → map-edges-lts.Need-word-requires-4 (map-edges-calls t) (map-edges-at t) map-edges.Post map-edges-Inv-loop map-edges-μ-loop
+map-edges-word-requires-4 t c κs = search needs
 
 map-edges-loop-less : (t : ℕ) → map-edges-lts.Need-loop-less (map-edges-calls t) (map-edges-at t) map-edges.Post map-edges-Inv-loop map-edges-μ-loop
 map-edges-loop-less t c =
-    let t′ = c .before .before .before .before .before .before .before .before .before .before in
-    let b = t′ .before .before in
-    edge-at (b .before .before .before .before .before .before .before .pre .1 .0) (b .record-at .ensures) (t′ .i-next .given .1) .to-next .falls
+    let x = c .before .before .before .before .before .before .before in
+    let l = x .before .before in
+    chain-next (l .before .before .before .before .before .pre .1 .0) (l .loop .inv .0) (x .before .loop-test .taken) (c .before .word3 .ensures .0) .falls
 
 map-edges-loop-again : (t : ℕ) → map-edges-lts.Need-loop-again (map-edges-calls t) (map-edges-at t) map-edges.Post map-edges-Inv-loop map-edges-μ-loop
 map-edges-loop-again t c =
-    let m = c .before .before .before in
-    let x = m .before .before .before in
-    let y = x .before .before .before .before in
-    let l = y .before .before .before .before in
+    let e = c .before .before .before in
+    let w = e .before .before in
+    let x = w .before .before in
+    let l = x .before .before in
     let a = l .before .before .before .before .before in
     let f : List ℕ = a .args .file .now in
-    let v = edge-at (a .pre .1 .0) (y .before .before .record-at .ensures) (y .i-next .given .1) in
-    let w = edge-at (a .pre .1 .0) (x .before .before .record-at2 .ensures) (x .j-next .given .1) in
+    let F = a .pre .1 .0 in
     let k = l .loop .inv in
-    let e = m .map-region .kept .1 .1 .1 .1 .1 .0 in (
-      v .to-next .stands,
-      w .to-next .stands,
-      e ∙ k .2,
-      grown-trans (k .3) (m .map-region .ensures .0),
-      rest-next f _ _ (k .4) (targets-step (v .view)) (targets-step (w .view)) (m .map-region .ensures .1) (not-false _ (c .if1 .left)) e (m .map-region .ensures .0),
+    let i = x .before .loop-test .taken in
+    let j = x .if1 .left in
+    let rs = targets-here f (l .loop .i) F (k .0) i (w .before .word .ensures .0) (c .before .word3 .ensures .0) in
+    let us = targets-here f (l .loop .j) F (k .1) j (w .word2 .ensures .0) (c .word4 .ensures .0) in
+    let p : PairMapped f (a .args .callers .now) (a .args .callees .now) (w .before .word .result) (w .word2 .result) (l .loop .images) (c .before .before .if2 .images) =
+    ⊎-elim (λ y. pair-mapped f _ _ _ _ _ (y .2 .ensures .1) (not-false _ (y .5 .left)) (y .2 .kept .1 .1 .1 .1 .1 .0) (y .2 .ensures .0) (y .6))
+    (λ y. pair-known f _ _ _ _ _ (e .entry .ensures) (y .0 .left) (y .1)) (c .before .before .if2 .came)
+    in (
+      chain-next F (k .0) i (c .before .word3 .ensures .0) .stands,
+      chain-next F (k .1) j (c .word4 .ensures .0) .stands,
+      p .length-kept ∙ k .2,
+      grown-trans (k .3) (p .grown),
+      rest-next f _ _ (k .4) rs us (p .mapped) refl (p .length-kept) (p .grown),
     )
 
-map-edges-same-length-4 : (t : ℕ) → map-edges-lts.Need-same-length-4 (map-edges-calls t) (map-edges-at t) map-edges.Post map-edges-Inv-loop map-edges-μ-loop
-map-edges-same-length-4 t c = c .before .loop .inv .2
+map-edges-same-length-3 : (t : ℕ) → map-edges-lts.Need-same-length-3 (map-edges-calls t) (map-edges-at t) map-edges.Post map-edges-Inv-loop map-edges-μ-loop
+map-edges-same-length-3 t c = c .before .loop .inv .2
 
-map-edges-returns-4 : (t : ℕ) → map-edges-lts.Need-returns-4 (map-edges-calls t) (map-edges-at t) map-edges.Post map-edges-Inv-loop map-edges-μ-loop
-map-edges-returns-4 t c =
+map-edges-returns-3 : (t : ℕ) → map-edges-lts.Need-returns-3 (map-edges-calls t) (map-edges-at t) map-edges.Post map-edges-Inv-loop map-edges-μ-loop
+map-edges-returns-3 t c =
     let l = c .before in
     let f : List ℕ = l .before .before .before .before .before .args .file .now in
-    (l .loop .inv .3, rest-ends f _ _ (l .loop .inv .4) (inl (targets-end (edges-none f (c .loop-test .left)))))
+    (l .loop .inv .3, rest-ends f _ _ (l .loop .inv .4) (inl (targets-end f (c .loop-test .left))))
 
 map-region-is-pair-requires : (t : ℕ) → map-region-lts.Need-is-pair-requires (map-region-calls t) (map-region-at t) map-region.Post
 map-region-is-pair-requires t c κs = search needs
@@ -253,21 +249,20 @@ pub +map-edges+map-region-spec : {M : Type 1} → statement M
     map-edges-Inv-loop
     map-edges-μ-loop
     (map-edges-loop-holds t)
-    (map-edges-record-at-requires t)
-    (map-edges-enum-known-i-next t)
     (map-edges-same-length t)
     (map-edges-returns t)
-    (map-edges-record-at-requires-2 t)
-    (map-edges-enum-known-j-next t)
+    (map-edges-word-requires t)
+    (map-edges-word-requires-2 t)
+    (map-edges-entry-requires t)
+    (map-edges-map-region-requires t)
     (map-edges-same-length-2 t)
     (map-edges-returns-2 t)
-    (map-edges-map-region-requires t)
-    (map-edges-same-length-3 t)
-    (map-edges-returns-3 t)
+    (map-edges-word-requires-3 t)
+    (map-edges-word-requires-4 t)
     (map-edges-loop-less t)
     (map-edges-loop-again t)
-    (map-edges-same-length-4 t)
-    (map-edges-returns-4 t))
+    (map-edges-same-length-3 t)
+    (map-edges-returns-3 t))
     λ t. map-region-lts.spec (map-region-calls t)
     (map-region-at t)
     map-region.Post

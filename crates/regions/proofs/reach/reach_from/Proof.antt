@@ -5,16 +5,16 @@ use borrow.Author.Needs.{needs}
 use Rattle.sets.specs.Sets.{_∖_}
 use Rattle.sets.specs.Members.{nextMember}
 use Rattle.sets.specs.Size.{size}
-use Rattle.regions.specs.Places.{targetsAt, edges-stand, targets-read}
+use Rattle.regions.specs.Targets.{setAt, set-loaded}
 use Rattle.regions.specs.Reading.{Reading, starts, goes, reached}
 use Rattle.regions.proofs.reach.reach_from.Statement.{statement}
 use Rattle.regions.proofs.reach.reach_from.Tie as tie
 
 abbrev Inv-loop : tie.InvT-loop
-Inv-loop file regions r found₀ unread₀ u₀ found unread u = Reading (targetsAt file regions) r found unread × (u ≡ nextMember unread 0)
+Inv-loop targets r found₀ unread₀ u₀ found unread u = Reading (setAt targets) r found unread × (u ≡ nextMember unread 0)
 
 abbrev μ-loop : tie.MeasureT-loop
-μ-loop file regions r found₀ unread₀ u₀ found unread u = 64 - size (found ∖ unread)
+μ-loop targets r found₀ unread₀ u₀ found unread u = 64 - size (found ∖ unread)
 
 of-requires : tie.Need-of-requires Inv-loop μ-loop
 of-requires c κs = search needs
@@ -25,8 +25,19 @@ of-requires-2 c κs = search needs
 after-requires : tie.Need-after-requires Inv-loop μ-loop
 after-requires c κs = search needs
 
-first-edge-requires : tie.Need-first-edge-requires Inv-loop μ-loop
-first-edge-requires c κs = search needs
+loop-holds : tie.Need-loop-holds Inv-loop μ-loop
+loop-holds c =
+    let a = c .before .before .before .before .args in
+    (starts (setAt (a .targets .now)) (a .r) (c .before .before .of .ensures) (c .before .of2 .ensures), c .after .ensures)
+
+mul-loaded : tie.Need-mul-loaded Inv-loop μ-loop
+mul-loaded c = search needs
+
+shared-slice-read-loaded : tie.Need-shared-slice-read-loaded Inv-loop μ-loop
+shared-slice-read-loaded c = search needs
+
+loaded-requires : tie.Need-loaded-requires Inv-loop μ-loop
+loaded-requires c κs = search needs
 
 difference-requires : tie.Need-difference-requires Inv-loop μ-loop
 difference-requires c κs = search needs
@@ -46,36 +57,25 @@ union-requires-2 c κs = search needs
 after-requires-2 : tie.Need-after-requires-2 Inv-loop μ-loop
 after-requires-2 c κs = search needs
 
-loop-holds : tie.Need-loop-holds Inv-loop μ-loop
-loop-holds c =
-    let a = c .before .before .before .before .before in
-    (starts (targetsAt (a .args .file .now) (a .args .regions .now)) (a .args .r) (c .before .before .of .ensures) (c .before .of2 .ensures), c .after .ensures)
-
-targets-of-requires : tie.Need-targets-of-requires Inv-loop μ-loop
-targets-of-requires c κs =
-    let l = c .before .before in
-    let a = l .before .before .before .before .before .before in
-    (a .pre .0, edges-stand (a .args .file .now) (a .args .regions .now) (l .loop .u) (c .first-edge .ensures) (a .pre .1))
-
 loop-less : tie.Need-loop-less Inv-loop μ-loop
 loop-less c =
     let d = c .before .before .before .before .before in
-    let e = d .before .before in
-    let l = e .before .before in
-    let a = l .before .before .before .before .before .before in
-    goes (targetsAt (a .args .file .now) (a .args .regions .now)) (a .args .r) (l .loop .inv .0) (l .loop .inv .1) (e .before .loop-test .taken)
-    (targets-read (a .args .file .now) (a .args .regions .now) (l .loop .u) (e .first-edge .ensures) (d .before .targets-of .ensures)) (d .difference .ensures) (c .before .before .before .before .union .ensures)
-    (c .before .before .before .of3 .ensures) (c .before .before .difference2 .ensures) (c .before .union2 .ensures) .1
+    let b = d .before .before .before in
+    let l = b .before in
+    let a = l .before .before .before .before .before .args in
+    goes (setAt (a .targets .now)) (a .r) (l .loop .inv .0) (l .loop .inv .1) (b .loop-test .taken) (set-loaded (a .targets .now) (l .loop .u) (d .before .loaded .ensures))
+    (d .difference .ensures) (c .before .before .before .before .union .ensures) (c .before .before .before .of3 .ensures) (c .before .before .difference2 .ensures)
+    (c .before .union2 .ensures) .1
 
 loop-again : tie.Need-loop-again Inv-loop μ-loop
 loop-again c =
     let d = c .before .before .before .before .before in
-    let e = d .before .before in
-    let l = e .before .before in
-    let a = l .before .before .before .before .before .before in (
-      goes (targetsAt (a .args .file .now) (a .args .regions .now)) (a .args .r) (l .loop .inv .0) (l .loop .inv .1) (e .before .loop-test .taken)
-          (targets-read (a .args .file .now) (a .args .regions .now) (l .loop .u) (e .first-edge .ensures) (d .before .targets-of .ensures)) (d .difference .ensures) (c .before .before .before .before .union .ensures)
-          (c .before .before .before .of3 .ensures) (c .before .before .difference2 .ensures) (c .before .union2 .ensures) .0,
+    let b = d .before .before .before in
+    let l = b .before in
+    let a = l .before .before .before .before .before .args in (
+      goes (setAt (a .targets .now)) (a .r) (l .loop .inv .0) (l .loop .inv .1) (b .loop-test .taken) (set-loaded (a .targets .now) (l .loop .u) (d .before .loaded .ensures))
+          (d .difference .ensures) (c .before .before .before .before .union .ensures) (c .before .before .before .of3 .ensures) (c .before .before .difference2 .ensures)
+          (c .before .union2 .ensures) .0,
       c .after2 .ensures,
     )
 
@@ -92,8 +92,9 @@ reach-from-spec =
     of-requires-2
     after-requires
     loop-holds
-    first-edge-requires
-    targets-of-requires
+    mul-loaded
+    shared-slice-read-loaded
+    loaded-requires
     difference-requires
     union-requires
     of-requires-3

@@ -6,10 +6,9 @@ use Rattle.sets.specs.SetLaws.{empty-union}
 use Rattle.sets.specs.Members.{setOf}
 use Rattle.language.specs.File.{edges}
 use Rattle.language.specs.Regions.{targetsIn}
-use Rattle.chains.specs.Formed.{Stands, ahead, edgesAt, edges-none}
-use Rattle.chains.specs.Declared.{edge-at}
-use Rattle.chains.specs.Is.{edge-else}
-use Rattle.regions.specs.Reading.{targets-none, targets-more}
+use Rattle.chains.specs.Formed.{Stands, ahead, edgesAt}
+use Rattle.chains.specs.Is.{chain-next}
+use Rattle.regions.specs.Targets.{targets-end, targets-here, targets-none, targets-more}
 use Rattle.regions.proofs.reach.targets_of.Statement.{statement}
 use Rattle.regions.proofs.reach.targets_of.Tie as tie
 
@@ -23,16 +22,8 @@ abbrev μ-loop : tie.MeasureT-loop
 loop-holds : tie.Need-loop-holds Inv-loop μ-loop
 loop-holds c = let a = c .before in (a .pre .1, empty-union _)
 
-record-at-requires : tie.Need-record-at-requires Inv-loop μ-loop
-record-at-requires c κs = search needs
-
-enum-known-next : tie.Need-enum-known-next Inv-loop μ-loop
-enum-known-next c = search needs
-
-returns : tie.Need-returns Inv-loop μ-loop
-returns c =
-    let b = c .before in
-    absurd (edge-else (b .before .before .loop .inv .0) (b .before .loop-test .taken) (b .record-at .ensures) (c .match .keys2))
+word-requires : tie.Need-word-requires Inv-loop μ-loop
+word-requires c κs = search needs
 
 of-requires : tie.Need-of-requires Inv-loop μ-loop
 of-requires c κs = search needs
@@ -40,37 +31,29 @@ of-requires c κs = search needs
 union-requires : tie.Need-union-requires Inv-loop μ-loop
 union-requires c κs = search needs
 
+word-requires-2 : tie.Need-word-requires-2 Inv-loop μ-loop
+word-requires-2 c κs = search needs
+
 loop-less : tie.Need-loop-less Inv-loop μ-loop
 loop-less c =
-    let t = c .before .before .before in
-    let b = t .before .before in
-    edge-at (b .before .before .before .before .pre .0) (b .record-at .ensures) (t .next .given .1) .to-next .falls
+    let t = c .before .before .before .before in
+    chain-next (t .before .before .before .pre .0) (t .before .loop .inv .0) (t .loop-test .taken) (c .word2 .ensures .0) .falls
 
 loop-again : tie.Need-loop-again Inv-loop μ-loop
 loop-again c =
-    let t = c .before .before .before in
-    let b = t .before .before in
-    let l = b .before .before .loop in
-    let v = edge-at (b .before .before .before .before .pre .0) (b .record-at .ensures) (t .next .given .1) in
-    (v .to-next .stands, targets-more (l .found) (v .view) (c .before .of .ensures) (c .union .ensures) (l .inv .1))
+    let t = c .before .before .before .before in
+    let l = t .before .loop in
+    let a = t .before .before .before in
+    let e = targets-here (a .args .file .now) _ (a .pre .0) (l .inv .0) (t .loop-test .taken) (c .before .before .before .word .ensures .0) (c .word2 .ensures .0) in (
+      chain-next (a .pre .0) (l .inv .0) (t .loop-test .taken) (c .word2 .ensures .0) .stands,
+      targets-more (l .found) e (c .before .before .of .ensures) (c .before .union .ensures) (l .inv .1),
+    )
 
-returns-2 : tie.Need-returns-2 Inv-loop μ-loop
-returns-2 c =
+returns : tie.Need-returns Inv-loop μ-loop
+returns c =
     let l = c .before in
-    targets-none (edges-none (l .before .before .args .file .now) (c .loop-test .left)) (l .loop .inv .1)
+    targets-none (targets-end (l .before .before .args .file .now) (c .loop-test .left)) (l .loop .inv .1)
 
 pub targets-of-spec : {M : Type 1} → statement M
 targets-of-spec =
-    tie.close
-    (tie.spec
-    Inv-loop
-    μ-loop
-    loop-holds
-    record-at-requires
-    enum-known-next
-    returns
-    of-requires
-    union-requires
-    loop-less
-    loop-again
-    returns-2)
+    tie.close (tie.spec Inv-loop μ-loop loop-holds word-requires of-requires union-requires word-requires-2 loop-less loop-again returns)

@@ -28,11 +28,11 @@ use Rattle.regions.proofs.walk.switch_ok.Reads as switch-ok
 use Rattle.regions.proofs.walk.switch_ok.Kinds as switch-ok-kinds
 use Rattle.regions.proofs.walk.+arms_ok+goal_ok+goals_ok+parts_ok+switch_ok.Lts-switch_ok as switch-ok-lts
 use Rattle.records.proofs.word.Reads as word-reads
-use Rattle.regions.proofs.walk.assign_ok.Reads as assign-ok-reads
-use Rattle.regions.proofs.walk.call_ok.Reads as call-ok-reads
-use Rattle.regions.proofs.walk.construct_ok.Reads as construct-ok-reads
-use Rattle.regions.proofs.walk.edges_from.Reads as edges-from-reads
-use Rattle.regions.proofs.walk.in_edges.Reads as in-edges-reads
+use Rattle.regions.proofs.steps.assign_ok.Reads as assign-ok-reads
+use Rattle.regions.proofs.steps.call_ok.Reads as call-ok-reads
+use Rattle.regions.proofs.steps.construct_ok.Reads as construct-ok-reads
+use Rattle.regions.proofs.steps.edges_from.Reads as edges-from-reads
+use Rattle.regions.proofs.steps.in_edges.Reads as in-edges-reads
 use Rattle.regions.proofs.walk.+arms_ok+goal_ok+goals_ok+parts_ok+switch_ok.{statement}
 use Rattle.regions.proofs.walk.+arms_ok+goal_ok+goals_ok+parts_ok+switch_ok.Tie.{close}
 

@@ -1,7 +1,7 @@
 -- `edges_from` meets its contract.
 use borrow.Author.Needs.{needs}
-use Rattle.regions.proofs.walk.edges_from.Statement.{statement}
-use Rattle.regions.proofs.walk.edges_from.Tie as tie
+use Rattle.regions.proofs.steps.edges_from.Statement.{statement}
+use Rattle.regions.proofs.steps.edges_from.Tie as tie
 
 home-requires : tie.Need-home-requires
 home-requires c κs = search needs

@@ -1,7 +1,7 @@
 -- `assign_ok` meets its contract.
 use borrow.Author.Needs.{needs}
-use Rattle.regions.proofs.walk.assign_ok.Statement.{statement}
-use Rattle.regions.proofs.walk.assign_ok.Tie as tie
+use Rattle.regions.proofs.steps.assign_ok.Statement.{statement}
+use Rattle.regions.proofs.steps.assign_ok.Tie as tie
 
 word-requires : tie.Need-word-requires
 word-requires c κs = search needs

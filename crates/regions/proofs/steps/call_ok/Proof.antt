@@ -3,8 +3,8 @@ use mathlib.Core.Path.{sym}
 use Rattle.chains.specs.Formed.{counted}
 use Rattle.regions.specs.Checked.{to-arguments, to-variables, to-regions, callee-edges, call-checked}
 use borrow.Author.Needs.{needs}
-use Rattle.regions.proofs.walk.call_ok.Statement.{statement}
-use Rattle.regions.proofs.walk.call_ok.Tie as tie
+use Rattle.regions.proofs.steps.call_ok.Statement.{statement}
+use Rattle.regions.proofs.steps.call_ok.Tie as tie
 
 word-requires : tie.Need-word-requires
 word-requires c κs = search needs

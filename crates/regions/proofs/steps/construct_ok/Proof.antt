@@ -2,8 +2,8 @@
 use Rattle.regions.specs.Places.{edges-stand}
 use Rattle.regions.specs.Checked.{construct-checked}
 use borrow.Author.Needs.{needs}
-use Rattle.regions.proofs.walk.construct_ok.Statement.{statement}
-use Rattle.regions.proofs.walk.construct_ok.Tie as tie
+use Rattle.regions.proofs.steps.construct_ok.Statement.{statement}
+use Rattle.regions.proofs.steps.construct_ok.Tie as tie
 
 word-requires : tie.Need-word-requires
 word-requires c κs = search needs
