@@ -47,9 +47,6 @@ returns c =
     let l = c .before .before .before .before .before in
     let a = l .before .before .before .before .before .before in
     let f : List ℕ = a .args .file .now in
-    let F = a .pre .0 in
-    let z = c .before .before .before .before .loop-test .taken in
-    let n = c .before .before .before .word .ensures .0 in
     call-mapped f (a .args .variables .now) _ _ (a .args .parameters) (a .args .arguments) _ _ _
     (rest-ends f _ _ (l .loop .inv .3) (inr (homes-none f (a .args .variables .now) (arguments-none f (c .if2 .taken)))))
 
@@ -73,62 +70,66 @@ map-region-requires c κs =
 same-length-2 : tie.Need-same-length-2 Inv-loop μ-loop
 same-length-2 c =
     let m = c .before .before .before in
-    m .map-region .kept .1 .1 .1 .1 .1 .0 ∙ c .before .before .before .before .before .before .before .before .before .before .before .before .before .before .loop .inv .2
+    let l = m .before .before .before .before .before .before .before .before .before .before .before in
+    m .map-region .kept .1 .1 .1 .1 .1 .0 ∙ l .loop .inv .2
 
 returns-2 : tie.Need-returns-2 Inv-loop μ-loop
 returns-2 c =
-    let l = c .before .before .before .before .before .before .before .before .before .before .before .before .before .before in
+    let m = c .before .before .before in
+    let g = m .before .before in
+    let v = g .before .before in
+    let y = v .before .before in
+    let w = y .before .before in
+    let l = w .before .before .before in
     let a = l .before .before .before .before .before .before in
     let f : List ℕ = a .args .file .now in
     let F = a .pre .0 in
-    let z = c .before .before .before .before .before .before .before .before .before .before .before .before .before .loop-test .taken in
-    let n = c .before .before .before .before .before .before .before .before .before .before .before .before .word .ensures .0 in
-    let rs = parameter-here f _ F (l .loop .inv .0) z (c .before .before .before .before .before .before .before .before .before .before .before .word2 .ensures .0) (c .before .before .before .before .before .before .before .before .before .before .if1 .taken) n (c .before .before .before .before .before .before .before .before .word3 .ensures .0) in
-    let us = argument-here f (a .args .variables .now) _ F (l .loop .inv .1) (c .before .before .before .before .before .before .before .before .before .if2 .left) (c .before .before .before .before .before .before .before .word4 .ensures .0) (c .before .before .before .before .before .before .entry .ensures) (c .before .before .before .before .before .field .ensures) refl in
-    let m = c .before .before .before in
+    let k = l .loop .inv in
+    let z = w .before .before .loop-test .taken in
+    let n = w .before .word .ensures .0 in
+    let rs = parameter-here f _ F (k .0) z (w .word2 .ensures .0) (y .before .if1 .taken) n (v .before .word3 .ensures .0) in
+    let us = argument-here f (a .args .variables .now) _ F (k .1) (y .if2 .left) (v .word4 .ensures .0) (g .before .entry .ensures) (g .field .ensures) refl in
     call-mapped f (a .args .variables .now) _ _ (a .args .parameters) (a .args .arguments) _ _ _
-    (rest-stops f _ _ (l .loop .inv .3) _ rs us (m .map-region .ensures .1) (not-true _ (c .if3 .taken)))
+    (rest-stops f _ _ (k .3) _ rs us (m .map-region .ensures .1) (not-true _ (c .if3 .taken)))
 
 word-requires-5 : tie.Need-word-requires-5 Inv-loop μ-loop
 word-requires-5 c κs = search needs
 
 loop-less : tie.Need-loop-less Inv-loop μ-loop
 loop-less c =
-    let l = c .before .before .before .before .before .before .before .before .before .before .before .before .before .before .before in
+    let w = c .before .before .before .before .before .before .before .before .before .before .before .before in
+    let l = w .before .before .before in
     let a = l .before .before .before .before .before .before in
-    let f : List ℕ = a .args .file .now in
-    let F = a .pre .0 in
-    let z = c .before .before .before .before .before .before .before .before .before .before .before .before .before .before .loop-test .taken in
-    let n = c .before .before .before .before .before .before .before .before .before .before .before .before .before .word .ensures .0 in
-    chain-next F (l .loop .inv .0) z n .falls
+    chain-next (a .pre .0) (l .loop .inv .0) (w .before .before .loop-test .taken) (w .before .word .ensures .0) .falls
 
 loop-again : tie.Need-loop-again Inv-loop μ-loop
 loop-again c =
-    let l = c .before .before .before .before .before .before .before .before .before .before .before .before .before .before .before in
+    let m = c .before .before .before .before in
+    let g = m .before .before in
+    let v = g .before .before in
+    let y = v .before .before in
+    let w = y .before .before in
+    let l = w .before .before .before in
     let a = l .before .before .before .before .before .before in
     let f : List ℕ = a .args .file .now in
     let F = a .pre .0 in
-    let z = c .before .before .before .before .before .before .before .before .before .before .before .before .before .before .loop-test .taken in
-    let n = c .before .before .before .before .before .before .before .before .before .before .before .before .before .word .ensures .0 in
-    let rs = parameter-here f _ F (l .loop .inv .0) z (c .before .before .before .before .before .before .before .before .before .before .before .before .word2 .ensures .0) (c .before .before .before .before .before .before .before .before .before .before .before .if1 .taken) n (c .before .before .before .before .before .before .before .before .before .word3 .ensures .0) in
-    let us = argument-here f (a .args .variables .now) _ F (l .loop .inv .1) (c .before .before .before .before .before .before .before .before .before .before .if2 .left) (c .before .before .before .before .before .before .before .before .word4 .ensures .0) (c .before .before .before .before .before .before .before .entry .ensures) (c .before .before .before .before .before .before .field .ensures) (c .word5 .ensures .0) in
-    let m = c .before .before .before .before in
+    let k = l .loop .inv in
+    let z = w .before .before .loop-test .taken in
+    let n = w .before .word .ensures .0 in
+    let rs = parameter-here f _ F (k .0) z (w .word2 .ensures .0) (y .before .if1 .taken) n (v .before .word3 .ensures .0) in
+    let us = argument-here f (a .args .variables .now) _ F (k .1) (y .if2 .left) (v .word4 .ensures .0) (g .before .entry .ensures) (g .field .ensures) (c .word5 .ensures .0) in
     let e = m .map-region .kept .1 .1 .1 .1 .1 .0 in (
-      chain-next F (l .loop .inv .0) z n .stands,
-      chain-next F (l .loop .inv .1) (c .before .before .before .before .before .before .before .before .before .before .if2 .left) (c .word5 .ensures .0) .stands,
-      e ∙ l .loop .inv .2,
-      rest-next f _ _ (l .loop .inv .3) rs us (m .map-region .ensures .1) (not-false _ (c .before .if3 .left)) e (m .map-region .ensures .0),
+      chain-next F (k .0) z n .stands,
+      chain-next F (k .1) (y .if2 .left) (c .word5 .ensures .0) .stands,
+      e ∙ k .2,
+      rest-next f _ _ (k .3) rs us (m .map-region .ensures .1) (not-false _ (c .before .if3 .left)) e (m .map-region .ensures .0),
     )
 
 loop-less-2 : tie.Need-loop-less-2 Inv-loop μ-loop
 loop-less-2 c =
     let l = c .before .before .before .before in
     let a = l .before .before .before .before .before .before in
-    let f : List ℕ = a .args .file .now in
-    let F = a .pre .0 in
-    let z = c .before .before .before .loop-test .taken in
-    let n = c .before .before .word .ensures .0 in
-    chain-next F (l .loop .inv .0) z n .falls
+    chain-next (a .pre .0) (l .loop .inv .0) (c .before .before .before .loop-test .taken) (c .before .before .word .ensures .0) .falls
 
 loop-again-2 : tie.Need-loop-again-2 Inv-loop μ-loop
 loop-again-2 c =
@@ -136,9 +137,10 @@ loop-again-2 c =
     let a = l .before .before .before .before .before .before in
     let f : List ℕ = a .args .file .now in
     let F = a .pre .0 in
+    let k = l .loop .inv in
     let z = c .before .before .before .loop-test .taken in
     let n = c .before .before .word .ensures .0 in
-    (chain-next F (l .loop .inv .0) z n .stands, l .loop .inv .1, l .loop .inv .2, rest-skips f _ _ (parameter-passed f _ F (l .loop .inv .0) z (c .before .word2 .ensures .0) (c .if1 .left) n) (l .loop .inv .3))
+    (chain-next F (k .0) z n .stands, k .1, k .2, rest-skips f _ _ (parameter-passed f _ F (k .0) z (c .before .word2 .ensures .0) (c .if1 .left) n) (k .3))
 
 same-length-3 : tie.Need-same-length-3 Inv-loop μ-loop
 same-length-3 c = c .before .loop .inv .2
