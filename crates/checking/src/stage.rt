@@ -83,6 +83,8 @@ fn procedure_ok(
     let mut variables = record_table();
     let mut regions = record_table();
     let mut reaches = reach_table();
+    let mut callees = record_table();
+    let mut images = record_table();
     list_tables(file, v, r, &mut variables, &mut regions, &mut reaches);
     let kept = kept_of(classes, q);
     let held = dead_of(classes, q).union(kept);
@@ -94,6 +96,8 @@ fn procedure_ok(
         &regions,
         &reaches,
         classes,
+        &mut callees,
+        &mut images,
         kept,
         g,
         held,

@@ -49,6 +49,8 @@ pub fn check_step(
     regions: &[usize; 65],
     reaches: &[u64; 65],
     classes: &[u64; 768],
+    callees: &mut [usize; 65],
+    images: &mut [usize; 65],
     kept: Set,
     i: usize,
     held: Set,
@@ -61,7 +63,16 @@ pub fn check_step(
     ensures { λ r. ⌜ GoalChecked (now (file .entry)) (now (procedures .entry)) (now (variables .entry)) (now (regions .entry)) (now (reaches .entry)) (now (classes .entry)) kept i held sound r ⌝ }
 {
     let a = step_access(file, procedures, i);
-    let e = step_effect(file, procedures, classes, variables, regions, i);
+    let e = step_effect(
+        file,
+        procedures,
+        classes,
+        variables,
+        regions,
+        callees,
+        images,
+        i,
+    );
     if !allowed(a.reads, e, kept, held, sound) {
         return Carried::Broken;
     }

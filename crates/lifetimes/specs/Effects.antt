@@ -5,7 +5,6 @@ use Prim.Native.Nat.{ℕ, zero, suc}
 use mathlib.Core.Bool.{true}
 use mathlib.Core.List.{List}
 use mathlib.Core.Path.{_≡_, refl, ap}
-use lib.ListN.{getD, replicate, length-replicate}
 use Rattle.sets.specs.Tests.{and-true}
 use Rattle.sets.specs.Sets.{single, single-zero}
 use Rattle.language.specs.Program.{Four, Step, literal, sum, assign, construct, print, create, remove, Goals, _then_, step, Signature, Program, regionOf}
@@ -14,7 +13,6 @@ use Rattle.language.specs.Regions.{stepRegions, goalsRegions, goalRegions}
 use Rattle.language.specs.Lifetimes.{effect, noEffect, declaredClassesOk}
 use Rattle.language.specs.Answers.{program}
 use Rattle.chains.specs.Lookups.{VariableTable, RegionTable}
-use Rattle.regions.specs.Calls.{Blank}
 use Rattle.lifetimes.specs.Stored.{ClassTable}
 use Rattle.lifetimes.specs.declared.Effect.{Effect}
 
@@ -77,12 +75,3 @@ module _ (P : Program) (S : Signature) where
   pub print-effect : (y : ℕ) → Effects P S (print y) (regionEffect 0 0 0)
   unfolding effect noEffect regionEffect
   print-effect y = record { needs = single-zero; bears = single-zero; ends = single-zero; unshared = refl }
-
--- ---- a table without an image
-none-there : (n q : ℕ) → _≡_ {A = ℕ} (getD (replicate n 0) q 0) 0
-none-there zero q = refl
-none-there (suc n) zero = refl
-none-there (suc n) (suc q) = none-there n q
-
-pub blank : {t : List ℕ} → t ≡ replicate 65 0 → Blank t
-blank e = rw e (record { room = length-replicate {A = ℕ} 65 0; none = none-there 65 })

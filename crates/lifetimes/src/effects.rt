@@ -1,7 +1,6 @@
 // What a step does to regions.
 use crate::Effect;
 use crate::images::image_effect;
-use crate::reach::record_table;
 use crate::stored::born_of;
 use crate::stored::dead_of;
 use crate::stored::kept_of;
@@ -20,7 +19,6 @@ ghost use Rattle.language.specs.Answers.{program};
 ghost use Rattle.chains.specs.Formed.{Formed, Stands, goalsAt, argumentsAt};
 ghost use Rattle.values.specs.Callees.{Listed};
 ghost use Rattle.regions.specs.Places.{EdgesStand};
-ghost use Rattle.regions.specs.Calls.{Blank};
 ghost use Rattle.lifetimes.specs.Effects.{Setting, Passed, Effects, regionEffect};
 
 // A step that needs, bears and ends a region each, 0 for none.
@@ -35,19 +33,16 @@ fn region_effect(needs: usize, bears: usize, ends: usize) -> Effect
     }
 }
 
-fn no_images() -> [usize; 65]
-    ensures { λ r. ⌜ Blank r ⌝ }
-{
-    [0; 65]
-}
-
 // "a call needs the images of the callee's dead and kept regions", bears those of its born ones and ends those of its dead ones.
+// Callees and images are room for the call's own tables.
 fn call_effect(
     file: &[u8],
     procedures: &[usize],
     classes: &[u64],
     variables: &[usize],
     regions: &[usize],
+    callees: &mut [usize; 65],
+    images: &mut [usize; 65],
     q: usize,
     y: usize,
 ) -> Effect
@@ -60,12 +55,11 @@ fn call_effect(
     let callee = entry(procedures, q);
     let v = field(file, callee, 2);
     let r = field(file, callee, 3);
-    let mut callees = record_table();
-    list_chain(file, r, 1, &mut callees);
-    let mut images = no_images();
-    map_call(file, variables, regions, &callees, v, y, &mut images);
+    list_chain(file, r, 1, callees);
+    list_chain(file, 0, 1, images);
+    map_call(file, variables, regions, callees, v, y, images);
     image_effect(
-        &images,
+        images,
         born_of(classes, q),
         dead_of(classes, q),
         kept_of(classes, q),
@@ -79,6 +73,8 @@ pub fn step_effect(
     classes: &[u64],
     variables: &[usize],
     regions: &[usize],
+    callees: &mut [usize; 65],
+    images: &mut [usize; 65],
     i: usize,
 ) -> Effect
     requires { ⌜ Formed (now file) ⌝ }
@@ -107,6 +103,8 @@ pub fn step_effect(
             classes,
             variables,
             regions,
+            callees,
+            images,
             procedure,
             arguments,
         ),

@@ -25,8 +25,8 @@ enum-known-procedure c = search needs
 
 call-effect-requires : tie.Need-call-effect-requires
 call-effect-requires c κs =
-    let p = c .before .before .before .before .before .before .before .before .before .pre in
-    (p .0, (p .1 .0, (p .1 .1 .0, call-at (p .0) (c .before .before .before .record-at .ensures) (c .before .procedure .given .1) .to-arguments .stands)))
+    let p = c .before .before .before .before .before .before .before .before .before .before .before .pre in
+    (p .0, (p .1 .0, (p .1 .1 .0, call-at (p .0) (c .before .before .before .before .before .record-at .ensures) (c .before .before .before .procedure .given .1) .to-arguments .stands)))
 
 enum-known-region : tie.Need-enum-known-region
 enum-known-region c = search needs
@@ -47,7 +47,7 @@ returns : tie.Need-returns
 returns c = construct-done _ _ _ _ _ (c .before .before .before .before .before .before .before .before .before .before .before .before .pre .0) (c .before .before .before .before .before .before .record-at .ensures) (c .before .before .before .before .x .given .1) (c .before .before .entry .ensures) (c .before .field .ensures) (c .region-effect .ensures)
 
 returns-2 : tie.Need-returns-2
-returns-2 c = call-done _ _ _ _ _ (c .before .before .before .before .before .before .before .before .before .before .pre .0) (c .before .before .before .before .record-at .ensures) (c .before .before .procedure .given .1) (c .call-effect .ensures)
+returns-2 c = call-done _ _ _ _ _ (c .before .before .before .before .before .before .before .before .before .before .before .before .pre .0) (c .before .before .before .before .before .before .record-at .ensures) (c .before .before .before .before .procedure .given .1) (c .call-effect .ensures)
 
 returns-3 : tie.Need-returns-3
 returns-3 c = create-done _ _ _ _ _ (c .before .before .before .before .before .before .before .before .before .before .pre .0) (c .before .before .before .before .record-at .ensures) (c .before .before .region .given .1) (c .region-effect2 .ensures)
