@@ -25,6 +25,7 @@ use Rattle.layout.specs.Steps.{procedureOf}
 use Rattle.chains.specs.Declared
 use Rattle.values.specs.Callees.{Listed}
 use Rattle.values.specs.Modes.{ofMode, variables-in}
+use Rattle.regions.specs.Arguments.{and-stop, and-on}
 use Rattle.lifetimes.specs.Tabled.{SignatureAt, Tables}
 use Rattle.lifetimes.specs.Stored.{ClassTable}
 use Rattle.checking.specs.declared.Carried.{Carried as Answer}
@@ -142,14 +143,6 @@ pub going-last : {f : List ℕ} {i q : ℕ} → Going f i q → i ≡ 0 → true
 unfolding all
 going-last {f} h z = ap (all (procedureRules (program f))) (sym (procedures-none f z)) ∙ h .same
 
-and-first : {a b : Bool} (c : Bool) → a ≡ b → b ≡ false → (a & c) ≡ false
-unfolding _&_
-and-first c e z = rw (e, z) refl
-
-and-second : {a b : Bool} (c : Bool) → a ≡ b → b ≡ true → (a & c) ≡ c
-unfolding _&_
-and-second c e z = rw (e, z) refl
-
 module _ {f : List ℕ} {i q next v r g : ℕ} (h : Going f i q) (a : Declared.ProcedureAt f i next v r g) where
   here : procedureAt (program f) q ≡ nth noProcedure (proceduresAt f i) 0
   here = let z : q ≡ q + 0 = omega arith in ap (λ (k : ℕ). procedureAt (program f) k) z ∙ h .rest 0
@@ -173,7 +166,7 @@ module _ {f : List ℕ} {i q next v r g : ℕ} (h : Going f i q) (a : Declared.P
     pub going-stop : b ≡ false → false ≡ rulesOk (program f)
     unfolding all
     going-stop z =
-        sym (and-first _ (ap (procedureRules (program f)) (sym one) ∙ sym m) z) ∙ ap (all (procedureRules (program f))) (sym (a .view)) ∙ h .same
+        and-stop _ (ap (procedureRules (program f)) (sym one) ∙ sym m ∙ z) ∙ ap (all (procedureRules (program f))) (sym (a .view)) ∙ h .same
 
     pub going-next : b ≡ true → Going f next (q + 1)
     unfolding all nth
@@ -183,5 +176,5 @@ module _ {f : List ℕ} {i q next v r g : ℕ} (h : Going f i q) (a : Declared.P
           let w : q + 1 + n ≡ q + suc n = omega arith in
           ap (λ (k : ℕ). procedureAt (program f) k) w ∙ h .rest (suc n) ∙ ap (λ (ps : List Procedure). nth noProcedure ps (suc n)) (a .view);
       count = let k = ap length (a .view) in let c = h .count in omega arith;
-      same = sym (and-second _ (ap (procedureRules (program f)) (sym one) ∙ sym m) z) ∙ ap (all (procedureRules (program f))) (sym (a .view)) ∙ h .same;
+      same = and-on (ap (procedureRules (program f)) (sym one) ∙ sym m ∙ z) refl ∙ ap (all (procedureRules (program f))) (sym (a .view)) ∙ h .same;
     }
