@@ -13,6 +13,7 @@ use Rattle.language.specs.declared.Stop.{Stop}
 use Rattle.language.specs.declared.Stop.the-variants.{Steps, Cells, Places, Frames, Prints}
 use Rattle.language.specs.declared.Ending.{Ending}
 use Rattle.language.specs.declared.Ending.the-variants.{Refused as RunRefused}
+use Rattle.language.specs.Format.{maxRecords}
 use Rattle.language.specs.File.{word, recordCount, headerOk, formOk}
 use Rattle.language.specs.Tree.{treeOf}
 use Rattle.language.specs.Layout.{size, written}
@@ -72,7 +73,7 @@ annotation f = written (programTree (annotate (program f)))
 
 -- "annotated file over 4,096 records or longer than the memory lent"
 unfoldable pub roomOk : List ℕ → ℕ → Bool
-roomOk f lent = leb (size (programTree (annotate (program f)))) 4096 & leb (length (annotation f)) lent
+roomOk f lent = leb (size (programTree (annotate (program f)))) maxRecords & leb (length (annotation f)) lent
 
 -- the stages of the annotator; and of the checker, which the runner shares
 unfoldable pub annotatorStages : List ℕ → ℕ → List Stage

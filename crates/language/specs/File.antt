@@ -6,6 +6,7 @@ use lib.Dec.{eqb, leb, ltb}
 use lib.ListN.{length, getD}
 use Rattle.sets.specs.Tests.{_&_, _or_}
 use Rattle.language.specs.Lists.{nth, all, upFrom, count}
+use Rattle.language.specs.Format.{headerKind, typeKind, functorKind, procedureKind, variableKind, regionKind, edgeKind, literalKind, sumKind, assignKind, constructKind, switchKind, armKind, ifKind, callKind, argumentKind, printKind, createKind, removeKind, recordBytes, maxBytes}
 
 -- "records of 16 bytes, each eight 16-bit words w0 to w7, low byte first": word k of record i
 unfoldable pub word : List ℕ → ℕ → ℕ → ℕ
@@ -51,25 +52,25 @@ rowIn k c us = record { kind = k; chain = c; next = c; words = padded 6 us }
 -- the table
 unfoldable pub row : Kind → Row
 row kNone = rowIn 0 nowhere []
-row kHeader = record { kind = 1; chain = nowhere; next = procedures; words = padded 6 (first types ∷ number ∷ []) }
-row kType = rowIn 2 types (first functors ∷ [])
-row kFunctor = rowIn 3 functors (number ∷ number ∷ number ∷ number ∷ number ∷ [])
-row kProcedure = rowIn 4 procedures (first variables ∷ first regions ∷ first goals ∷ [])
-row kVariable = rowIn 5 variables (number ∷ number ∷ number ∷ [])
-row kRegion = rowIn 6 regions (number ∷ number ∷ first edges ∷ [])
-row kEdge = rowIn 7 edges (number ∷ number ∷ number ∷ [])
-row (kGoal kLiteral) = rowIn 8 goals (number ∷ number ∷ [])
-row (kGoal kSum) = rowIn 9 goals (number ∷ number ∷ number ∷ number ∷ [])
-row (kGoal kAssign) = rowIn 10 goals (number ∷ number ∷ [])
-row (kGoal kConstruct) = rowIn 11 goals (number ∷ number ∷ number ∷ number ∷ number ∷ number ∷ [])
-row (kGoal kSwitch) = rowIn 12 goals (number ∷ first arms ∷ [])
-row kArm = rowIn 13 arms (first goals ∷ number ∷ number ∷ number ∷ number ∷ number ∷ [])
-row (kGoal kIf) = rowIn 14 goals (number ∷ number ∷ first goals ∷ first goals ∷ [])
-row (kGoal kCall) = rowIn 15 goals (number ∷ first arguments ∷ [])
-row kArgument = rowIn 16 arguments (number ∷ [])
-row (kGoal kPrint) = rowIn 17 goals (number ∷ [])
-row (kGoal kCreate) = rowIn 18 goals (number ∷ [])
-row (kGoal kRemove) = rowIn 19 goals (number ∷ [])
+row kHeader = record { kind = headerKind; chain = nowhere; next = procedures; words = padded 6 (first types ∷ number ∷ []) }
+row kType = rowIn typeKind types (first functors ∷ [])
+row kFunctor = rowIn functorKind functors (number ∷ number ∷ number ∷ number ∷ number ∷ [])
+row kProcedure = rowIn procedureKind procedures (first variables ∷ first regions ∷ first goals ∷ [])
+row kVariable = rowIn variableKind variables (number ∷ number ∷ number ∷ [])
+row kRegion = rowIn regionKind regions (number ∷ number ∷ first edges ∷ [])
+row kEdge = rowIn edgeKind edges (number ∷ number ∷ number ∷ [])
+row (kGoal kLiteral) = rowIn literalKind goals (number ∷ number ∷ [])
+row (kGoal kSum) = rowIn sumKind goals (number ∷ number ∷ number ∷ number ∷ [])
+row (kGoal kAssign) = rowIn assignKind goals (number ∷ number ∷ [])
+row (kGoal kConstruct) = rowIn constructKind goals (number ∷ number ∷ number ∷ number ∷ number ∷ number ∷ [])
+row (kGoal kSwitch) = rowIn switchKind goals (number ∷ first arms ∷ [])
+row kArm = rowIn armKind arms (first goals ∷ number ∷ number ∷ number ∷ number ∷ number ∷ [])
+row (kGoal kIf) = rowIn ifKind goals (number ∷ number ∷ first goals ∷ first goals ∷ [])
+row (kGoal kCall) = rowIn callKind goals (number ∷ first arguments ∷ [])
+row kArgument = rowIn argumentKind arguments (number ∷ [])
+row (kGoal kPrint) = rowIn printKind goals (number ∷ [])
+row (kGoal kCreate) = rowIn createKind goals (number ∷ [])
+row (kGoal kRemove) = rowIn removeKind goals (number ∷ [])
 
 -- the kinds in the order of their numbers; kNone stands for every other number
 unfoldable pub kinds : List Kind
@@ -97,7 +98,7 @@ standsIn c k = eqb (code (row k .chain)) (code c)
 
 -- Number 1: "length under 16, over 65,536, not 16 × w3, or header w0 not 1"
 unfoldable pub headerOk : List ℕ → Bool
-headerOk f = leb 16 (length f) & leb (length f) 65536 & eqb (length f) (16 * recordCount f) & eqb (word f 0 0) 1
+headerOk f = leb recordBytes (length f) & leb (length f) maxBytes & eqb (length f) (recordBytes * recordCount f) & eqb (word f 0 0) headerKind
 
 -- Number 2, over the words of n records
 module _ (W : ℕ → ℕ → ℕ) (n : ℕ) where

@@ -1,3 +1,4 @@
+pub mod Format
 pub mod Lists
 pub mod Numbers
 pub mod File

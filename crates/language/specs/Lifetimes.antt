@@ -9,6 +9,7 @@ use Rattle.sets.specs.Sets.{emptySet, single, _∪_, _∖_, subset, apart}
 use Rattle.sets.specs.Members.{setOf, keep, image, every}
 use Rattle.sets.specs.declared.Set.{Set}
 use Rattle.language.specs.Lists.{all, upFrom}
+use Rattle.language.specs.Format.{bornClass, deadClass}
 use Rattle.language.specs.Program.{argumentsOf, Step, literal, sum, assign, construct, call, print, create, remove, Goals, done, _then_, Goal, step, switch, ifLess, Arms, noArms, arm, Signature, Procedure, Program, regionOf, regionAt, signatureOf}
 use Rattle.language.specs.Values.{insOf, outsOf, reads, gives}
 use Rattle.language.specs.Regions.{reachAll, Mapping, mapping, imageIn}
@@ -30,10 +31,10 @@ module _ (S : Signature) where
   declared = setOf (upFrom 1 (length (S .regions)))
 
   unfoldable pub born : Set
-  born = ofClass 1 declared
+  born = ofClass bornClass declared
 
   unfoldable pub dead : Set
-  dead = ofClass 2 declared
+  dead = ofClass deadClass declared
 
   -- "Kept: those of either kind whose class is 0."
   unfoldable pub kept : Set

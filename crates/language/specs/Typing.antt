@@ -6,6 +6,7 @@ use lib.Dec.{eqb, leb, ltb}
 use lib.ListN.{length, take, drop}
 use Rattle.sets.specs.Tests.{_&_}
 use Rattle.language.specs.Lists.{all, among, choose}
+use Rattle.language.specs.Format.{maxTypes, maxFunctors, maxArity, maxProcedures, maxVariables, maxRegions}
 use Rattle.language.specs.Program.{Four, fourWords, argumentsOf, Functor, Variable, Edge, Region, Step, literal, sum, assign, construct, call, print, create, remove, Goals, done, _then_, Goal, step, switch, ifLess, Arms, noArms, arm, Signature, Procedure, Program, typeOf, regionAt, signatureOf, functorsOf, functorAt, parametersOf, parameterVariables}
 
 -- the types of a functor's arguments
@@ -60,14 +61,14 @@ module _ (T : List (List Functor)) where
 
   -- "arity 0 to 4, w3 to w6 argument types"
   unfoldable pub functorOk : Functor → Bool
-  functorOk f = leb (f .arity) 4 & all isType (typesIn f) & all (λ t. eqb t 0) (drop (f .arity) (fourWords (f .argumentTypes)))
+  functorOk f = leb (f .arity) maxArity & all isType (typesIn f) & all (λ t. eqb t 0) (drop (f .arity) (fourWords (f .argumentTypes)))
 
   -- "At most 64 types, 32 functors a type (at least 1)"
   unfoldable pub typeOk : List Functor → Bool
-  typeOk fs = among 32 (length fs) & all functorOk fs
+  typeOk fs = among maxFunctors (length fs) & all functorOk fs
 
   unfoldable pub typesOk : Bool
-  typesOk = leb (length T) 64 & all typeOk T
+  typesOk = leb (length T) maxTypes & all typeOk T
 
   -- "An edge stands for each functor and each argument position whose type is not 0, once, in rising order."
   unfoldable pub placesIn : ℕ → ℕ → List ℕ → List Place
@@ -98,7 +99,7 @@ module _ (T : List (List Functor)) where
     -- "64 variables and 64 regions a procedure"
     unfoldable pub signatureOk : Bool
     signatureOk =
-        leb (length (S .variables)) 64 & leb (length (S .regions)) 64 & all variableOk (S .variables) & all regionOk (S .regions)
+        leb (length (S .variables)) maxVariables & leb (length (S .regions)) maxRegions & all variableOk (S .variables) & all regionOk (S .regions)
 
 unfoldable pub typesOf : Signature → List ℕ → List ℕ
 typesOf S [] = []
@@ -147,4 +148,4 @@ procedureOk P p = signatureOk (P .types) (p .signature) & goalsOk P (p .signatur
 
 -- "256 procedures (at least 1)"
 unfoldable pub typingOk : Program → Bool
-typingOk P = typesOk (P .types) & among 256 (length (P .procedures)) & all (procedureOk P) (P .procedures)
+typingOk P = typesOk (P .types) & among maxProcedures (length (P .procedures)) & all (procedureOk P) (P .procedures)

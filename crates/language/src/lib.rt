@@ -1,4 +1,5 @@
-// The answers that the programs share: document 01's table of refusals and stops.
+// The answers that the programs share, document 01's table of refusals and stops, and its numbers.
+pub mod format;
 
 // The cause of a refusal, in the table's order: numbers 1 to 9.
 pub enum Refusal {
