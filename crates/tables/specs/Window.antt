@@ -11,15 +11,17 @@ use lib.ListN.{length, getD, drop}
 use Rattle.sets.specs.Tests.{_&_, and-true}
 use Rattle.sets.specs.Sets.{emptySet, _∪_, loaded}
 use Rattle.sets.specs.declared.Set.{Set}
-use Rattle.language.specs.Lists.{choose}
+use Rattle.language.specs.Lists.{nth, choose}
 use Rattle.language.specs.File
-use Rattle.language.specs.Format.{places}
+use Rattle.language.specs.File.{word}
+use Rattle.language.specs.Format.{places, procedureGoals}
 use Rattle.language.specs.Program.{Signature, Procedure, Program, regionOf, regionAt, procedureAt}
 use Rattle.language.specs.Values.{insOf, outsOf}
 use Rattle.language.specs.Regions
 use Rattle.language.specs.Lifetimes
 use Rattle.language.specs.Answers.{program}
 use Rattle.chains.specs.Formed.{Stands, variablesAt, goalsAt, edgesAt}
+use Rattle.chains.specs.Records.{chainRecords}
 
 -- the places of the first words
 abbrev pub variablesPlace : ℕ
@@ -153,3 +155,5 @@ pub record WindowOf (f : List ℕ) (p : Procedure) (t : List ℕ) : Type 0 where
 pub record FileTable (f t : List ℕ) : Type 0 where
   pub starts : (q : ℕ) → q < length (program f .procedures) → getD t q 0 ≤ length t
   pub at : (q : ℕ) → q < length (program f .procedures) → WindowOf f (procedureAt (program f) q) (drop (getD t q 0) t)
+  pub body : (q : ℕ) → q < length (program f .procedures)
+      → getD (drop (getD t q 0) t) bodyPlace 0 ≡ word f (nth 0 (chainRecords f (word f 0 1)) q) procedureGoals
