@@ -1,1 +1,1 @@
-mod Filling
+mod Listing

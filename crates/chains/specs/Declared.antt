@@ -6,17 +6,15 @@ use mathlib.Core.Path.{_≡_, refl, ap}
 use mathlib.Core.List.{List, _∷_}
 use Rattle.language.specs.File.{kType, kFunctor, kProcedure, kVariable, kRegion, kEdge, types, functors, procedures, variables, regions, edges, goals, word, recordCount}
 use Rattle.language.specs.Program.{four}
-use Rattle.language.specs.Answers.{program}
 use Rattle.layout.specs.Table.{all-rows}
 use Rattle.layout.specs.Chains.{real, type-functors, procedure-variables, procedure-regions, procedure-goals, region-edges}
-use Rattle.layout.specs.Files.{header-kind}
 use Rattle.layout.specs.Steps
 use Rattle.layout.specs.Steps.{procedureOf}
 use Rattle.records.specs.Records.{recordAt}
 use Rattle.records.specs.declared.Record.{Record}
-use Rattle.records.specs.declared.Record.the-variants.{Header, «Type» as TypeOf, Functor, Procedure, Variable, Region, Edge}
-use Rattle.chains.specs.Formed.{Formed, Stands, Onward, types-stand, procedures-stand, program-types, program-procedures, typesAt, functorsAt, proceduresAt, variablesAt, regionsAt, edgesAt, goalsAt}
-use Rattle.chains.specs.Kinds.{kindIn, same-read, known, onward}
+use Rattle.records.specs.declared.Record.the-variants.{«Type» as TypeOf, Functor, Procedure, Variable, Region, Edge}
+use Rattle.chains.specs.Formed.{Formed, Onward, typesAt, functorsAt, proceduresAt, variablesAt, regionsAt, edgesAt, goalsAt}
+use Rattle.chains.specs.Kinds.{kindIn, known, onward}
 
 pub record TypeAt (f : List ℕ) (i next fs : ℕ) : Type 0 where
   pub some : 0 < i
@@ -206,31 +204,4 @@ edge-at {f} {i} {next} {functor} {position} {target} F e g =
       w4 = e4;
       view = rw (e1, e2, e3, e4) (Steps.edge-step (word f) (recordCount f) (F .form) i (h .some) (h .below) (h .kind));
       to-next = rw e1 (h .next);
-    }
-
--- ---- the header, record 0
-pub record HeaderAt (f : List ℕ) (ps ts count : ℕ) : Type 0 where
-  pub w1 : ps ≡ word f 0 1
-  pub w2 : ts ≡ word f 0 2
-  pub w3 : count ≡ recordCount f
-  pub to-procedures : Stands f procedures ps
-  pub to-types : Stands f types ts
-  pub all-procedures : program f .procedures ≡ proceduresAt f ps
-  pub all-types : program f .types ≡ typesAt f ts
-
-pub header-at : {f : List ℕ} {ps ts count : ℕ} {r : Record} → Formed f → r ≡ recordAt f 0 → r ≡ Header ps ts count → HeaderAt f ps ts count
-unfolding recordCount
-header-at {f} {ps} {ts} {count} F e g =
-    let s = same-read f 0 e (header-kind f (F .header) (F .form)) in
-    let e1 : ps ≡ word f 0 1 = cc in
-    let e2 : ts ≡ word f 0 2 = cc in
-    let e3 : count ≡ word f 0 3 = cc in
-    record {
-      w1 = e1;
-      w2 = e2;
-      w3 = e3;
-      to-procedures = rw e1 (procedures-stand F);
-      to-types = rw e2 (types-stand F);
-      all-procedures = rw e1 (program-procedures F);
-      all-types = rw e2 (program-types F);
     }

@@ -4,6 +4,7 @@ use Prim.Native.Nat.{ℕ}
 use mathlib.Core.Path.{_≡_, refl, ap, _∙_}
 use mathlib.Core.List.{List, map}
 use lib.ListN.{length, length-map}
+use Rattle.language.specs.Format.{typeFunctors, functorArity, procedureVariables, procedureRegions, procedureGoals, variableMode, variableType, variableRegion, regionType, regionClass, regionEdges, edgeFunctor, edgePosition, edgeTarget, argumentVariable}
 use Rattle.language.specs.File.{types, functors, procedures, variables, regions, edges, arguments}
 use Rattle.language.specs.Program.{four, Functor, Variable, Edge, Region, Procedure}
 use Rattle.layout.specs.Chains.{real}
@@ -18,22 +19,22 @@ use Rattle.chains.specs.Records.{chainRecords, view-map}
 -- ---- the element of record j
 module _ (f : List ℕ) (j : ℕ) where
   abbrev pub functorsOfType : List Functor
-  functorsOfType = functorsAt f (fieldOf f j 2)
+  functorsOfType = functorsAt f (fieldOf f j typeFunctors)
 
   abbrev pub functorFrom : Functor
-  functorFrom = record { arity = fieldOf f j 2; argumentTypes = four (fieldOf f j 3) (fieldOf f j 4) (fieldOf f j 5) (fieldOf f j 6) }
+  functorFrom = record { arity = fieldOf f j functorArity; argumentTypes = four (fieldOf f j 3) (fieldOf f j 4) (fieldOf f j 5) (fieldOf f j 6) }
 
   abbrev pub variableFrom : Variable
-  variableFrom = record { mode = fieldOf f j 2; type = fieldOf f j 3; region = fieldOf f j 4 }
+  variableFrom = record { mode = fieldOf f j variableMode; type = fieldOf f j variableType; region = fieldOf f j variableRegion }
 
   abbrev pub edgeFrom : Edge
-  edgeFrom = record { functor = fieldOf f j 2; position = fieldOf f j 3; target = fieldOf f j 4 }
+  edgeFrom = record { functor = fieldOf f j edgeFunctor; position = fieldOf f j edgePosition; target = fieldOf f j edgeTarget }
 
   abbrev pub regionFrom : Region
-  regionFrom = record { type = fieldOf f j 2; class = fieldOf f j 3; edges = edgesAt f (fieldOf f j 4) }
+  regionFrom = record { type = fieldOf f j regionType; class = fieldOf f j regionClass; edges = edgesAt f (fieldOf f j regionEdges) }
 
   abbrev pub procedureFrom : Procedure
-  procedureFrom = procedureOf (variablesAt f (fieldOf f j 2)) (regionsAt f (fieldOf f j 3)) (goalsAt f (fieldOf f j 4))
+  procedureFrom = procedureOf (variablesAt f (fieldOf f j procedureVariables)) (regionsAt f (fieldOf f j procedureRegions)) (goalsAt f (fieldOf f j procedureGoals))
 
 -- ---- the chains
 module _ {f : List ℕ} (F : Formed f) (i : ℕ) where
@@ -73,10 +74,10 @@ module _ {f : List ℕ} (F : Formed f) (i : ℕ) where
       view-map F procedures refl (proceduresAt f) (procedureFrom f) (procedures-none f refl)
       (λ j s z. rw (← field-some f j 2 z, ← field-some f j 3 z, ← field-some f j 4 z) (procedure-at F refl (procedure-is s z) .view)) i
 
-  pub arguments-map : Stands f arguments i → argumentsAt f i ≡ map (λ j. fieldOf f j 2) (chainRecords f i)
+  pub arguments-map : Stands f arguments i → argumentsAt f i ≡ map (λ j. fieldOf f j argumentVariable) (chainRecords f i)
   unfolding real
   arguments-map =
-      view-map F arguments refl (argumentsAt f) (λ j. fieldOf f j 2) (arguments-none f refl)
+      view-map F arguments refl (argumentsAt f) (λ j. fieldOf f j argumentVariable) (arguments-none f refl)
       (λ j s z. rw (← field-some f j 2 z) (argument-at F refl (argument-is s z) .view)) i
 
   -- ---- as many as records
@@ -89,14 +90,8 @@ module _ {f : List ℕ} (F : Formed f) (i : ℕ) where
   pub variables-count : Stands f variables i → length (variablesAt f i) ≡ length (chainRecords f i)
   variables-count s = ap length (variables-map s) ∙ length-map (chainRecords f i) (variableFrom f)
 
-  pub edges-count : Stands f edges i → length (edgesAt f i) ≡ length (chainRecords f i)
-  edges-count s = ap length (edges-map s) ∙ length-map (chainRecords f i) (edgeFrom f)
-
   pub regions-count : Stands f regions i → length (regionsAt f i) ≡ length (chainRecords f i)
   regions-count s = ap length (regions-map s) ∙ length-map (chainRecords f i) (regionFrom f)
 
   pub procedures-count : Stands f procedures i → length (proceduresAt f i) ≡ length (chainRecords f i)
   procedures-count s = ap length (procedures-map s) ∙ length-map (chainRecords f i) (procedureFrom f)
-
-  pub arguments-count : Stands f arguments i → length (argumentsAt f i) ≡ length (chainRecords f i)
-  arguments-count s = ap length (arguments-map s) ∙ length-map (chainRecords f i) (λ j. fieldOf f j 2)

@@ -1,13 +1,15 @@
 -- The premise that every walk over the records carries: the file passes numbers 1 and 2. What stands at a record then, which records may
 -- start a chain, and the measure that falls along every reference.
 --
--- How to use it (src/example.rt has a loop along a chain, `in_variables`, and a walk over goals, `quiet_goals`; copy their proof files):
+-- How to use it:
 --   `requires` Formed (now file) and Stands (now file) variables start;
 --   a loop's invariant: Stands file variables i, and "what is done so far and the rest from i make the whole" over `variablesAt file i`; where a
 --   count must fit, also n + ahead file i < 4096 (`ahead-below`); in a cycle of calls also ahead file i ≤ ahead file start;
---   the measure: `ahead file i`; of a cycle 2 * ahead + 1 for a chain, 2 * ahead for the goal at record i;
---   a turn: `variable-at` and its like (modules Declared, Goals, Parts) give the view, the Stands of each reference and that the measure falls;
---   the `else` that is never met: `variable-else` and its like (module Is); the end, i ≡ 0: `variables-none` and its like, below.
+--   the measure: `ahead file i`; of a cycle 3 * ahead + 2 for goals and arms, 3 * ahead + 1 for the goal at record i, 3 * ahead for a switch or an if;
+--   a turn over words: `goal-here`, `switch-here`, `to-arms`, `arm-here` and their like (module Shapes), `chain-next` for word 1 (module Is);
+--   over a decoded record: `variable-at` and its like (modules Declared, Goals, Parts) give the view, the Stands of each reference and that the
+--   measure falls, and `variable-else` and its like (module Is) say that the `else` is never met;
+--   the end, i ≡ 0: `variables-none` and its like, below; along the procedures: module Turns.
 use Prim.Native.Nat.{ℕ, zero, suc, _-_, _*_, _≤_, _<_}
 use native.Mathlib.Omega.{arith}
 use mathlib.Core.Path.{_≡_, refl, sym, _∙_}
@@ -17,6 +19,7 @@ use mathlib.Core.Logic.{_⊎_, inl, inr}
 use lib.ListN.{length}
 use Rattle.language.specs.declared.Verdict.{Verdict}
 use Rattle.language.specs.declared.Verdict.the-variants.{Accepted}
+use Rattle.language.specs.Format.{kindWord, headerProcedures, headerTypes, recordBytes, maxRecords}
 use Rattle.language.specs.File.{Chain, types, procedures, row, kindOf, word, recordCount, headerOk, formOk}
 use Rattle.language.specs.Program.{Functor, Variable, Edge, Region, print, Goals, done, _then_, Goal, step, Arms, noArms, Procedure}
 use Rattle.language.specs.Answers.{program}
@@ -36,8 +39,8 @@ formed {f} e a = let h = form-in f (sym e ∙ a) in record { header = h .0; form
 
 pub record Counted (f : List ℕ) : Type 0 where
   pub some : 0 < recordCount f
-  pub most : recordCount f ≤ 4096
-  pub bytes : length f ≡ 16 * recordCount f
+  pub most : recordCount f ≤ maxRecords
+  pub bytes : length f ≡ recordBytes * recordCount f
 
 pub counted : {f : List ℕ} → Formed f → Counted f
 counted {f} F =
@@ -122,7 +125,7 @@ module _ (f : List ℕ) {i : ℕ} (z : i ≡ 0) where
 -- ---- record i may start a chain of the sort c: it is 0, the end, or a record that stands in such a chain
 pub record Stands (f : List ℕ) (c : Chain) (i : ℕ) : Type 0 where
   pub below : i < recordCount f
-  pub sort : (i ≡ 0) ⊎ (row (kindOf (word f i 0)) .chain ≡ c)
+  pub sort : (i ≡ 0) ⊎ (row (kindOf (word f i kindWord)) .chain ≡ c)
 
 pub stands-none : {f : List ℕ} {c : Chain} {i : ℕ} → Formed f → i ≡ 0 → Stands f c i
 stands-none F z = let n = counted F in record { below = omega arith; sort = inl z }
@@ -148,7 +151,7 @@ unfolding ahead
 ahead-some f zero p = absurd (omega arith)
 ahead-some f (suc i) p = refl
 
-pub ahead-below : {f : List ℕ} → Formed f → (i : ℕ) → ahead f i < 4096
+pub ahead-below : {f : List ℕ} → Formed f → (i : ℕ) → ahead f i < maxRecords
 unfolding ahead
 ahead-below F zero = omega arith
 ahead-below F (suc i) = let n = counted F in omega arith
@@ -169,16 +172,16 @@ leads-onward {f} {c} {i} {w} F p q l = let d = leads-falls f c i w p q l in reco
 
 -- ---- the program, and where its two chains start
 module _ {f : List ℕ} (F : Formed f) where
-  pub types-stand : Stands f types (word f 0 2)
+  pub types-stand : Stands f types (word f 0 headerTypes)
   types-stand = leads-stands {i = 0} F (types-lead f (F .header) (F .form))
 
-  pub procedures-stand : Stands f procedures (word f 0 1)
+  pub procedures-stand : Stands f procedures (word f 0 headerProcedures)
   procedures-stand = leads-stands {i = 0} F (procedures-lead f (F .header) (F .form))
 
-  pub program-types : program f .types ≡ typesAt f (word f 0 2)
+  pub program-types : program f .types ≡ typesAt f (word f 0 headerTypes)
   unfolding typesAt
   program-types = Steps.program-types f (F .header) (F .form)
 
-  pub program-procedures : program f .procedures ≡ proceduresAt f (word f 0 1)
+  pub program-procedures : program f .procedures ≡ proceduresAt f (word f 0 headerProcedures)
   unfolding proceduresAt
   program-procedures = Steps.program-procedures f (F .header) (F .form)

@@ -2,11 +2,11 @@
 -- There: `absurd (variable-else S z (c .. .record-at .ensures) (c .match .keys2))`, with S the invariant's `Stands` and z : i ≡ 0 → ⊥, the loop's
 -- test; of a `match` with an arm for each goal `goal-else`; of any other `never`, the keys written out.
 -- Where a loop reads w1 itself and another function the record: `chain-next`, and for goals `goals-step`.
-use Prim.Native.Nat.{ℕ, _<_}
+use Prim.Native.Nat.{ℕ, zero, suc, _<_}
 use native.Mathlib.Omega.{arith}
 use mathlib.Core.Path.{_≡_, refl, ap, sym, subst, _∙_}
 use mathlib.Core.List.{List, [], _∷_}
-use mathlib.Core.Bool.{Bool, true, not, _&&_}
+use mathlib.Core.Bool.{Bool, true, not, _&&_, false}
 use mathlib.Core.Logic.{inl, inr}
 use lib.Dec.{T, eqb, eqb→eq}
 use mir.Val.{hasKey}
@@ -23,7 +23,7 @@ use Rattle.layout.specs.Steps
 use Rattle.records.proofs.Record.{the-type}
 use Rattle.records.specs.Records.{recordAs, recordAt}
 use Rattle.records.specs.declared.Record.{Record}
-use Rattle.records.specs.declared.Record.the-variants.{Header, «Type» as TypeOf, Functor, Procedure, Variable, Region, Edge, Arm, Argument}
+use Rattle.records.specs.declared.Record.the-variants.{«Type» as TypeOf, Functor, Procedure, Variable, Region, Edge, Arm, Argument}
 use Rattle.chains.specs.Formed.{Formed, Stands, stands-starts, Onward, leads-onward, goalsAt, firstGoal, goalAt}
 use Rattle.chains.specs.Kinds.{same-read}
 
@@ -59,10 +59,6 @@ module _ {f : List ℕ} {i : ℕ} where
   pub argument-is : Stands f arguments i → (i ≡ 0 → ⊥) → recordAt f i ≡ Argument (word f i 1) (word f i 2)
   argument-is s z = same-read f i refl (arguments-kind (kind-in s z))
 
-  -- one of the ten
-  pub goal-is : Stands f goals i → (i ≡ 0 → ⊥) → (g : GoalKind) × (recordAt f i ≡ recordAs (kGoal g) (word f i))
-  goal-is s z = let k = goals-kind (kind-in s z) in (k .0, same-read f i refl (k .1))
-
 -- ---- on along the chain, whatever its sort: the code read w1
 pub chain-next : {f : List ℕ} {c : Chain} {i w : ℕ} → Formed f → Stands f c i → (i ≡ 0 → ⊥) → w ≡ word f i 1 → Onward f c i w
 chain-next {f} {c} {i} F s z e =
@@ -81,10 +77,6 @@ goal-front {f} {i} F g k p q = first-front (ap (λ s. s .asGoals) (Steps.sense-s
 
 pub goals-step : {f : List ℕ} {i w : ℕ} → Formed f → Stands f goals i → (i ≡ 0 → ⊥) → w ≡ word f i 1 → goalsAt f i ≡ goalAt f i then goalsAt f w
 goals-step {f} {i} F s z e = let k = goals-kind (kind-in s z) in rw e (goal-front F (k .0) (k .1) (omega arith) (s .below))
-
--- the header, record 0
-pub header-is : {f : List ℕ} → Formed f → recordAt f 0 ≡ Header (word f 0 1) (word f 0 2) (word f 0 3)
-header-is {f} F = same-read f 0 refl (header-kind f (F .header) (F .form))
 
 -- ---- no constructor of another chain
 -- the numbers by which the code tells the constructors of a chain
@@ -125,6 +117,15 @@ chain-tags arm-in w = tt
 chain-tags argument-in w = tt
 chain-tags (goal-in {g = g}) w = goal-tags g w
 
+-- the m numbers from b on, without k
+abbrev unless : Bool → ℕ → List ℕ → List ℕ
+unless true b ks = ks
+unless false b ks = b ∷ ks
+
+abbrev pub tagsBut : ℕ → ℕ → ℕ → List ℕ
+tagsBut zero b k = []
+tagsBut (suc m) b k = unless (eqb b k) b (tagsBut m (suc b) k)
+
 -- none of the keys is one of the numbers ts
 abbrev pub apart : List ℕ → List ℕ → Bool
 apart ks [] = true
@@ -143,42 +144,24 @@ module _ {f : List ℕ} {i : ℕ} {r : Record} where
   never {c} s z e ks a h =
       miss ks (tagOf the-type r) (apart-at ks (tagsOf c) (tagOf the-type r) a (subst (λ x. T (hasKey (tagsOf c) (tagOf the-type x))) (sym e) (chain-tags (kind-in s z) (word f i)))) h
 
-  -- the `else` of a `let .. else` on the chain's one constructor; of goals, the `_` of a `match` with an arm for each of the ten
-  pub type-else : Stands f types i → (i ≡ 0 → ⊥) → r ≡ recordAt f i
-      → OneOf (0 ∷ 2 ∷ 3 ∷ 4 ∷ 5 ∷ 6 ∷ 7 ∷ 8 ∷ 9 ∷ 10 ∷ 11 ∷ 12 ∷ 13 ∷ 14 ∷ 15 ∷ 16 ∷ 17 ∷ 18 ∷ 19 ∷ []) (tagOf the-type r) → ⊥
-  type-else s z e h = never s z e (0 ∷ 2 ∷ 3 ∷ 4 ∷ 5 ∷ 6 ∷ 7 ∷ 8 ∷ 9 ∷ 10 ∷ 11 ∷ 12 ∷ 13 ∷ 14 ∷ 15 ∷ 16 ∷ 17 ∷ 18 ∷ 19 ∷ []) tt h
+  -- the `else` of a `let .. else` on the chain's one constructor
+  pub type-else : Stands f types i → (i ≡ 0 → ⊥) → r ≡ recordAt f i → OneOf (tagsBut 20 0 1) (tagOf the-type r) → ⊥
+  type-else s z e h = never s z e (tagsBut 20 0 1) tt h
 
-  pub functor-else : Stands f functors i → (i ≡ 0 → ⊥) → r ≡ recordAt f i
-      → OneOf (0 ∷ 1 ∷ 3 ∷ 4 ∷ 5 ∷ 6 ∷ 7 ∷ 8 ∷ 9 ∷ 10 ∷ 11 ∷ 12 ∷ 13 ∷ 14 ∷ 15 ∷ 16 ∷ 17 ∷ 18 ∷ 19 ∷ []) (tagOf the-type r) → ⊥
-  functor-else s z e h = never s z e (0 ∷ 1 ∷ 3 ∷ 4 ∷ 5 ∷ 6 ∷ 7 ∷ 8 ∷ 9 ∷ 10 ∷ 11 ∷ 12 ∷ 13 ∷ 14 ∷ 15 ∷ 16 ∷ 17 ∷ 18 ∷ 19 ∷ []) tt h
+  pub functor-else : Stands f functors i → (i ≡ 0 → ⊥) → r ≡ recordAt f i → OneOf (tagsBut 20 0 2) (tagOf the-type r) → ⊥
+  functor-else s z e h = never s z e (tagsBut 20 0 2) tt h
 
-  pub procedure-else : Stands f procedures i → (i ≡ 0 → ⊥) → r ≡ recordAt f i
-      → OneOf (0 ∷ 1 ∷ 2 ∷ 4 ∷ 5 ∷ 6 ∷ 7 ∷ 8 ∷ 9 ∷ 10 ∷ 11 ∷ 12 ∷ 13 ∷ 14 ∷ 15 ∷ 16 ∷ 17 ∷ 18 ∷ 19 ∷ []) (tagOf the-type r) → ⊥
-  procedure-else s z e h = never s z e (0 ∷ 1 ∷ 2 ∷ 4 ∷ 5 ∷ 6 ∷ 7 ∷ 8 ∷ 9 ∷ 10 ∷ 11 ∷ 12 ∷ 13 ∷ 14 ∷ 15 ∷ 16 ∷ 17 ∷ 18 ∷ 19 ∷ []) tt h
+  pub procedure-else : Stands f procedures i → (i ≡ 0 → ⊥) → r ≡ recordAt f i → OneOf (tagsBut 20 0 3) (tagOf the-type r) → ⊥
+  procedure-else s z e h = never s z e (tagsBut 20 0 3) tt h
 
-  pub variable-else : Stands f variables i → (i ≡ 0 → ⊥) → r ≡ recordAt f i
-      → OneOf (0 ∷ 1 ∷ 2 ∷ 3 ∷ 5 ∷ 6 ∷ 7 ∷ 8 ∷ 9 ∷ 10 ∷ 11 ∷ 12 ∷ 13 ∷ 14 ∷ 15 ∷ 16 ∷ 17 ∷ 18 ∷ 19 ∷ []) (tagOf the-type r) → ⊥
-  variable-else s z e h = never s z e (0 ∷ 1 ∷ 2 ∷ 3 ∷ 5 ∷ 6 ∷ 7 ∷ 8 ∷ 9 ∷ 10 ∷ 11 ∷ 12 ∷ 13 ∷ 14 ∷ 15 ∷ 16 ∷ 17 ∷ 18 ∷ 19 ∷ []) tt h
+  pub variable-else : Stands f variables i → (i ≡ 0 → ⊥) → r ≡ recordAt f i → OneOf (tagsBut 20 0 4) (tagOf the-type r) → ⊥
+  variable-else s z e h = never s z e (tagsBut 20 0 4) tt h
 
-  pub region-else : Stands f regions i → (i ≡ 0 → ⊥) → r ≡ recordAt f i
-      → OneOf (0 ∷ 1 ∷ 2 ∷ 3 ∷ 4 ∷ 6 ∷ 7 ∷ 8 ∷ 9 ∷ 10 ∷ 11 ∷ 12 ∷ 13 ∷ 14 ∷ 15 ∷ 16 ∷ 17 ∷ 18 ∷ 19 ∷ []) (tagOf the-type r) → ⊥
-  region-else s z e h = never s z e (0 ∷ 1 ∷ 2 ∷ 3 ∷ 4 ∷ 6 ∷ 7 ∷ 8 ∷ 9 ∷ 10 ∷ 11 ∷ 12 ∷ 13 ∷ 14 ∷ 15 ∷ 16 ∷ 17 ∷ 18 ∷ 19 ∷ []) tt h
+  pub region-else : Stands f regions i → (i ≡ 0 → ⊥) → r ≡ recordAt f i → OneOf (tagsBut 20 0 5) (tagOf the-type r) → ⊥
+  region-else s z e h = never s z e (tagsBut 20 0 5) tt h
 
-  pub edge-else : Stands f edges i → (i ≡ 0 → ⊥) → r ≡ recordAt f i
-      → OneOf (0 ∷ 1 ∷ 2 ∷ 3 ∷ 4 ∷ 5 ∷ 7 ∷ 8 ∷ 9 ∷ 10 ∷ 11 ∷ 12 ∷ 13 ∷ 14 ∷ 15 ∷ 16 ∷ 17 ∷ 18 ∷ 19 ∷ []) (tagOf the-type r) → ⊥
-  edge-else s z e h = never s z e (0 ∷ 1 ∷ 2 ∷ 3 ∷ 4 ∷ 5 ∷ 7 ∷ 8 ∷ 9 ∷ 10 ∷ 11 ∷ 12 ∷ 13 ∷ 14 ∷ 15 ∷ 16 ∷ 17 ∷ 18 ∷ 19 ∷ []) tt h
+  pub edge-else : Stands f edges i → (i ≡ 0 → ⊥) → r ≡ recordAt f i → OneOf (tagsBut 20 0 6) (tagOf the-type r) → ⊥
+  edge-else s z e h = never s z e (tagsBut 20 0 6) tt h
 
-  pub arm-else : Stands f arms i → (i ≡ 0 → ⊥) → r ≡ recordAt f i
-      → OneOf (0 ∷ 1 ∷ 2 ∷ 3 ∷ 4 ∷ 5 ∷ 6 ∷ 7 ∷ 8 ∷ 9 ∷ 10 ∷ 11 ∷ 13 ∷ 14 ∷ 15 ∷ 16 ∷ 17 ∷ 18 ∷ 19 ∷ []) (tagOf the-type r) → ⊥
-  arm-else s z e h = never s z e (0 ∷ 1 ∷ 2 ∷ 3 ∷ 4 ∷ 5 ∷ 6 ∷ 7 ∷ 8 ∷ 9 ∷ 10 ∷ 11 ∷ 13 ∷ 14 ∷ 15 ∷ 16 ∷ 17 ∷ 18 ∷ 19 ∷ []) tt h
-
-  pub argument-else : Stands f arguments i → (i ≡ 0 → ⊥) → r ≡ recordAt f i
-      → OneOf (0 ∷ 1 ∷ 2 ∷ 3 ∷ 4 ∷ 5 ∷ 6 ∷ 7 ∷ 8 ∷ 9 ∷ 10 ∷ 11 ∷ 12 ∷ 13 ∷ 14 ∷ 16 ∷ 17 ∷ 18 ∷ 19 ∷ []) (tagOf the-type r) → ⊥
-  argument-else s z e h = never s z e (0 ∷ 1 ∷ 2 ∷ 3 ∷ 4 ∷ 5 ∷ 6 ∷ 7 ∷ 8 ∷ 9 ∷ 10 ∷ 11 ∷ 12 ∷ 13 ∷ 14 ∷ 16 ∷ 17 ∷ 18 ∷ 19 ∷ []) tt h
-
-  pub goal-else : Stands f goals i → (i ≡ 0 → ⊥) → r ≡ recordAt f i
-      → OneOf (0 ∷ 1 ∷ 2 ∷ 3 ∷ 4 ∷ 5 ∷ 6 ∷ 12 ∷ 15 ∷ 19 ∷ []) (tagOf the-type r) → ⊥
-  goal-else s z e h = never s z e (0 ∷ 1 ∷ 2 ∷ 3 ∷ 4 ∷ 5 ∷ 6 ∷ 12 ∷ 15 ∷ 19 ∷ []) tt h
-
-pub header-else : {f : List ℕ} {r : Record} → Formed f → r ≡ recordAt f 0 → OneOf (1 ∷ 2 ∷ 3 ∷ 4 ∷ 5 ∷ 6 ∷ 7 ∷ 8 ∷ 9 ∷ 10 ∷ 11 ∷ 12 ∷ 13 ∷ 14 ∷ 15 ∷ 16 ∷ 17 ∷ 18 ∷ 19 ∷ []) (tagOf the-type r) → ⊥
-header-else {f} {r} F e h = let t : tagOf the-type r ≡ 0 = ap (tagOf the-type) (e ∙ header-is F) in miss (1 ∷ 2 ∷ 3 ∷ 4 ∷ 5 ∷ 6 ∷ 7 ∷ 8 ∷ 9 ∷ 10 ∷ 11 ∷ 12 ∷ 13 ∷ 14 ∷ 15 ∷ 16 ∷ 17 ∷ 18 ∷ 19 ∷ []) 0 tt (rw t at h)
+  pub arm-else : Stands f arms i → (i ≡ 0 → ⊥) → r ≡ recordAt f i → OneOf (tagsBut 20 0 12) (tagOf the-type r) → ⊥
+  arm-else s z e h = never s z e (tagsBut 20 0 12) tt h

@@ -1,13 +1,15 @@
+pub mod Layout
 pub mod Formed
 pub mod Kinds
 pub mod Declared
 pub mod Goals
 pub mod Parts
 pub mod Is
+pub mod Shapes
 pub mod Fields
 pub mod Records
 pub mod Tables
 pub mod Elements
 pub mod Reached
 pub mod Lookups
-pub mod Example
+pub mod Turns

@@ -15,15 +15,17 @@ use borrow.Author.Tests.{lt-ltb, le-ltb}
 use Rattle.sets.specs.Tests.{and-true}
 use Rattle.language.specs.Lists.{nth, nth1, among}
 use Rattle.language.specs.File
-use Rattle.language.specs.File.{types, functors, procedures, variables, regions, goals, arguments}
+use Rattle.language.specs.File.{types, functors, procedures, variables, regions, goals, word}
+use Rattle.language.specs.Format.{headerProcedures, typeFunctors, procedureVariables, procedureRegions, procedureGoals, variableMode, variableType, variableRegion, regionType, regionClass, regionEdges}
 use Rattle.language.specs.Program.{Functor, Signature, Program, variableAt, typeOf, regionOf, regionAt, procedureAt, signatureOf, functorsOf, functorAt}
 use Rattle.language.specs.Typing.{isVariable, isRegion, isType}
+use Rattle.language.specs.Answers.{program}
 use Rattle.layout.specs.Chains.{real}
-use Rattle.chains.specs.Formed.{Formed, Stands, typesAt, functorsAt, proceduresAt, variablesAt, regionsAt, edgesAt, goalsAt, argumentsAt, functors-none, variables-none, regions-none, edges-none, goals-none}
+use Rattle.chains.specs.Formed.{Formed, Stands, typesAt, functorsAt, proceduresAt, variablesAt, regionsAt, edgesAt, goalsAt, functors-none, variables-none, regions-none, edges-none, goals-none, procedures-stand, program-procedures}
 use Rattle.chains.specs.Fields.{fieldOf}
 use Rattle.chains.specs.Records.{chainRecords, records-some}
 use Rattle.chains.specs.Tables.{tableOf, from-zero, from-one}
-use Rattle.chains.specs.Elements.{functorsOfType, functorFrom, variableFrom, regionFrom, procedureFrom, types-map, functors-map, variables-map, regions-map, procedures-map, arguments-map, types-count, variables-count, regions-count, procedures-count}
+use Rattle.chains.specs.Elements.{functorsOfType, functorFrom, variableFrom, regionFrom, procedureFrom, types-map, functors-map, variables-map, regions-map, procedures-map, types-count, variables-count, regions-count, procedures-count}
 use Rattle.chains.specs.Reached.{stands-nth, stands-nth1, type-functors, procedure-variables, procedure-regions, procedure-goals, region-edges, nth-map, nth1-map, place-below, place-past, among-place, among-past, type-past}
 
 -- ---- by the number j of the record
@@ -55,48 +57,44 @@ module _ {f : List ℕ} (F : Formed f) {i : ℕ} where
       rw (e, procedures-map F i s, q)
       (nth-map (procedureFrom f) _ (rw (variables-none f {i = 0} refl, regions-none f {i = 0} refl, goals-none f {i = 0} refl)) (chainRecords f i) p)
 
-  pub argument-of : Stands f arguments i → (k : ℕ) {j : ℕ} → j ≡ nth 0 (chainRecords f i) k → nth 0 (argumentsAt f i) k ≡ fieldOf f j 2
-  unfolding fieldOf
-  argument-of s k q = rw (arguments-map F i s, q) (nth-map (λ j. fieldOf f j 2) 0 refl (chainRecords f i) k)
-
 -- ---- the table of a procedure's variables, from place 1 on
 pub record VariableTable (f : List ℕ) (S : Signature) (t : List ℕ) : Type 0 where
-  pub mode : (x : ℕ) → variableAt S x .mode ≡ fieldOf f (getD t x 0) 2
-  pub type : (x : ℕ) → typeOf S x ≡ fieldOf f (getD t x 0) 3
-  pub region : (x : ℕ) → regionOf S x ≡ fieldOf f (getD t x 0) 4
+  pub mode : (x : ℕ) → variableAt S x .mode ≡ fieldOf f (getD t x 0) variableMode
+  pub type : (x : ℕ) → typeOf S x ≡ fieldOf f (getD t x 0) variableType
+  pub region : (x : ℕ) → regionOf S x ≡ fieldOf f (getD t x 0) variableRegion
   pub named : (x : ℕ) → (getD t x 0 ≡ 0 → ⊥) → isVariable S x ≡ true
   pub unnamed : (x : ℕ) → getD t x 0 ≡ 0 → isVariable S x ≡ false
   pub stands : (x : ℕ) → Stands f variables (getD t x 0)
 
 -- of its regions, likewise
 pub record RegionTable (f : List ℕ) (S : Signature) (t : List ℕ) : Type 0 where
-  pub type : (r : ℕ) → regionAt S r .type ≡ fieldOf f (getD t r 0) 2
-  pub class : (r : ℕ) → regionAt S r .class ≡ fieldOf f (getD t r 0) 3
-  pub edges : (r : ℕ) → regionAt S r .edges ≡ edgesAt f (fieldOf f (getD t r 0) 4)
+  pub type : (r : ℕ) → regionAt S r .type ≡ fieldOf f (getD t r 0) regionType
+  pub class : (r : ℕ) → regionAt S r .class ≡ fieldOf f (getD t r 0) regionClass
+  pub edges : (r : ℕ) → regionAt S r .edges ≡ edgesAt f (fieldOf f (getD t r 0) regionEdges)
   pub named : (r : ℕ) → (getD t r 0 ≡ 0 → ⊥) → isRegion S r ≡ true
   pub unnamed : (r : ℕ) → getD t r 0 ≡ 0 → isRegion S r ≡ false
   pub stands : (r : ℕ) → Stands f regions (getD t r 0)
-  pub edges-stand : (r : ℕ) → Stands f File.edges (fieldOf f (getD t r 0) 4)
+  pub edges-stand : (r : ℕ) → Stands f File.edges (fieldOf f (getD t r 0) regionEdges)
 
 -- of the types, likewise; type 0, the whole number, is a type and has no record
 pub record TypeTable (f : List ℕ) (T : List (List Functor)) (t : List ℕ) : Type 0 where
-  pub functors : (n : ℕ) → functorsOf T n ≡ functorsAt f (fieldOf f (getD t n 0) 2)
+  pub functors : (n : ℕ) → functorsOf T n ≡ functorsAt f (fieldOf f (getD t n 0) typeFunctors)
   pub named : (n : ℕ) → (getD t n 0 ≡ 0 → ⊥) → isType T n ≡ true
   pub unnamed : (n : ℕ) → (n ≡ 0 → ⊥) → getD t n 0 ≡ 0 → isType T n ≡ false
   pub stands : (n : ℕ) → Stands f types (getD t n 0)
-  pub functors-stand : (n : ℕ) → Stands f File.functors (fieldOf f (getD t n 0) 2)
+  pub functors-stand : (n : ℕ) → Stands f File.functors (fieldOf f (getD t n 0) typeFunctors)
 
 -- of the procedures, from place 0 on
 pub record ProcedureTable (f : List ℕ) (P : Program) (t : List ℕ) : Type 0 where
-  pub variables : (q : ℕ) → signatureOf P q .variables ≡ variablesAt f (fieldOf f (getD t q 0) 2)
-  pub regions : (q : ℕ) → signatureOf P q .regions ≡ regionsAt f (fieldOf f (getD t q 0) 3)
-  pub body : (q : ℕ) → procedureAt P q .body ≡ goalsAt f (fieldOf f (getD t q 0) 4)
+  pub variables : (q : ℕ) → signatureOf P q .variables ≡ variablesAt f (fieldOf f (getD t q 0) procedureVariables)
+  pub regions : (q : ℕ) → signatureOf P q .regions ≡ regionsAt f (fieldOf f (getD t q 0) procedureRegions)
+  pub body : (q : ℕ) → procedureAt P q .body ≡ goalsAt f (fieldOf f (getD t q 0) procedureGoals)
   pub named : (q : ℕ) → (getD t q 0 ≡ 0 → ⊥) → ltb q (length (P .procedures)) ≡ true
   pub unnamed : (q : ℕ) → getD t q 0 ≡ 0 → ltb q (length (P .procedures)) ≡ false
   pub stands : (q : ℕ) → Stands f procedures (getD t q 0)
-  pub variables-stand : (q : ℕ) → Stands f File.variables (fieldOf f (getD t q 0) 2)
-  pub regions-stand : (q : ℕ) → Stands f File.regions (fieldOf f (getD t q 0) 3)
-  pub goals-stand : (q : ℕ) → Stands f goals (fieldOf f (getD t q 0) 4)
+  pub variables-stand : (q : ℕ) → Stands f File.variables (fieldOf f (getD t q 0) procedureVariables)
+  pub regions-stand : (q : ℕ) → Stands f File.regions (fieldOf f (getD t q 0) procedureRegions)
+  pub goals-stand : (q : ℕ) → Stands f goals (fieldOf f (getD t q 0) procedureGoals)
 
 -- what stands at a place of a table that reaches to the end of its chain
 place-one : (f : List ℕ) (i : ℕ) {size : ℕ} (t : List ℕ) → t ≡ tableOf 1 size (chainRecords f i) → length (chainRecords f i) < size → (x : ℕ)
@@ -173,3 +171,11 @@ module _ {f : List ℕ} {i size : ℕ} (F : Formed f) where
         regions-stand = λ q. procedure-regions F (getD t q 0) (st q);
         goals-stand = λ q. procedure-goals F (getD t q 0) (st q);
       }
+
+-- the procedures of the file, in a table that has a place for each
+pub program-table : {f t : List ℕ} {i size : ℕ} → Formed f → i ≡ word f 0 headerProcedures → t ≡ tableOf 0 size (chainRecords f i)
+    → length (program f .procedures) ≤ size → ProcedureTable f (program f) t
+program-table {f} {t} {i} {size} F e g l =
+    let s : Stands f procedures i = rw e (procedures-stand F) in
+    let v : program f .procedures ≡ proceduresAt f i = rw e (program-procedures F) in
+    procedure-table F (program f) s v g (omega (arith, ap length v, procedures-count F i s))

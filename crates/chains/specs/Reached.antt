@@ -11,6 +11,7 @@ use lib.Dec.{leb}
 use lib.ListN.{length}
 use borrow.Author.Tests.{le-leb, lt-leb}
 use Rattle.sets.specs.Tests.{_&_, true-and}
+use Rattle.language.specs.Format.{typeFunctors, procedureVariables, procedureRegions, procedureGoals, regionEdges}
 use Rattle.language.specs.Lists.{nth, nth1, among}
 use Rattle.language.specs.File.{Chain, types, functors, procedures, variables, regions, edges, goals, word}
 use Rattle.layout.specs.Chains.{real}
@@ -46,19 +47,19 @@ module _ {f : List ℕ} (F : Formed f) where
   field-stands c zero k h = stands-none F refl
   field-stands c (suc j) k h = h (λ z. omega arith)
 
-  pub type-functors : (j : ℕ) → Stands f types j → Stands f functors (fieldOf f j 2)
+  pub type-functors : (j : ℕ) → Stands f types j → Stands f functors (fieldOf f j typeFunctors)
   type-functors j s = field-stands functors j 2 (λ z. type-at F refl (type-is s z) .to-functors .stands)
 
-  pub procedure-variables : (j : ℕ) → Stands f procedures j → Stands f variables (fieldOf f j 2)
+  pub procedure-variables : (j : ℕ) → Stands f procedures j → Stands f variables (fieldOf f j procedureVariables)
   procedure-variables j s = field-stands variables j 2 (λ z. procedure-at F refl (procedure-is s z) .to-variables .stands)
 
-  pub procedure-regions : (j : ℕ) → Stands f procedures j → Stands f regions (fieldOf f j 3)
+  pub procedure-regions : (j : ℕ) → Stands f procedures j → Stands f regions (fieldOf f j procedureRegions)
   procedure-regions j s = field-stands regions j 3 (λ z. procedure-at F refl (procedure-is s z) .to-regions .stands)
 
-  pub procedure-goals : (j : ℕ) → Stands f procedures j → Stands f goals (fieldOf f j 4)
+  pub procedure-goals : (j : ℕ) → Stands f procedures j → Stands f goals (fieldOf f j procedureGoals)
   procedure-goals j s = field-stands goals j 4 (λ z. procedure-at F refl (procedure-is s z) .to-goals .stands)
 
-  pub region-edges : (j : ℕ) → Stands f regions j → Stands f edges (fieldOf f j 4)
+  pub region-edges : (j : ℕ) → Stands f regions j → Stands f edges (fieldOf f j regionEdges)
   region-edges j s = field-stands edges j 4 (λ z. region-at F refl (region-is s z) .to-edges .stands)
 
 -- ---- elements by their place

@@ -97,17 +97,3 @@ pub cleared : {t : List ℕ} (d : List ℕ) (k : ℕ) → t ≡ replicate k 0 ++
 cleared d k e h l =
     let z : k ≡ length d = omega arith in
     e ∙ rw (drop-of-length-le d h, append-nil, z)
-
--- ---- the n-th number, one step at a time
-pub nth-here : {xs ys : List ℕ} {x k : ℕ} → xs ≡ x ∷ ys → k ≡ 0 → x ≡ nth 0 xs k
-unfolding nth
-nth-here e z = rw (e, z)
-
-pub nth-later : {xs ys : List ℕ} {x : ℕ} (k : ℕ) → xs ≡ x ∷ ys → (k ≡ 0 → ⊥) → nth 0 ys (k - 1) ≡ nth 0 xs k
-unfolding nth
-nth-later zero e z = absurd (z refl)
-nth-later (suc k) e z = let m : suc k - 1 ≡ k = omega arith in rw (e, m)
-
-pub nth-none : {xs : List ℕ} (k : ℕ) → xs ≡ [] → 0 ≡ nth 0 xs k
-unfolding nth
-nth-none k e = rw e

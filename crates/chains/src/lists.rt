@@ -1,10 +1,10 @@
-// The records of a chain: listed in a table, counted, and found by their place.
+// The records of a chain: listed in a table, and counted.
+use language::format::NEXT;
 use records::word;
 ghost use mathlib.Core.Path.{_≡_};
 ghost use Prim.Native.Nat.{_+_, _<_};
 ghost use lib.ListN.{length, set, replicate};
 ghost use Rattle.language.specs.File.{recordCount};
-ghost use Rattle.language.specs.Lists.{nth};
 ghost use Rattle.chains.specs.Formed.{Formed};
 ghost use Rattle.chains.specs.Records.{chainRecords};
 ghost use Rattle.chains.specs.Tables.{tableOf};
@@ -23,7 +23,7 @@ pub fn list_chain(file: &[u8], i: usize, from: usize, table: &mut [usize]) -> us
     while at != 0 {
         put(table, from, n, at);
         n += 1;
-        at = word(file, at, 1);
+        at = word(file, at, NEXT);
     }
     n
 }
@@ -59,25 +59,7 @@ pub fn chain_length(file: &[u8], i: usize) -> usize
     let mut count = 0;
     while at != 0 {
         count += 1;
-        at = word(file, at, 1);
+        at = word(file, at, NEXT);
     }
     count
-}
-
-// The record at place n, counted from 0, of the chain at record i; 0 where there is none.
-pub fn chain_at(file: &[u8], i: usize, n: usize) -> usize
-    requires { ⌜ Formed (now file) ⌝ }
-    requires { ⌜ i < recordCount (now file) ⌝ }
-    ensures { λ r. ⌜ r ≡ nth 0 (chainRecords (now (file .entry)) i) n ⌝ }
-{
-    let mut at = i;
-    let mut left = n;
-    while at != 0 {
-        if left == 0 {
-            return at;
-        }
-        left -= 1;
-        at = word(file, at, 1);
-    }
-    0
 }

@@ -1,4 +1,3 @@
-pub mod Both
 pub mod Names
 pub mod Functors
 pub mod Types

@@ -6,12 +6,13 @@ use mathlib.Core.List.{List}
 use lib.Dec.{eqb, ltb}
 use lib.ListN.{getD}
 use Rattle.sets.specs.Tests.{_&_}
+use Rattle.language.specs.Format.{typeFunctors}
 use Rattle.language.specs.File.{Chain, functors}
 use Rattle.language.specs.Program.{functorsOf}
 use Rattle.language.specs.Answers.{program}
 use Rattle.chains.specs.Fields.{fieldOf}
-use Rattle.chains.specs.Formed.{Stands, Onward, functorsAt}
-use Rattle.declarations.specs.Both.{refuse, pass}
+use Rattle.chains.specs.Formed.{Stands, functorsAt}
+use Rattle.laws.specs.Tests.{refuse, pass}
 
 -- there is a record numbered n
 unfoldable pub listedIn : List ℕ → ℕ → Bool
@@ -27,8 +28,8 @@ typedIn f t k ty n = listedIn t n & eqb (wordIn f t k n) ty
 
 -- the table of the types: each leads to its functors
 pub record TypeTable (f t : List ℕ) : Type 0 where
-  pub starts : (n : ℕ) → Stands f functors (wordIn f t 2 n)
-  pub functors-are : (n : ℕ) → functorsAt f (wordIn f t 2 n) ≡ functorsOf (program f .types) n
+  pub starts : (n : ℕ) → Stands f functors (wordIn f t typeFunctors n)
+  pub functors-are : (n : ℕ) → functorsAt f (wordIn f t typeFunctors n) ≡ functorsOf (program f .types) n
 
 -- ---- what the code computes
 pub listed-is : (t : List ℕ) (n : ℕ) {e : ℕ} → e ≡ getD t n 0 → ltb 0 e ≡ listedIn t n
@@ -52,6 +53,3 @@ typed-same f t k ty e h = h ∙ ap (typedIn f t k ty) e
 
 pub stands-same : {f : List ℕ} {c : Chain} {w v : ℕ} → w ≡ v → Stands f c v → Stands f c w
 stands-same e s = rw e s
-
-pub onward-same : {f : List ℕ} {c : Chain} {i w v : ℕ} → w ≡ v → Onward f c i v → Onward f c i w
-onward-same e o = rw e o

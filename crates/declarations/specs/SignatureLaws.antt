@@ -8,6 +8,7 @@ use mathlib.Core.List.{List}
 use lib.Dec.{leb}
 use lib.ListN.{length}
 use Rattle.sets.specs.Tests.{and-true}
+use Rattle.language.specs.Format.{maxVariables, maxRegions, places}
 use Rattle.language.specs.Lists.{all}
 use Rattle.language.specs.File.{variables, regions}
 use Rattle.language.specs.Program.{Variable, Signature, Functor}
@@ -17,25 +18,26 @@ use Rattle.chains.specs.Formed.{Formed, Stands, variablesAt, regionsAt}
 use Rattle.chains.specs.Records.{chainRecords}
 use Rattle.chains.specs.Elements.{variables-count, regions-count}
 use Rattle.chains.specs.Tables.{tableOf}
-use Rattle.declarations.specs.Both.{fails, holds, refuse, pass, all-same}
+use Rattle.laws.specs.Tests.{and-stop, and-on, refuse, pass}
+use Rattle.laws.specs.Lists.{all-same}
 use Rattle.declarations.specs.Edges.{RegionsAgree}
-use Rattle.declarations.specs.Signatures.{signatureFrom, variableFits, RegionsPassed}
+use Rattle.declarations.specs.Signatures.{signatureFrom, variableFits, RegionsFit}
 use Rattle.declarations.specs.Tabled.{region-agrees}
 
 module _ (f : List ℕ) (v r : ℕ) (F : Formed f) (sv : Stands f variables v) (sr : Stands f regions r) where
-  pub many-variables : {l : ℕ} → l ≡ length (chainRecords f v) → 64 < l → false ≡ signatureOk (program f .types) (signatureFrom f v r)
+  pub many-variables : {l : ℕ} → l ≡ length (chainRecords f v) → maxVariables < l → false ≡ signatureOk (program f .types) (signatureFrom f v r)
   unfolding signatureOk signatureFrom
-  many-variables e h = fails _ (lt-leb (length (variablesAt f v)) 64 (omega (arith, variables-count F v sv)))
+  many-variables e h = and-stop _ (lt-leb (length (variablesAt f v)) maxVariables (omega (arith, variables-count F v sv)))
 
-  module _ {l : ℕ} (e : l ≡ length (chainRecords f v)) (h : l ≤ 64) {m : ℕ} (d : m ≡ length (chainRecords f r)) where
-    few : leb (length (variablesAt f v)) 64 ≡ true
-    few = le-leb (length (variablesAt f v)) 64 (omega (arith, variables-count F v sv))
+  module _ {l : ℕ} (e : l ≡ length (chainRecords f v)) (h : l ≤ maxVariables) {m : ℕ} (d : m ≡ length (chainRecords f r)) where
+    few : leb (length (variablesAt f v)) maxVariables ≡ true
+    few = le-leb (length (variablesAt f v)) maxVariables (omega (arith, variables-count F v sv))
 
-    pub many-regions : 64 < m → false ≡ signatureOk (program f .types) (signatureFrom f v r)
+    pub many-regions : maxRegions < m → false ≡ signatureOk (program f .types) (signatureFrom f v r)
     unfolding signatureOk signatureFrom
-    many-regions k = holds few (fails _ (lt-leb (length (regionsAt f r)) 64 (omega (arith, regions-count F r sr))))
+    many-regions k = and-on few (and-stop _ (lt-leb (length (regionsAt f r)) maxRegions (omega (arith, regions-count F r sr))))
 
-    module _ (k : m ≤ 64) {t : List ℕ} (et : t ≡ tableOf 1 65 (chainRecords f r)) where
+    module _ (k : m ≤ maxRegions) {t : List ℕ} (et : t ≡ tableOf 1 places (chainRecords f r)) where
       agree : RegionsAgree f t (signatureFrom f v r)
       unfolding signatureFrom
       agree = rw et (region-agrees F r sr (omega arith) (signatureFrom f v r) refl)
@@ -51,14 +53,14 @@ module _ (f : List ℕ) (v r : ℕ) (F : Formed f) (sv : Stands f variables v) (
 
           pub wrong-variable : q ≡ false → false ≡ signatureOk (program f .types) (signatureFrom f v r)
           unfolding signatureOk signatureFrom
-          wrong-variable p = holds few (holds (le-leb (length (regionsAt f r)) 64 (omega (arith, regions-count F r sr))) (refuse _ variables-pass p))
+          wrong-variable p = and-on few (and-on (le-leb (length (regionsAt f r)) maxRegions (omega (arith, regions-count F r sr))) (refuse _ variables-pass p))
 
-          pub signature-all : q ≡ true → {b : Bool} → RegionsPassed f t n r b → b ≡ signatureOk (program f .types) (signatureFrom f v r)
+          pub signature-all : q ≡ true → {b : Bool} → RegionsFit f t n r b → b ≡ signatureOk (program f .types) (signatureFrom f v r)
           unfolding signatureOk signatureFrom
-          signature-all p g = holds few (holds (le-leb (length (regionsAt f r)) 64 (omega (arith, regions-count F r sr))) (pass variables-pass p (g (signatureFrom f v r) agree en)))
+          signature-all p g = and-on few (and-on (le-leb (length (regionsAt f r)) maxRegions (omega (arith, regions-count F r sr))) (pass variables-pass p (g (signatureFrom f v r) agree en)))
 
-pub few-declared : (T : List (List Functor)) (S : Signature) → signatureOk T S ≡ true → (length (S .variables) ≤ 64) × (length (S .regions) ≤ 64)
+pub few-declared : (T : List (List Functor)) (S : Signature) → signatureOk T S ≡ true → (length (S .variables) ≤ maxVariables) × (length (S .regions) ≤ maxRegions)
 unfolding signatureOk
 few-declared T S h =
     let d = and-true h in
-    (leb-true (length (S .variables)) 64 (d .0), leb-true (length (S .regions)) 64 (and-true (d .1) .0))
+    (leb-true (length (S .variables)) maxVariables (d .0), leb-true (length (S .regions)) maxRegions (and-true (d .1) .0))

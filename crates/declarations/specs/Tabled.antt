@@ -8,6 +8,7 @@ use mathlib.Core.List.{List}
 use mathlib.Core.Logic.{inr}
 use lib.ListN.{length, getD}
 use borrow.Author.Tests.{lt-ltb, le-ltb}
+use Rattle.language.specs.Format.{nextWord, headerTypes, regionType, maxTypes, maxRegions, places}
 use Rattle.language.specs.Lists.{nth, nth1}
 use Rattle.language.specs.File.{Chain, regions, word}
 use Rattle.language.specs.Program.{Signature}
@@ -27,7 +28,7 @@ pub first-place : {f : List ℕ} → Formed f → (size i : ℕ) (c : Chain) →
 unfolding nth1 nth
 first-place {f} F size i c s h =
     from-one size (chainRecords f i) 1 (inr (omega arith)) ∙ elim (decLt 0 i) [
-      | yes l ↦ ap (λ xs. nth 0 xs 0) (records-step {w = word f i 1} F (λ z. omega arith) (s .below) refl)
+      | yes l ↦ ap (λ xs. nth 0 xs 0) (records-step {w = word f i nextWord} F (λ z. omega arith) (s .below) refl)
       | no l ↦ let z : i ≡ 0 = omega arith in ap (λ xs. nth 0 xs 0) (records-none f z) ∙ sym z
     ]
 
@@ -41,19 +42,19 @@ listed-as t n named unnamed =
     ]
 
 module _ {f : List ℕ} (F : Formed f) where
-  pub type-table : {i : ℕ} → i ≡ word f 0 2 → length (chainRecords f i) ≤ 64 → TypeTable f (tableOf 1 65 (chainRecords f i))
+  pub type-table : {i : ℕ} → i ≡ word f 0 headerTypes → length (chainRecords f i) ≤ maxTypes → TypeTable f (tableOf 1 places (chainRecords f i))
   unfolding wordIn
   type-table {i} e h =
-      let K = Lookups.type-table {size = 65} F (stands-same e (types-stand F)) (program-types F ∙ ap (typesAt f) (sym e)) refl (omega arith) in
+      let K = Lookups.type-table {size = places} F (stands-same e (types-stand F)) (program-types F ∙ ap (typesAt f) (sym e)) refl (omega arith) in
       record { starts = K .functors-stand; functors-are = λ n. sym (K .functors n) }
 
-  module _ (i : ℕ) (s : Stands f regions i) (h : length (chainRecords f i) ≤ 64) (S : Signature) (e : S .regions ≡ regionsAt f i) where
-    regions-listed : Lookups.RegionTable f S (tableOf 1 65 (chainRecords f i))
+  module _ (i : ℕ) (s : Stands f regions i) (h : length (chainRecords f i) ≤ maxRegions) (S : Signature) (e : S .regions ≡ regionsAt f i) where
+    regions-listed : Lookups.RegionTable f S (tableOf 1 places (chainRecords f i))
     regions-listed = Lookups.region-table F S s e refl (omega arith)
 
-    pub region-listed : (x : ℕ) → listedIn (tableOf 1 65 (chainRecords f i)) x ≡ isRegion S x
-    region-listed x = listed-as (tableOf 1 65 (chainRecords f i)) x (regions-listed .named x) (regions-listed .unnamed x)
+    pub region-listed : (x : ℕ) → listedIn (tableOf 1 places (chainRecords f i)) x ≡ isRegion S x
+    region-listed x = listed-as (tableOf 1 places (chainRecords f i)) x (regions-listed .named x) (regions-listed .unnamed x)
 
-    pub region-agrees : (ty x : ℕ) → typedIn f (tableOf 1 65 (chainRecords f i)) 2 ty x ≡ isRegionOf S ty x
+    pub region-agrees : (ty x : ℕ) → typedIn f (tableOf 1 places (chainRecords f i)) regionType ty x ≡ isRegionOf S ty x
     unfolding typedIn isRegionOf wordIn
     region-agrees ty x = rw (region-listed x, regions-listed .type x)

@@ -8,6 +8,7 @@ use mathlib.Core.List.{List}
 use lib.Dec.{eqb, leb}
 use lib.ListN.{length, take, drop}
 use Rattle.sets.specs.Tests.{_&_, and-true}
+use Rattle.language.specs.Format.{headerTypes, maxTypes, maxFunctors, maxArity}
 use Rattle.language.specs.Lists.{all, among, choose}
 use Rattle.language.specs.File.{word}
 use Rattle.language.specs.Program.{Four, four, fourWords, Functor}
@@ -16,7 +17,8 @@ use Rattle.language.specs.Typing.{typesIn, isType, functorOk, typeOk, typesOk}
 use Rattle.chains.specs.Formed.{Formed, types-stand, program-types, typesAt}
 use Rattle.chains.specs.Elements.{types-count}
 use Rattle.chains.specs.Records.{chainRecords}
-use Rattle.declarations.specs.Both.{fails, holds, all-same}
+use Rattle.laws.specs.Tests.{and-stop, and-on}
+use Rattle.laws.specs.Lists.{all-same}
 use Rattle.declarations.specs.Names.{stands-same}
 use Rattle.declarations.specs.Types.{typeSlot, typeSlots, functorFits, typeFits}
 
@@ -62,15 +64,15 @@ flat4 true true true true = refl
 flat4 true true true false = refl
 
 module _ (T : List (List Functor)) where
-  functor-same : (arity : ℕ) (ts : Four) → (leb arity 4 & typeSlots (length T) arity ts)
-      ≡ (leb arity 4 & all (isType T) (take arity (fourWords ts)) & all (λ t. eqb t 0) (drop arity (fourWords ts)))
+  functor-same : (arity : ℕ) (ts : Four) → (leb arity maxArity & typeSlots (length T) arity ts)
+      ≡ (leb arity maxArity & all (isType T) (take arity (fourWords ts)) & all (λ t. eqb t 0) (drop arity (fourWords ts)))
   unfolding typeSlots typeSlot choose all isType fourWords _&_
   functor-same zero (four a b c d) = flat0 (eqb a 0) (eqb b 0) (eqb c 0) (eqb d 0)
   functor-same (suc zero) (four a b c d) = flat1 (leb a (length T)) (eqb b 0) (eqb c 0) (eqb d 0)
   functor-same (suc (suc zero)) (four a b c d) = flat2 (leb a (length T)) (leb b (length T)) (eqb c 0) (eqb d 0)
   functor-same (suc (suc (suc zero))) (four a b c d) = flat3 (leb a (length T)) (leb b (length T)) (leb c (length T)) (eqb d 0)
   functor-same (suc (suc (suc (suc zero)))) (four a b c d) = flat4 (leb a (length T)) (leb b (length T)) (leb c (length T)) (leb d (length T))
-  functor-same (suc (suc (suc (suc (suc m))))) ts = rw (lt-leb (suc (suc (suc (suc (suc m))))) 4 (omega arith))
+  functor-same (suc (suc (suc (suc (suc m))))) ts = rw (lt-leb (suc (suc (suc (suc (suc m))))) maxArity (omega arith))
 
   functor-fits : (g : Functor) → functorFits (length T) g ≡ functorOk T g
   unfolding functorFits functorOk typesIn
@@ -78,26 +80,26 @@ module _ (T : List (List Functor)) where
 
   type-fits : (fs : List Functor) → typeFits (length T) fs ≡ typeOk T fs
   unfolding typeFits typeOk
-  type-fits fs = ap (λ b. among 32 (length fs) & b) (all-same (functorFits (length T)) (functorOk T) functor-fits fs)
+  type-fits fs = ap (λ b. among maxFunctors (length fs) & b) (all-same (functorFits (length T)) (functorOk T) functor-fits fs)
 
-  types-fit : {n : ℕ} → n ≡ length T → (leb n 64 & all (typeFits n) T) ≡ typesOk T
+  types-fit : {n : ℕ} → n ≡ length T → (leb n maxTypes & all (typeFits n) T) ≡ typesOk T
   unfolding typesOk
-  types-fit e = rw e (ap (λ b. leb (length T) 64 & b) (all-same (typeFits (length T)) (typeOk T) type-fits T))
+  types-fit e = rw e (ap (λ b. leb (length T) maxTypes & b) (all-same (typeFits (length T)) (typeOk T) type-fits T))
 
 -- ---- what the code computes
-pub few-types : (T : List (List Functor)) → typesOk T ≡ true → length T ≤ 64
+pub few-types : (T : List (List Functor)) → typesOk T ≡ true → length T ≤ maxTypes
 unfolding typesOk
-few-types T h = leb-true (length T) 64 (and-true h .0)
+few-types T h = leb-true (length T) maxTypes (and-true h .0)
 
-module _ (f : List ℕ) (i : ℕ) (F : Formed f) (e : i ≡ word f 0 2) where
+module _ (f : List ℕ) (i : ℕ) (F : Formed f) (e : i ≡ word f 0 headerTypes) where
   types-are : program f .types ≡ typesAt f i
   types-are = program-types F ∙ ap (typesAt f) (sym e)
 
   pub type-count : {n : ℕ} → n ≡ length (chainRecords f i) → n ≡ length (program f .types)
   type-count d = d ∙ sym (types-count F i (stands-same e (types-stand F))) ∙ ap length (sym types-are)
 
-  pub types-all : {n : ℕ} {q : Bool} → n ≡ length (program f .types) → n ≤ 64 → q ≡ all (typeFits n) (typesAt f i) → q ≡ typesOk (program f .types)
-  types-all {n} d h k = holds (le-leb n 64 h) (k ∙ ap (all (typeFits n)) (sym types-are)) ∙ types-fit (program f .types) d
+  pub types-all : {n : ℕ} {q : Bool} → n ≡ length (program f .types) → n ≤ maxTypes → q ≡ all (typeFits n) (typesAt f i) → q ≡ typesOk (program f .types)
+  types-all {n} d h k = and-on (le-leb n maxTypes h) (k ∙ ap (all (typeFits n)) (sym types-are)) ∙ types-fit (program f .types) d
 
-pub many-types : (f : List ℕ) {n : ℕ} → n ≡ length (program f .types) → 64 < n → false ≡ typesOk (program f .types)
-many-types f {n} d h = fails _ (lt-leb n 64 h) ∙ types-fit (program f .types) d
+pub many-types : (f : List ℕ) {n : ℕ} → n ≡ length (program f .types) → maxTypes < n → false ≡ typesOk (program f .types)
+many-types f {n} d h = and-stop _ (lt-leb n maxTypes h) ∙ types-fit (program f .types) d

@@ -1,6 +1,8 @@
 // The edges of a region against the places of its type, functor by functor and position by position.
 use crate::Rest;
 use crate::names::is_region_of;
+use language::format::FUNCTOR_ARITY;
+use language::format::NEXT;
 use records::Record;
 use records::record_at;
 use records::word;
@@ -11,13 +13,13 @@ ghost use Rattle.language.specs.Answers.{program};
 ghost use Rattle.language.specs.Typing.{placesIn, typesIn};
 ghost use Rattle.chains.specs.Formed.{Formed, Stands, functorsAt};
 ghost use Rattle.declarations.specs.Functors.{functorAtRecord};
-ghost use Rattle.declarations.specs.Edges.{Passed, placeAt, AllPassed};
+ghost use Rattle.declarations.specs.Edges.{EdgesMatch, placeAt, AllEdgesMatch};
 
 // The edge at record e stands for the place of functor g, position k and type t.
 fn place_ok(file: &[u8], regions: &[usize], e: usize, g: usize, k: usize, t: usize) -> Rest
     requires { ⌜ Formed (now file) ⌝ }
     requires { ⌜ Stands (now file) edges e ⌝ }
-    ensures { λ r. ⌜ Passed (now (file .entry)) (now (regions .entry)) (record { functor = g; position = k; type = t } ∷ []) e r ⌝ }
+    ensures { λ r. ⌜ EdgesMatch (now (file .entry)) (now (regions .entry)) (record { functor = g; position = k; type = t } ∷ []) e r ⌝ }
 {
     if e == 0 {
         return Rest::Wrong;
@@ -55,7 +57,7 @@ fn position_ok(
 ) -> Rest
     requires { ⌜ Formed (now file) ⌝ }
     requires { ⌜ Stands (now file) edges e ⌝ }
-    ensures { λ r. ⌜ Passed (now (file .entry)) (now (regions .entry)) (placeAt (now (file .entry)) g arity k t) e r ⌝ }
+    ensures { λ r. ⌜ EdgesMatch (now (file .entry)) (now (regions .entry)) (placeAt (now (file .entry)) g arity k t) e r ⌝ }
 {
     if arity < k {
         return Rest::At(e);
@@ -72,9 +74,9 @@ fn functor_edges(file: &[u8], regions: &[usize], e: usize, g: usize, i: usize) -
     requires { ⌜ Stands (now file) edges e ⌝ }
     requires { ⌜ Stands (now file) functors i ⌝ }
     requires { ⌜ (i ≡ 0 → ⊥) ⌝ }
-    ensures { λ r. ⌜ Passed (now (file .entry)) (now (regions .entry)) (placesIn (program (now (file .entry)) .types) g 1 (typesIn (functorAtRecord (now (file .entry)) i))) e r ⌝ }
+    ensures { λ r. ⌜ EdgesMatch (now (file .entry)) (now (regions .entry)) (placesIn (program (now (file .entry)) .types) g 1 (typesIn (functorAtRecord (now (file .entry)) i))) e r ⌝ }
 {
-    if word(file, i, 2) == 0 {
+    if word(file, i, FUNCTOR_ARITY) == 0 {
         return Rest::At(e);
     }
     let Record::Functor {
@@ -105,7 +107,7 @@ pub fn edges_ok(file: &[u8], regions: &[usize], start: usize, first: usize) -> b
     requires { ⌜ Formed (now file) ⌝ }
     requires { ⌜ Stands (now file) functors start ⌝ }
     requires { ⌜ Stands (now file) edges first ⌝ }
-    ensures { λ r. ⌜ AllPassed (now (file .entry)) (now (regions .entry)) (functorsAt (now (file .entry)) start) first r ⌝ }
+    ensures { λ r. ⌜ AllEdgesMatch (now (file .entry)) (now (regions .entry)) (functorsAt (now (file .entry)) start) first r ⌝ }
 {
     let mut i = start;
     let mut g = 0;
@@ -116,7 +118,7 @@ pub fn edges_ok(file: &[u8], regions: &[usize], start: usize, first: usize) -> b
         };
         e = after;
         g += 1;
-        i = word(file, i, 1);
+        i = word(file, i, NEXT);
     }
     e == 0
 }

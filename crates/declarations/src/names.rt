@@ -1,16 +1,20 @@
 // Numbers that name a record of a table: whether there is such a record, and its words.
 use chains::entry;
 use chains::field;
+use language::format::PLACES;
+use language::format::REGION_TYPE;
+use language::format::VARIABLE_TYPE;
 ghost use mathlib.Core.Path.{_≡_};
 ghost use Prim.Native.Nat.{_<_};
 ghost use lib.ListN.{length};
+ghost use Rattle.language.specs.Format.{variableType, regionType, places};
 ghost use Rattle.declarations.specs.Names.{listedIn, wordIn, typedIn};
 
 // A table for the numbers 1 to 64, empty.
-pub fn no_numbers() -> [usize; 65]
-    ensures { λ r. ⌜ 65 ≡ length r ⌝ }
+pub fn no_numbers() -> [usize; PLACES]
+    ensures { λ r. ⌜ places ≡ length r ⌝ }
 {
-    [0; 65]
+    [0; PLACES]
 }
 
 pub fn listed(table: &[usize], n: usize) -> bool
@@ -39,19 +43,19 @@ fn is_of(file: &[u8], table: &[usize], k: usize, t: usize, n: usize) -> bool
 }
 
 pub fn type_of(file: &[u8], variables: &[usize], x: usize) -> usize
-    ensures { λ r. ⌜ r ≡ wordIn (now (file .entry)) (now (variables .entry)) 3 x ⌝ }
+    ensures { λ r. ⌜ r ≡ wordIn (now (file .entry)) (now (variables .entry)) variableType x ⌝ }
 {
-    word_of(file, variables, x, 3)
+    word_of(file, variables, x, VARIABLE_TYPE)
 }
 
 pub fn has_type(file: &[u8], variables: &[usize], t: usize, x: usize) -> bool
-    ensures { λ r. ⌜ r ≡ typedIn (now (file .entry)) (now (variables .entry)) 3 t x ⌝ }
+    ensures { λ r. ⌜ r ≡ typedIn (now (file .entry)) (now (variables .entry)) variableType t x ⌝ }
 {
-    is_of(file, variables, 3, t, x)
+    is_of(file, variables, VARIABLE_TYPE, t, x)
 }
 
 pub fn is_region_of(file: &[u8], regions: &[usize], t: usize, region: usize) -> bool
-    ensures { λ r. ⌜ r ≡ typedIn (now (file .entry)) (now (regions .entry)) 2 t region ⌝ }
+    ensures { λ r. ⌜ r ≡ typedIn (now (file .entry)) (now (regions .entry)) regionType t region ⌝ }
 {
-    is_of(file, regions, 2, t, region)
+    is_of(file, regions, REGION_TYPE, t, region)
 }

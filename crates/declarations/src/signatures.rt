@@ -5,6 +5,13 @@ use crate::names::no_numbers;
 use crate::names::word_of;
 use chains::chain_length;
 use chains::list_chain;
+use language::format::CLASS_DEAD;
+use language::format::MAX_REGIONS;
+use language::format::MAX_VARIABLES;
+use language::format::MODE_OUT;
+use language::format::NEXT;
+use language::format::PLACES;
+use language::format::TYPE_FUNCTORS;
 use records::Record;
 use records::record_at;
 use records::word;
@@ -16,12 +23,12 @@ ghost use Rattle.language.specs.Answers.{program};
 ghost use Rattle.language.specs.Typing.{signatureOk};
 ghost use Rattle.chains.specs.Formed.{Formed, Stands, variablesAt};
 ghost use Rattle.declarations.specs.Names.{TypeTable};
-ghost use Rattle.declarations.specs.Signatures.{variableFits, RegionPassed, RegionsPassed, signatureFrom};
+ghost use Rattle.declarations.specs.Signatures.{variableFits, RegionFits, RegionsFit, signatureFrom};
 
 fn variable_ok(file: &[u8], table: &[usize], n: usize, mode: usize, t: usize, region: usize) -> bool
     ensures { λ r. ⌜ r ≡ variableFits (now (file .entry)) (now (table .entry)) n (record { mode = mode; type = t; region = region }) ⌝ }
 {
-    if 2 < mode {
+    if MODE_OUT < mode {
         return false;
     }
     if n < t {
@@ -62,7 +69,7 @@ fn region_ok(file: &[u8], types: &[usize], table: &[usize], n: usize, i: usize) 
     requires { ⌜ TypeTable (now file) (now types) ⌝ }
     requires { ⌜ Stands (now file) regions i ⌝ }
     requires { ⌜ (i ≡ 0 → ⊥) ⌝ }
-    ensures { λ r. ⌜ RegionPassed (now (file .entry)) (now (table .entry)) n i r ⌝ }
+    ensures { λ r. ⌜ RegionFits (now (file .entry)) (now (table .entry)) n i r ⌝ }
 {
     let Record::Region {
         next: _,
@@ -79,30 +86,35 @@ fn region_ok(file: &[u8], types: &[usize], table: &[usize], n: usize, i: usize) 
     if of_type == 0 {
         return false;
     }
-    if 2 < class {
+    if CLASS_DEAD < class {
         return false;
     }
-    edges_ok(file, table, word_of(file, types, of_type, 2), edges)
+    edges_ok(
+        file,
+        table,
+        word_of(file, types, of_type, TYPE_FUNCTORS),
+        edges,
+    )
 }
 
 fn regions_ok(file: &[u8], types: &[usize], table: &[usize], n: usize, start: usize) -> bool
     requires { ⌜ Formed (now file) ⌝ }
     requires { ⌜ TypeTable (now file) (now types) ⌝ }
     requires { ⌜ Stands (now file) regions start ⌝ }
-    ensures { λ r. ⌜ RegionsPassed (now (file .entry)) (now (table .entry)) n start r ⌝ }
+    ensures { λ r. ⌜ RegionsFit (now (file .entry)) (now (table .entry)) n start r ⌝ }
 {
     let mut i = start;
     while i != 0 {
         if !region_ok(file, types, table, n, i) {
             return false;
         }
-        i = word(file, i, 1);
+        i = word(file, i, NEXT);
     }
     true
 }
 
 // All that a procedure declares: the variables from record vs on and the regions from record rs on.
-pub fn signature_ok(file: &[u8], types: &[usize; 65], n: usize, vs: usize, rs: usize) -> bool
+pub fn signature_ok(file: &[u8], types: &[usize; PLACES], n: usize, vs: usize, rs: usize) -> bool
     requires { ⌜ Formed (now file) ⌝ }
     requires { ⌜ TypeTable (now file) (now types) ⌝ }
     requires { ⌜ n ≡ length (program (now file) .types) ⌝ }
@@ -110,11 +122,11 @@ pub fn signature_ok(file: &[u8], types: &[usize; 65], n: usize, vs: usize, rs: u
     requires { ⌜ Stands (now file) regions rs ⌝ }
     ensures { λ r. ⌜ r ≡ signatureOk (program (now (file .entry)) .types) (signatureFrom (now (file .entry)) vs rs) ⌝ }
 {
-    if 64 < chain_length(file, vs) {
+    if MAX_VARIABLES < chain_length(file, vs) {
         return false;
     }
     let mut table = no_numbers();
-    if 64 < list_chain(file, rs, 1, &mut table) {
+    if MAX_REGIONS < list_chain(file, rs, 1, &mut table) {
         return false;
     }
     if !variables_ok(file, &table, n, vs) {

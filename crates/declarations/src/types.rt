@@ -1,5 +1,9 @@
 // The types: their functors' counts, arities and argument types. There are n types.
 use chains::chain_length;
+use language::format::HEADER_TYPES;
+use language::format::MAX_ARITY;
+use language::format::MAX_FUNCTORS;
+use language::format::MAX_TYPES;
 use records::Record;
 use records::record_at;
 use records::word;
@@ -26,7 +30,7 @@ fn slot_ok(n: usize, arity: usize, k: usize, t: usize) -> bool
 fn functor_ok(n: usize, arity: usize, t1: usize, t2: usize, t3: usize, t4: usize) -> bool
     ensures { λ r. ⌜ r ≡ functorFits n (record { arity = arity; argumentTypes = four t1 t2 t3 t4 }) ⌝ }
 {
-    if 4 < arity {
+    if MAX_ARITY < arity {
         return false;
     }
     if !slot_ok(n, arity, 0, t1) {
@@ -76,7 +80,7 @@ fn type_ok(file: &[u8], n: usize, start: usize) -> bool
     if count == 0 {
         return false;
     }
-    if 32 < count {
+    if MAX_FUNCTORS < count {
         return false;
     }
     functors_ok(file, n, start)
@@ -106,8 +110,8 @@ pub fn types_ok(file: &[u8], n: usize) -> bool
     requires { ⌜ n ≡ length (program (now file) .types) ⌝ }
     ensures { λ r. ⌜ r ≡ typesOk (program (now (file .entry)) .types) ⌝ }
 {
-    if 64 < n {
+    if MAX_TYPES < n {
         return false;
     }
-    each_type_ok(file, n, word(file, 0, 2))
+    each_type_ok(file, n, word(file, 0, HEADER_TYPES))
 }

@@ -35,6 +35,11 @@ pub arguments-same : (m m′ : List ℕ) (x : ℕ) → ((k : ℕ) → k < 5 → 
 unfolding argumentWords
 arguments-same m m′ x h = rw (h 1 (omega arith), h 2 (omega arith), h 3 (omega arith), h 4 (omega arith))
 
+-- they are words 1 to 4
+pub arguments-are : (m : List ℕ) (x : ℕ) → argumentWords m x ≡ cellWord m x 1 ∷ cellWord m x 2 ∷ cellWord m x 3 ∷ cellWord m x 4 ∷ []
+unfolding argumentWords
+arguments-are m x = refl
+
 -- ---- a cell that is filled
 pub record Filled (m : List ℕ) (x : ℕ) (c : Contents) (n : ℕ) : Type 0 where
   pub functor : cellWord m x 0 ≡ c .functor

@@ -6,3 +6,4 @@ pub mod Lists
 pub mod MoreSets
 pub mod Goals
 pub mod Stages
+pub mod Typed

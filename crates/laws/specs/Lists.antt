@@ -1,16 +1,17 @@
 -- Laws of lists: the element at a number, a test of all elements, and both with the library's `map` and `_++_`.
-use Prim.Native.Nat.{ℕ, zero, suc, _≤_, _<_}
+use Prim.Native.Nat.{ℕ, zero, suc, _+_, _≤_, _<_}
 use native.Mathlib.Decide.{decLt}
+use native.Mathlib.Nat.{suc-add}
 use native.Mathlib.Omega.{arith}
 use mathlib.Core.Bool.{Bool, true, false, false≢true}
 use mathlib.Core.List.{List, [], _∷_, _++_, map}
 use mathlib.Core.Logic.{⊎-elim}
 use mathlib.Core.Path.{_≡_, refl, sym, ap, ap₂, _∙_}
-use lib.ListN.{length}
+use lib.ListN.{length, drop}
 use Rattle.sets.specs.Tests.{_&_, clash, and-true, true-and, and-false}
 use Rattle.sets.specs.Members.{inList, nil-in, cons-here, cons-later, cons-in}
 use Rattle.language.specs.Lists.{all, among, isNone, nth, nth1}
-use Rattle.laws.specs.Tests.{and-assoc, and-swap}
+use Rattle.laws.specs.Tests.{and-assoc, and-swap, refuse, pass}
 use Rattle.laws.specs.Numbers.{among-in, among-mk}
 
 -- ---- the element at a number
@@ -87,6 +88,36 @@ pub all-map : {A B : Type 0} (p : B → Bool) (f : A → B) (xs : List A) → al
 unfolding all
 all-map p f [] = refl
 all-map p f (x ∷ xs) = ap (λ (b : Bool). p (f x) & b) (all-map p f xs)
+
+-- ---- element by element, as code tests a list: the first that fails refuses the whole, and where one passes the rest decides
+module _ {A : Type 0} (p : A → Bool) {xs : List A} where
+  pub all-end : xs ≡ [] → true ≡ all p xs
+  unfolding all
+  all-end e = rw e
+
+  module _ {ys : List A} {x : A} {r : Bool} (e : xs ≡ x ∷ ys) (h : r ≡ p x) where
+    pub all-no : r ≡ false → false ≡ all p xs
+    unfolding all
+    all-no k = rw e (refuse (all p ys) h k)
+
+    pub all-yes : r ≡ true → all p ys ≡ all p xs
+    unfolding all
+    all-yes k = rw e (pass h k refl)
+
+-- ---- the elements from number n on
+module _ {A : Type 0} {x : A} {ys : List A} where
+  pub drop-more : (xs : List A) (n : ℕ) → drop n xs ≡ x ∷ ys → drop (n + 1) xs ≡ ys
+  drop-more [] zero e = absurd (let l = ap length e in omega arith)
+  drop-more [] (suc n) e = absurd (let l = ap length e in omega arith)
+  drop-more (z ∷ xs) zero e = cc
+  drop-more (z ∷ xs) (suc n) e = rw suc-add (drop-more xs n e)
+
+  pub drop-nth : (d : A) (xs : List A) (n : ℕ) → drop n xs ≡ x ∷ ys → nth d xs n ≡ x
+  unfolding nth
+  drop-nth d [] zero e = absurd (let l = ap length e in omega arith)
+  drop-nth d [] (suc n) e = absurd (let l = ap length e in omega arith)
+  drop-nth d (z ∷ xs) zero e = cc
+  drop-nth d (z ∷ xs) (suc n) e = drop-nth d xs n e
 
 -- ---- the same, by the numbers of the elements
 module _ {A : Type 0} (p : A → Bool) (d : A) where

@@ -1,6 +1,6 @@
 -- Laws of tests joined by `_&_`.
 use mathlib.Core.Bool.{Bool, true, false, false≢true}
-use mathlib.Core.Path.{_≡_, refl, sym}
+use mathlib.Core.Path.{_≡_, refl, sym, _∙_}
 use Rattle.sets.specs.Tests.{_&_}
 
 pub and-assoc : (a b c : Bool) → ((a & b) & c) ≡ (a & (b & c))
@@ -40,3 +40,19 @@ pub no-and : {a : Bool} (b : Bool) → a ≡ false → (a & b) ≡ false
 unfolding _&_
 no-and {a = true} b e = absurd (false≢true (sym e))
 no-and {a = false} b e = refl
+
+-- ---- tests in a row, as code makes them: the first that fails refuses the whole, and where one passes the rest decides
+pub and-stop : {a : Bool} (b : Bool) → a ≡ false → false ≡ (a & b)
+unfolding _&_
+and-stop b e = rw e
+
+pub and-on : {a b c : Bool} → a ≡ true → c ≡ b → c ≡ (a & b)
+unfolding _&_
+and-on e g = rw e g
+
+-- of a test that a call made
+pub refuse : {r a : Bool} (b : Bool) → r ≡ a → r ≡ false → false ≡ (a & b)
+refuse b e h = and-stop b (sym e ∙ h)
+
+pub pass : {r a b c : Bool} → r ≡ a → r ≡ true → c ≡ b → c ≡ (a & b)
+pass e h g = and-on (sym e ∙ h) g

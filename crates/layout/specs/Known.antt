@@ -13,7 +13,7 @@ use Rattle.language.specs.Lists.{one, count}
 use Rattle.language.specs.File.{kLiteral, kSum, kAssign, kConstruct, kSwitch, kIf, kCall, kPrint, kCreate, kRemove, Kind, kNone, kHeader, kType, kFunctor, kProcedure, kVariable, kRegion, kEdge, kArm, kArgument, kGoal, Chain, Use, number, unused, first, row, kindOf, kindAt, leading, references, formOk}
 use Rattle.layout.specs.Table.{all-rows, number-kind}
 use Rattle.layout.specs.Lists.{hit, count-none, count-cons, hits, hits-suc, hits-zero}
-use Rattle.layout.specs.Passing.{Starts, Leads, Used, once, next-leads, record-used}
+use Rattle.layout.specs.Passing.{Leads, Used, once, next-leads, record-used}
 use Rattle.layout.specs.Chains.{real}
 
 reals : List Use → Bool
@@ -60,11 +60,6 @@ hit-is r j h = eqb-true r j (one-is (eqb r j) h)
 pub real-number : (w : ℕ) → real (row (kindOf w) .chain) ≡ true → w ≡ row (kindOf w) .kind
 unfolding all-rows real
 real-number w r = elim (number-kind w) [ inl e ↦ absurd (false≢true (ap (λ k. real (row k .chain)) (sym e) ∙ r)) | inr e ↦ e ]
-
--- so in a chain that starts at record i
-pub starts-number : (W : ℕ → ℕ → ℕ) (n i : ℕ) (c : Chain) → real c ≡ true → 0 < i → Starts W n c i → W i 0 ≡ row (kindOf (W i 0)) .kind
-starts-number W n i c r p (inl z) = absurd (omega arith)
-starts-number W n i c r p (inr z) = real-number (W i 0) (ap real (z .1) ∙ r)
 
 module _ (W : ℕ → ℕ → ℕ) (n : ℕ) where
   -- a record that refers to j stands before it, and to a chain only if its row says so

@@ -5,11 +5,11 @@ use mathlib.Core.List.{List, [], _∷_, _++_, append-assoc}
 use mathlib.Core.Path.{_≡_, refl, ap, sym, _∙_}
 use lib.ListN.{length, getD, take, length-append}
 use lib.Seq.{getD-at, getD-append-add, take-at}
-use Rattle.language.specs.File.{Kind, Chain, row, word}
-use Rattle.language.specs.Tree.{Tree, node, Words, leads}
-use Rattle.language.specs.Layout.{size, sizeWords, reference, wordList, lay, layWords, bytesOfWords, bytesOf, written}
+use Rattle.language.specs.File.{Chain, word}
+use Rattle.language.specs.Tree.{Tree}
+use Rattle.language.specs.Layout.{size, lay, bytesOfWords, bytesOf, written}
 use Rattle.layout.specs.Fits.{Fits}
-use Rattle.layout.specs.Standing.{Spelled, Stand, lay-length, layWords-length}
+use Rattle.layout.specs.Standing.{Spelled, Stand, lay-length}
 use Rattle.layout.specs.Bytes.{Eights, record-length, lay-eights, written-length}
 
 -- ---- records come to stand
@@ -17,29 +17,21 @@ pub stand-join : (xs ys : List (List ℕ)) (W : ℕ → ℕ → ℕ) (b c : ℕ)
 stand-join [] ys W b c e h g = let q : b ≡ c = omega arith in rw q g
 stand-join (x ∷ xs) ys W b c e h g = (h .0, stand-join xs ys W (suc b) c (omega arith) (h .1) g)
 
--- a record, what its words lead to, and the rest of its chain
-pub stand-node : (k : Kind) (t : Tree) (ws : Words) (W : ℕ → ℕ → ℕ) (b : ℕ) → W b 0 ≡ row k .kind
-    → W b 1 ≡ reference (suc b + sizeWords ws) t
-    → Spelled (W b) 2 (wordList (suc b) ws) → Stand W (suc b) (layWords ws (suc b)) → Stand W (suc b + sizeWords ws) (lay t (suc b + sizeWords ws))
-    → Stand W b (lay (node k t ws) b)
-unfolding lay
-stand-node k t ws W b e n s h g = ((e, (n, s)), stand-join (layWords ws (suc b)) _ W (suc b) _ (omega (arith, layWords-length ws (suc b))) h g)
-
-pub stand-leads : (t : Tree) (ws : Words) (W : ℕ → ℕ → ℕ) (b : ℕ) → Stand W b (lay t b) → Stand W (b + size t) (layWords ws (b + size t))
-    → Stand W b (layWords (leads t ws) b)
-unfolding lay
-stand-leads t ws W b h g = stand-join (lay t b) _ W b _ (omega (arith, lay-length t b)) h g
-
 -- words that agree on the records say the same
-spelled-same : (xs : List ℕ) (w v : ℕ → ℕ) (k m : ℕ) → k + length xs ≤ m → ((j : ℕ) → j < m → v j ≡ w j) → Spelled w k xs → Spelled v k xs
+pub spelled-same : (xs : List ℕ) (w v : ℕ → ℕ) (k m : ℕ) → k + length xs ≤ m → ((j : ℕ) → k ≤ j → j < m → v j ≡ w j) → Spelled w k xs → Spelled v k xs
 spelled-same [] w v k m l e h = tt
-spelled-same (x ∷ xs) w v k m l e h = (e k (omega arith) ∙ h .0, spelled-same xs w v (suc k) m (omega arith) e (h .1))
+spelled-same (x ∷ xs) w v k m l e h =
+    (e k (omega arith) (omega arith) ∙ h .0, spelled-same xs w v (suc k) m (omega arith) (λ j p q. e j (omega arith) q) (h .1))
+
+pub spelled-more : (xs : List ℕ) (w : ℕ → ℕ) (k m : ℕ) {x : ℕ} → m ≡ k + length xs → Spelled w k xs → w m ≡ x → Spelled w k (xs ++ x ∷ [])
+spelled-more [] w k m l h e = let q : m ≡ k = omega arith in (rw q at e, tt)
+spelled-more (y ∷ xs) w k m l h e = (h .0, spelled-more xs w (suc k) m (omega arith) (h .1) e)
 
 pub stand-same : (rs : List (List ℕ)) (W X : ℕ → ℕ → ℕ) (b : ℕ) → Eights rs
     → ((i k : ℕ) → b ≤ i → i < b + length rs → k < 8 → X i k ≡ W i k) → Stand W b rs → Stand X b rs
 stand-same [] W X b l e h = tt
 stand-same (r ∷ rs) W X b l e h = (
-  spelled-same r (W b) (X b) 0 8 (omega (arith, l .0)) (λ j p. e b j (omega arith) (omega arith) p) (h .0),
+  spelled-same r (W b) (X b) 0 8 (omega (arith, l .0)) (λ j o p. e b j (omega arith) (omega arith) p) (h .0),
   stand-same rs W X (suc b) (l .1) (λ i k p q s. e i k (omega arith) (omega arith) s) (h .1),
 )
 

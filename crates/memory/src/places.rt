@@ -1,8 +1,12 @@
 // Regions are created and removed, cells are built in them. No step looks through the memory.
+use crate::CELL_NEXT;
+use crate::CELL_WORDS;
 use crate::Contents;
 use crate::Heap;
 use crate::Made;
 use crate::Pool;
+use crate::REGION_LAST;
+use crate::REGION_WORDS;
 use crate::Taken;
 use crate::cells::add;
 use crate::pools::fresh;
@@ -20,8 +24,8 @@ pub fn empty(cells: &[u32], regions: &[u32]) -> Heap
     ensures { λ r. ⌜ r ≡ emptyHeap (holds (length (now (cells .entry))) 8) (holds (length (now (regions .entry))) 2) ⌝ }
 {
     Heap {
-        cells: fresh(room(cells.len(), 8)),
-        regions: fresh(room(regions.len(), 2)),
+        cells: fresh(room(cells.len(), CELL_WORDS)),
+        regions: fresh(room(regions.len(), REGION_WORDS)),
     }
 }
 
@@ -31,11 +35,15 @@ pub fn create(heap: Heap, regions: &mut [u32]) -> Made
 {
     let cells = heap.cells;
     let free = heap.regions;
-    let link = word(&regions[..], 2 * (free.head as usize));
+    let link = word(&regions[..], REGION_WORDS * (free.head as usize));
     let Taken::Place(region, left) = take(free, link) else {
         return Made::NoRoom;
     };
-    put(&mut regions[..], 2 * (region as usize) + 1, cells.limit);
+    put(
+        &mut regions[..],
+        REGION_WORDS * (region as usize) + REGION_LAST,
+        cells.limit,
+    );
     Made::At(
         region,
         Heap {
@@ -59,7 +67,7 @@ pub fn build(
 {
     let free = heap.cells;
     let places = heap.regions;
-    let link = word(&cells[..], 8 * (free.head as usize) + 5);
+    let link = word(&cells[..], CELL_WORDS * (free.head as usize) + CELL_NEXT);
     let Taken::Place(cell, left) = take(free, link) else {
         return Made::NoRoom;
     };
@@ -88,9 +96,9 @@ pub fn remove(heap: Heap, cells: &mut [u32], regions: &mut [u32], region: u32) -
 {
     let free = heap.cells;
     let places = heap.regions;
-    let at = 2 * (region as usize);
+    let at = REGION_WORDS * (region as usize);
     let first = word(&regions[..], at);
-    let last = word(&regions[..], at + 1);
+    let last = word(&regions[..], at + REGION_LAST);
     put(&mut regions[..], at, places.head);
     let left = Pool {
         head: region,
@@ -103,7 +111,11 @@ pub fn remove(heap: Heap, cells: &mut [u32], regions: &mut [u32], region: u32) -
             regions: left,
         };
     }
-    put(&mut cells[..], 8 * (last as usize) + 5, free.head);
+    put(
+        &mut cells[..],
+        CELL_WORDS * (last as usize) + CELL_NEXT,
+        free.head,
+    );
     Heap {
         cells: Pool {
             head: first,

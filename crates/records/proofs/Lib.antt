@@ -2,4 +2,3 @@ mod Decoding
 mod Steps
 mod Loops
 mod Stages
-pub mod Told

@@ -9,34 +9,11 @@ use lib.ListN.{length, getD, replicate}
 use borrow.Author.Tests.{eq-eqb, ne-eqb}
 use Rattle.sets.specs.Tests.{_&_}
 use Rattle.language.specs.Lists.{all, upFrom}
-use Rattle.language.specs.File.{kLiteral, kSum, kAssign, kConstruct, kSwitch, kIf, kCall, kPrint, kCreate, kRemove, Kind, kNone, kHeader, kType, kFunctor, kProcedure, kVariable, kRegion, kEdge, kArm, kArgument, kGoal}
-use Rattle.language.specs.File.{Use, row, rowIn, padded, kindOf, kindAt, wordsOk, recordOk, leading, references, referencesOf, onceIn, formOk}
+use Rattle.language.specs.Format.{maxRecords}
+use Rattle.language.specs.File.{Use, number, unused, first, row, kindOf, kindAt, recordOk, leading, references, referencesOf, onceIn, formOk}
 use Rattle.records.specs.Lists.{all-same, from-here, from-end, tally, tally-append, tally-once}
-use Rattle.records.specs.Table.{digit, pack, packed, uses, pack-first, pack-rest}
-use Rattle.records.specs.Form.{Passed, useOk, leads, words-cons, leading-cons, record-by-uses, references-by-uses}
-
-seven : (k : Kind) → length (uses (row k)) ≡ 7
-unfolding uses row rowIn padded
-seven kNone = refl
-seven kHeader = refl
-seven kType = refl
-seven kFunctor = refl
-seven kProcedure = refl
-seven kVariable = refl
-seven kRegion = refl
-seven kEdge = refl
-seven kArm = refl
-seven kArgument = refl
-seven (kGoal kLiteral) = refl
-seven (kGoal kSum) = refl
-seven (kGoal kAssign) = refl
-seven (kGoal kConstruct) = refl
-seven (kGoal kSwitch) = refl
-seven (kGoal kIf) = refl
-seven (kGoal kCall) = refl
-seven (kGoal kPrint) = refl
-seven (kGoal kCreate) = refl
-seven (kGoal kRemove) = refl
+use Rattle.records.specs.Table.{digit, pack, packed, uses, seven, pack-first, pack-rest}
+use Rattle.records.specs.Form.{Tallied, useOk, refers, leads, refersOk, spareOk, leading-cons, references-by-uses, record-apart}
 
 and-first : {a b : Bool} → a ≡ true → (a & b) ≡ b
 unfolding _&_
@@ -53,32 +30,43 @@ module _ (W : ℕ → ℕ → ℕ) (n i : ℕ) where
     pub many : k + length ahead ≡ 8
     pub packs : digits ≡ pack ahead
     pub same : length seen ≡ length seen₀
-    pub says : recordOk W n i ≡ wordsOk W n i k ahead
+    pub says : refersOk W n i ≡ refers W n i k ahead
     pub counts : tally seen (leading W n i k ahead) ≡ tally seen₀ (references W n i)
 
-  pub words-first : (seen : List ℕ) {w p : ℕ} → w ≡ W i 0 → p ≡ packed (row (kindOf w)) → Words seen seen (p / 16) 1
-  unfolding packed kindAt
+  pub words-first : (seen : List ℕ) {w p : ℕ} → w ≡ W i 0 → p ≡ packed (kindOf w) → Words seen seen (p / 16) 1
+  unfolding packed kindAt refersOk
   words-first seen {w = w} e h =
       record {
         ahead = uses (row (kindAt W n i));
         many = omega (arith, seven (kindAt W n i));
-        packs = ap (λ x. x / 16) (h ∙ ap (λ x. packed (row (kindOf x))) e) ∙ pack-rest _ _;
+        packs = ap (λ x. x / 16) (h ∙ ap (λ x. packed (kindOf x)) e) ∙ pack-rest _ _;
         same = refl;
-        says = record-by-uses W n i;
+        says = refl;
         counts = ap (tally seen) (sym (references-by-uses W n i));
       }
 
   -- what word k says of itself
   abbrev pub Said : ℕ → ℕ → Bool → List ℕ → List ℕ → Type 0
-  Said k d b seen after = (u : Use) → d ≡ digit u → Passed b (useOk W n i k u) (leads W n i k u) seen after
+  Said k d b seen after = (u : Use) → d ≡ digit u → Tallied b (useOk W n i k u) (leads W n i k u) seen after
 
-  module _ {seen₀ seen after : List ℕ} {digits k : ℕ} {b : Bool} (h : Words seen₀ seen digits k) (l : k < 8) (s : Said k (digits % 16) b seen after) where
+  -- while a digit is left there is a word
+  pub words-some : {seen₀ seen : List ℕ} {digits k : ℕ} → Words seen₀ seen digits k → (digits ≡ 0 → ⊥) → k < 8
+  unfolding pack
+  words-some {digits = digits} {k = k} h l = go (h .ahead) (h .many) (h .packs)
+    where
+      go : (us : List Use) → k + length us ≡ 8 → digits ≡ pack us → k < 8
+      go [] e p = absurd (l p)
+      go (u ∷ us) e p = omega arith
+
+  module _ {seen₀ seen after : List ℕ} {digits k : ℕ} {b : Bool} (h : Words seen₀ seen digits k) (l : digits ≡ 0 → ⊥)
+      (s : Said k (digits % 16) b seen after) where
     pub words-next : b ≡ true → length after ≡ length seen → Words seen₀ after (digits / 16) (k + 1)
+    unfolding pack refers
     words-next t m = go (h .ahead) (h .many) (h .packs) (h .says) (h .counts)
       where
-        go : (us : List Use) → k + length us ≡ 8 → digits ≡ pack us → recordOk W n i ≡ wordsOk W n i k us
+        go : (us : List Use) → k + length us ≡ 8 → digits ≡ pack us → refersOk W n i ≡ refers W n i k us
             → tally seen (leading W n i k us) ≡ tally seen₀ (references W n i) → Words seen₀ after (digits / 16) (k + 1)
-        go [] e p q r = absurd (omega arith)
+        go [] e p q r = absurd (l p)
         go (u ∷ us) e p q r =
             let g : suc k ≡ k + 1 = omega arith in
             let w = s u (ap (λ x. x % 16) p ∙ pack-first u us) in
@@ -87,29 +75,44 @@ module _ (W : ℕ → ℕ → ℕ) (n i : ℕ) where
               many = omega arith;
               packs = ap (λ x. x / 16) p ∙ pack-rest u us;
               same = m ∙ h .same;
-              says = q ∙ words-cons W n i k u us ∙ and-first (sym (w .says) ∙ t) ∙ ap (λ j. wordsOk W n i j us) g;
+              says = q ∙ and-first (sym (w .says) ∙ t) ∙ ap (λ j. refers W n i j us) g;
               counts =
                   ap (λ a. tally a (leading W n i (k + 1) us)) (w .counts t) ∙ ap (λ j. tally (tally seen (leads W n i k u)) (leading W n i j us)) (sym g)
                   ∙ sym (tally-append seen (leads W n i k u) (leading W n i (suc k) us)) ∙ ap (tally seen) (sym (leading-cons W n i k u us)) ∙ r;
             }
 
-    pub words-refused : b ≡ false → Passed false (recordOk W n i) (references W n i) seen₀ after
-    words-refused t = record { says = go (h .ahead) (h .many) (h .packs) (h .says); counts = λ e. absurd (false≢true e) }
+    pub words-refused : b ≡ false → Tallied false (refersOk W n i) (references W n i) seen₀ after
+    unfolding pack refers
+    words-refused t = record { says = go (h .ahead) (h .packs) (h .says); counts = λ e. absurd (false≢true e) }
       where
-        go : (us : List Use) → k + length us ≡ 8 → digits ≡ pack us → recordOk W n i ≡ wordsOk W n i k us → false ≡ recordOk W n i
-        go [] e p q = absurd (omega arith)
-        go (u ∷ us) e p q =
+        go : (us : List Use) → digits ≡ pack us → refersOk W n i ≡ refers W n i k us → false ≡ refersOk W n i
+        go [] p q = absurd (l p)
+        go (u ∷ us) p q =
             let w = s u (ap (λ x. x % 16) p ∙ pack-first u us) in
-            sym (q ∙ words-cons W n i k u us ∙ and-none _ (sym (w .says) ∙ t))
+            sym (q ∙ and-none _ (sym (w .says) ∙ t))
 
-  pub words-last : {seen₀ seen : List ℕ} {digits k : ℕ} → Words seen₀ seen digits k → 8 ≤ k → Passed true (recordOk W n i) (references W n i) seen₀ seen
-  unfolding wordsOk leading tally
-  words-last {seen₀ = seen₀} {seen = seen} {k = k} h l = go (h .ahead) (h .many) (h .says) (h .counts)
-    where
-      go : (us : List Use) → k + length us ≡ 8 → recordOk W n i ≡ wordsOk W n i k us
-          → tally seen (leading W n i k us) ≡ tally seen₀ (references W n i) → Passed true (recordOk W n i) (references W n i) seen₀ seen
-      go [] e q r = record { says = sym q; counts = λ _. r }
-      go (u ∷ us) e q r = absurd (omega arith)
+  -- where no digit is left, no word leads anywhere
+  none-left : (k : ℕ) (us : List Use) → pack us ≡ 0 → (refers W n i k us ≡ true) × (leading W n i k us ≡ [])
+  unfolding pack digit refers useOk leading _&_
+  none-left k [] e = (refl, refl)
+  none-left k (number ∷ us) e = none-left (suc k) us (omega arith)
+  none-left k (unused ∷ us) e = none-left (suc k) us (omega arith)
+  none-left k (first c ∷ us) e = absurd (omega arith)
+
+  pub words-last : {seen₀ seen : List ℕ} {digits k : ℕ} → Words seen₀ seen digits k → digits ≡ 0 → Tallied true (refersOk W n i) (references W n i) seen₀ seen
+  unfolding tally
+  words-last {seen = seen} {k = k} h z =
+      let e = none-left k (h .ahead) (sym (h .packs) ∙ z) in
+      record { says = sym (h .says ∙ e .0); counts = λ _. ap (tally seen) (sym (e .1)) ∙ h .counts }
+
+-- ---- a record: its unused words, then its references
+module _ (W : ℕ → ℕ → ℕ) (n i : ℕ) {a : Bool} (p : a ≡ spareOk W i) where
+  pub record-spare : (seen : List ℕ) → a ≡ false → Tallied false (recordOk W n i) (references W n i) seen seen
+  record-spare seen t = record { says = sym (record-apart W n i ∙ and-none _ (sym p ∙ t)); counts = λ e. absurd (false≢true e) }
+
+  pub record-refers : {b : Bool} {seen after : List ℕ} → a ≡ true → Tallied b (refersOk W n i) (references W n i) seen after
+      → Tallied b (recordOk W n i) (references W n i) seen after
+  record-refers t s = record { says = s .says ∙ sym (record-apart W n i ∙ and-first (sym p ∙ t)); counts = s .counts }
 
 -- ---- the records from i on
 module _ (W : ℕ → ℕ → ℕ) (n : ℕ) where
@@ -119,8 +122,8 @@ module _ (W : ℕ → ℕ → ℕ) (n : ℕ) where
     pub counts : tally seen (referencesOf W n (upFrom i (n - i))) ≡ tally seen₀ (referencesOf W n (upFrom 0 n))
 
   -- every record is in order, and all that they refer to is counted
-  abbrev pub Formed : Bool → List ℕ → List ℕ → Type 0
-  Formed b seen₀ seen = Passed b (all (recordOk W n) (upFrom 0 n)) (referencesOf W n (upFrom 0 n)) seen₀ seen
+  abbrev pub Referred : Bool → List ℕ → List ℕ → Type 0
+  Referred b seen₀ seen = Tallied b (all (recordOk W n) (upFrom 0 n)) (referencesOf W n (upFrom 0 n)) seen₀ seen
 
   pub records-first : (seen : List ℕ) → Records seen seen 0
   records-first seen =
@@ -131,7 +134,7 @@ module _ (W : ℕ → ℕ → ℕ) (n : ℕ) where
         counts = ap (λ m. tally seen (referencesOf W n (upFrom 0 m))) (sym e);
       }
 
-  module _ {seen₀ seen after : List ℕ} {i : ℕ} {b : Bool} (h : Records seen₀ seen i) (l : i < n) (s : Passed b (recordOk W n i) (references W n i) seen after) where
+  module _ {seen₀ seen after : List ℕ} {i : ℕ} {b : Bool} (h : Records seen₀ seen i) (l : i < n) (s : Tallied b (recordOk W n i) (references W n i) seen after) where
     pub records-next : b ≡ true → length after ≡ length seen → Records seen₀ after (i + 1)
     unfolding all referencesOf
     records-next t m =
@@ -144,7 +147,7 @@ module _ (W : ℕ → ℕ → ℕ) (n : ℕ) where
               ∙ ap (λ js. tally seen (referencesOf W n js)) (sym (from-here n i l)) ∙ h .counts;
         }
 
-    pub records-refused : b ≡ false → Formed false seen₀ after
+    pub records-refused : b ≡ false → Referred false seen₀ after
     unfolding all
     records-refused t =
         record {
@@ -152,7 +155,7 @@ module _ (W : ℕ → ℕ → ℕ) (n : ℕ) where
           counts = λ e. absurd (false≢true e);
         }
 
-  pub records-last : {seen₀ seen : List ℕ} {i : ℕ} → Records seen₀ seen i → n ≤ i → Formed true seen₀ seen
+  pub records-last : {seen₀ seen : List ℕ} {i : ℕ} → Records seen₀ seen i → n ≤ i → Referred true seen₀ seen
   unfolding all referencesOf tally
   records-last {seen = seen} {i = i} h l =
       record {
@@ -185,13 +188,14 @@ module _ (seen : List ℕ) (n : ℕ) where
   once-last {j = j} h l = sym (h .says ∙ ap (all one-at) (from-end n j l))
 
 -- ---- number 2
-module _ (W : ℕ → ℕ → ℕ) (n : ℕ) {b : Bool} {seen₀ seen : List ℕ} (s : Formed W n b seen₀ seen) where
+module _ (W : ℕ → ℕ → ℕ) (n : ℕ) {b : Bool} {seen₀ seen : List ℕ} (s : Referred W n b seen₀ seen) where
   pub form-refused : b ≡ false → false ≡ formOk W n
   unfolding formOk
   form-refused t = sym (and-none _ (sym (s .says) ∙ t))
 
-  pub form-counted : b ≡ true → seen₀ ≡ replicate 4096 0 → n ≤ 4096 → all (λ j. eqb (getD seen j 0) 1) (upFrom 1 (n - 1)) ≡ formOk W n
+  pub form-counted : b ≡ true → seen₀ ≡ replicate maxRecords 0 → n ≤ maxRecords → all (λ j. eqb (getD seen j 0) 1) (upFrom 1 (n - 1)) ≡ formOk W n
   unfolding formOk onceIn
   form-counted t z l =
-      all-same (n - 1) 1 _ _ (λ j p q. ap (λ a. eqb (getD a j 0) 1) (s .counts t ∙ ap (λ a. tally a (referencesOf W n (upFrom 0 n))) z) ∙ tally-once 4096 j _ (omega arith))
+      all-same (n - 1) 1 _ _
+      (λ j g m. ap (λ x. eqb (getD x j 0) 1) (s .counts t ∙ ap (λ x. tally x (referencesOf W n (upFrom 0 n))) z) ∙ tally-once maxRecords j _ g (omega arith))
       ∙ sym (and-first (sym (s .says) ∙ t))

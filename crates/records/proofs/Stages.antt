@@ -1,5 +1,6 @@
 -- Number 1 and the stage over plain values: the code's tests, in turn. Assumes nothing.
 use Prim.Native.Nat.{ℕ, _*_, _≤_, _<_}
+use native.Mathlib.Omega.{arith}
 use mathlib.Core.Path.{_≡_, sym, ap, _∙_}
 use mathlib.Core.Bool.{Bool, true, false}
 use mathlib.Core.List.{List}
@@ -9,6 +10,7 @@ use borrow.Author.Tests.{le-leb, lt-leb, eq-eqb, ne-eqb}
 use Rattle.sets.specs.Tests.{_&_}
 use Rattle.language.specs.declared.Refusal.the-variants.{Header, Form}
 use Rattle.language.specs.declared.Verdict.the-variants.{Refused, Accepted}
+use Rattle.language.specs.Format.{headerCount, maxRecords}
 use Rattle.language.specs.File.{word, recordCount, headerOk, formOk}
 use Rattle.language.specs.Answers.{lowest}
 use Rattle.records.specs.Words.{header-in}
@@ -32,9 +34,9 @@ module _ (f : List ℕ) where
   header-kind l h e s g = rw (le-leb 16 (length f) l, le-leb (length f) 65536 h, ← e, eq-eqb (length f) _ s, g)
 
   -- the record count as the code reads it
-  pub count-most : {b : Bool} {n : ℕ} → b ≡ headerOk f → b ≡ true → n ≡ word f 0 3 → n ≤ 4096
+  pub count-most : {b : Bool} {n : ℕ} → b ≡ headerOk f → b ≡ true → n ≡ word f 0 headerCount → (n ≤ maxRecords) × (16 * n ≤ length f)
   unfolding recordCount
-  count-most e t c = rw c (header-in f (sym e ∙ t) .most)
+  count-most e t c = let s = header-in f (sym e ∙ t) in (omega arith, omega arith)
 
   pub form-header : {b : Bool} → b ≡ headerOk f → b ≡ false → Refused Header ≡ formVerdict f
   unfolding formVerdict formStages lowest

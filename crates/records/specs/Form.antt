@@ -1,37 +1,67 @@
--- Number 2 word by word, as the code goes through it. Assumes nothing.
+-- Number 2 as the code goes through it: the words that must be 0 apart from the references. Assumes nothing.
 use Prim.Native.Nat.{ℕ, suc}
-use mathlib.Core.Path.{_≡_, refl}
-use mathlib.Core.Bool.{Bool, true}
+use mathlib.Core.Path.{_≡_, refl, ap, _∙_}
+use mathlib.Core.Bool.{Bool, true, false}
 use mathlib.Core.List.{List, [], _∷_, _++_}
 use lib.Dec.{eqb}
 use Rattle.sets.specs.Tests.{_&_}
-use Rattle.language.specs.File.{Use, number, unused, first, row, kindAt, referenceOk, wordsOk, recordOk, leading, references}
+use Rattle.language.specs.File.{Use, number, unused, first, row, kindOf, kindAt, referenceOk, wordsOk, recordOk, leading, references}
 use Rattle.records.specs.Lists.{tally}
 use Rattle.records.specs.Table.{uses}
 
 -- a test b that says t, and where it is passed has counted rs
-pub record Passed (b t : Bool) (rs before after : List ℕ) : Type 0 where
+pub record Tallied (b t : Bool) (rs before after : List ℕ) : Type 0 where
   pub says : b ≡ t
   pub counts : b ≡ true → after ≡ tally before rs
 
+-- tests may stand in any order
+and-later : (a b c : Bool) → (a & b & c) ≡ (b & a & c)
+unfolding _&_
+and-later true b c = refl
+and-later false true c = refl
+and-later false false c = refl
+
+and-turned : (a b : Bool) → (a & b) ≡ (b & a)
+unfolding _&_
+and-turned true true = refl
+and-turned true false = refl
+and-turned false true = refl
+and-turned false false = refl
+
+and-apart : (a b c : Bool) → (a & b & c) ≡ ((a & b) & c)
+unfolding _&_
+and-apart true b c = refl
+and-apart false b c = refl
+
+-- ---- the words that must be 0
+module _ (W : ℕ → ℕ → ℕ) (i : ℕ) where
+  unfoldable pub zeros : ℕ → List Use → Bool
+  zeros k [] = true
+  zeros k (number ∷ us) = zeros (suc k) us
+  zeros k (unused ∷ us) = eqb (W i k) 0 & zeros (suc k) us
+  zeros k (first c ∷ us) = zeros (suc k) us
+
+  -- those of record i
+  unfoldable pub spareOk : Bool
+  spareOk = zeros 2 (row (kindOf (W i 0)) .words)
+
+-- ---- the references
 module _ (W : ℕ → ℕ → ℕ) (n i : ℕ) where
-  -- what its use asks of word k
+  -- what is asked of word k as a reference
   unfoldable pub useOk : ℕ → Use → Bool
   useOk k number = true
-  useOk k unused = eqb (W i k) 0
+  useOk k unused = true
   useOk k (first c) = referenceOk W n i c (W i k)
+
+  unfoldable pub refers : ℕ → List Use → Bool
+  refers k [] = true
+  refers k (u ∷ us) = useOk k u & refers (suc k) us
 
   -- what it refers to
   unfoldable pub leads : ℕ → Use → List ℕ
   leads k number = []
   leads k unused = []
   leads k (first c) = W i k ∷ []
-
-  pub words-cons : (k : ℕ) (u : Use) (us : List Use) → wordsOk W n i k (u ∷ us) ≡ (useOk k u & wordsOk W n i (suc k) us)
-  unfolding wordsOk useOk _&_
-  words-cons k number us = refl
-  words-cons k unused us = refl
-  words-cons k (first c) us = refl
 
   pub leading-cons : (k : ℕ) (u : Use) (us : List Use) → leading W n i k (u ∷ us) ≡ leads k u ++ leading W n i (suc k) us
   unfolding leading leads
@@ -40,10 +70,21 @@ module _ (W : ℕ → ℕ → ℕ) (n i : ℕ) where
   leading-cons k (first c) us = refl
 
   -- w1 is a word like the others
-  pub record-by-uses : recordOk W n i ≡ wordsOk W n i 1 (uses (row (kindAt W n i)))
-  unfolding recordOk wordsOk uses
-  record-by-uses = refl
-
   pub references-by-uses : references W n i ≡ leading W n i 1 (uses (row (kindAt W n i)))
   unfolding references leading uses
   references-by-uses = refl
+
+  -- those of record i
+  unfoldable pub refersOk : Bool
+  refersOk = refers 1 (uses (row (kindAt W n i)))
+
+  words-apart : (k : ℕ) (us : List Use) → wordsOk W n i k us ≡ (refers k us & zeros W i k us)
+  unfolding wordsOk refers useOk zeros _&_
+  words-apart k [] = refl
+  words-apart k (number ∷ us) = words-apart (suc k) us
+  words-apart k (unused ∷ us) = ap (λ t. eqb (W i k) 0 & t) (words-apart (suc k) us) ∙ and-later (eqb (W i k) 0) (refers (suc k) us) (zeros W i (suc k) us)
+  words-apart k (first c ∷ us) = ap (λ t. referenceOk W n i c (W i k) & t) (words-apart (suc k) us) ∙ and-apart (referenceOk W n i c (W i k)) (refers (suc k) us) (zeros W i (suc k) us)
+
+  pub record-apart : recordOk W n i ≡ (spareOk W i & refersOk)
+  unfolding recordOk wordsOk refersOk spareOk uses zeros kindAt
+  record-apart = words-apart 1 (uses (row (kindAt W n i))) ∙ and-turned refersOk (spareOk W i)

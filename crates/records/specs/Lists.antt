@@ -41,9 +41,19 @@ unfolding upFrom
 from-end n i h = let e : n - i ≡ 0 = omega arith in ap (upFrom i) e
 
 -- ---- counting up to 2
--- one more for r
+-- one more for r, which is not 0
 unfoldable pub counted : List ℕ → ℕ → List ℕ
-counted a r = set a r (min 2 (getD a r 0 + 1))
+counted a zero = a
+counted a (suc r) = set a (suc r) (min 2 (getD a (suc r) 0 + 1))
+
+pub counted-none : (a : List ℕ) {r : ℕ} → r ≡ 0 → counted a r ≡ a
+unfolding counted
+counted-none a e = rw e
+
+pub counted-some : (a : List ℕ) (r : ℕ) → (r ≡ 0 → ⊥) → counted a r ≡ set a r (min 2 (getD a r 0 + 1))
+unfolding counted
+counted-some a zero h = absurd (h refl)
+counted-some a (suc r) h = refl
 
 -- one more for each number of a list
 unfoldable pub tally : List ℕ → List ℕ → List ℕ
@@ -55,24 +65,26 @@ unfolding tally
 tally-append a [] ys = refl
 tally-append a (x ∷ xs) ys = tally-append (counted a x) xs ys
 
-counted-at : (a : List ℕ) (r j : ℕ) → j < length a → getD a j 0 ≤ 2 → getD (counted a r) j 0 ≡ min 2 (getD a j 0 + one (eqb r j))
+counted-at : (a : List ℕ) (r j : ℕ) → 0 < j → j < length a → getD a j 0 ≤ 2 → getD (counted a r) j 0 ≡ min 2 (getD a j 0 + one (eqb r j))
 unfolding counted one
-counted-at a r j h l =
-    elim (ℕ-discrete r j) [
+counted-at a zero j z h l = rw (ne-eqb 0 j (λ e. omega arith)) (omega arith)
+counted-at a (suc r) j z h l =
+    elim (ℕ-discrete (suc r) j) [
       | yes e ↦ rw (e, getD-set-same a j (min 2 (getD a j 0 + 1)) 0 h, eq-eqb j j refl)
-      | no e ↦ rw (getD-set-other a r j (min 2 (getD a r 0 + 1)) 0 (λ z. e (sym z)), ne-eqb r j e) (omega arith)
+      | no e ↦ rw (getD-set-other a (suc r) j (min 2 (getD a (suc r) 0 + 1)) 0 (λ z. e (sym z)), ne-eqb (suc r) j e) (omega arith)
     ]
 
 counted-length : (a : List ℕ) (r : ℕ) → length (counted a r) ≡ length a
 unfolding counted
-counted-length a r = length-set a r _
+counted-length a zero = refl
+counted-length a (suc r) = length-set a (suc r) _
 
-tally-at : (rs a : List ℕ) (j : ℕ) → j < length a → getD a j 0 ≤ 2 → getD (tally a rs) j 0 ≡ min 2 (getD a j 0 + count j rs)
+tally-at : (rs a : List ℕ) (j : ℕ) → 0 < j → j < length a → getD a j 0 ≤ 2 → getD (tally a rs) j 0 ≡ min 2 (getD a j 0 + count j rs)
 unfolding tally count
-tally-at [] a j h l = omega arith
-tally-at (r ∷ rs) a j h l =
-    let e = counted-at a r j h l in
-    tally-at rs (counted a r) j (omega (arith, counted-length a r)) (omega arith) ∙ omega arith
+tally-at [] a j z h l = omega arith
+tally-at (r ∷ rs) a j z h l =
+    let e = counted-at a r j z h l in
+    tally-at rs (counted a r) j z (omega (arith, counted-length a r)) (omega arith) ∙ omega arith
 
 once-capped : (t : ℕ) → eqb (min 2 t) 1 ≡ eqb t 1
 once-capped t =
@@ -82,10 +94,10 @@ once-capped t =
     ]
 
 -- counted from nothing, 1 is once
-pub tally-once : (m j : ℕ) (rs : List ℕ) → j < m → eqb (getD (tally (replicate m 0) rs) j 0) 1 ≡ eqb (count j rs) 1
-tally-once m j rs h =
+pub tally-once : (m j : ℕ) (rs : List ℕ) → 0 < j → j < m → eqb (getD (tally (replicate m 0) rs) j 0) 1 ≡ eqb (count j rs) 1
+tally-once m j rs g h =
     let z : getD {A = ℕ} (replicate m 0) j 0 ≡ 0 = getD-replicate m j 0 0 h in
     let l : length {A = ℕ} (replicate m 0) ≡ m = length-replicate m 0 in
-    let t = tally-at rs (replicate m 0) j (omega arith) (omega arith) in
+    let t = tally-at rs (replicate m 0) j g (omega arith) (omega arith) in
     let e : getD (tally (replicate m 0) rs) j 0 ≡ min 2 (count j rs) = omega arith in
     ap (λ x. eqb x 1) e ∙ once-capped (count j rs)

@@ -1,17 +1,18 @@
--- The record table as numbers, one hex digit a word. Assumes nothing.
-use Prim.Native.Nat.{ℕ, zero, suc, _+_, _*_, _/_, _%_, _≤_, _<_}
+-- The record table as numbers: one hex digit a word for the references, and the most that the other words may be. Assumes nothing.
+use Prim.Native.Nat.{ℕ, zero, suc, _+_, _-_, _*_, _/_, _%_, _^_, _≤_, _<_, min}
 use native.Mathlib.Omega.{arith}
-use mathlib.Core.Path.{_≡_, refl, sym, ap}
+use mathlib.Core.Path.{_≡_, refl, sym, ap, _∙_}
 use mathlib.Core.List.{List, [], _∷_, map}
 use lib.ListN.{length, getD}
 use Rattle.language.specs.Lists.{nth}
-use Rattle.language.specs.File.{Chain, nowhere, types, functors, procedures, variables, regions, edges, goals, arms, arguments, Use, number, unused, first, Row, row, Kind, kNone, kinds, kindOf, code}
+use Rattle.language.specs.File.{Chain, nowhere, types, functors, procedures, variables, regions, edges, goals, arms, arguments, Use, number, unused, first, Row, row, rowIn, padded, kinds, kindOf, code}
+use Rattle.language.specs.File.{kLiteral, kSum, kAssign, kConstruct, kSwitch, kIf, kCall, kPrint, kCreate, kRemove, Kind, kNone, kHeader, kType, kFunctor, kProcedure, kVariable, kRegion, kEdge, kArm, kArgument, kGoal}
 
--- a word's use: 0 a number, 1 unused, from 2 on the chain that it leads to
+-- what a word leads to: 0 for no reference, else the chain, from 1 on
 unfoldable pub digit : Use → ℕ
 digit number = 0
-digit unused = 1
-digit (first c) = 2 + code c
+digit unused = 0
+digit (first c) = 1 + code c
 
 -- digits, the first one lowest
 unfoldable pub pack : List Use → ℕ
@@ -22,9 +23,47 @@ pack (u ∷ us) = digit u + 16 * pack us
 unfoldable pub uses : Row → List Use
 uses r = first (r .next) ∷ r .words
 
--- digit k is the use of word k, digit 0 the chain that the kind stands in
-unfoldable pub packed : Row → ℕ
-packed r = pack (first (r .chain) ∷ uses r)
+-- digit k is what word k leads to, digit 0 the chain that the kind stands in
+unfoldable pub packed : Kind → ℕ
+packed k = pack (first (row k .chain) ∷ uses (row k))
+
+-- how many words come before the unused ones
+unfoldable pub listed : List Use → ℕ
+listed [] = 0
+listed (number ∷ us) = suc (listed us)
+listed (unused ∷ us) = 0
+listed (first c ∷ us) = suc (listed us)
+
+-- the most that w2 and w3 may be as one number where the unused words are 0, and w4 to w7
+unfoldable pub lowMost : Kind → ℕ
+lowMost k = 65536 ^ min 2 (listed (row k .words)) - 1
+
+unfoldable pub highMost : Kind → ℕ
+highMost k = 65536 ^ (listed (row k .words) - 2) - 1
+
+-- every row has seven words
+pub seven : (k : Kind) → length (uses (row k)) ≡ 7
+unfolding uses row rowIn padded
+seven kNone = refl
+seven kHeader = refl
+seven kType = refl
+seven kFunctor = refl
+seven kProcedure = refl
+seven kVariable = refl
+seven kRegion = refl
+seven kEdge = refl
+seven kArm = refl
+seven kArgument = refl
+seven (kGoal kLiteral) = refl
+seven (kGoal kSum) = refl
+seven (kGoal kAssign) = refl
+seven (kGoal kConstruct) = refl
+seven (kGoal kSwitch) = refl
+seven (kGoal kIf) = refl
+seven (kGoal kCall) = refl
+seven (kGoal kPrint) = refl
+seven (kGoal kCreate) = refl
+seven (kGoal kRemove) = refl
 
 code-low : (c : Chain) → code c < 14
 unfolding code
@@ -53,19 +92,20 @@ pub pack-rest : (u : Use) (us : List Use) → pack (u ∷ us) / 16 ≡ pack us
 unfolding pack
 pack-rest u us = omega (arith, digit-low u)
 
--- ---- the table, by the kinds' numbers
-unfoldable pub packedRows : List ℕ
-packedRows = map (λ k. packed (row k)) kinds
+-- ---- a table by the kinds' numbers
+unfoldable pub tableOf : (Kind → ℕ) → List ℕ
+tableOf f = map f kinds
 
-at-kind : (ks : List Kind) (n : ℕ) → n < length ks → getD (map (λ k. packed (row k)) ks) n 0 ≡ packed (row (nth kNone ks n))
-unfolding nth
-at-kind [] n h = absurd (omega arith)
-at-kind (k ∷ ks) zero h = refl
-at-kind (k ∷ ks) (suc n) h = at-kind ks n (omega arith)
+module _ (f : Kind → ℕ) where
+  at-kind : (ks : List Kind) (n : ℕ) → n < length ks → getD (map f ks) n 0 ≡ f (nth kNone ks n)
+  unfolding nth
+  at-kind [] n h = absurd (omega arith)
+  at-kind (k ∷ ks) zero h = refl
+  at-kind (k ∷ ks) (suc n) h = at-kind ks n (omega arith)
 
-pub row-at : (n : ℕ) → n < 20 → getD packedRows n 0 ≡ packed (row (kindOf n))
-unfolding packedRows kindOf kinds
-row-at n h = at-kind kinds n h
+  pub table-at : (n : ℕ) → n < 20 → getD (tableOf f) n 0 ≡ f (kindOf n)
+  unfolding tableOf kindOf kinds
+  table-at n h = at-kind kinds n h
 
 nth-past : {A : Type 0} (d : A) (xs : List A) (n : ℕ) → length xs ≤ n → nth d xs n ≡ d
 unfolding nth
@@ -78,6 +118,6 @@ pub kind-high : (n : ℕ) → 20 ≤ n → kindOf n ≡ kNone
 unfolding kindOf kinds
 kind-high n h = nth-past kNone kinds n h
 
-pub row-past : (n : ℕ) → 20 ≤ n → getD packedRows 0 0 ≡ packed (row (kindOf n))
-unfolding packedRows kinds
-row-past n h = ap (λ k. packed (row k)) (sym (kind-high n h))
+pub table-past : (f : Kind → ℕ) (n : ℕ) → 20 ≤ n → getD (tableOf f) 0 0 ≡ f (kindOf n)
+unfolding tableOf kinds
+table-past f n h = ap f (sym (kind-high n h))

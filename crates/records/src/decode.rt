@@ -1,6 +1,7 @@
 // The decoded record.
 use crate::Record;
 use crate::words::word;
+use language::format::*;
 ghost use mathlib.Core.Path.{_≡_};
 ghost use Rattle.language.specs.File.{word, kHeader, kType, kFunctor, kProcedure, kVariable, kRegion, kEdge, kArm, kArgument, kGoal, kLiteral, kSum, kAssign, kConstruct, kSwitch, kIf, kCall, kPrint, kCreate, kRemove};
 ghost use Rattle.records.specs.Records.{recordAs, recordAt};
@@ -9,26 +10,26 @@ ghost use Rattle.records.specs.Records.{recordAs, recordAt};
 pub fn record_at(file: &[u8], i: usize) -> Record
     ensures { λ r. ⌜ r ≡ recordAt (now (file .entry)) i ⌝ }
 {
-    match word(file, i, 0) {
-        1 => read_header(file, i),
-        2 => read_type(file, i),
-        3 => read_functor(file, i),
-        4 => read_procedure(file, i),
-        5 => read_variable(file, i),
-        6 => read_region(file, i),
-        7 => read_edge(file, i),
-        8 => read_literal(file, i),
-        9 => read_sum(file, i),
-        10 => read_assign(file, i),
-        11 => read_construct(file, i),
-        12 => read_switch(file, i),
-        13 => read_arm(file, i),
-        14 => read_if(file, i),
-        15 => read_call(file, i),
-        16 => read_argument(file, i),
-        17 => read_print(file, i),
-        18 => read_create(file, i),
-        19 => read_remove(file, i),
+    match word(file, i, KIND) {
+        HEADER => read_header(file, i),
+        TYPE => read_type(file, i),
+        FUNCTOR => read_functor(file, i),
+        PROCEDURE => read_procedure(file, i),
+        VARIABLE => read_variable(file, i),
+        REGION => read_region(file, i),
+        EDGE => read_edge(file, i),
+        LITERAL => read_literal(file, i),
+        SUM => read_sum(file, i),
+        ASSIGN => read_assign(file, i),
+        CONSTRUCT => read_construct(file, i),
+        SWITCH => read_switch(file, i),
+        ARM => read_arm(file, i),
+        IF => read_if(file, i),
+        CALL => read_call(file, i),
+        ARGUMENT => read_argument(file, i),
+        PRINT => read_print(file, i),
+        CREATE => read_create(file, i),
+        REMOVE => read_remove(file, i),
         _ => Record::Other,
     }
 }
@@ -36,9 +37,9 @@ pub fn record_at(file: &[u8], i: usize) -> Record
 fn read_header(file: &[u8], i: usize) -> Record
     ensures { λ r. ⌜ r ≡ recordAs kHeader (word (now (file .entry)) i) ⌝ }
 {
-    let procedures = word(file, i, 1);
-    let types = word(file, i, 2);
-    let count = word(file, i, 3);
+    let procedures = word(file, i, HEADER_PROCEDURES);
+    let types = word(file, i, HEADER_TYPES);
+    let count = word(file, i, HEADER_COUNT);
     Record::Header {
         procedures,
         types,
@@ -49,20 +50,20 @@ fn read_header(file: &[u8], i: usize) -> Record
 fn read_type(file: &[u8], i: usize) -> Record
     ensures { λ r. ⌜ r ≡ recordAs kType (word (now (file .entry)) i) ⌝ }
 {
-    let next = word(file, i, 1);
-    let functors = word(file, i, 2);
+    let next = word(file, i, NEXT);
+    let functors = word(file, i, TYPE_FUNCTORS);
     Record::Type { next, functors }
 }
 
 fn read_functor(file: &[u8], i: usize) -> Record
     ensures { λ r. ⌜ r ≡ recordAs kFunctor (word (now (file .entry)) i) ⌝ }
 {
-    let next = word(file, i, 1);
-    let arity = word(file, i, 2);
-    let t1 = word(file, i, 3);
-    let t2 = word(file, i, 4);
-    let t3 = word(file, i, 5);
-    let t4 = word(file, i, 6);
+    let next = word(file, i, NEXT);
+    let arity = word(file, i, FUNCTOR_ARITY);
+    let t1 = word(file, i, FUNCTOR_TYPES);
+    let t2 = word(file, i, FUNCTOR_TYPES + 1);
+    let t3 = word(file, i, FUNCTOR_TYPES + 2);
+    let t4 = word(file, i, FUNCTOR_TYPES + 3);
     Record::Functor {
         next,
         arity,
@@ -76,10 +77,10 @@ fn read_functor(file: &[u8], i: usize) -> Record
 fn read_procedure(file: &[u8], i: usize) -> Record
     ensures { λ r. ⌜ r ≡ recordAs kProcedure (word (now (file .entry)) i) ⌝ }
 {
-    let next = word(file, i, 1);
-    let variables = word(file, i, 2);
-    let regions = word(file, i, 3);
-    let goals = word(file, i, 4);
+    let next = word(file, i, NEXT);
+    let variables = word(file, i, PROCEDURE_VARIABLES);
+    let regions = word(file, i, PROCEDURE_REGIONS);
+    let goals = word(file, i, PROCEDURE_GOALS);
     Record::Procedure {
         next,
         variables,
@@ -91,10 +92,10 @@ fn read_procedure(file: &[u8], i: usize) -> Record
 fn read_variable(file: &[u8], i: usize) -> Record
     ensures { λ r. ⌜ r ≡ recordAs kVariable (word (now (file .entry)) i) ⌝ }
 {
-    let next = word(file, i, 1);
-    let mode = word(file, i, 2);
-    let of_type = word(file, i, 3);
-    let region = word(file, i, 4);
+    let next = word(file, i, NEXT);
+    let mode = word(file, i, VARIABLE_MODE);
+    let of_type = word(file, i, VARIABLE_TYPE);
+    let region = word(file, i, VARIABLE_REGION);
     Record::Variable {
         next,
         mode,
@@ -106,10 +107,10 @@ fn read_variable(file: &[u8], i: usize) -> Record
 fn read_region(file: &[u8], i: usize) -> Record
     ensures { λ r. ⌜ r ≡ recordAs kRegion (word (now (file .entry)) i) ⌝ }
 {
-    let next = word(file, i, 1);
-    let of_type = word(file, i, 2);
-    let class = word(file, i, 3);
-    let edges = word(file, i, 4);
+    let next = word(file, i, NEXT);
+    let of_type = word(file, i, REGION_TYPE);
+    let class = word(file, i, REGION_CLASS);
+    let edges = word(file, i, REGION_EDGES);
     Record::Region {
         next,
         of_type,
@@ -121,10 +122,10 @@ fn read_region(file: &[u8], i: usize) -> Record
 fn read_edge(file: &[u8], i: usize) -> Record
     ensures { λ r. ⌜ r ≡ recordAs kEdge (word (now (file .entry)) i) ⌝ }
 {
-    let next = word(file, i, 1);
-    let functor = word(file, i, 2);
-    let position = word(file, i, 3);
-    let target = word(file, i, 4);
+    let next = word(file, i, NEXT);
+    let functor = word(file, i, EDGE_FUNCTOR);
+    let position = word(file, i, EDGE_POSITION);
+    let target = word(file, i, EDGE_TARGET);
     Record::Edge {
         next,
         functor,
@@ -136,20 +137,20 @@ fn read_edge(file: &[u8], i: usize) -> Record
 fn read_literal(file: &[u8], i: usize) -> Record
     ensures { λ r. ⌜ r ≡ recordAs (kGoal kLiteral) (word (now (file .entry)) i) ⌝ }
 {
-    let next = word(file, i, 1);
-    let x = word(file, i, 2);
-    let value = word(file, i, 3);
+    let next = word(file, i, NEXT);
+    let x = word(file, i, GOAL_X);
+    let value = word(file, i, LITERAL_VALUE);
     Record::Literal { next, x, value }
 }
 
 fn read_sum(file: &[u8], i: usize) -> Record
     ensures { λ r. ⌜ r ≡ recordAs (kGoal kSum) (word (now (file .entry)) i) ⌝ }
 {
-    let next = word(file, i, 1);
-    let x = word(file, i, 2);
-    let operation = word(file, i, 3);
-    let y = word(file, i, 4);
-    let z = word(file, i, 5);
+    let next = word(file, i, NEXT);
+    let x = word(file, i, GOAL_X);
+    let operation = word(file, i, SUM_OPERATION);
+    let y = word(file, i, SUM_Y);
+    let z = word(file, i, SUM_Z);
     Record::Sum {
         next,
         x,
@@ -162,22 +163,22 @@ fn read_sum(file: &[u8], i: usize) -> Record
 fn read_assign(file: &[u8], i: usize) -> Record
     ensures { λ r. ⌜ r ≡ recordAs (kGoal kAssign) (word (now (file .entry)) i) ⌝ }
 {
-    let next = word(file, i, 1);
-    let x = word(file, i, 2);
-    let y = word(file, i, 3);
+    let next = word(file, i, NEXT);
+    let x = word(file, i, GOAL_X);
+    let y = word(file, i, ASSIGN_Y);
     Record::Assign { next, x, y }
 }
 
 fn read_construct(file: &[u8], i: usize) -> Record
     ensures { λ r. ⌜ r ≡ recordAs (kGoal kConstruct) (word (now (file .entry)) i) ⌝ }
 {
-    let next = word(file, i, 1);
-    let x = word(file, i, 2);
-    let functor = word(file, i, 3);
-    let a1 = word(file, i, 4);
-    let a2 = word(file, i, 5);
-    let a3 = word(file, i, 6);
-    let a4 = word(file, i, 7);
+    let next = word(file, i, NEXT);
+    let x = word(file, i, GOAL_X);
+    let functor = word(file, i, TERM_FUNCTOR);
+    let a1 = word(file, i, TERM_ARGUMENTS);
+    let a2 = word(file, i, TERM_ARGUMENTS + 1);
+    let a3 = word(file, i, TERM_ARGUMENTS + 2);
+    let a4 = word(file, i, TERM_ARGUMENTS + 3);
     Record::Construct {
         next,
         x,
@@ -192,22 +193,22 @@ fn read_construct(file: &[u8], i: usize) -> Record
 fn read_switch(file: &[u8], i: usize) -> Record
     ensures { λ r. ⌜ r ≡ recordAs (kGoal kSwitch) (word (now (file .entry)) i) ⌝ }
 {
-    let next = word(file, i, 1);
-    let x = word(file, i, 2);
-    let arms = word(file, i, 3);
+    let next = word(file, i, NEXT);
+    let x = word(file, i, GOAL_X);
+    let arms = word(file, i, SWITCH_ARMS);
     Record::Switch { next, x, arms }
 }
 
 fn read_arm(file: &[u8], i: usize) -> Record
     ensures { λ r. ⌜ r ≡ recordAs kArm (word (now (file .entry)) i) ⌝ }
 {
-    let next = word(file, i, 1);
-    let goals = word(file, i, 2);
-    let functor = word(file, i, 3);
-    let a1 = word(file, i, 4);
-    let a2 = word(file, i, 5);
-    let a3 = word(file, i, 6);
-    let a4 = word(file, i, 7);
+    let next = word(file, i, NEXT);
+    let goals = word(file, i, ARM_GOALS);
+    let functor = word(file, i, TERM_FUNCTOR);
+    let a1 = word(file, i, TERM_ARGUMENTS);
+    let a2 = word(file, i, TERM_ARGUMENTS + 1);
+    let a3 = word(file, i, TERM_ARGUMENTS + 2);
+    let a4 = word(file, i, TERM_ARGUMENTS + 3);
     Record::Arm {
         next,
         goals,
@@ -222,11 +223,11 @@ fn read_arm(file: &[u8], i: usize) -> Record
 fn read_if(file: &[u8], i: usize) -> Record
     ensures { λ r. ⌜ r ≡ recordAs (kGoal kIf) (word (now (file .entry)) i) ⌝ }
 {
-    let next = word(file, i, 1);
-    let y = word(file, i, 2);
-    let z = word(file, i, 3);
-    let then_part = word(file, i, 4);
-    let else_part = word(file, i, 5);
+    let next = word(file, i, NEXT);
+    let y = word(file, i, IF_Y);
+    let z = word(file, i, IF_Z);
+    let then_part = word(file, i, IF_THEN);
+    let else_part = word(file, i, IF_ELSE);
     Record::If {
         next,
         y,
@@ -239,9 +240,9 @@ fn read_if(file: &[u8], i: usize) -> Record
 fn read_call(file: &[u8], i: usize) -> Record
     ensures { λ r. ⌜ r ≡ recordAs (kGoal kCall) (word (now (file .entry)) i) ⌝ }
 {
-    let next = word(file, i, 1);
-    let procedure = word(file, i, 2);
-    let arguments = word(file, i, 3);
+    let next = word(file, i, NEXT);
+    let procedure = word(file, i, CALL_PROCEDURE);
+    let arguments = word(file, i, CALL_ARGUMENTS);
     Record::Call {
         next,
         procedure,
@@ -252,31 +253,31 @@ fn read_call(file: &[u8], i: usize) -> Record
 fn read_argument(file: &[u8], i: usize) -> Record
     ensures { λ r. ⌜ r ≡ recordAs kArgument (word (now (file .entry)) i) ⌝ }
 {
-    let next = word(file, i, 1);
-    let variable = word(file, i, 2);
+    let next = word(file, i, NEXT);
+    let variable = word(file, i, ARGUMENT_VARIABLE);
     Record::Argument { next, variable }
 }
 
 fn read_print(file: &[u8], i: usize) -> Record
     ensures { λ r. ⌜ r ≡ recordAs (kGoal kPrint) (word (now (file .entry)) i) ⌝ }
 {
-    let next = word(file, i, 1);
-    let y = word(file, i, 2);
+    let next = word(file, i, NEXT);
+    let y = word(file, i, PRINT_Y);
     Record::Print { next, y }
 }
 
 fn read_create(file: &[u8], i: usize) -> Record
     ensures { λ r. ⌜ r ≡ recordAs (kGoal kCreate) (word (now (file .entry)) i) ⌝ }
 {
-    let next = word(file, i, 1);
-    let region = word(file, i, 2);
+    let next = word(file, i, NEXT);
+    let region = word(file, i, LIFETIME_REGION);
     Record::Create { next, region }
 }
 
 fn read_remove(file: &[u8], i: usize) -> Record
     ensures { λ r. ⌜ r ≡ recordAs (kGoal kRemove) (word (now (file .entry)) i) ⌝ }
 {
-    let next = word(file, i, 1);
-    let region = word(file, i, 2);
+    let next = word(file, i, NEXT);
+    let region = word(file, i, LIFETIME_REGION);
     Record::Remove { next, region }
 }

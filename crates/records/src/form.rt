@@ -1,60 +1,169 @@
-// Number 2, in one pass over the records.
-use crate::words::word;
+// Number 2: a pass over the records, each by its unused words and its references, and a look at the counts.
+use crate::blank::blank_marks;
+use crate::words::word_in;
+use language::format::KIND;
 ghost use mathlib.Core.Path.{_≡_};
 ghost use mathlib.Core.Bool.{true};
-ghost use Prim.Native.Nat.{_+_, _-_, _≤_, _<_, min};
+ghost use Prim.Native.Nat.{ℕ, _+_, _-_, _*_, _≤_, _<_, min};
 ghost use lib.Dec.{eqb};
-ghost use lib.ListN.{length, getD, replicate};
+ghost use lib.ListN.{length, getD};
 ghost use Rattle.language.specs.Lists.{all, upFrom};
-ghost use Rattle.language.specs.File.{word, Chain, Use, first, row, kindOf, referenceOk, recordOk, references, referencesOf, formOk};
+ghost use Rattle.language.specs.Format.{maxRecords};
+ghost use Rattle.language.specs.File.{word, Kind, Chain, Use, first, kindOf, referenceOk, recordOk, references, referencesOf, formOk};
 ghost use Rattle.records.specs.Lists.{counted};
-ghost use Rattle.records.specs.Table.{digit, packed, packedRows};
-ghost use Rattle.records.specs.Form.{Passed, useOk, leads};
+ghost use Rattle.records.specs.Table.{tableOf, digit, packed, lowMost, highMost};
+ghost use Rattle.records.specs.Spare.{LowWords, HighWords};
+ghost use Rattle.records.specs.Form.{Tallied, useOk, leads, refersOk, spareOk};
 
-// The record table, a row for each kind's number. Hex digit k, from the right, is the use of word k: 0 a number, 1 unused, else the
-// chain that it leads to: 2 none, 3 types, 4 functors, 5 procedures, 6 variables, 7 regions, 8 edges, 9 goals, a arms, b arguments. Digit 0
-// is the chain that the kind stands in.
-const ROWS: [usize; 20] = [
-    0x11111122, // no kind
-    0x11110352, // header
-    0x11111433, // type
-    0x10000044, // functor
-    0x11197655, // procedure
-    0x11100066, // variable
-    0x11180077, // region
-    0x11100088, // edge
-    0x11110099, // literal
-    0x11000099, // sum
-    0x11110099, // assign
-    0x00000099, // construct
-    0x1111a099, // switch
-    0x000009aa, // arm
-    0x11990099, // if
-    0x1111b099, // call
-    0x111110bb, // argument
-    0x11111099, // print
-    0x11111099, // create
-    0x11111099, // remove
+// Kinds' numbers are below this.
+const KINDS: usize = 20;
+
+// The record table, a row for each kind's number. Hex digit k, from the right, is the chain that word k leads to: 0 none at all, 1 nowhere,
+// 2 types, 3 functors, 4 procedures, 5 variables, 6 regions, 7 edges, 8 goals, 9 arms, a arguments. Digit 0 is the chain that the kind stands in.
+const ROWS: [usize; KINDS] = [
+    0x11, // no kind
+    0x241, // header
+    0x322, // type
+    0x33, // functor
+    0x86544, // procedure
+    0x55, // variable
+    0x70066, // region
+    0x77, // edge
+    0x88, // literal
+    0x88, // sum
+    0x88, // assign
+    0x88, // construct
+    0x9088, // switch
+    0x899, // arm
+    0x880088, // if
+    0xa088, // call
+    0xaa, // argument
+    0x88, // print
+    0x88, // create
+    0x88, // remove
 ];
 
-// The table in memory, to be lent.
-fn table() -> [usize; 20]
-    ensures { λ r. ⌜ r ≡ packedRows ⌝ }
+// The most that w2 and w3 may be as one number, w2 lowest: the words that a kind does not use are its last ones, and are 0.
+const LOW: [usize; KINDS] = [
+    0, // no kind
+    0xffffffff, // header
+    0xffff, // type
+    0xffffffff, // functor
+    0xffffffff, // procedure
+    0xffffffff, // variable
+    0xffffffff, // region
+    0xffffffff, // edge
+    0xffffffff, // literal
+    0xffffffff, // sum
+    0xffffffff, // assign
+    0xffffffff, // construct
+    0xffffffff, // switch
+    0xffffffff, // arm
+    0xffffffff, // if
+    0xffffffff, // call
+    0xffff, // argument
+    0xffff, // print
+    0xffff, // create
+    0xffff, // remove
+];
+
+// The same of w4 to w7.
+const HIGH: [usize; KINDS] = [
+    0, // no kind
+    0, // header
+    0, // type
+    0xffffffffffff, // functor
+    0xffff, // procedure
+    0xffff, // variable
+    0xffff, // region
+    0xffff, // edge
+    0, // literal
+    0xffffffff, // sum
+    0, // assign
+    0xffffffffffffffff, // construct
+    0, // switch
+    0xffffffffffffffff, // arm
+    0xffffffff, // if
+    0, // call
+    0, // argument
+    0, // print
+    0, // create
+    0, // remove
+];
+
+// The tables in memory, to be lent.
+fn rows() -> [usize; KINDS]
+    ensures { λ r. ⌜ r ≡ tableOf packed ⌝ }
 {
     ROWS
 }
 
-fn row_of(rows: &[usize; 20], kind: usize) -> usize
-    requires { ⌜ now rows ≡ packedRows ⌝ }
-    ensures { λ r. ⌜ r ≡ packed (row (kindOf kind)) ⌝ }
+fn low_most() -> [usize; KINDS]
+    ensures { λ r. ⌜ r ≡ tableOf lowMost ⌝ }
 {
-    if kind < 20 { rows[kind] } else { rows[0] }
+    LOW
+}
+
+fn high_most() -> [usize; KINDS]
+    ensures { λ r. ⌜ r ≡ tableOf highMost ⌝ }
+{
+    HIGH
+}
+
+fn row_of(table: &[usize; KINDS], kind: usize) -> usize
+    ensures { λ r. ⌜ ((f : Kind → ℕ) → now (table .entry) ≡ tableOf f → r ≡ f (kindOf kind)) ⌝ }
+{
+    if kind < KINDS { table[kind] } else { table[0] }
+}
+
+// w2 and w3 of record i as one number.
+fn low_words(file: &[u8], i: usize) -> usize
+    requires { ⌜ 16 * i + 16 ≤ length (now file) ⌝ }
+    ensures { λ r. ⌜ LowWords (word (now (file .entry)) i) r ⌝ }
+{
+    let w2 = word_in(file, i, 2);
+    let w3 = word_in(file, i, 3);
+    w2 + 65536 * w3
+}
+
+// w4 to w7 of record i as one number.
+fn high_words(file: &[u8], i: usize) -> usize
+    requires { ⌜ 16 * i + 16 ≤ length (now file) ⌝ }
+    ensures { λ r. ⌜ HighWords (word (now (file .entry)) i) r ⌝ }
+{
+    let w4 = word_in(file, i, 4);
+    let w5 = word_in(file, i, 5);
+    let w6 = word_in(file, i, 6);
+    let w7 = word_in(file, i, 7);
+    w4 + 65536 * (w5 + 65536 * (w6 + 65536 * w7))
+}
+
+// Whether the words of record i that its kind does not use are 0.
+fn spare_ok(low: &[usize; KINDS], high: &[usize; KINDS], file: &[u8], i: usize) -> bool
+    requires { ⌜ (now low ≡ tableOf lowMost) × (now high ≡ tableOf highMost) ⌝ }
+    requires { ⌜ 16 * i + 16 ≤ length (now file) ⌝ }
+    ensures { λ b. ⌜ b ≡ spareOk (word (now (file .entry))) i ⌝ }
+{
+    let kind = word_in(file, i, KIND);
+    let first = low_words(file, i);
+    let last = high_words(file, i);
+    if row_of(low, kind) < first {
+        return false;
+    }
+    last <= row_of(high, kind)
 }
 
 // Whether r, a reference of record i, ends its chain or goes up to a record that stands in such a chain.
-fn reference_ok(rows: &[usize; 20], file: &[u8], n: usize, i: usize, r: usize, chain: usize) -> bool
-    requires { ⌜ now rows ≡ packedRows ⌝ }
-    requires { ⌜ i < n ⌝ }
+fn reference_ok(
+    rows: &[usize; KINDS],
+    file: &[u8],
+    n: usize,
+    i: usize,
+    r: usize,
+    chain: usize,
+) -> bool
+    requires { ⌜ now rows ≡ tableOf packed ⌝ }
+    requires { ⌜ (i < n) × (16 * n ≤ length (now file)) ⌝ }
     ensures { λ b. ⌜ ((c : Chain) → chain ≡ digit (first c) → b ≡ referenceOk (word (now (file .entry))) n i c r) × (b ≡ true → r < n) ⌝ }
 {
     if r == 0 {
@@ -66,7 +175,7 @@ fn reference_ok(rows: &[usize; 20], file: &[u8], n: usize, i: usize, r: usize, c
     if n <= r {
         return false;
     }
-    row_of(rows, word(file, r, 0)) % 16 == chain
+    row_of(rows, word_in(file, r, KIND)) % 16 == chain
 }
 
 fn one_more(x: u8) -> u8
@@ -75,52 +184,52 @@ fn one_more(x: u8) -> u8
     if x < 2 { x + 1 } else { 2 }
 }
 
-// Counts a reference to record r, up to 2.
+// Counts a reference to record r, up to 2; none leads to record 0.
 fn count(seen: &mut [u8], r: usize)
     requires { ⌜ r < length (now seen) ⌝ }
     ensures { λ _. ⌜ now (seen .exit) ≡ counted (now (seen .entry)) r ⌝ }
 {
+    if r == 0 {
+        return;
+    }
     let x = seen[r];
     seen[r] = one_more(x);
 }
 
-// Whether word k of record i is as its use asks. Counts what it refers to.
+// Whether word k of record i is a reference as it should be, or none where chain is 0. Counts what it refers to.
 fn word_ok(
-    rows: &[usize; 20],
+    rows: &[usize; KINDS],
     file: &[u8],
     seen: &mut [u8],
     n: usize,
     i: usize,
     k: usize,
-    used: usize,
+    chain: usize,
 ) -> bool
-    requires { ⌜ now rows ≡ packedRows ⌝ }
-    requires { ⌜ (k < 8) × (i < n) × (n ≤ length (now seen)) ⌝ }
-    ensures { λ b. ⌜ ((u : Use) → used ≡ digit u → Passed b (useOk (word (now (file .entry))) n i k u) (leads (word (now (file .entry))) n i k u) (now (seen .entry)) (now (seen .exit))) ⌝ }
+    requires { ⌜ now rows ≡ tableOf packed ⌝ }
+    requires { ⌜ (k < 8) × (i < n) × (n ≤ length (now seen)) × (16 * n ≤ length (now file)) ⌝ }
+    ensures { λ b. ⌜ ((u : Use) → chain ≡ digit u → Tallied b (useOk (word (now (file .entry))) n i k u) (leads (word (now (file .entry))) n i k u) (now (seen .entry)) (now (seen .exit))) ⌝ }
 {
-    if used == 0 {
+    if chain == 0 {
         return true;
     }
-    let w = word(file, i, k);
-    if used == 1 {
-        return w == 0;
-    }
-    if !reference_ok(rows, file, n, i, w, used) {
+    let r = word_in(file, i, k);
+    if !reference_ok(rows, file, n, i, r, chain) {
         return false;
     }
-    count(seen, w);
+    count(seen, r);
     true
 }
 
-// Whether record i is in order. Counts what it refers to.
-fn record_ok(rows: &[usize; 20], file: &[u8], seen: &mut [u8], n: usize, i: usize) -> bool
-    requires { ⌜ now rows ≡ packedRows ⌝ }
-    requires { ⌜ (i < n) × (n ≤ length (now seen)) ⌝ }
-    ensures { λ b. ⌜ Passed b (recordOk (word (now (file .entry))) n i) (references (word (now (file .entry))) n i) (now (seen .entry)) (now (seen .exit)) ⌝ }
+// Whether the references of record i are in order. Counts what they refer to.
+fn refers_ok(rows: &[usize; KINDS], file: &[u8], seen: &mut [u8], n: usize, i: usize) -> bool
+    requires { ⌜ now rows ≡ tableOf packed ⌝ }
+    requires { ⌜ (i < n) × (n ≤ length (now seen)) × (16 * n ≤ length (now file)) ⌝ }
+    ensures { λ b. ⌜ Tallied b (refersOk (word (now (file .entry))) n i) (references (word (now (file .entry))) n i) (now (seen .entry)) (now (seen .exit)) ⌝ }
 {
-    let mut row = row_of(rows, word(file, i, 0)) / 16;
+    let mut row = row_of(rows, word_in(file, i, KIND)) / 16;
     let mut k: usize = 1;
-    while k < 8 {
+    while row != 0 {
         if !word_ok(rows, file, seen, n, i, k, row % 16) {
             return false;
         }
@@ -130,15 +239,37 @@ fn record_ok(rows: &[usize; 20], file: &[u8], seen: &mut [u8], n: usize, i: usiz
     true
 }
 
-// Whether every record is. Counts what they refer to.
-fn records_ok(rows: &[usize; 20], file: &[u8], seen: &mut [u8], n: usize) -> bool
-    requires { ⌜ now rows ≡ packedRows ⌝ }
-    requires { ⌜ n ≤ length (now seen) ⌝ }
-    ensures { λ b. ⌜ Passed b (all (recordOk (word (now (file .entry))) n) (upFrom 0 n)) (referencesOf (word (now (file .entry))) n (upFrom 0 n)) (now (seen .entry)) (now (seen .exit)) ⌝ }
+// Whether record i is in order. Counts what it refers to.
+fn record_ok(
+    rows: &[usize; KINDS],
+    low: &[usize; KINDS],
+    high: &[usize; KINDS],
+    file: &[u8],
+    seen: &mut [u8],
+    n: usize,
+    i: usize,
+) -> bool
+    requires { ⌜ (now rows ≡ tableOf packed) × (now low ≡ tableOf lowMost) × (now high ≡ tableOf highMost) ⌝ }
+    requires { ⌜ (i < n) × (n ≤ length (now seen)) × (16 * n ≤ length (now file)) ⌝ }
+    ensures { λ b. ⌜ Tallied b (recordOk (word (now (file .entry))) n i) (references (word (now (file .entry))) n i) (now (seen .entry)) (now (seen .exit)) ⌝ }
 {
+    if !spare_ok(low, high, file, i) {
+        return false;
+    }
+    refers_ok(rows, file, seen, n, i)
+}
+
+// Whether every record is. Counts what they refer to.
+fn records_ok(file: &[u8], seen: &mut [u8], n: usize) -> bool
+    requires { ⌜ (n ≤ length (now seen)) × (16 * n ≤ length (now file)) ⌝ }
+    ensures { λ b. ⌜ Tallied b (all (recordOk (word (now (file .entry))) n) (upFrom 0 n)) (referencesOf (word (now (file .entry))) n (upFrom 0 n)) (now (seen .entry)) (now (seen .exit)) ⌝ }
+{
+    let table = rows();
+    let low = low_most();
+    let high = high_most();
     let mut i: usize = 0;
     while i < n {
-        if !record_ok(rows, file, seen, n, i) {
+        if !record_ok(&table, &low, &high, file, seen, n, i) {
             return false;
         }
         i += 1;
@@ -161,20 +292,13 @@ fn all_once(seen: &[u8], n: usize) -> bool
     true
 }
 
-fn nothing_seen() -> [u8; 4096]
-    ensures { λ r. ⌜ r ≡ replicate 4096 0 ⌝ }
-{
-    [0; 4096]
-}
-
 // Number 2, over the words of n records.
 pub(crate) fn form_ok(file: &[u8], n: usize) -> bool
-    requires { ⌜ n ≤ 4096 ⌝ }
+    requires { ⌜ (n ≤ maxRecords) × (16 * n ≤ length (now file)) ⌝ }
     ensures { λ b. ⌜ b ≡ formOk (word (now (file .entry))) n ⌝ }
 {
-    let rows = table();
-    let mut seen = nothing_seen();
-    if !records_ok(&rows, file, &mut seen, n) {
+    let mut seen = blank_marks();
+    if !records_ok(file, &mut seen, n) {
         return false;
     }
     all_once(&seen, n)

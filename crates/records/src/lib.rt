@@ -1,4 +1,5 @@
 // Record reading: words, the decoded record, and numbers 1 and 2.
+pub mod blank;
 mod decode;
 mod form;
 mod stage;

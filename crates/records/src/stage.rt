@@ -4,6 +4,7 @@ use crate::words::header_ok;
 use crate::words::word;
 use language::Refusal;
 use language::Verdict;
+use language::format::HEADER_COUNT;
 ghost use mathlib.Core.Path.{_≡_};
 ghost use Rattle.records.specs.Verdicts.{formVerdict};
 
@@ -13,7 +14,7 @@ pub fn check_form(file: &[u8]) -> Verdict
     if !header_ok(file) {
         return Verdict::Refused(Refusal::Header);
     }
-    let n = word(file, 0, 3);
+    let n = word(file, 0, HEADER_COUNT);
     if !form_ok(file, n) {
         return Verdict::Refused(Refusal::Form);
     }

@@ -1,7 +1,12 @@
 // Words of a file, and number 1.
+use language::format::HEADER;
+use language::format::HEADER_COUNT;
+use language::format::KIND;
+use language::format::MAX_BYTES;
+use language::format::RECORD_BYTES;
 ghost use mathlib.Core.Path.{_≡_};
-ghost use Prim.Native.Nat.{_<_};
-ghost use lib.ListN.{getD};
+ghost use Prim.Native.Nat.{_+_, _*_, _≤_, _<_};
+ghost use lib.ListN.{length, getD};
 ghost use Rattle.language.specs.File.{word, headerOk};
 
 fn wide(x: u8) -> usize
@@ -15,13 +20,21 @@ pub fn word(file: &[u8], i: usize, k: usize) -> usize
     requires { ⌜ k < 8 ⌝ }
     ensures { λ r. ⌜ (r ≡ word (now (file .entry)) i k) × (r < 65536) ⌝ }
 {
-    if i < file.len() / 16 {
-        let at = 16 * i + 2 * k;
-        let low = wide(file[at]);
-        let high = wide(file[at + 1]);
-        return low + 256 * high;
+    if i < file.len() / RECORD_BYTES {
+        return word_in(file, i, k);
     }
     last_word(file, i, k)
+}
+
+// The same of a record that the file has whole.
+pub(crate) fn word_in(file: &[u8], i: usize, k: usize) -> usize
+    requires { ⌜ (k < 8) × (16 * i + 16 ≤ length (now file)) ⌝ }
+    ensures { λ r. ⌜ (r ≡ word (now (file .entry)) i k) × (r < 65536) ⌝ }
+{
+    let at = RECORD_BYTES * i + 2 * k;
+    let low = wide(file[at]);
+    let high = wide(file[at + 1]);
+    low + 256 * high
 }
 
 // The same where the file ends in record i, or before it.
@@ -29,10 +42,10 @@ fn last_word(file: &[u8], i: usize, k: usize) -> usize
     requires { ⌜ k < 8 ⌝ }
     ensures { λ r. ⌜ (r ≡ word (now (file .entry)) i k) × (r < 65536) ⌝ }
 {
-    if i > file.len() / 16 {
+    if i > file.len() / RECORD_BYTES {
         return 0;
     }
-    let at = 16 * i + 2 * k;
+    let at = RECORD_BYTES * i + 2 * k;
     let low = byte(file, at);
     let high = byte(file, at + 1);
     low + 256 * high
@@ -49,14 +62,14 @@ fn byte(file: &[u8], at: usize) -> usize
 pub fn header_ok(file: &[u8]) -> bool
     ensures { λ r. ⌜ r ≡ headerOk (now (file .entry)) ⌝ }
 {
-    if file.len() < 16 {
+    if file.len() < RECORD_BYTES {
         return false;
     }
-    if file.len() > 65536 {
+    if file.len() > MAX_BYTES {
         return false;
     }
-    if file.len() != 16 * word(file, 0, 3) {
+    if file.len() != RECORD_BYTES * word(file, 0, HEADER_COUNT) {
         return false;
     }
-    word(file, 0, 0) == 1
+    word(file, 0, KIND) == HEADER
 }

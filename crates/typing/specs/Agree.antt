@@ -11,6 +11,7 @@ use Rattle.sets.specs.Tests.{_&_}
 use Rattle.language.specs.Lists.{choose, among, nth, nth1}
 use Rattle.language.specs.Program.{Four, four, fourWords, trimOnto, trimmed, argumentsOf, Functor, Variable, Signature, variableAt, typeOf, parameterIn, parametersFrom, parametersOf, parameterVariables}
 use Rattle.language.specs.Typing.{typesIn, isVariable, hasType, haveTypes, argumentsOk, typesOf, parameterTypes}
+use Rattle.laws.specs.Tests.{and-yes}
 use Rattle.typing.specs.Arguments.{argumentSlot, argumentSlots, argumentsFit}
 use Rattle.typing.specs.Settings.{VariablesAgree}
 use Rattle.typing.specs.Parameters.{takes, takenTypes}
@@ -56,22 +57,17 @@ module _ (S : Signature) where
   trim-fit (suc n) (t ∷ ts) [] e = absurd (omega arith)
   trim-fit (suc n) (t ∷ ts) (a ∷ as′) e = trim-one t (take n ts) a (trimmed as′) (trim-fit n ts as′ (omega arith))
 
-and-unit : (a : Bool) → (a & true) ≡ a
-unfolding _&_
-and-unit true = refl
-and-unit false = refl
-
 module _ (f t : List ℕ) (S : Signature) (agree : VariablesAgree f t S) where
   slots-fit : (arity t1 t2 t3 t4 a1 a2 a3 a4 : ℕ)
       → argumentSlots f t arity (four t1 t2 t3 t4) (four a1 a2 a3 a4) ≡ fit S arity (t1 ∷ t2 ∷ t3 ∷ t4 ∷ []) (a1 ∷ a2 ∷ a3 ∷ a4 ∷ [])
   unfolding argumentSlots argumentSlot choose fit zeros
-  slots-fit zero t1 t2 t3 t4 a1 a2 a3 a4 = rw (and-unit (eqb a4 0))
-  slots-fit (suc zero) t1 t2 t3 t4 a1 a2 a3 a4 = rw (agree t1 a1, and-unit (eqb a4 0))
-  slots-fit (suc (suc zero)) t1 t2 t3 t4 a1 a2 a3 a4 = rw (agree t1 a1, agree t2 a2, and-unit (eqb a4 0))
-  slots-fit (suc (suc (suc zero))) t1 t2 t3 t4 a1 a2 a3 a4 = rw (agree t1 a1, agree t2 a2, agree t3 a3, and-unit (eqb a4 0))
-  slots-fit (suc (suc (suc (suc zero)))) t1 t2 t3 t4 a1 a2 a3 a4 = rw (agree t1 a1, agree t2 a2, agree t3 a3, agree t4 a4, and-unit (hasType S t4 a4))
+  slots-fit zero t1 t2 t3 t4 a1 a2 a3 a4 = rw (and-yes (eqb a4 0))
+  slots-fit (suc zero) t1 t2 t3 t4 a1 a2 a3 a4 = rw (agree t1 a1, and-yes (eqb a4 0))
+  slots-fit (suc (suc zero)) t1 t2 t3 t4 a1 a2 a3 a4 = rw (agree t1 a1, agree t2 a2, and-yes (eqb a4 0))
+  slots-fit (suc (suc (suc zero))) t1 t2 t3 t4 a1 a2 a3 a4 = rw (agree t1 a1, agree t2 a2, agree t3 a3, and-yes (eqb a4 0))
+  slots-fit (suc (suc (suc (suc zero)))) t1 t2 t3 t4 a1 a2 a3 a4 = rw (agree t1 a1, agree t2 a2, agree t3 a3, agree t4 a4, and-yes (hasType S t4 a4))
   slots-fit (suc (suc (suc (suc (suc m))))) t1 t2 t3 t4 a1 a2 a3 a4 =
-      rw (lt-ltb 0 (suc (suc (suc (suc (suc m))))) (omega arith), lt-ltb 1 (suc (suc (suc (suc (suc m))))) (omega arith), lt-ltb 2 (suc (suc (suc (suc (suc m))))) (omega arith), lt-ltb 3 (suc (suc (suc (suc (suc m))))) (omega arith), agree t1 a1, agree t2 a2, agree t3 a3, agree t4 a4, and-unit (hasType S t4 a4))
+      rw (lt-ltb 0 (suc (suc (suc (suc (suc m))))) (omega arith), lt-ltb 1 (suc (suc (suc (suc (suc m))))) (omega arith), lt-ltb 2 (suc (suc (suc (suc (suc m))))) (omega arith), lt-ltb 3 (suc (suc (suc (suc (suc m))))) (omega arith), agree t1 a1, agree t2 a2, agree t3 a3, agree t4 a4, and-yes (hasType S t4 a4))
 
   slots-are : (arity : ℕ) (ts ys : Four) → argumentSlots f t arity ts ys ≡ haveTypes S (take arity (fourWords ts)) (argumentsOf ys)
   unfolding fourWords argumentsOf

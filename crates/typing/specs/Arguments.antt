@@ -8,6 +8,7 @@ use mathlib.Core.List.{List}
 use lib.Dec.{eqb, leb, ltb}
 use lib.ListN.{length}
 use Rattle.sets.specs.Tests.{_&_}
+use Rattle.language.specs.Format.{variableType, goalX, sumOperation, sumY, sumZ, assignY, termFunctor, ifY, ifZ}
 use Rattle.language.specs.Lists.{choose, nth}
 use Rattle.language.specs.File.{word}
 use Rattle.language.specs.Program.{Four, four, Functor, functorAt}
@@ -16,14 +17,14 @@ use Rattle.chains.specs.Elements.{functors-count}
 use Rattle.chains.specs.Reached.{place-below, place-past}
 use Rattle.chains.specs.Lookups.{functor-of}
 use Rattle.chains.specs.Records.{chainRecords, records-some}
-use Rattle.declarations.specs.Both.{fails, holds, refuse, pass}
+use Rattle.laws.specs.Tests.{and-stop, and-on, refuse, pass}
 use Rattle.declarations.specs.Names.{listedIn, wordIn, typedIn}
 use Rattle.declarations.specs.Functors.{functorAtRecord, functor-same}
 use Rattle.typing.specs.Places.{placeIn, FunctorTable}
 
 module _ (f t : List ℕ) where
   unfoldable pub argumentSlot : ℕ → ℕ → ℕ → ℕ → Bool
-  argumentSlot arity k ty a = choose (ltb k arity) (typedIn f t 3 ty a) (eqb a 0)
+  argumentSlot arity k ty a = choose (ltb k arity) (typedIn f t variableType ty a) (eqb a 0)
 
   unfoldable pub argumentSlots : ℕ → Four → Four → Bool
   argumentSlots arity (four t1 t2 t3 t4) (four a1 a2 a3 a4) =
@@ -34,14 +35,16 @@ module _ (f t : List ℕ) where
 
   -- of the steps at record i
   unfoldable pub sumFits : ℕ → Bool
-  sumFits i = typedIn f t 3 0 (word f i 2) & leb (word f i 3) 1 & typedIn f t 3 0 (word f i 4) & typedIn f t 3 0 (word f i 5)
+  sumFits i =
+      typedIn f t variableType 0 (word f i goalX) & leb (word f i sumOperation) 1 & typedIn f t variableType 0 (word f i sumY)
+      & typedIn f t variableType 0 (word f i sumZ)
 
   unfoldable pub assignFits : ℕ → Bool
-  assignFits i = listedIn t (word f i 2) & typedIn f t 3 (wordIn f t 3 (word f i 2)) (word f i 3)
+  assignFits i = listedIn t (word f i goalX) & typedIn f t variableType (wordIn f t variableType (word f i goalX)) (word f i assignY)
 
   -- of an if
   unfoldable pub comparedFits : ℕ → Bool
-  comparedFits i = typedIn f t 3 0 (word f i 2) & typedIn f t 3 0 (word f i 3)
+  comparedFits i = typedIn f t variableType 0 (word f i ifY) & typedIn f t variableType 0 (word f i ifZ)
 
 -- the arguments of a construct or an arm
 unfoldable pub argumentsAtRecord : List ℕ → ℕ → Four
@@ -49,22 +52,22 @@ argumentsAtRecord f i = four (word f i 4) (word f i 5) (word f i 6) (word f i 7)
 
 -- an arm against functor n, of record g: the number and the arguments
 unfoldable pub armFits : List ℕ → List ℕ → ℕ → ℕ → ℕ → Bool
-armFits f t g n i = ltb 0 g & eqb (word f i 3) n & argumentsFit f t (functorAtRecord f g) (argumentsAtRecord f i)
+armFits f t g n i = ltb 0 g & eqb (word f i termFunctor) n & argumentsFit f t (functorAtRecord f g) (argumentsAtRecord f i)
 
 -- the functors of x's type
 unfoldable pub functorsHere : List ℕ → List ℕ → List ℕ → ℕ → List Functor
-functorsHere f fs t x = functorsAt f (placeIn fs (wordIn f t 3 x) 0)
+functorsHere f fs t x = functorsAt f (placeIn fs (wordIn f t variableType x) 0)
 
 unfoldable pub constructFits : List ℕ → List ℕ → List ℕ → ℕ → Bool
 constructFits f fs t i =
-    listedIn t (word f i 2) & ltb (word f i 3) (length (functorsHere f fs t (word f i 2)))
-    & argumentsFit f t (functorAt (functorsHere f fs t (word f i 2)) (word f i 3)) (argumentsAtRecord f i)
+    listedIn t (word f i goalX) & ltb (word f i termFunctor) (length (functorsHere f fs t (word f i goalX)))
+    & argumentsFit f t (functorAt (functorsHere f fs t (word f i goalX)) (word f i termFunctor)) (argumentsAtRecord f i)
 
 -- ---- what the code computes
 module _ (f t : List ℕ) (g n i : ℕ) where
   pub arm-none : g ≡ 0 → false ≡ armFits f t g n i
   unfolding armFits
-  arm-none e = fails _ (le-ltb 0 g (omega arith))
+  arm-none e = and-stop _ (le-ltb 0 g (omega arith))
 
   pub arm-some : {r : Bool} → r ≡ armFits f t g n i → r ≡ true → g ≡ 0 → ⊥
   arm-some e p z = false≢true (arm-none z ∙ sym e ∙ p)
@@ -72,15 +75,15 @@ module _ (f t : List ℕ) (g n i : ℕ) where
   module _ (z : g ≡ 0 → ⊥) {w : ℕ} (ew : w ≡ word f i 3) where
     pub arm-order : (w ≡ n → ⊥) → false ≡ armFits f t g n i
     unfolding armFits
-    arm-order h = holds (lt-ltb 0 g (omega arith)) (fails _ (rw (sym ew) (ne-eqb w n h)))
+    arm-order h = and-on (lt-ltb 0 g (omega arith)) (and-stop _ (rw (sym ew) (ne-eqb w n h)))
 
     pub arm-all : w ≡ n → {q : Bool} → q ≡ argumentsFit f t (functorAtRecord f g) (argumentsAtRecord f i) → q ≡ armFits f t g n i
     unfolding armFits
-    arm-all h k = holds (lt-ltb 0 g (omega arith)) (holds (rw (sym ew) (eq-eqb w n h)) k)
+    arm-all h k = and-on (lt-ltb 0 g (omega arith)) (and-on (rw (sym ew) (eq-eqb w n h)) k)
 
 module _ (f t : List ℕ) where
   module _ (arity k u : ℕ) {a v : ℕ} (ea : a ≡ v) where
-    pub argument-in : {ty : ℕ} {r : Bool} → k < arity → ty ≡ u → r ≡ typedIn f t 3 ty a → r ≡ argumentSlot f t arity k u v
+    pub argument-in : {ty : ℕ} {r : Bool} → k < arity → ty ≡ u → r ≡ typedIn f t variableType ty a → r ≡ argumentSlot f t arity k u v
     unfolding argumentSlot choose
     argument-in h et e = rw (lt-ltb k arity h, sym et, sym ea) e
 
@@ -112,7 +115,7 @@ module _ (f t : List ℕ) where
           unfolding argumentSlots argumentsAtRecord
           arguments-all p3 e4 = pass e1 p1 (pass e2 p2 (pass e3 p3 e4)) ∙ arguments-same
 
-  module _ (i : ℕ) {r1 : Bool} (e1 : r1 ≡ typedIn f t 3 0 (word f i 2)) where
+  module _ (i : ℕ) {r1 : Bool} (e1 : r1 ≡ typedIn f t variableType 0 (word f i 2)) where
     pub sum-first : r1 ≡ false → false ≡ sumFits f t i
     unfolding sumFits
     sum-first p1 = refuse _ e1 p1
@@ -120,22 +123,22 @@ module _ (f t : List ℕ) where
     module _ (p1 : r1 ≡ true) {o : ℕ} (eo : o ≡ word f i 3) where
       pub sum-operation : 1 < o → false ≡ sumFits f t i
       unfolding sumFits
-      sum-operation h = pass e1 p1 (fails _ (lt-leb (word f i 3) 1 (omega arith)))
+      sum-operation h = pass e1 p1 (and-stop _ (lt-leb (word f i 3) 1 (omega arith)))
 
-      module _ (h : o ≤ 1) {r2 : Bool} (e2 : r2 ≡ typedIn f t 3 0 (word f i 4)) where
+      module _ (h : o ≤ 1) {r2 : Bool} (e2 : r2 ≡ typedIn f t variableType 0 (word f i 4)) where
         pub sum-second : r2 ≡ false → false ≡ sumFits f t i
         unfolding sumFits
-        sum-second p2 = pass e1 p1 (holds (le-leb (word f i 3) 1 (omega arith)) (refuse _ e2 p2))
+        sum-second p2 = pass e1 p1 (and-on (le-leb (word f i 3) 1 (omega arith)) (refuse _ e2 p2))
 
-        pub sum-all : {r3 : Bool} → r2 ≡ true → r3 ≡ typedIn f t 3 0 (word f i 5) → r3 ≡ sumFits f t i
+        pub sum-all : {r3 : Bool} → r2 ≡ true → r3 ≡ typedIn f t variableType 0 (word f i 5) → r3 ≡ sumFits f t i
         unfolding sumFits
-        sum-all p2 e3 = pass e1 p1 (holds (le-leb (word f i 3) 1 (omega arith)) (pass e2 p2 e3))
+        sum-all p2 e3 = pass e1 p1 (and-on (le-leb (word f i 3) 1 (omega arith)) (pass e2 p2 e3))
 
     pub compared-none : r1 ≡ false → false ≡ comparedFits f t i
     unfolding comparedFits
     compared-none p1 = refuse _ e1 p1
 
-    pub compared-all : {q : Bool} → r1 ≡ true → q ≡ typedIn f t 3 0 (word f i 3) → q ≡ comparedFits f t i
+    pub compared-all : {q : Bool} → r1 ≡ true → q ≡ typedIn f t variableType 0 (word f i 3) → q ≡ comparedFits f t i
     unfolding comparedFits
     compared-all p1 eq = pass e1 p1 eq
 
@@ -144,7 +147,7 @@ module _ (f t : List ℕ) where
     unfolding assignFits
     assign-none p = refuse _ (e ∙ ap (listedIn t) ex) p
 
-    pub assign-all : {ty y : ℕ} {q : Bool} → r ≡ true → ty ≡ wordIn f t 3 x → y ≡ word f i 3 → q ≡ typedIn f t 3 ty y → q ≡ assignFits f t i
+    pub assign-all : {ty y : ℕ} {q : Bool} → r ≡ true → ty ≡ wordIn f t variableType x → y ≡ word f i 3 → q ≡ typedIn f t variableType ty y → q ≡ assignFits f t i
     unfolding assignFits
     assign-all p et ey eq = pass (e ∙ ap (listedIn t) ex) p (rw (sym ex, sym et, sym ey) eq)
 
@@ -155,7 +158,7 @@ module _ (f fs t : List ℕ) (i : ℕ) {x : ℕ} {r : Bool} (ex : x ≡ word f i
   construct-unlisted p = refuse _ (e ∙ ap (listedIn t) ex) p
 
   module _ (F : Formed f) (T : FunctorTable f fs) (p : r ≡ true) {ty n g : ℕ}
-      (et : ty ≡ wordIn f t 3 x) (en : n ≡ word f i 3) (ep : g ≡ placeIn fs ty n) where
+      (et : ty ≡ wordIn f t variableType x) (en : n ≡ word f i 3) (ep : g ≡ placeIn fs ty n) where
     abbrev st : ℕ
     st = placeIn fs ty 0
 
@@ -175,9 +178,9 @@ module _ (f fs t : List ℕ) (i : ℕ) {x : ℕ} {r : Bool} (ex : x ≡ word f i
 
     pub construct-none : g ≡ 0 → false ≡ constructFits f fs t i
     construct-none z =
-        construct-as (fails _ (le-ltb n (length (functorsHere f fs t x)) (omega (arith, here-length, place-past (chainRecords f st) (records-some f st) n (sym eg ∙ z)))))
+        construct-as (and-stop _ (le-ltb n (length (functorsHere f fs t x)) (omega (arith, here-length, place-past (chainRecords f st) (records-some f st) n (sym eg ∙ z)))))
 
     pub construct-some : {q : Bool} → (g ≡ 0 → ⊥) → q ≡ argumentsFit f t (functorAtRecord f g) (argumentsAtRecord f i) → q ≡ constructFits f fs t i
     construct-some z eq =
         let d : functorAt (functorsHere f fs t x) n ≡ functorAtRecord f g = functor-of F (T .type ty .starts) here-same n eg ∙ functor-same f g z in
-        construct-as (holds (lt-ltb n (length (functorsHere f fs t x)) (omega (arith, here-length, place-below (chainRecords f st) n (λ q. z (eg ∙ q))))) (eq ∙ ap (λ k. argumentsFit f t k (argumentsAtRecord f i)) (sym d)))
+        construct-as (and-on (lt-ltb n (length (functorsHere f fs t x)) (omega (arith, here-length, place-below (chainRecords f st) n (λ q. z (eg ∙ q))))) (eq ∙ ap (λ k. argumentsFit f t k (argumentsAtRecord f i)) (sym d)))

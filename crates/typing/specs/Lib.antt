@@ -1,4 +1,3 @@
-pub mod Numbers
 pub mod Parameters
 pub mod Places
 pub mod Settings

@@ -7,14 +7,13 @@ use mathlib.Core.List.{List, [], _∷_}
 use mathlib.Core.Logic.{_⊎_, inl, inr}
 use lib.ListN.{length, getD, set, length-set}
 use lib.Seq.{getD-set-same, getD-set-other}
-use Rattle.language.specs.File.{kVariable, variables, word, recordCount}
+use Rattle.language.specs.Format.{kindWord, nextWord, headerCount, variableMode, variableType, variableKind, maxRecords}
+use Rattle.language.specs.File.{variables, word, recordCount}
 use Rattle.language.specs.Program.{Variable}
-use Rattle.layout.specs.Table.{all-rows}
-use Rattle.layout.specs.Chains.{starts-kind, variables-kind}
-use Rattle.chains.specs.Formed.{Formed, Stands, stands-none, stands-starts, Onward, variablesAt, ahead}
+use Rattle.chains.specs.Formed.{Formed, Stands, stands-none, Onward, variablesAt, ahead}
 use Rattle.chains.specs.Is.{variable-is}
+use Rattle.chains.specs.Shapes.{variable-number}
 use Rattle.chains.specs.Declared.{variable-at}
-use Rattle.typing.specs.Numbers.{kind-number}
 
 -- the types of the variables that take an argument
 unfoldable pub takes : ℕ → ℕ → List ℕ → List ℕ
@@ -29,7 +28,7 @@ takenTypes (v ∷ vs) = takes (v .mode) (v .type) (takenTypes vs)
 pub record Parameter (f : List ℕ) (v u : ℕ) : Type 0 where
   pub stands : Stands f variables u
   pub falls : ahead f u ≤ ahead f v
-  pub passes : (u ≡ 0 → ⊥) → word f u 2 ≡ 0 → ⊥
+  pub passes : (u ≡ 0 → ⊥) → word f u variableMode ≡ 0 → ⊥
   pub same : takenTypes (variablesAt f u) ≡ takenTypes (variablesAt f v)
 
 pub record ParameterTable (f t : List ℕ) : Type 0 where
@@ -46,27 +45,26 @@ takes-one zero ty ts n = absurd (n refl)
 takes-one (suc m) ty ts n = refl
 
 module _ {f : List ℕ} (F : Formed f) (v : ℕ) (s : Stands f variables v) (z : v ≡ 0 → ⊥) where
-  taken-as : takenTypes (variablesAt f v) ≡ takes (word f v 2) (word f v 3) (takenTypes (variablesAt f (word f v 1)))
+  taken-as : takenTypes (variablesAt f v) ≡ takes (word f v variableMode) (word f v variableType) (takenTypes (variablesAt f (word f v nextWord)))
   unfolding takenTypes
   taken-as = rw (variable-at F refl (variable-is s z) .view)
 
-  taken-local : word f v 2 ≡ 0 → takenTypes (variablesAt f v) ≡ takenTypes (variablesAt f (word f v 1))
+  taken-local : word f v variableMode ≡ 0 → takenTypes (variablesAt f v) ≡ takenTypes (variablesAt f (word f v nextWord))
   taken-local m = taken-as ∙ takes-none _ _ _ m
 
-  pub taken-one : (word f v 2 ≡ 0 → ⊥) → takenTypes (variablesAt f v) ≡ word f v 3 ∷ takenTypes (variablesAt f (word f v 1))
+  pub taken-one : (word f v variableMode ≡ 0 → ⊥) → takenTypes (variablesAt f v) ≡ word f v variableType ∷ takenTypes (variablesAt f (word f v nextWord))
   taken-one m = taken-as ∙ takes-one _ _ _ m
 
-  onward : Onward f variables v (word f v 1)
+  onward : Onward f variables v (word f v nextWord)
   onward = variable-at F refl (variable-is s z) .to-next
 
   -- a record that is no variable's stands in no chain of variables
-  pub is-variable : word f v 0 ≡ 5
-  unfolding all-rows
-  is-variable = kind-number (word f v 0) kVariable (variables-kind (starts-kind (word f) (recordCount f) v variables (omega arith) (stands-starts s) .1)) λ e. let q : _≡_ {A = ℕ} 0 1 = cc in omega arith
+  pub is-variable : word f v kindWord ≡ variableKind
+  is-variable = variable-number s z
 
 -- ---- what the code computes: the table has the records from i on
-pub record Listed (f t : List ℕ) (i : ℕ) : Type 0 where
-  pub size : 4096 ≤ length t
+pub record ListedFrom (f t : List ℕ) (i : ℕ) : Type 0 where
+  pub size : maxRecords ≤ length t
   pub right : (v : ℕ) → (v ≡ 0) ⊎ (i ≤ v) → Stands f variables v → Parameter f v (getD t v 0)
 
 parameter-none : {f : List ℕ} → Formed f → {v u : ℕ} → v ≡ 0 → u ≡ 0 → Parameter f v u
@@ -77,20 +75,20 @@ parameter-none {f} F e d = record {
   same = rw (d, e);
 }
 
-listed-start : {f : List ℕ} (t : List ℕ) → Formed f → 4096 ≤ length t → Listed f (set t 0 0) (recordCount f)
+listed-start : {f : List ℕ} (t : List ℕ) → Formed f → maxRecords ≤ length t → ListedFrom f (set t 0 0) (recordCount f)
 listed-start {f} t F h = record { size = simp length-set h; right = at }
   where
     at : (v : ℕ) → (v ≡ 0) ⊎ (recordCount f ≤ v) → Stands f variables v → Parameter f v (getD (set t 0 0) v 0)
     at v (inl e) s = rw e (parameter-none F refl (getD-set-same t 0 0 0 (omega arith)))
     at v (inr l) s = absurd (omega (arith, s .below))
 
-pub listed-first : {f : List ℕ} (t : List ℕ) → Formed f → {i : ℕ} → i ≡ word f 0 3 → 4096 ≤ length t → Listed f (set t 0 0) i × (i ≤ recordCount f)
+pub listed-first : {f : List ℕ} (t : List ℕ) → Formed f → {i : ℕ} → i ≡ word f 0 headerCount → maxRecords ≤ length t → ListedFrom f (set t 0 0) i × (i ≤ recordCount f)
 unfolding recordCount
 listed-first t F e h = (rw e (listed-start t F h), omega arith)
 
-module _ {f t : List ℕ} (F : Formed f) {i : ℕ} (L : Listed f t i) (j : ℕ) (e : i ≡ suc j) where
+module _ {f t : List ℕ} (F : Formed f) {i : ℕ} (L : ListedFrom f t i) (j : ℕ) (e : i ≡ suc j) where
   -- the kinds tell that j is no variable
-  pub listed-other : (word f j 0 ≡ 5 → ⊥) → (j ≡ 0 → ⊥) → Listed f t j
+  pub listed-other : (word f j kindWord ≡ variableKind → ⊥) → (j ≡ 0 → ⊥) → ListedFrom f t j
   listed-other n z = record { size = L .size; right = at }
     where
       at : (v : ℕ) → (v ≡ 0) ⊎ (j ≤ v) → Stands f variables v → Parameter f v (getD t v 0)
@@ -101,8 +99,8 @@ module _ {f t : List ℕ} (F : Formed f) {i : ℕ} (L : Listed f t i) (j : ℕ) 
             | no m ↦ let d : v ≡ j = omega arith in absurd (n (rw (sym d) (is-variable F v s λ y. z (sym d ∙ y))))
           ]
 
-  module _ (b : j < 4096) (z : j ≡ 0 → ⊥) {u : ℕ} (p : Stands f variables j → Parameter f j u) where
-    pub listed-next : Listed f (set t j u) j
+  module _ (b : j < maxRecords) (z : j ≡ 0 → ⊥) {u : ℕ} (p : Stands f variables j → Parameter f j u) where
+    pub listed-next : ListedFrom f (set t j u) j
     listed-next = record { size = simp length-set (L .size); right = at }
       where
         at : (v : ℕ) → (v ≡ 0) ⊎ (j ≤ v) → Stands f variables v → Parameter f v (getD (set t j u) v 0)
@@ -113,15 +111,15 @@ module _ {f t : List ℕ} (F : Formed f) {i : ℕ} (L : Listed f t i) (j : ℕ) 
               | no m ↦ let d : v ≡ j = omega arith in rw (d, getD-set-same t j u 0 (omega (arith, L .size))) (p (rw (sym d) s))
             ]
 
-  module _ (z : j ≡ 0 → ⊥) {m : ℕ} (em : m ≡ word f j 2) where
+  module _ (z : j ≡ 0 → ⊥) {m : ℕ} (em : m ≡ word f j variableMode) where
     pub parameter-here : (m ≡ 0 → ⊥) → Stands f variables j → Parameter f j j
     parameter-here n s = record { stands = s; falls = omega arith; passes = λ q k. n (em ∙ k); same = refl }
 
-    pub parameter-later : m ≡ 0 → {w u : ℕ} → w ≡ word f j 1 → u ≡ getD t w 0 → Stands f variables j → Parameter f j u
+    pub parameter-later : m ≡ 0 → {w u : ℕ} → w ≡ word f j nextWord → u ≡ getD t w 0 → Stands f variables j → Parameter f j u
     parameter-later n {w} {u} ew eu s =
         let o = onward F j s z in
-        let q : Parameter f (word f j 1) (getD t (word f j 1) 0) = L .right (word f j 1) (elim (o .order) [ inl d ↦ inl d | inr l ↦ inr (omega arith) ]) (o .stands) in
-        let k : Parameter f (word f j 1) u = rw (eu, ew) q in
+        let q : Parameter f (word f j nextWord) (getD t (word f j nextWord) 0) = L .right (word f j nextWord) (elim (o .order) [ inl d ↦ inl d | inr l ↦ inr (omega arith) ]) (o .stands) in
+        let k : Parameter f (word f j nextWord) u = rw (eu, ew) q in
         record {
           stands = k .stands;
           falls = omega (arith, k .falls, o .falls);
@@ -129,5 +127,5 @@ module _ {f t : List ℕ} (F : Formed f) {i : ℕ} (L : Listed f t i) (j : ℕ) 
           same = k .same ∙ sym (taken-local F j s z (sym em ∙ n));
         }
 
-pub listed-all : {f t : List ℕ} {i : ℕ} → Formed f → Listed f t i → i ≤ 1 → ParameterTable f t
+pub listed-all : {f t : List ℕ} {i : ℕ} → Formed f → ListedFrom f t i → i ≤ 1 → ParameterTable f t
 listed-all {f} {t} {i} F L h = record { first = λ v s. elim (decLt 0 v) [ yes l ↦ L .right v (inr (omega arith)) s | no l ↦ L .right v (inl (omega arith)) s ] }

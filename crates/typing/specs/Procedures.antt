@@ -7,6 +7,7 @@ use mathlib.Core.List.{List, _∷_}
 use lib.ListN.{length}
 use borrow.Author.Tests.{le-leb, lt-leb}
 use Rattle.sets.specs.Tests.{_&_}
+use Rattle.language.specs.Format.{nextWord, headerProcedures, procedureVariables, procedureRegions, procedureGoals, maxProcedures}
 use Rattle.language.specs.Lists.{all, among}
 use Rattle.language.specs.File.{procedures, word}
 use Rattle.language.specs.Program.{Procedure, Program}
@@ -17,7 +18,8 @@ use Rattle.chains.specs.Is.{procedure-is}
 use Rattle.chains.specs.Declared.{ProcedureAt, procedure-at}
 use Rattle.chains.specs.Elements.{procedures-count}
 use Rattle.chains.specs.Records.{chainRecords}
-use Rattle.declarations.specs.Both.{fails, holds, refuse, pass, all-no, all-yes}
+use Rattle.laws.specs.Tests.{and-stop, and-on, refuse, pass}
+use Rattle.laws.specs.Lists.{all-no, all-yes}
 use Rattle.declarations.specs.Names.{stands-same}
 use Rattle.declarations.specs.Signatures.{signatureFrom}
 
@@ -26,10 +28,10 @@ unfoldable pub procedureFrom : List ℕ → ℕ → ℕ → ℕ → Procedure
 procedureFrom f v r g = record { signature = signatureFrom f v r; body = goalsAt f g }
 
 unfoldable pub proceduresOk : Program → Bool
-proceduresOk P = among 256 (length (P .procedures)) & all (procedureOk P) (P .procedures)
+proceduresOk P = among maxProcedures (length (P .procedures)) & all (procedureOk P) (P .procedures)
 
 unfoldable pub procedureAtRecord : List ℕ → ℕ → Procedure
-procedureAtRecord f i = procedureFrom f (word f i 2) (word f i 3) (word f i 4)
+procedureAtRecord f i = procedureFrom f (word f i procedureVariables) (word f i procedureRegions) (word f i procedureGoals)
 
 -- ---- one procedure
 module _ (f : List ℕ) (i : ℕ) {next v r g : ℕ} (a : ProcedureAt f i next v r g) {q : Bool} (e : q ≡ signatureOk (program f .types) (signatureFrom f v r)) where
@@ -47,18 +49,18 @@ module _ (f : List ℕ) (i : ℕ) {next v r g : ℕ} (a : ProcedureAt f i next v
 
 -- ---- along the procedures
 module _ (f : List ℕ) (i : ℕ) (F : Formed f) (s : Stands f procedures i) (z : i ≡ 0 → ⊥) {q : Bool} (e : q ≡ procedureOk (program f) (procedureAtRecord f i)) where
-  step : proceduresAt f i ≡ procedureAtRecord f i ∷ proceduresAt f (word f i 1)
+  step : proceduresAt f i ≡ procedureAtRecord f i ∷ proceduresAt f (word f i nextWord)
   unfolding procedureAtRecord procedureFrom signatureFrom
   step = procedure-at F refl (procedure-is s z) .view
 
   pub procedures-no : q ≡ false → false ≡ all (procedureOk (program f)) (proceduresAt f i)
   procedures-no p = all-no _ step e p
 
-  pub procedures-yes : {w : ℕ} → q ≡ true → w ≡ word f i 1 → all (procedureOk (program f)) (proceduresAt f w) ≡ all (procedureOk (program f)) (proceduresAt f i)
+  pub procedures-yes : {w : ℕ} → q ≡ true → w ≡ word f i nextWord → all (procedureOk (program f)) (proceduresAt f w) ≡ all (procedureOk (program f)) (proceduresAt f i)
   procedures-yes p ew = rw ew (all-yes _ step e p)
 
 -- ---- all procedures
-module _ (f : List ℕ) (i : ℕ) (F : Formed f) (e : i ≡ word f 0 1) {n : ℕ} (d : n ≡ length (chainRecords f i)) where
+module _ (f : List ℕ) (i : ℕ) (F : Formed f) (e : i ≡ word f 0 headerProcedures) {n : ℕ} (d : n ≡ length (chainRecords f i)) where
   procedures-are : program f .procedures ≡ proceduresAt f i
   procedures-are = program-procedures F ∙ ap (proceduresAt f) (sym e)
 
@@ -67,17 +69,17 @@ module _ (f : List ℕ) (i : ℕ) (F : Formed f) (e : i ≡ word f 0 1) {n : ℕ
 
   pub no-procedure : n ≡ 0 → false ≡ proceduresOk (program f)
   unfolding proceduresOk among
-  no-procedure h = fails _ (sym (fails _ (lt-leb 1 (length (program f .procedures)) (omega (arith, count-is)))))
+  no-procedure h = and-stop _ (sym (and-stop _ (lt-leb 1 (length (program f .procedures)) (omega (arith, count-is)))))
 
   module _ (z : n ≡ 0 → ⊥) where
-    pub many-procedures : 256 < n → false ≡ proceduresOk (program f)
+    pub many-procedures : maxProcedures < n → false ≡ proceduresOk (program f)
     unfolding proceduresOk among
-    many-procedures h = fails _ (sym (holds (le-leb 1 (length (program f .procedures)) (omega (arith, count-is))) (sym (lt-leb (length (program f .procedures)) 256 (omega (arith, count-is))))))
+    many-procedures h = and-stop _ (sym (and-on (le-leb 1 (length (program f .procedures)) (omega (arith, count-is))) (sym (lt-leb (length (program f .procedures)) maxProcedures (omega (arith, count-is))))))
 
-    pub procedures-all : n ≤ 256 → {q : Bool} → q ≡ all (procedureOk (program f)) (proceduresAt f i) → q ≡ proceduresOk (program f)
+    pub procedures-all : n ≤ maxProcedures → {q : Bool} → q ≡ all (procedureOk (program f)) (proceduresAt f i) → q ≡ proceduresOk (program f)
     unfolding proceduresOk among
     procedures-all h eq =
-        holds (sym (holds (le-leb 1 (length (program f .procedures)) (omega (arith, count-is))) (sym (le-leb (length (program f .procedures)) 256 (omega (arith, count-is))))))
+        and-on (sym (and-on (le-leb 1 (length (program f .procedures)) (omega (arith, count-is))) (sym (le-leb (length (program f .procedures)) maxProcedures (omega (arith, count-is))))))
         (eq ∙ ap (all (procedureOk (program f))) (sym procedures-are))
 
 -- ---- the whole

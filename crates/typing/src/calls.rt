@@ -3,11 +3,16 @@ use chains::entry;
 use declarations::has_type;
 use declarations::listed;
 use declarations::word_of;
+use language::format::ARGUMENT_VARIABLE;
+use language::format::NEXT;
+use language::format::PROCEDURE_VARIABLES;
+use language::format::VARIABLE_TYPE;
 use records::word;
 ghost use Rattle.language.specs.File.{variables, arguments};
 ghost use Rattle.chains.specs.Formed.{Formed, Stands, variablesAt};
 ghost use Rattle.typing.specs.Parameters.{ParameterTable};
-ghost use Rattle.typing.specs.Settings.{ProcedureTable};
+ghost use Rattle.language.specs.Answers.{program};
+ghost use Rattle.chains.specs.Lookups.{ProcedureTable};
 ghost use Rattle.typing.specs.Calls.{Matched, callFits};
 
 // The arguments from record first on against the callee's variables from record start on.
@@ -29,11 +34,16 @@ fn match_arguments(
         if y == 0 {
             return false;
         }
-        if !has_type(file, table, word(file, v, 3), word(file, y, 2)) {
+        if !has_type(
+            file,
+            table,
+            word(file, v, VARIABLE_TYPE),
+            word(file, y, ARGUMENT_VARIABLE),
+        ) {
             return false;
         }
-        y = word(file, y, 1);
-        v = entry(parameters, word(file, v, 1));
+        y = word(file, y, NEXT);
+        v = entry(parameters, word(file, v, NEXT));
     }
     y == 0
 }
@@ -48,7 +58,7 @@ pub fn call_ok(
     first: usize,
 ) -> bool
     requires { ⌜ Formed (now file) ⌝ }
-    requires { ⌜ ProcedureTable (now file) (now procedures) ⌝ }
+    requires { ⌜ ProcedureTable (now file) (program (now file)) (now procedures) ⌝ }
     requires { ⌜ ParameterTable (now file) (now parameters) ⌝ }
     requires { ⌜ Stands (now file) arguments first ⌝ }
     ensures { λ r. ⌜ callFits (now (file .entry)) (now (table .entry)) q first r ⌝ }
@@ -56,6 +66,6 @@ pub fn call_ok(
     if !listed(procedures, q) {
         return false;
     }
-    let start = word_of(file, procedures, q, 2);
+    let start = word_of(file, procedures, q, PROCEDURE_VARIABLES);
     match_arguments(file, parameters, table, start, first)
 }

@@ -3,9 +3,15 @@ use crate::functors::functor_at;
 use declarations::has_type;
 use declarations::listed;
 use declarations::type_of;
+use language::format::FUNCTOR_ARITY;
+use language::format::FUNCTOR_TYPES;
+use language::format::GOAL_X;
+use language::format::TERM_ARGUMENTS;
+use language::format::TERM_FUNCTOR;
 use records::word;
 ghost use mathlib.Core.Path.{_≡_};
 ghost use Prim.Native.Nat.{_+_, _<_};
+ghost use Rattle.language.specs.Format.{functorTypes, termArguments, maxArity};
 ghost use Rattle.language.specs.File.{word};
 ghost use Rattle.chains.specs.Formed.{Formed};
 ghost use Rattle.declarations.specs.Functors.{functorAtRecord};
@@ -14,12 +20,12 @@ ghost use Rattle.typing.specs.Arguments.{argumentSlot, argumentsFit, arg
 
 // Argument k, counted from 0, of record i, against the functor of record g and that arity: a variable of its type, or 0 past the arity.
 fn argument_ok(file: &[u8], variables: &[usize], arity: usize, g: usize, k: usize, i: usize) -> bool
-    requires { ⌜ k < 4 ⌝ }
-    ensures { λ r. ⌜ r ≡ argumentSlot (now (file .entry)) (now (variables .entry)) arity k (word (now (file .entry)) g (3 + k)) (word (now (file .entry)) i (4 + k)) ⌝ }
+    requires { ⌜ k < maxArity ⌝ }
+    ensures { λ r. ⌜ r ≡ argumentSlot (now (file .entry)) (now (variables .entry)) arity k (word (now (file .entry)) g (functorTypes + k)) (word (now (file .entry)) i (termArguments + k)) ⌝ }
 {
-    let a = word(file, i, 4 + k);
+    let a = word(file, i, TERM_ARGUMENTS + k);
     if k < arity {
-        return has_type(file, variables, word(file, g, 3 + k), a);
+        return has_type(file, variables, word(file, g, FUNCTOR_TYPES + k), a);
     }
     a == 0
 }
@@ -28,7 +34,7 @@ fn argument_ok(file: &[u8], variables: &[usize], arity: usize, g: usize, k: usiz
 fn arguments_ok(file: &[u8], variables: &[usize], g: usize, i: usize) -> bool
     ensures { λ r. ⌜ r ≡ argumentsFit (now (file .entry)) (now (variables .entry)) (functorAtRecord (now (file .entry)) g) (argumentsAtRecord (now (file .entry)) i) ⌝ }
 {
-    let arity = word(file, g, 2);
+    let arity = word(file, g, FUNCTOR_ARITY);
     if !argument_ok(file, variables, arity, g, 0, i) {
         return false;
     }
@@ -48,7 +54,7 @@ pub fn arm_fits(file: &[u8], variables: &[usize], g: usize, n: usize, i: usize) 
     if g == 0 {
         return false;
     }
-    let functor = word(file, i, 3);
+    let functor = word(file, i, TERM_FUNCTOR);
     if functor != n {
         return false;
     }
@@ -61,12 +67,12 @@ pub fn construct_ok(file: &[u8], places: &[usize], variables: &[usize], i: usize
     requires { ⌜ FunctorTable (now file) (now places) ⌝ }
     ensures { λ r. ⌜ r ≡ constructFits (now (file .entry)) (now (places .entry)) (now (variables .entry)) i ⌝ }
 {
-    let x = word(file, i, 2);
+    let x = word(file, i, GOAL_X);
     if !listed(variables, x) {
         return false;
     }
     let t = type_of(file, variables, x);
-    let g = functor_at(places, t, word(file, i, 3));
+    let g = functor_at(places, t, word(file, i, TERM_FUNCTOR));
     if g == 0 {
         return false;
     }

@@ -2,10 +2,9 @@
 mod calls;
 mod constructs;
 mod functors;
-mod goals;
 mod parameters;
-mod procedures;
+mod stage;
 mod steps;
-mod whole;
+mod walk;
 
-pub use whole::typing_ok;
+pub use stage::typing_ok;

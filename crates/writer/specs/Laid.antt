@@ -2,13 +2,11 @@
 use Prim.Native.Nat.{ℕ, zero, suc, _+_, _*_, _/_, _%_, _≤_, _<_}
 use native.Mathlib.Omega.{arith}
 use mathlib.Core.List.{List, [], _∷_, _++_}
-use mathlib.Core.Path.{_≡_, refl, ap₂, subst, _∙_}
+use mathlib.Core.Path.{_≡_, refl, ap₂, _∙_}
 use lib.ListN.{length, getD, set, length-set, length-append}
 use lib.Seq.{getD-set-same, getD-set-other}
+use Rattle.chains.specs.Layout.{Spelled, Stand, Eights, stand-join, stand-same, spelled-same, spelled-more}
 use Rattle.language.specs.File.{word}
-use Rattle.layout.specs.Standing.{Spelled, Stand}
-use Rattle.layout.specs.Bytes.{Eights}
-use Rattle.layout.specs.Writing.{stand-join, stand-same}
 
 -- each word fits in 16 bits
 abbrev pub Small : List ℕ → Type 0
@@ -85,10 +83,6 @@ laid-row e h =
       past = λ j l. h .past j (omega (arith, e));
     }
 
--- the words may be written otherwise
-pub laid-as : {a b : List ℕ} {c : ℕ} {r s : List ℕ} → r ≡ s → Laid a b c (r ∷ []) → Laid a b c (s ∷ [])
-laid-as {a} {b} {c} e h = subst (λ x. Laid a b c (x ∷ [])) e h
-
 words-same : (a b : List ℕ) (i k : ℕ) → getD b (16 * i + 2 * k) 0 ≡ getD a (16 * i + 2 * k) 0
     → getD b (16 * i + 2 * k + 1) 0 ≡ getD a (16 * i + 2 * k + 1) 0 → word b i k ≡ word a i k
 unfolding word
@@ -125,6 +119,91 @@ module _ {a b d : List ℕ} {c e : ℕ} {xs ys : List (List ℕ)} (q : c + lengt
         below = λ j l. r .below j l ∙ p .below j (omega arith);
         past = λ j l. r .past j (omega (arith, length-append xs ys)) ∙ p .past j (omega (arith, length-append xs ys));
       }
+
+-- ---- a record and its parts, word by word: words 2 to k of record at are xs, then the records rs stand up to c, and no other byte changed but
+-- those of the words that are still to come
+pub record Begun (a b : List ℕ) (at k c : ℕ) (xs : List ℕ) (rs : List (List ℕ)) : Type 0 where
+  pub same : length b ≡ length a
+  pub few : k ≤ 8
+  pub many : k ≡ 2 + length xs
+  pub words : Spelled (word b at) 2 xs
+  pub eights : Eights rs
+  pub there : Stand (word b) (suc at) rs
+  pub place : c ≡ suc at + length rs
+  pub below : (j : ℕ) → j < 16 * at + 4 → getD b j 0 ≡ getD a j 0
+  pub past : (j : ℕ) → 16 * c ≤ j → getD b j 0 ≡ getD a j 0
+
+pub begun-none : (a : List ℕ) (at : ℕ) → Begun a a at 2 (at + 1) [] []
+begun-none a at = record {
+  same = refl;
+  few = omega arith;
+  many = refl;
+  words = tt;
+  eights = tt;
+  there = tt;
+  place = omega arith;
+  below = λ j l. refl;
+  past = λ j l. refl;
+}
+
+module _ {a b d : List ℕ} {at k c : ℕ} {xs : List ℕ} {rs : List (List ℕ)} (B : Begun a b at k c xs rs) where
+  -- the next word
+  pub begun-put : {x : ℕ} → k < 8 → Put b d at k x → Begun a d at (k + 1) c (xs ++ x ∷ []) rs
+  begun-put {x} l p = record {
+    same = p .same ∙ B .same;
+    few = omega arith;
+    many = omega (arith, B .many, length-append xs (x ∷ []));
+    words =
+        spelled-more xs (word d at) 2 k (B .many)
+        (spelled-same xs (word b at) (word d at) 2 k (omega (arith, B .many))
+        (λ j m n. words-same b d at j (p .below _ (omega arith)) (p .below _ (omega arith))) (B .words)) (p .there);
+    eights = B .eights;
+    there =
+        stand-same rs (word b) (word d) (suc at) (B .eights)
+        (λ i j m n o. words-same b d i j (p .past _ (omega arith)) (p .past _ (omega arith))) (B .there);
+    place = B .place;
+    below = λ j m. p .below j (omega (arith, B .many)) ∙ B .below j m;
+    past = λ j m. p .past j (omega (arith, B .place)) ∙ B .past j m;
+  }
+
+  -- what a word leads to
+  pub begun-part : {r : ℕ} {ys : List (List ℕ)} → Laid b d c ys → r ≡ c + length ys → Begun a d at k r xs (rs ++ ys)
+  begun-part {r} {ys} p e = record {
+    same = p .same ∙ B .same;
+    few = B .few;
+    many = B .many;
+    words =
+        spelled-same xs (word b at) (word d at) 2 k (omega (arith, B .many))
+        (λ j m n. words-same b d at j (p .below _ (omega (arith, B .place, B .few))) (p .below _ (omega (arith, B .place, B .few)))) (B .words);
+    eights = eights-join rs ys (B .eights) (p .eights);
+    there =
+        stand-join rs ys (word d) (suc at) c (omega (arith, B .place))
+        (stand-same rs (word b) (word d) (suc at) (B .eights)
+        (λ i j m n o. words-same b d i j (p .below _ (omega (arith, B .place))) (p .below _ (omega (arith, B .place)))) (B .there))
+        (p .there);
+    place = omega (arith, B .place, length-append rs ys);
+    below = λ j m. p .below j (omega (arith, B .place)) ∙ B .below j m;
+    past = λ j m. p .past j (omega arith) ∙ B .past j (omega arith);
+  }
+
+-- the first two words come last
+pub begun-done : {a b d e : List ℕ} {at k c u v : ℕ} {xs : List ℕ} {rs : List (List ℕ)} → Begun a b at k c xs rs → 8 ≤ k → Put b d at 0 u → Put d e at 1 v
+    → Laid a e at ((u ∷ v ∷ xs) ∷ rs)
+begun-done {a} {b} {d} {e} {at} {k} {c} {u} {v} {xs} {rs} B l p q =
+    let past : (j : ℕ) → 16 * at + 4 ≤ j → getD e j 0 ≡ getD b j 0 = λ j m. q .past j (omega arith) ∙ p .past j (omega arith) in
+    record {
+      same = q .same ∙ p .same ∙ B .same;
+      eights = (omega (arith, B .many, B .few), B .eights);
+      there = (
+        (
+          words-same d e at 0 (q .below _ (omega arith)) (q .below _ (omega arith)) ∙ p .there,
+          (q .there, spelled-same xs (word b at) (word e at) 2 k (omega (arith, B .many)) (λ j m n. words-same b e at j (past _ (omega arith)) (past _ (omega arith))) (B .words)),
+        ),
+        stand-same rs (word b) (word e) (suc at) (B .eights) (λ i j m n o. words-same b e i j (past _ (omega arith)) (past _ (omega arith))) (B .there),
+      );
+      below = λ j m. q .below j (omega arith) ∙ p .below j (omega arith) ∙ B .below j (omega arith);
+      past = λ j m. past j (omega arith) ∙ B .past j (omega (arith, B .place));
+    }
 
 -- ---- record i of the file f, but for the next of its chain
 unfoldable pub withNext : List ℕ → ℕ → ℕ → List ℕ

@@ -1,7 +1,6 @@
 pub mod Laid
 pub mod Ready
-pub mod Shapes
-pub mod Parts
-pub mod Told
+pub mod Leads
+pub mod Spelling
 pub mod Whole
 pub mod Trees

@@ -1,18 +1,16 @@
 -- A file's chain on its way into the lent slice: what a walk needs to go on, what a record's front part is, and how a chain is made of them.
-use Prim.Native.Nat.{ℕ, zero, suc, _+_, _*_, _≤_, _<_}
+use Prim.Native.Nat.{ℕ, zero, suc, _+_, _-_, _*_, _≤_, _<_}
 use native.Mathlib.Omega.{arith}
 use mathlib.Core.List.{List, [], _∷_, _++_, append-assoc, append-nil}
 use mathlib.Core.Path.{_≡_, refl, ap, sym, _∙_}
-use mathlib.Core.Bool.{true}
-use mathlib.Core.Logic.{_⊎_, inl, inr}
 use lib.ListN.{length, length-append}
-use Rattle.language.specs.File.{Kind, Chain, row, kindOf, word, recordCount}
+use Rattle.language.specs.Format.{kindWord, nextWord, recordBytes, maxRecords}
+use Rattle.language.specs.File.{Use, row, kindOf, word, recordCount}
 use Rattle.language.specs.Tree.{Tree, end, node, Words, readWords, readRecord, readChain}
 use Rattle.language.specs.Layout.{size, sizeWords, reference, wordList, lay, layWords}
-use Rattle.layout.specs.Standing.{layWords-length, chain-end}
-use Rattle.layout.specs.Passing.{chain-step}
-use Rattle.layout.specs.Chains.{real, next-stays}
-use Rattle.chains.specs.Formed.{Formed, Stands, Onward, ahead, leads-onward}
+use Rattle.chains.specs.Layout.{layWords-length, chain-end, chain-step}
+use Rattle.chains.specs.Formed.{Formed, ahead, ahead-some}
+use Rattle.chains.specs.Records.{next-onward}
 use Rattle.writer.specs.Laid.{Laid, laid-none, laid-then, linked}
 
 -- records rs were written from record c on, r is the place behind them
@@ -24,12 +22,12 @@ pub record Wrote (a b : List ℕ) (c r : ℕ) (rs : List (List ℕ)) : Type 0 wh
 unfoldable pub treeAt : List ℕ → ℕ → Tree
 treeAt f i = readChain (recordCount f) (word f) i
 
--- a chain of the sort s at record i may be written from record c on: len bytes are lent
-pub record Ready (f : List ℕ) (s : Chain) (i c len : ℕ) : Type 0 where
-  pub formed : Formed f
-  pub stands : Stands f s i
-  pub room : 16 * (c + size (treeAt f i)) ≤ len
-  pub few : c + size (treeAt f i) ≤ 4096
+-- the uses of the words of record i, and what its words are
+unfoldable pub usesAt : List ℕ → ℕ → List Use
+usesAt f i = row (kindOf (word f i kindWord)) .words
+
+unfoldable pub wordsAt : List ℕ → ℕ → Words
+wordsAt f i = readWords (λ j. treeAt f j) (word f i) 2 (usesAt f i)
 
 -- a tree's first record and what its words lead to, from record c on
 unfoldable pub frontOf : Tree → ℕ → List (List ℕ)
@@ -37,105 +35,106 @@ frontOf end c = []
 frontOf (node k t ws) c = (row k .kind ∷ reference (suc c + sizeWords ws) t ∷ wordList (suc c) ws) ∷ layWords ws (suc c)
 
 unfoldable pub front : List ℕ → ℕ → ℕ → List (List ℕ)
-front f i c = frontOf (treeAt f i) c
+front f i c = frontOf (node (kindOf (word f i kindWord)) (treeAt f (word f i nextWord)) (wordsAt f i)) c
 
--- the words of record i, as a record of the kind k
-unfoldable pub wordsAs : List ℕ → ℕ → Kind → Words
-wordsAs f i k = readWords (λ j. treeAt f j) (word f i) 2 (row k .words)
+-- the chain at record i may be written from record c on: len bytes are lent
+pub record ChainReady (f : List ℕ) (i c len : ℕ) : Type 0 where
+  pub formed : Formed f
+  pub below : i < recordCount f
+  pub room : recordBytes * (c + size (treeAt f i)) ≤ len
+  pub few : c + size (treeAt f i) ≤ maxRecords
 
+-- record i may be written as record c, with what its words lead to
+pub record RecordReady (f : List ℕ) (i c len : ℕ) : Type 0 where
+  pub formed : Formed f
+  pub below : i < recordCount f
+  pub room : recordBytes * (suc c + sizeWords (wordsAt f i)) ≤ len
+  pub few : suc c + sizeWords (wordsAt f i) ≤ maxRecords
+
+-- ---- a reference to the chain at w, as the code makes it
 reference-chain : (n : ℕ) (W : ℕ → ℕ → ℕ) (w c : ℕ) → w < n → reference c (readChain n W w) ≡ linked w c
 unfolding reference readChain readRecord linked
 reference-chain (suc n) W zero c l = refl
 reference-chain (suc n) W (suc w) c l = refl
 reference-chain zero W w c l = absurd (omega arith)
 
--- a reference to the chain at w, as the code makes it
-pub reference-is : {f : List ℕ} {s : Chain} {w : ℕ} (c : ℕ) → Stands f s w → reference c (treeAt f w) ≡ linked w c
+pub reference-is : (f : List ℕ) {w : ℕ} (c : ℕ) → w < recordCount f → reference c (treeAt f w) ≡ linked w c
 unfolding treeAt
-reference-is {f} {s} {w} c h = reference-chain (recordCount f) (word f) w c (h .below)
+reference-is f {w} c h = reference-chain (recordCount f) (word f) w c h
+
+-- ---- a chain is its first record with what the words lead to, and the rest
+pub front-length : (f : List ℕ) (i c : ℕ) → length (front f i c) ≡ suc (sizeWords (wordsAt f i))
+unfolding front frontOf
+front-length f i c = ap suc (layWords-length (wordsAt f i) (suc c))
 
 module _ {f : List ℕ} (F : Formed f) (i : ℕ) (p : 0 < i) (q : i < recordCount f) where
-  pub tree-is : (k : Kind) → kindOf (word f i 0) ≡ k → treeAt f i ≡ node k (treeAt f (word f i 1)) (wordsAs f i k)
-  unfolding treeAt wordsAs readRecord
-  tree-is k e = chain-step (word f) (recordCount f) (F .form) i p q ∙ rw e
+  tree-is : treeAt f i ≡ node (kindOf (word f i kindWord)) (treeAt f (word f i nextWord)) (wordsAt f i)
+  unfolding treeAt wordsAt usesAt readRecord
+  tree-is = chain-step (word f) (recordCount f) (F .form) i p q
 
-  pub size-is : (k : Kind) → kindOf (word f i 0) ≡ k → size (treeAt f i) ≡ suc (sizeWords (wordsAs f i k) + size (treeAt f (word f i 1)))
+  pub size-is : size (treeAt f i) ≡ suc (sizeWords (wordsAt f i) + size (treeAt f (word f i nextWord)))
   unfolding size
-  size-is k e = ap size (tree-is k e)
+  size-is = ap size tree-is
 
-  pub front-is : (k : Kind) → kindOf (word f i 0) ≡ k → (c : ℕ)
-      → front f i c ≡ (row k .kind ∷ reference (suc c + sizeWords (wordsAs f i k)) (treeAt f (word f i 1)) ∷ wordList (suc c) (wordsAs f i k)) ∷ layWords (wordsAs f i k) (suc c)
-  unfolding front frontOf
-  front-is k e c = ap (λ t. frontOf t c) (tree-is k e)
-
-  pub front-length : (c : ℕ) → length (front f i c) ≡ suc (sizeWords (wordsAs f i (kindOf (word f i 0))))
-  front-length c = ap length (front-is _ refl c) ∙ ap suc (layWords-length (wordsAs f i (kindOf (word f i 0))) (suc c))
-
-  pub size-front : (c : ℕ) → size (treeAt f i) ≡ length (front f i c) + size (treeAt f (word f i 1))
-  size-front c = omega (arith, size-is _ refl, front-length c)
-
-  lay-is : (c : ℕ) → lay (treeAt f i) c ≡ front f i c ++ lay (treeAt f (word f i 1)) (suc c + sizeWords (wordsAs f i (kindOf (word f i 0))))
+  pub lay-front : (c : ℕ) → lay (treeAt f i) c ≡ front f i c ++ lay (treeAt f (word f i nextWord)) (c + length (front f i c))
   unfolding front frontOf lay
-  lay-is c = rw (tree-is _ refl)
-
-  pub lay-front : (c : ℕ) → lay (treeAt f i) c ≡ front f i c ++ lay (treeAt f (word f i 1)) (c + length (front f i c))
   lay-front c =
-      let e : suc c + sizeWords (wordsAs f i (kindOf (word f i 0))) ≡ c + length (front f i c) = omega (arith, front-length c) in
-      lay-is c ∙ ap (λ d. front f i c ++ lay (treeAt f (word f i 1)) d) e
+      let e : suc c + sizeWords (wordsAt f i) ≡ c + length (front f i c) = omega (arith, front-length f i c) in
+      ap (λ t. lay t c) tree-is ∙ ap (λ d. front f i c ++ lay (treeAt f (word f i nextWord)) d) e
 
--- ---- a loop along a chain
--- the chain at record s was to be written from record b on; what is left is the chain at i, from c on
-pub record Going (f : List ℕ) (s : Chain) (a d : List ℕ) (start from i c : ℕ) : Type 0 where
-  pub ready : Ready f s i c (length d)
+-- ---- a loop along a chain: the chain at record start was to be written from record `from` on; what is left is the chain at i, from c on
+pub record Writing (f a d : List ℕ) (start from i c : ℕ) : Type 0 where
+  pub ready : ChainReady f i c (length d)
   pub later : ahead f i ≤ ahead f start
   pub done : List (List ℕ)
   pub laid : Laid a d from done
   pub place : c ≡ from + length done
   pub whole : lay (treeAt f start) from ≡ done ++ lay (treeAt f i) c
 
-pub going-first : {f : List ℕ} {s : Chain} {i c : ℕ} (a : List ℕ) → Ready f s i c (length a) → Going f s a a i c i c
-going-first {c = c} a R =
-    record { ready = R; later = omega arith; done = []; laid = laid-none a c; place = omega arith; whole = refl }
+pub writing-first : {f : List ℕ} {i c : ℕ} (a : List ℕ) → ChainReady f i c (length a) → Writing f a a i c i c
+writing-first {c = c} a R = record { ready = R; later = omega arith; done = []; laid = laid-none a c; place = omega arith; whole = refl }
 
-module _ {f : List ℕ} {s : Chain} {a d : List ℕ} {start from i c : ℕ} (t : real s ≡ true) (G : Going f s a d start from i c) (z : i ≡ 0 → ⊥) {w : ℕ} (g : w ≡ word f i 1) where
-  going-onward : Onward f s i w
-  going-onward =
-      let R = G .ready in
-      rw g (leads-onward (R .formed) (omega arith) (R .stands .below) (next-stays (word f) (recordCount f) (R .formed .form) i (R .stands .below) s t (chain-here (R .stands .sort))))
-    where
-      chain-here : (i ≡ 0) ⊎ (row (kindOf (word f i 0)) .chain ≡ s) → row (kindOf (word f i 0)) .chain ≡ s
-      chain-here (inl y) = absurd (z y)
-      chain-here (inr y) = y
+module _ {f a d : List ℕ} {start from i c : ℕ} (G : Writing f a d start from i c) (z : i ≡ 0 → ⊥) where
+  abbrev R : ChainReady f i c (length d)
+  R = G .ready
 
-  pub going-falls : ahead f w < ahead f i
-  going-falls = going-onward .falls
+  pub writing-record : RecordReady f i c (length d)
+  writing-record =
+      let n = size-is (R .formed) i (omega arith) (R .below) in
+      record { formed = R .formed; below = R .below; room = omega (arith, R .room, n); few = omega (arith, R .few, n) }
 
-  pub going-next : {e : List ℕ} {r : ℕ} → Wrote d e c r (front f i c) → Going f s a e start from w r
-  going-next {e} {r} N =
-      let R = G .ready in
-      let n : size (treeAt f i) ≡ length (front f i c) + size (treeAt f w) = rw g (size-front (R .formed) i (omega arith) (R .stands .below) c) in
-      let l : length e ≡ length d = N .laid .same in
-      record {
-        ready = record {
-          formed = R .formed;
-          stands = going-onward .stands;
-          room = omega (arith, R .room, N .next, n, l);
-          few = omega (arith, R .few, N .next, n);
-        };
-        later = omega (arith, G .later, going-falls);
-        done = G .done ++ front f i c;
-        laid = laid-then (sym (G .place)) (G .laid) (N .laid);
-        place = omega (arith, N .next, G .place, length-append (G .done) (front f i c));
-        whole =
-            G .whole
-            ∙ ap (λ x. G .done ++ x) (rw (g, N .next) (lay-front (R .formed) i (omega arith) (R .stands .below) c))
-            ∙ sym (append-assoc (G .done) (front f i c) (lay (treeAt f w) r));
-      }
+  pub writing-less : recordCount f - i ≤ ahead f start
+  writing-less = omega (arith, ahead-some f i (omega arith), G .later)
 
-pub going-last : {f : List ℕ} {s : Chain} {a d : List ℕ} {start from i c : ℕ} → Going f s a d start from i c → i ≡ 0
-    → Wrote a d from c (lay (treeAt f start) from)
+  module _ {w : ℕ} (g : w ≡ word f i nextWord) where
+    pub writing-falls : ahead f w < ahead f i
+    writing-falls = next-onward (R .formed) z (R .below) g .falls
+
+    pub writing-next : {e : List ℕ} {r : ℕ} → Wrote d e c r (front f i c) → Writing f a e start from w r
+    writing-next {e} {r} N =
+        let o = next-onward (R .formed) z (R .below) g in
+        let n : size (treeAt f i) ≡ suc (sizeWords (wordsAt f i) + size (treeAt f w)) = rw g (size-is (R .formed) i (omega arith) (R .below)) in
+        let m = front-length f i c in
+        record {
+          ready = record {
+            formed = R .formed;
+            below = o .stands .below;
+            room = omega (arith, R .room, N .next, n, m, N .laid .same);
+            few = omega (arith, R .few, N .next, n, m);
+          };
+          later = omega (arith, G .later, o .falls);
+          done = G .done ++ front f i c;
+          laid = laid-then (sym (G .place)) (G .laid) (N .laid);
+          place = omega (arith, N .next, G .place, length-append (G .done) (front f i c));
+          whole =
+              G .whole
+              ∙ ap (λ x. G .done ++ x) (rw (g, N .next) (lay-front (R .formed) i (omega arith) (R .below) c))
+              ∙ sym (append-assoc (G .done) (front f i c) (lay (treeAt f w) r));
+        }
+
+pub writing-last : {f a d : List ℕ} {start from i c : ℕ} → Writing f a d start from i c → i ≡ 0 → Wrote a d from c (lay (treeAt f start) from)
 unfolding treeAt lay
-going-last {f} {s} {a} {d} {start} {from} {i} {c} G z =
+writing-last {f} {a} {d} {start} {from} {i} {c} G z =
     let e : lay (readChain (recordCount f) (word f) start) from ≡ G .done =
     G .whole ∙ ap (λ x. G .done ++ x) (ap (λ j. lay (readChain (recordCount f) (word f) j) c) z ∙ ap (λ t. lay t c) (chain-end (recordCount f) (word f))) ∙ append-nil (G .done) in
     rw e (record { laid = G .laid; next = G .place })

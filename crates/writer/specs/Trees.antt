@@ -11,12 +11,8 @@ use Rattle.language.specs.Tree.{Tree, end, node, Words, noWords, plain, leads}
 use Rattle.language.specs.Layout.{size, sizeWords, reference, wordList, lay, layWords}
 use Rattle.language.specs.Reading.{chainAt, each, readFunctor, readType, readVariable, readEdge, readRegion, noSense, numberIn, senseIn, num, sub, goalOf, inFront, senseOf, readProcedure, programOf}
 use Rattle.language.specs.Records.{zeros, chainOf, functorWords, typeWords, variableWords, edgeWords, regionWords, argumentWords, stepTree, goalsTree, armsTree, procedureWords, headed, programTree}
-use Rattle.layout.specs.Table.{all-rows}
-use Rattle.layout.specs.Fits.{Fits, fits-end, fits-node, fits-none, fits-number, fits-unused, fits-first}
-use Rattle.layout.specs.Standing.{lay-length, layWords-length}
-use Rattle.layout.specs.Passing.{chain-fits}
-use Rattle.layout.specs.Same.{headed-same}
-use Rattle.layout.specs.Steps.{goalsAt as goalsIn, armsAt as armsIn, argumentsAt as argumentsIn, functorsAt as functorsIn, typesAt as typesIn, variablesAt as variablesIn, edgesAt as edgesIn, regionsAt as regionsIn, proceduresAt as proceduresIn}
+use Rattle.chains.specs.Layout.{all-rows, Fits, fits-end, fits-node, fits-none, fits-number, fits-unused, fits-first, lay-length, layWords-length, chain-fits, headed-same}
+use Rattle.chains.specs.Layout.Steps.{goalsAt as goalsIn, armsAt as armsIn, argumentsAt as argumentsIn, functorsAt as functorsIn, typesAt as typesIn, variablesAt as variablesIn, edgesAt as edgesIn, regionsAt as regionsIn, proceduresAt as proceduresIn}
 use Rattle.chains.specs.Formed.{Formed, Stands, stands-starts, goalsAt, armsAt, argumentsAt, functorsAt, typesAt, variablesAt, edgesAt, regionsAt, proceduresAt}
 use Rattle.writer.specs.Laid.{Laid, laid-none, laid-then, laid-before}
 use Rattle.writer.specs.Ready.{Wrote, treeAt, frontOf}

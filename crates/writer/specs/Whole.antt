@@ -1,22 +1,17 @@
 -- The whole file in written order, and that it stands as the front part of what was lent.
 use Prim.Native.Nat.{ℕ, zero, suc, _+_, _*_, _≤_, _<_}
 use native.Mathlib.Omega.{arith}
-use mathlib.Core.List.{List, [], _∷_, _++_, append-nil}
+use mathlib.Core.List.{List, [], _∷_, _++_}
 use mathlib.Core.Path.{_≡_, refl, ap, ap₂, sym, _∙_}
 use lib.ListN.{length, getD, take, drop}
-use Rattle.language.specs.File.{Chain, types, procedures, word, recordCount}
-use Rattle.language.specs.Tree.{Tree, treeOf}
-use Rattle.language.specs.Layout.{size, sizeWords, reference, wordList, lay, layWords, written}
-use Rattle.language.specs.Records.{zeros, headed}
-use Rattle.layout.specs.Table.{all-rows}
-use Rattle.layout.specs.Fits.{Fits}
-use Rattle.layout.specs.Standing.{lay-length}
-use Rattle.layout.specs.Files.{typesFrom, proceduresFrom, tree-headed, tree-size, tree-fits, count-parts}
-use Rattle.layout.specs.Writing.{written-front}
-use Rattle.chains.specs.Formed.{Formed, counted, types-stand, procedures-stand}
-use Rattle.writer.specs.Laid.{Laid, laid-then, laid-before, linked}
-use Rattle.writer.specs.Ready.{Wrote, treeAt, Ready, reference-is}
-use Rattle.writer.specs.Parts.{eight}
+use Rattle.language.specs.Format.{headerProcedures, recordBytes}
+use Rattle.language.specs.File.{Chain, word, recordCount}
+use Rattle.language.specs.Tree.{Tree, readRecord, readTree, treeOf}
+use Rattle.language.specs.Layout.{size, sizeWords, lay, written}
+use Rattle.chains.specs.Layout.{Fits, lay-length, tree-size, tree-fits, written-front}
+use Rattle.chains.specs.Formed.{Formed, counted, procedures-stand}
+use Rattle.writer.specs.Laid.{Laid, laid-then}
+use Rattle.writer.specs.Ready.{Wrote, treeAt, usesAt, wordsAt, front, frontOf, front-length, ChainReady, RecordReady}
 
 -- ---- lists that agree from some place on
 same-list : (xs ys : List ℕ) → length xs ≡ length ys → ((j : ℕ) → getD xs j 0 ≡ getD ys j 0) → xs ≡ ys
@@ -45,64 +40,38 @@ laid-written {s} {t} {a} {b} F B m L =
     ∙ ap₂ _++_ (written-front F b B (omega (arith, L .same)) (L .there))
     (same-drop (16 * size t) b a (L .same) (λ j l. L .past j (omega (arith, lay-length t 0))))
 
--- ---- the header
-module _ {f : List ℕ} (F : Formed f) where
-  whole-size : recordCount f ≡ suc (size (treeAt f (word f 0 2)) + size (treeAt f (word f 0 1)))
-  unfolding treeAt
-  whole-size = count-parts f (F .header) (F .form)
+-- ---- the whole: the header with what its words lead to, then the procedures
+whole-size : {f : List ℕ} → Formed f → recordCount f ≡ suc (sizeWords (wordsAt f 0) + size (treeAt f (word f 0 headerProcedures)))
+unfolding treeOf readTree readRecord size wordsAt usesAt treeAt
+whole-size {f} F = sym (tree-size f (F .header) (F .form))
 
-  headed-lay : lay (headed (typesFrom f) (proceduresFrom f)) 0
-      ≡ (1 ∷ linked (word f 0 1) (1 + size (treeAt f (word f 0 2))) ∷ linked (word f 0 2) 1 ∷ recordCount f ∷ 0 ∷ 0 ∷ 0 ∷ 0 ∷ [])
-      ∷ (lay (treeAt f (word f 0 2)) 1 ++ lay (treeAt f (word f 0 1)) (1 + size (treeAt f (word f 0 2))))
-  unfolding headed lay zeros sizeWords wordList layWords all-rows treeAt
-  headed-lay =
-      let x : reference (suc 0 + (size (typesFrom f) + 0)) (proceduresFrom f) ≡ linked (word f 0 1) (1 + size (typesFrom f)) = reference-is _ (procedures-stand F) ∙ ap (linked (word f 0 1)) (omega arith) in
-      let y : reference 1 (typesFrom f) ≡ linked (word f 0 2) 1 = reference-is 1 (types-stand F) in
-      let z : lay (proceduresFrom f) (suc 0 + (size (typesFrom f) + 0)) ≡ lay (proceduresFrom f) (1 + size (typesFrom f)) = ap (lay (proceduresFrom f)) (omega arith) in
-      ap₂ _∷_ (eight refl x y (sym (count-parts f (F .header) (F .form))) refl refl refl refl) (ap₂ _++_ (append-nil (lay (typesFrom f) 1)) z)
+whole-lay : (f : List ℕ) → lay (treeOf f) 0 ≡ front f 0 0 ++ lay (treeAt f (word f 0 headerProcedures)) (0 + length (front f 0 0))
+unfolding treeOf readTree readRecord lay front frontOf wordsAt usesAt treeAt
+whole-lay f =
+    let e : suc 0 + sizeWords (wordsAt f 0) ≡ 0 + length (front f 0 0) = omega (arith, front-length f 0 0) in
+    ap (λ d. front f 0 0 ++ lay (treeAt f (word f 0 headerProcedures)) d) e
 
-  module _ {len : ℕ} (m : 16 * recordCount f ≤ len) where
-    pub types-ready : {w : ℕ} → w ≡ word f 0 2 → Ready f types w 1 len
-    types-ready e =
+module _ {f : List ℕ} (a : List ℕ) (F : Formed f) (m : recordBytes * recordCount f ≤ length a) where
+  pub header-ready : RecordReady f 0 0 (length a)
+  header-ready =
+      let n = counted F in
+      record { formed = F; below = n .some; room = omega (arith, whole-size F); few = omega (arith, whole-size F, n .most) }
+
+  module _ {b : List ℕ} {c w : ℕ} (N : Wrote a b 0 c (front f 0 0)) (g : w ≡ word f 0 headerProcedures) where
+    pub procedures-ready : ChainReady f w c (length b)
+    procedures-ready =
         let n = counted F in
-        rw e (record { formed = F; stands = types-stand F; room = omega (arith, whole-size); few = omega (arith, whole-size, n .most) })
+        let q = front-length f 0 0 in
+        rw g (record {
+          formed = F;
+          below = procedures-stand F .below;
+          room = omega (arith, whole-size F, N .next, q, N .laid .same);
+          few = omega (arith, whole-size F, N .next, q, n .most);
+        })
 
-    pub procedures-ready : {a b : List ℕ} {v w c : ℕ} → length a ≡ len → v ≡ word f 0 2 → w ≡ word f 0 1 → Wrote a b 1 c (lay (treeAt f v) 1)
-        → Ready f procedures w c (length b)
-    procedures-ready {v = v} l d e N =
-        let n = counted F in
-        let q = N .next ∙ ap (λ k. 1 + k) (lay-length (treeAt f v) 1) ∙ ap (λ j. 1 + size (treeAt f j)) d in
-        rw e (record { formed = F; stands = procedures-stand F; room = omega (arith, whole-size, q, N .laid .same); few = omega (arith, whole-size, q, n .most) })
-
-  module _ {a b d : List ℕ} {v w c r : ℕ} (g : v ≡ word f 0 2) (h : w ≡ word f 0 1) (N : Wrote a b 1 c (lay (treeAt f v) 1)) (M : Wrote b d c r (lay (treeAt f w) c)) where
-    second-is : c ≡ 1 + size (treeAt f v)
-    second-is = N .next ∙ ap (λ k. 1 + k) (lay-length (treeAt f v) 1)
-
-    pub whole-room : 16 * recordCount f ≤ length a → (16 * 0 + 16 ≤ length d) × (c < 65536)
-    whole-room m =
-        let n = counted F in
-        let q = second-is ∙ ap (λ j. 1 + size (treeAt f j)) g in
-        (omega (arith, n .some, N .laid .same, M .laid .same), omega (arith, whole-size, q, n .most))
-
-    whole-is : lay (treeOf f) 0 ≡ (1 ∷ linked w c ∷ linked v 1 ∷ recordCount f ∷ 0 ∷ 0 ∷ 0 ∷ 0 ∷ []) ∷ (lay (treeAt f v) 1 ++ lay (treeAt f w) c)
-    whole-is = rw (g, h, c-is) (ap (λ t. lay t 0) (tree-headed f (F .header) (F .form)) ∙ headed-lay)
-      where
-        c-is : c ≡ 1 + size (treeAt f (word f 0 2))
-        c-is = second-is ∙ ap (λ j. 1 + size (treeAt f j)) g
-
-    pub whole-laid : {e : List ℕ} {us : List ℕ} → us ≡ 1 ∷ linked w c ∷ linked v 1 ∷ recordCount f ∷ 0 ∷ 0 ∷ 0 ∷ 0 ∷ [] → Laid d e 0 (us ∷ [])
-        → Laid a e 0 (lay (treeOf f) 0)
-    whole-laid {e} {us} k L =
-        let z : us ∷ (lay (treeAt f v) 1 ++ lay (treeAt f w) c) ≡ lay (treeOf f) 0 = ap (λ x. x ∷ (lay (treeAt f v) 1 ++ lay (treeAt f w) c)) k ∙ sym whole-is in
-        rw (← z) (laid-before refl (laid-then (sym (N .next)) (N .laid) (M .laid)) L)
-
-    pub whole-written : {e : List ℕ} {us : List ℕ} → 16 * recordCount f ≤ length a → ((j : ℕ) → getD e j 0 < 256)
-        → us ≡ 1 ∷ linked w c ∷ linked v 1 ∷ recordCount f ∷ 0 ∷ 0 ∷ 0 ∷ 0 ∷ [] → Laid d e 0 (us ∷ []) → e ≡ written (treeOf f) ++ drop (16 * recordCount f) a
-    whole-written {e} {us} m B k L =
+    pub whole-written : {d : List ℕ} {r : ℕ} → ((j : ℕ) → getD d j 0 < 256) → Wrote b d c r (lay (treeAt f w) c)
+        → d ≡ written (treeOf f) ++ drop (recordBytes * recordCount f) a
+    whole-written {d} B M =
         let n = tree-size f (F .header) (F .form) in
-        laid-written (tree-fits f (F .header) (F .form)) B (omega (arith, n)) (whole-laid k L) ∙ ap (λ s. written (treeOf f) ++ drop (16 * s) a) n
-
--- the count, as the code reads it
-pub count-is : (f : List ℕ) {n : ℕ} → n ≡ word f 0 3 → n ≡ recordCount f
-unfolding recordCount
-count-is f e = e
+        let L : Laid a d 0 (lay (treeOf f) 0) = rw (whole-lay f, ← (N .next), sym g) (laid-then (sym (N .next)) (N .laid) (M .laid)) in
+        laid-written (tree-fits f (F .header) (F .form)) B (omega (arith, n)) L ∙ ap (λ s. written (treeOf f) ++ drop (16 * s) a) n

@@ -1,15 +1,12 @@
 // The writer of records into a lent slice, and the walk in written order that copies a file.
-mod declared;
-mod goals;
-mod plain;
 mod put;
-mod whole;
+mod stage;
+mod walk;
 
-pub use declared::write_regions;
-pub use declared::write_types;
-pub use plain::copy_record;
-pub use plain::write_plain_chain;
+pub use put::copy_record;
 pub use put::link;
 pub use put::put_record;
 pub use put::put_word;
-pub use whole::write_in_order;
+pub use stage::write_in_order;
+pub use walk::write_chain;
+pub use walk::write_record;

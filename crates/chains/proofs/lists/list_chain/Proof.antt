@@ -1,15 +1,15 @@
--- `list_chain` meets its contract: the invariant and its three laws are in Filling.
+-- `list_chain` meets its contract: the invariant and its three laws are in Listing.
 use mathlib.Core.Path.{_≡_, refl, _∙_}
 use lib.ListN.{length}
 use Rattle.chains.specs.Formed.{ahead}
 use Rattle.chains.specs.Records.{next-onward}
-use Rattle.chains.proofs.Filling.{Filled, zeros-own, first, next, last}
+use Rattle.chains.proofs.Listing.{ListedTo, zeros-own, first, next, last}
 use borrow.Author.Needs.{needs}
 use Rattle.chains.proofs.lists.list_chain.Statement.{statement}
 use Rattle.chains.proofs.lists.list_chain.Tie as tie
 
 abbrev Inv-loop : tie.InvT-loop
-Inv-loop file i from table₀ at₀ n₀ table at n = Filled file i from (length table₀) table at n × (length table ≡ length table₀)
+Inv-loop file i from table₀ at₀ n₀ table at n = ListedTo file i from (length table₀) table at n × (length table ≡ length table₀)
 
 abbrev μ-loop : tie.MeasureT-loop
 μ-loop file i from table₀ at₀ n₀ table at n = ahead file at

@@ -10,7 +10,7 @@ use Rattle.language.specs.Typing.{regionOk}
 use lib.ListN.{length}
 use Rattle.chains.specs.Formed.{Stands, regionsAt, regions-none, ahead}
 use Rattle.chains.specs.Is.{chain-next}
-use Rattle.declarations.specs.Both.{all-end}
+use Rattle.laws.specs.Lists.{all-end}
 use Rattle.declarations.specs.Edges.{RegionsAgree}
 use Rattle.declarations.specs.Signatures.{regions-no, regions-yes}
 use Rattle.declarations.proofs.signatures.regions_ok.Statement.{statement}

@@ -7,7 +7,7 @@ use Rattle.language.specs.File.{variables}
 use Rattle.chains.specs.Formed.{Stands, variablesAt, variables-none, ahead}
 use Rattle.chains.specs.Is.{variable-else}
 use Rattle.chains.specs.Declared.{variable-at}
-use Rattle.declarations.specs.Both.{all-end, all-no, all-yes}
+use Rattle.laws.specs.Lists.{all-end, all-no, all-yes}
 use Rattle.declarations.specs.Signatures.{variableFits}
 use Rattle.declarations.proofs.signatures.variables_ok.Statement.{statement}
 use Rattle.declarations.proofs.signatures.variables_ok.Tie as tie

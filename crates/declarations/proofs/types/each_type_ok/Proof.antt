@@ -7,7 +7,7 @@ use Rattle.language.specs.File.{types}
 use Rattle.chains.specs.Formed.{Stands, typesAt, types-none, ahead}
 use Rattle.chains.specs.Is.{type-else}
 use Rattle.chains.specs.Declared.{type-at}
-use Rattle.declarations.specs.Both.{all-end, all-no, all-yes}
+use Rattle.laws.specs.Lists.{all-end, all-no, all-yes}
 use Rattle.declarations.specs.Types.{typeFits}
 use Rattle.declarations.proofs.types.each_type_ok.Statement.{statement}
 use Rattle.declarations.proofs.types.each_type_ok.Tie as tie

@@ -7,7 +7,7 @@ use Rattle.language.specs.File.{functors}
 use Rattle.chains.specs.Formed.{Stands, functorsAt, functors-none, ahead}
 use Rattle.chains.specs.Is.{functor-else}
 use Rattle.chains.specs.Declared.{functor-at}
-use Rattle.declarations.specs.Both.{all-end, all-no, all-yes}
+use Rattle.laws.specs.Lists.{all-end, all-no, all-yes}
 use Rattle.declarations.specs.Types.{functorFits}
 use Rattle.declarations.proofs.types.functors_ok.Statement.{statement}
 use Rattle.declarations.proofs.types.functors_ok.Tie as tie

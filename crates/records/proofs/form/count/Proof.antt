@@ -1,10 +1,13 @@
 -- `count` meets its contract. Assumes nothing.
-use mathlib.Core.Path.{ap}
+use mathlib.Core.Path.{sym, ap, _∙_}
 use lib.ListN.{set}
-use Rattle.records.specs.Lists.{counted}
+use Rattle.records.specs.Lists.{counted-none, counted-some}
 use borrow.Author.Needs.{needs}
 use Rattle.records.proofs.form.count.Statement.{statement}
 use Rattle.records.proofs.form.count.Tie as tie
+
+returns : tie.Need-returns
+returns c = sym (counted-none (c .before .before .args .seen .now) (c .if1 .taken))
 
 slice-read-x : tie.Need-slice-read-x
 slice-read-x c = search needs
@@ -18,10 +21,13 @@ slice-write-seen c = search needs
 same-length : tie.Need-same-length
 same-length c = search needs
 
-returns : tie.Need-returns
-unfolding counted
-returns c = ap (set (c .before .before .before .args .seen .now) (c .before .before .before .args .r)) (c .one-more .ensures)
+returns-2 : tie.Need-returns-2
+returns-2 c =
+    let b = c .before .before in
+    let a = b .before .before .args in
+    ap (set (a .seen .now) (a .r)) (c .one-more .ensures) ∙ sym (counted-some (a .seen .now) (a .r) (b .if1 .left))
 
 pub count-spec : {M : Type 1} → statement M
 count-spec =
-    tie.close (tie.spec slice-read-x one-more-requires slice-write-seen same-length returns)
+    tie.close
+    (tie.spec returns slice-read-x one-more-requires slice-write-seen same-length returns-2)

@@ -7,11 +7,8 @@ use borrow.Author.Needs.{needs}
 use Rattle.records.proofs.form.form_ok.Statement.{statement}
 use Rattle.records.proofs.form.form_ok.Tie as tie
 
-table-requires : tie.Need-table-requires
-table-requires c κs = search needs
-
-nothing-seen-requires : tie.Need-nothing-seen-requires
-nothing-seen-requires c κs = search needs
+blank-marks-requires : tie.Need-blank-marks-requires
+blank-marks-requires c κs = search needs
 
 slice-aggregate-records-ok : tie.Need-slice-aggregate-records-ok
 slice-aggregate-records-ok c = search needs
@@ -32,14 +29,13 @@ returns-2 : tie.Need-returns-2
 returns-2 c =
     let b = c .before .before .before .before in
     c .all-once .ensures
-    ∙ form-counted _ _ (b .records-ok .ensures) (not-false _ (c .before .before .if1 .left)) (b .before .before .before .nothing-seen .ensures) (omega arith)
+    ∙ form-counted _ _ (b .records-ok .ensures) (not-false _ (c .before .before .if1 .left)) (b .before .before .blank-marks .ensures) (omega arith)
 
 pub form-ok-spec : {M : Type 1} → statement M
 form-ok-spec =
     tie.close
     (tie.spec
-    table-requires
-    nothing-seen-requires
+    blank-marks-requires
     slice-aggregate-records-ok
     records-ok-requires
     returns

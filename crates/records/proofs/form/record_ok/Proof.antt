@@ -1,71 +1,28 @@
--- `record_ok` meets its contract. Invariant: the words still ahead decide. Assumes nothing.
-use Prim.Native.Nat.{_-_}
-use native.Mathlib.Omega.{arith}
-use mathlib.Core.Path.{_∙_}
+-- `record_ok` meets its contract: the unused words, then the references. Assumes nothing.
 use borrow.Author.Needs.{needs}
 use borrow.Author.Tests.{not-true, not-false}
-use Rattle.language.specs.File.{word}
-use Rattle.records.proofs.Loops.{Words, words-first, words-next, words-refused, words-last}
+use Rattle.records.proofs.Loops.{record-spare, record-refers}
 use Rattle.records.proofs.form.record_ok.Statement.{statement}
 use Rattle.records.proofs.form.record_ok.Tie as tie
 
-abbrev Inv-loop : tie.InvT-loop
-Inv-loop rows file seen₀ n i row₀ k₀ seen row k = Words (word file) n i seen₀ seen row k
+spare-ok-requires : tie.Need-spare-ok-requires
+spare-ok-requires c κs = search needs
 
-abbrev μ-loop : tie.MeasureT-loop
-μ-loop rows file seen₀ n i row₀ k₀ seen row k = 8 - k
+returns : tie.Need-returns
+returns c = record-spare _ _ _ (c .before .spare-ok .ensures) _ (not-true _ (c .if1 .taken))
 
-word-requires : tie.Need-word-requires Inv-loop μ-loop
-word-requires c κs = search needs
+refers-ok-requires : tie.Need-refers-ok-requires
+refers-ok-requires c κs = search needs
 
-row-of-requires : tie.Need-row-of-requires Inv-loop μ-loop
-row-of-requires c κs = search needs
+same-length : tie.Need-same-length
+same-length c = search needs
 
-loop-holds : tie.Need-loop-holds Inv-loop μ-loop
-loop-holds c = words-first _ _ _ _ (c .before .word .ensures .0) (c .row-of .ensures)
-
-word-ok-requires : tie.Need-word-ok-requires Inv-loop μ-loop
-word-ok-requires c κs = search needs
-
-same-length : tie.Need-same-length Inv-loop μ-loop
-same-length c = c .before .before .before .word-ok .kept .1 .1 .0 ∙ c .before .before .before .before .before .before .loop .inv .same
-
-returns : tie.Need-returns Inv-loop μ-loop
-returns c =
-    let b = c .before .before .before in
-    words-refused _ _ _ (b .before .before .before .loop .inv) (omega arith) (b .word-ok .ensures) (not-true _ (c .if1 .taken))
-
-add-k : tie.Need-add-k Inv-loop μ-loop
-add-k c = search needs
-
-loop-less : tie.Need-loop-less Inv-loop μ-loop
-loop-less c = search needs
-
-loop-again : tie.Need-loop-again Inv-loop μ-loop
-loop-again c =
-    let b = c .before .before .before in
-    words-next _ _ _ (b .before .before .before .loop .inv) (omega arith) (b .word-ok .ensures) (not-false _ (c .if1 .left)) (b .word-ok .kept .1 .1 .0)
-
-same-length-2 : tie.Need-same-length-2 Inv-loop μ-loop
-same-length-2 c = c .before .loop .inv .same
-
-returns-2 : tie.Need-returns-2 Inv-loop μ-loop
-returns-2 c = words-last _ _ _ (c .before .loop .inv) (omega arith)
+returns-2 : tie.Need-returns-2
+returns-2 c =
+    let b = c .before .before in
+    let d = b .before .before in
+    record-refers _ _ _ (d .before .spare-ok .ensures) (not-false _ (d .if1 .left)) (b .refers-ok .ensures)
 
 pub record-ok-spec : {M : Type 1} → statement M
 record-ok-spec =
-    tie.close
-    (tie.spec
-    Inv-loop
-    μ-loop
-    word-requires
-    row-of-requires
-    loop-holds
-    word-ok-requires
-    same-length
-    returns
-    add-k
-    loop-less
-    loop-again
-    same-length-2
-    returns-2)
+    tie.close (tie.spec spare-ok-requires returns refers-ok-requires same-length returns-2)

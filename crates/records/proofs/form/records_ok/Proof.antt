@@ -10,10 +10,19 @@ use Rattle.records.proofs.form.records_ok.Statement.{statement}
 use Rattle.records.proofs.form.records_ok.Tie as tie
 
 abbrev Inv-loop : tie.InvT-loop
-Inv-loop rows file seen₀ n i₀ seen i = Records (word file) n seen₀ seen i
+Inv-loop file seen₀ n table low high i₀ seen i = Records (word file) n seen₀ seen i
 
 abbrev μ-loop : tie.MeasureT-loop
-μ-loop rows file seen₀ n i₀ seen i = n - i
+μ-loop file seen₀ n table low high i₀ seen i = n - i
+
+rows-requires : tie.Need-rows-requires Inv-loop μ-loop
+rows-requires c κs = search needs
+
+low-most-requires : tie.Need-low-most-requires Inv-loop μ-loop
+low-most-requires c κs = search needs
+
+high-most-requires : tie.Need-high-most-requires Inv-loop μ-loop
+high-most-requires c κs = search needs
 
 loop-holds : tie.Need-loop-holds Inv-loop μ-loop
 loop-holds c = records-first _ _ _
@@ -22,12 +31,12 @@ record-ok-requires : tie.Need-record-ok-requires Inv-loop μ-loop
 record-ok-requires c κs = search needs
 
 same-length : tie.Need-same-length Inv-loop μ-loop
-same-length c = c .before .before .before .record-ok .kept .1 .1 .0 ∙ c .before .before .before .before .before .before .loop .inv .same
+same-length c = c .before .before .before .record-ok .kept .1 .1 .1 .1 .0 ∙ c .before .before .before .before .before .before .before .before .before .loop .inv .same
 
 returns : tie.Need-returns Inv-loop μ-loop
 returns c =
     let b = c .before .before .before in
-    records-refused _ _ (b .before .before .before .loop .inv) (omega arith) (b .record-ok .ensures) (not-true _ (c .if1 .taken))
+    records-refused _ _ (b .before .before .before .before .before .before .loop .inv) (omega arith) (b .record-ok .ensures) (not-true _ (c .if1 .taken))
 
 add-i : tie.Need-add-i Inv-loop μ-loop
 add-i c = search needs
@@ -38,7 +47,7 @@ loop-less c = search needs
 loop-again : tie.Need-loop-again Inv-loop μ-loop
 loop-again c =
     let b = c .before .before .before in
-    records-next _ _ (b .before .before .before .loop .inv) (omega arith) (b .record-ok .ensures) (not-false _ (c .if1 .left)) (b .record-ok .kept .1 .1 .0)
+    records-next _ _ (b .before .before .before .before .before .before .loop .inv) (omega arith) (b .record-ok .ensures) (not-false _ (c .if1 .left)) (b .record-ok .kept .1 .1 .1 .1 .0)
 
 same-length-2 : tie.Need-same-length-2 Inv-loop μ-loop
 same-length-2 c = c .before .loop .inv .same
@@ -52,6 +61,9 @@ records-ok-spec =
     (tie.spec
     Inv-loop
     μ-loop
+    rows-requires
+    low-most-requires
+    high-most-requires
     loop-holds
     record-ok-requires
     same-length

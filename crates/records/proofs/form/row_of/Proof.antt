@@ -2,7 +2,7 @@
 use native.Mathlib.Omega.{arith}
 use mathlib.Core.Path.{ap, _∙_}
 use lib.ListN.{getD}
-use Rattle.records.specs.Table.{row-at, row-past}
+use Rattle.records.specs.Table.{table-at, table-past}
 use borrow.Author.Needs.{needs}
 use Rattle.records.proofs.form.row_of.Statement.{statement}
 use Rattle.records.proofs.form.row_of.Tie as tie
@@ -17,10 +17,10 @@ element-copy-out-result-2 : tie.Need-element-copy-out-result-2
 element-copy-out-result-2 c = search needs
 
 returns : tie.Need-returns
-returns c = ap (λ xs. getD xs (c .before .before .args .kind) 0) (c .before .before .pre) ∙ row-at (c .before .before .args .kind) (omega arith)
+returns c = λ f e. ap (λ xs. getD xs (c .before .before .args .kind) 0) e ∙ table-at f (c .before .before .args .kind) (omega arith)
 
 returns-2 : tie.Need-returns-2
-returns-2 c = ap (λ xs. getD xs 0 0) (c .before .before .pre) ∙ row-past (c .before .before .args .kind) (omega arith)
+returns-2 c = λ f e. ap (λ xs. getD xs 0 0) e ∙ table-past f (c .before .before .args .kind) (omega arith)
 
 pub row-of-spec : {M : Type 1} → statement M
 row-of-spec =

@@ -1,8 +1,7 @@
 -- `call_ok` meets its contract.
 use borrow.Author.Tests.{not-true, not-false}
 use borrow.Author.Needs.{needs}
-use Rattle.declarations.specs.Names.{stands-same}
-use Rattle.typing.specs.Calls.{call-none, call-some}
+use Rattle.typing.specs.Calls.{call-none, call-some, callee-stands}
 use Rattle.typing.proofs.calls.call_ok.Statement.{statement}
 use Rattle.typing.proofs.calls.call_ok.Tie as tie
 
@@ -16,7 +15,7 @@ word-of-requires : tie.Need-word-of-requires
 word-of-requires c κs = search needs
 
 match-arguments-requires : tie.Need-match-arguments-requires
-match-arguments-requires c κs = let s = c .before .before .before .before .before .before .before .pre in (s .0, (s .1 .1 .0, (stands-same (c .word-of .ensures) (s .1 .0 .starts _), s .1 .1 .1)))
+match-arguments-requires c κs = let s = c .before .before .before .before .before .before .before .pre in (s .0, (s .1 .1 .0, (callee-stands (s .1 .0) _ (c .word-of .ensures), s .1 .1 .1)))
 
 returns-2 : tie.Need-returns-2
 returns-2 c = call-some _ _ _ _ _ (c .before .before .before .before .before .before .before .before .pre .1 .0) (c .before .before .before .listed .ensures) (not-false _ (c .before .before .if1 .left)) (c .before .word-of .ensures) (c .match-arguments .ensures)

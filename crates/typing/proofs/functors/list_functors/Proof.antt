@@ -1,5 +1,5 @@
 -- `list_functors` meets its contract: after t turns the types below t are right.
-use Rattle.typing.specs.Places.{Filled, filled-none, filled-next, filled-all, functor-table}
+use Rattle.typing.specs.Places.{FilledTypes, filled-none, filled-next, filled-all, functor-table}
 use Rattle.declarations.specs.Names.{stands-same}
 use lib.ListN.{length}
 use mathlib.Core.Path.{_≡_, refl, _∙_}
@@ -11,7 +11,7 @@ use Rattle.typing.proofs.functors.list_functors.Statement.{statement}
 use Rattle.typing.proofs.functors.list_functors.Tie as tie
 
 abbrev Inv-loop : tie.InvT-loop
-Inv-loop file types table₀ t₀ table t = Filled file types table t × (t ≤ 65) × (length table ≡ length table₀)
+Inv-loop file types table₀ t₀ table t = FilledTypes file types table t × (t ≤ 65) × (length table ≡ length table₀)
 
 abbrev μ-loop : tie.MeasureT-loop
 μ-loop file types table₀ t₀ table t = 65 - t

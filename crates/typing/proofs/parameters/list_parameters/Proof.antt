@@ -1,5 +1,5 @@
 -- `list_parameters` meets its contract: from the last record down, what the table has is right.
-use Rattle.typing.specs.Parameters.{Listed, listed-first, listed-other, listed-next, parameter-here, parameter-later, listed-all}
+use Rattle.typing.specs.Parameters.{ListedFrom, listed-first, listed-other, listed-next, parameter-here, parameter-later, listed-all}
 use Rattle.chains.specs.Formed.{counted}
 use Rattle.language.specs.File.{recordCount}
 use lib.ListN.{length, length-set}
@@ -11,7 +11,7 @@ use Rattle.typing.proofs.parameters.list_parameters.Statement.{statemen
 use Rattle.typing.proofs.parameters.list_parameters.Tie as tie
 
 abbrev Inv-loop : tie.InvT-loop
-Inv-loop file table₀ i₀ table i = Listed file table i × (i ≤ recordCount file) × (length table ≡ length table₀)
+Inv-loop file table₀ i₀ table i = ListedFrom file table i × (i ≤ recordCount file) × (length table ≡ length table₀)
 
 abbrev μ-loop : tie.MeasureT-loop
 μ-loop file table₀ i₀ table i = i

@@ -1,0 +1,3 @@
+mod Filling
+mod Passing
+mod Testing

@@ -1,0 +1,58 @@
+-- `is_unannotated` meets its contract: the invariant and its laws are in Testing.
+use Prim.Native.Nat.{_-_}
+use native.Mathlib.Omega.{arith}
+use Rattle.language.specs.File.{recordCount}
+use Rattle.owners.proofs.Testing.{Left, first, stop-create, stop-remove, next, last}
+use borrow.Author.Needs.{needs}
+use Rattle.owners.proofs.plain.is_unannotated.Statement.{statement}
+use Rattle.owners.proofs.plain.is_unannotated.Tie as tie
+
+abbrev Inv-loop : tie.InvT-loop
+Inv-loop file n i₀ i = Left file n i
+
+abbrev μ-loop : tie.MeasureT-loop
+μ-loop file n i₀ i = n - i
+
+word-requires : tie.Need-word-requires Inv-loop μ-loop
+word-requires c κs = search needs
+
+loop-holds : tie.Need-loop-holds Inv-loop μ-loop
+unfolding recordCount
+loop-holds c = first (c .before .before .pre) (c .word .ensures .0)
+
+word-requires-2 : tie.Need-word-requires-2 Inv-loop μ-loop
+word-requires-2 c κs = search needs
+
+returns : tie.Need-returns Inv-loop μ-loop
+returns c = stop-create (c .before .before .before .loop .inv) (c .before .before .loop-test .taken) (c .before .word2 .ensures .0) (c .if1 .taken)
+
+returns-2 : tie.Need-returns-2 Inv-loop μ-loop
+returns-2 c = stop-remove (c .before .before .before .before .loop .inv) (c .before .before .before .loop-test .taken) (c .before .before .word2 .ensures .0) (c .if2 .taken)
+
+add-i : tie.Need-add-i Inv-loop μ-loop
+add-i c = search needs
+
+loop-less : tie.Need-loop-less Inv-loop μ-loop
+loop-less c = search needs
+
+loop-again : tie.Need-loop-again Inv-loop μ-loop
+loop-again c = next (c .before .before .before .before .loop .inv) (c .before .before .before .loop-test .taken) (c .before .before .word2 .ensures .0) (c .before .if1 .left) (c .if2 .left)
+
+returns-3 : tie.Need-returns-3 Inv-loop μ-loop
+returns-3 c = last (c .before .loop .inv) (omega arith)
+
+pub is-unannotated-spec : {M : Type 1} → statement M
+is-unannotated-spec =
+    tie.close
+    (tie.spec
+    Inv-loop
+    μ-loop
+    word-requires
+    loop-holds
+    word-requires-2
+    returns
+    returns-2
+    add-i
+    loop-less
+    loop-again
+    returns-3)

@@ -1,0 +1,10 @@
+pub mod Counting
+pub mod Referred
+pub mod Owner
+pub mod Handing
+pub mod Owners
+pub mod Below
+pub mod Everywhere
+pub mod TreeLaw
+pub mod Numbered
+pub mod Plain

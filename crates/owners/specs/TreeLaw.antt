@@ -1,0 +1,220 @@
+-- THE TREE LAW: of a file that passes numbers 1 and 2, every goal of the program passes a test if and only if every record that is a goal does.
+-- What stands in a chain passes if and only if its first record and what its words refer to pass (`record-step`); the rest is `outward` and `inward`.
+use Prim.Native.Nat.{ℕ, suc, _+_, _-_, _<_}
+use native.Mathlib.Omega.{arith}
+use native.Mathlib.Decide.{ℕ-discrete}
+use mathlib.Core.Bool.{Bool, true, false, false≢true}
+use mathlib.Core.List.{List, [], _∷_}
+use mathlib.Core.Path.{_≡_, refl, ap, sym, _∙_}
+use Rattle.sets.specs.Tests.{_&_, and-true, true-and, same-truth}
+use Rattle.laws.specs.Numbers.{all-at, at-all}
+use Rattle.language.specs.Format.{headerProcedures}
+use Rattle.language.specs.File.{kLiteral, kSum, kAssign, kConstruct, kSwitch, kIf, kCall, kPrint, kCreate, kRemove, Kind, kNone, kHeader, kType, kFunctor, kProcedure, kVariable, kRegion, kEdge, kArm, kArgument, kGoal, Chain, nowhere, types, functors, procedures, variables, regions, edges, goals, arms, arguments, Use, number, unused, first, row, kindOf, word, recordCount}
+use Rattle.language.specs.Program.{Step, _then_, Goal, step, switch, ifLess}
+use Rattle.language.specs.Answers.{program}
+use Rattle.layout.specs.Table.{all-rows}
+use Rattle.layout.specs.Chains.{real}
+use Rattle.layout.specs.Known.{known-chain}
+use Rattle.layout.specs.Files.{header-kind}
+use Rattle.records.specs.Table.{uses}
+use Rattle.chains.specs.Formed.{Formed, Stands, counted, goalsAt, goalAt, armsAt, proceduresAt, goals-none, arms-none, procedures-none, program-procedures}
+use Rattle.chains.specs.Kinds.{same-read}
+use Rattle.chains.specs.Goals.{literal-at, sum-at, assign-at, construct-at, print-at, create-at, remove-at}
+use Rattle.chains.specs.Parts.{switch-at, arm-at, if-at, call-at}
+use Rattle.chains.specs.Declared.{procedure-at}
+use Rattle.owners.specs.Referred.{sortOf, usesOf, Each, EachOf, header-uses, outward, inward, each-later}
+use Rattle.owners.specs.Owner.{ownerOf}
+use Rattle.owners.specs.Owners.{Belongs, goal-kind, goal-next, switch-arms, arm-next, arm-goals, if-then, if-else, procedure-next, procedure-goals, first-owner}
+use Rattle.owners.specs.Everywhere.{allGoals, allArms, allFrom, everyGoal, ifGoal, recordTest, everyRecord}
+
+-- ---- tests, in another order
+one-swap : (l r : Bool) → (l & r) ≡ (l & (r & true))
+unfolding _&_
+one-swap true true = refl
+one-swap true false = refl
+one-swap false r = refl
+
+two-swap : (a r : Bool) → (a & r) ≡ (r & (a & true))
+unfolding _&_
+two-swap true true = refl
+two-swap true false = refl
+two-swap false true = refl
+two-swap false false = refl
+
+three-swap : (l a r : Bool) → ((l & a) & r) ≡ (l & (r & (a & true)))
+unfolding _&_
+three-swap true a r = two-swap a r
+three-swap false a r = refl
+
+four-swap : (l a b r : Bool) → ((l & (a & b)) & r) ≡ (l & (r & (a & (b & true))))
+unfolding _&_
+four-swap true true b r = two-swap b r
+four-swap true false b true = refl
+four-swap true false b false = refl
+four-swap false a b r = refl
+
+module _ (L : ℕ → Goal → Bool) (f : List ℕ) where
+  -- what stands in the chain at record i passes
+  unfoldable chainTest : Chain → ℕ → Bool
+  chainTest nowhere i = true
+  chainTest types i = true
+  chainTest functors i = true
+  chainTest procedures i = allFrom L (ownerOf f i) (proceduresAt f i)
+  chainTest variables i = true
+  chainTest regions i = true
+  chainTest edges i = true
+  chainTest goals i = allGoals (L (ownerOf f i)) (goalsAt f i)
+  chainTest arms i = allArms (L (ownerOf f i)) (armsAt f i)
+  chainTest arguments i = true
+
+  -- .. in the chains that a record's words lead to
+  unfoldable wordsTest : (ℕ → ℕ) → ℕ → List Use → Bool
+  wordsTest w k [] = true
+  wordsTest w k (number ∷ us) = wordsTest w (suc k) us
+  wordsTest w k (unused ∷ us) = wordsTest w (suc k) us
+  wordsTest w k (first c ∷ us) = chainTest c (w k) & wordsTest w (suc k) us
+
+  abbrev Passes : Chain → ℕ → Type 0
+  Passes c i = chainTest c i ≡ true
+
+  words-each : (w : ℕ → ℕ) (us : List Use) (k : ℕ) → wordsTest w k us ≡ true → Each Passes w k us
+  unfolding wordsTest
+  words-each w [] k e = tt
+  words-each w (number ∷ us) k e = words-each w us (suc k) e
+  words-each w (unused ∷ us) k e = words-each w us (suc k) e
+  words-each w (first c ∷ us) k e = (and-true e .0, words-each w us (suc k) (and-true e .1))
+
+  each-words : (w : ℕ → ℕ) (us : List Use) (k : ℕ) → Each Passes w k us → wordsTest w k us ≡ true
+  unfolding wordsTest
+  each-words w [] k e = refl
+  each-words w (number ∷ us) k e = each-words w us (suc k) e
+  each-words w (unused ∷ us) k e = each-words w us (suc k) e
+  each-words w (first c ∷ us) k e = true-and (e .0) (each-words w us (suc k) (e .1))
+
+  -- ---- the test of a chain that belongs to procedure q
+  module _ {q w : ℕ} (b : Belongs f q w) where
+    owned-goals : allGoals (L q) (goalsAt f w) ≡ chainTest goals w
+    unfolding chainTest allGoals
+    owned-goals = elim (ℕ-discrete w 0) [ yes z ↦ rw (goals-none f z) | no z ↦ rw (b z) ]
+
+    owned-arms : allArms (L q) (armsAt f w) ≡ chainTest arms w
+    unfolding chainTest allGoals
+    owned-arms = elim (ℕ-discrete w 0) [ yes z ↦ rw (arms-none f z) | no z ↦ rw (b z) ]
+
+    owned-procedures : allFrom L q (proceduresAt f w) ≡ chainTest procedures w
+    unfolding chainTest allFrom
+    owned-procedures = elim (ℕ-discrete w 0) [ yes z ↦ rw (procedures-none f z) | no z ↦ rw (b z) ]
+
+  ends : (c : Chain) → Passes c 0
+  unfolding chainTest allGoals allFrom
+  ends nowhere = refl
+  ends types = refl
+  ends functors = refl
+  ends procedures = rw (procedures-none f {i = 0} refl)
+  ends variables = refl
+  ends regions = refl
+  ends edges = refl
+  ends goals = rw (goals-none f {i = 0} refl)
+  ends arms = rw (arms-none f {i = 0} refl)
+  ends arguments = refl
+
+-- ---- a chain passes if and only if its first record does and what its words lead to
+module _ (L : ℕ → Goal → Bool) {f : List ℕ} (F : Formed f) (i : ℕ) (q : i < recordCount f) where
+  abbrev here : Bool
+  here = L (ownerOf f i) (goalAt f i)
+
+  -- a goal without parts
+  plain-goal : {s : Step} → goalsAt f i ≡ step s then goalsAt f (word f i 1) → goalAt f i ≡ step s → Belongs f (ownerOf f i) (word f i 1)
+      → chainTest L f goals i ≡ (here & (chainTest L f goals (word f i 1) & true))
+  unfolding chainTest allGoals
+  plain-goal v g b = rw (v, g, owned-goals L f b) (one-swap _ _)
+
+  switch-goal : {x : ℕ} → goalsAt f i ≡ switch x (armsAt f (word f i 3)) then goalsAt f (word f i 1) → goalAt f i ≡ switch x (armsAt f (word f i 3))
+      → Belongs f (ownerOf f i) (word f i 1) → Belongs f (ownerOf f i) (word f i 3)
+      → chainTest L f goals i ≡ (here & (chainTest L f goals (word f i 1) & (chainTest L f arms (word f i 3) & true)))
+  unfolding chainTest allGoals
+  switch-goal v g b c = rw (v, g, owned-goals L f b, owned-arms L f c) (three-swap _ _ _)
+
+  if-goal : {y z : ℕ} → goalsAt f i ≡ ifLess y z (goalsAt f (word f i 4)) (goalsAt f (word f i 5)) then goalsAt f (word f i 1)
+      → goalAt f i ≡ ifLess y z (goalsAt f (word f i 4)) (goalsAt f (word f i 5))
+      → Belongs f (ownerOf f i) (word f i 1) → Belongs f (ownerOf f i) (word f i 4) → Belongs f (ownerOf f i) (word f i 5)
+      → chainTest L f goals i ≡ (here & (chainTest L f goals (word f i 1) & (chainTest L f goals (word f i 4) & (chainTest L f goals (word f i 5) & true))))
+  unfolding chainTest allGoals
+  if-goal v g b c d = rw (v, g, owned-goals L f b, owned-goals L f c, owned-goals L f d) (four-swap _ _ _ _)
+
+  arm-record : kindOf (word f i 0) ≡ kArm → chainTest L f arms i ≡ (chainTest L f arms (word f i 1) & (chainTest L f goals (word f i 2) & true))
+  unfolding chainTest allGoals
+  arm-record e =
+      rw (arm-at F refl (same-read f i refl e) .view, owned-arms L f (arm-next F i q e), owned-goals L f (arm-goals F i q e)) (two-swap _ _)
+
+  procedure-record : kindOf (word f i 0) ≡ kProcedure
+      → chainTest L f procedures i ≡ (chainTest L f procedures (word f i 1) & (chainTest L f goals (word f i 4) & true))
+  unfolding chainTest allFrom
+  procedure-record e =
+      let n : suc (ownerOf f i) ≡ ownerOf f i + 1 = omega arith in
+      rw (procedure-at F refl (same-read f i refl e) .view, n, owned-procedures L f (procedure-next F i q e), owned-goals L f (procedure-goals F i q e)) (two-swap _ _)
+
+  record-step : (k : Kind) → kindOf (word f i 0) ≡ k → real (row k .chain) ≡ true
+      → chainTest L f (row k .chain) i ≡ (ifGoal k here & wordsTest L f (word f i) 1 (uses (row k)))
+  unfolding all-rows uses real ifGoal wordsTest chainTest _&_
+  record-step kNone e r = absurd (false≢true r)
+  record-step kHeader e r = absurd (false≢true r)
+  record-step kType e r = refl
+  record-step kFunctor e r = refl
+  record-step kProcedure e r = procedure-record e
+  record-step kVariable e r = refl
+  record-step kRegion e r = refl
+  record-step kEdge e r = refl
+  record-step kArm e r = arm-record e
+  record-step kArgument e r = refl
+  record-step (kGoal kLiteral) e r = let h = literal-at F refl (same-read f i refl e) in plain-goal (h .view) (h .goal) (goal-next F i q kLiteral e)
+  record-step (kGoal kSum) e r = let h = sum-at F refl (same-read f i refl e) in plain-goal (h .view) (h .goal) (goal-next F i q kSum e)
+  record-step (kGoal kAssign) e r = let h = assign-at F refl (same-read f i refl e) in plain-goal (h .view) (h .goal) (goal-next F i q kAssign e)
+  record-step (kGoal kConstruct) e r = let h = construct-at F refl (same-read f i refl e) in plain-goal (h .view) (h .goal) (goal-next F i q kConstruct e)
+  record-step (kGoal kSwitch) e r = let h = switch-at F refl (same-read f i refl e) in switch-goal (h .view) (h .goal) (goal-next F i q kSwitch e) (switch-arms F i q e)
+  record-step (kGoal kIf) e r = let h = if-at F refl (same-read f i refl e) in if-goal (h .view) (h .goal) (goal-next F i q kIf e) (if-then F i q e) (if-else F i q e)
+  record-step (kGoal kCall) e r = let h = call-at F refl (same-read f i refl e) in plain-goal (h .view) (h .goal) (goal-next F i q kCall e)
+  record-step (kGoal kPrint) e r = let h = print-at F refl (same-read f i refl e) in plain-goal (h .view) (h .goal) (goal-next F i q kPrint e)
+  record-step (kGoal kCreate) e r = let h = create-at F refl (same-read f i refl e) in plain-goal (h .view) (h .goal) (goal-next F i q kCreate e)
+  record-step (kGoal kRemove) e r = let h = remove-at F refl (same-read f i refl e) in plain-goal (h .view) (h .goal) (goal-next F i q kRemove e)
+
+module _ (L : ℕ → Goal → Bool) {f : List ℕ} (F : Formed f) where
+  chain-record : (i : ℕ) → 0 < i → i < recordCount f → chainTest L f (sortOf f i) i ≡ (recordTest L f i & wordsTest L f (word f i) 1 (usesOf f i))
+  unfolding sortOf usesOf recordTest
+  chain-record i p q =
+      record-step L F i q (kindOf (word f i 0)) refl (known-chain (word f) (recordCount f) (F .form) (header-kind f (F .header) (F .form)) i p q)
+
+  whole : everyGoal L (program f) ≡ chainTest L f procedures (word f 0 headerProcedures)
+  unfolding everyGoal
+  whole = ap (allFrom L 0) (program-procedures F) ∙ owned-procedures L f (first-owner F)
+
+  -- every goal of the program passes: every record does
+  pub goals-records : everyGoal L (program f) ≡ true → (i : ℕ) → 0 < i → i < recordCount f → recordTest L f i ≡ true
+  unfolding uses all-rows chainTest
+  goals-records e i p q =
+      let h : EachOf (Passes L f) f 0 = rw (header-uses F) (sym whole ∙ e, (refl, tt)) in
+      and-true (sym (chain-record i p q) ∙ outward F (Passes L f) h (λ j a b c. words-each L f (word f j) (usesOf f j) 1 (and-true (sym (chain-record j a b) ∙ c) .1)) i p q) .0
+
+  -- .. and the other way round
+  pub records-goals : ((i : ℕ) → 0 < i → i < recordCount f → recordTest L f i ≡ true) → everyGoal L (program f) ≡ true
+  unfolding uses all-rows
+  records-goals h =
+      let later = inward F (Passes L f) (ends L f) (λ i p q e. chain-record i p q ∙ true-and (h i p q) (each-words L f (word f i) (usesOf f i) 1 e)) in
+      let e = rw (header-uses F) at (each-later F (Passes L f) (ends L f) 0 (counted F .some) (λ j o b. later j o b)) in
+      whole ∙ e .0
+
+  pub every-record : everyGoal L (program f) ≡ everyRecord L f
+  unfolding everyRecord
+  every-record =
+      let n = counted F .some in
+      same-truth (λ e. at-all (recordCount f - 1) 1 (recordTest L f) (λ i p q. goals-records e i p (omega arith)))
+      (λ e. records-goals (λ i p q. all-at (recordCount f - 1) 1 (recordTest L f) e i p (omega arith)))
+
+  -- ---- the test of one record, by its kind
+  pub record-kind : (i : ℕ) (k : Kind) → kindOf (word f i 0) ≡ k → recordTest L f i ≡ ifGoal k (L (ownerOf f i) (goalAt f i))
+  unfolding recordTest
+  record-kind i k e = rw e
+
+  pub record-goal : (i : ℕ) → Stands f goals i → (i ≡ 0 → ⊥) → recordTest L f i ≡ L (ownerOf f i) (goalAt f i)
+  unfolding ifGoal
+  record-goal i s z = let k = goal-kind s z in record-kind i (kGoal (k .0)) (k .1)

@@ -1,0 +1,13 @@
+-- `low_most` meets its contract: the code's table is that of the definitions, by computing. Assumes nothing.
+use mathlib.Core.Path.{refl}
+use Rattle.language.specs.File.{row, rowIn, padded, kinds, code}
+use Rattle.records.specs.Table.{lowMost, listed, tableOf}
+use Rattle.records.proofs.form.low_most.Statement.{statement}
+use Rattle.records.proofs.form.low_most.Tie as tie
+
+returns : tie.Need-returns
+unfolding tableOf kinds lowMost listed row rowIn padded
+returns c = refl
+
+pub low-most-spec : {M : Type 1} → statement M
+low-most-spec = tie.close (tie.spec returns)
