@@ -1,31 +1,25 @@
 // The checker: reads an annotated file from standard input and prints "accepted", or "refused" and the number of document 01's table.
-use checking::check;
-use language::Verdict;
+// Where the file cannot be read, it says so on standard error and prints no answer.
+use answering::print_checked;
+use input::Input;
+use input::read_input;
+use libc::STDERR_FILENO;
 use libc::STDIN_FILENO;
-use libc::STDOUT_FILENO;
-use rules::refusal_number;
 ghost use mathlib.Core.Path.{_≡_};
 ghost use lib.ListN.{length};
 
 // One byte more than the longest file has, so that a longer one is seen to be too long.
-fn input() -> [u8; 65537]
+fn memory() -> [u8; 65537]
     ensures { λ r. ⌜ 65537 ≡ length r ⌝ }
 {
     [0; 65537]
 }
 
-fn print_answer(file: &[u8]) {
-    let Verdict::Refused(r) = check(file) else {
-        io::write_all(STDOUT_FILENO, b"accepted\n");
+fn main() {
+    let mut file = memory();
+    let Input::Bytes(n) = read_input(STDIN_FILENO, &mut file) else {
+        io::write_all(STDERR_FILENO, b"standard input could not be read\n");
         return;
     };
-    io::write_all(STDOUT_FILENO, b"refused ");
-    io::print_decimal(STDOUT_FILENO, refusal_number(r));
-    io::write_all(STDOUT_FILENO, b"\n");
-}
-
-fn main() {
-    let mut file = input();
-    let n = io::read_full(STDIN_FILENO, &mut file);
-    print_answer(&file[..n]);
+    print_checked(&file[..n]);
 }

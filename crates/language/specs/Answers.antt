@@ -13,6 +13,7 @@ use Rattle.language.specs.declared.Stop.{Stop}
 use Rattle.language.specs.declared.Stop.the-variants.{Steps, Cells, Places, Frames, Prints}
 use Rattle.language.specs.declared.Ending.{Ending}
 use Rattle.language.specs.declared.Ending.the-variants.{Refused as RunRefused}
+use Rattle.language.specs.Lists.{frontWritten}
 use Rattle.language.specs.Format.{maxRecords}
 use Rattle.language.specs.File.{word, recordCount, headerOk, formOk}
 use Rattle.language.specs.Tree.{treeOf}
@@ -51,7 +52,8 @@ stopNumber Prints = 14
 pub data Stage : Type 0 where
   stage : Refusal → Bool → Stage
 
--- "The lowest number that applies is given, and is given for no other cause": the first stage that is not passed
+-- "The lowest number that applies is given, and is given for no other cause": the first stage that is not passed. The list's order decides, not the
+-- numbers' size: a number that is added later stands where its cause does.
 unfoldable pub lowest : List Stage → Verdict
 lowest [] = Accepted
 lowest (stage r true ∷ ss) = lowest ss
@@ -67,35 +69,45 @@ fileStages f =
     stage Header (headerOk f) ∷ stage Form (formOk (word f) (recordCount f)) ∷ stage Typing (typingOk (program f)) ∷ stage Values (valuesOk (program f))
     ∷ stage Regions (regionsOk (program f)) ∷ []
 
--- the annotator's output, before it is known to fit
-unfoldable pub annotation : List ℕ → List ℕ
-annotation f = written (programTree (annotate (program f)))
+-- the bytes of a program, in written order
+unfoldable pub fileOf : Program → List ℕ
+fileOf P = written (programTree P)
 
 -- "annotated file over 4,096 records or longer than the memory lent"
-unfoldable pub roomOk : List ℕ → ℕ → Bool
-roomOk f lent = leb (size (programTree (annotate (program f)))) maxRecords & leb (length (annotation f)) lent
+unfoldable pub roomOk : Program → ℕ → Bool
+roomOk P lent = leb (size (programTree P)) maxRecords & leb (length (fileOf P)) lent
 
 -- the stages of the annotator; and of the checker, which the runner shares
 unfoldable pub annotatorStages : List ℕ → ℕ → List Stage
 annotatorStages f lent =
     fileStages f
-    ++ (stage Annotated (unannotated (program f)) ∷ stage Classes (declaredClassesOk (program f) & callClassesOk (program f)) ∷ stage Room (roomOk f lent) ∷ [])
+    ++ (stage Annotated (unannotated (program f)) ∷ stage Classes (declaredClassesOk (program f) & callClassesOk (program f))
+    ∷ stage Room (roomOk (annotate (program f)) lent) ∷ [])
 
 unfoldable pub checkerStages : List ℕ → List Stage
 checkerStages f = fileStages f ++ (stage Classes (declaredClassesOk (program f)) ∷ stage Rules (rulesOk (program f)) ∷ [])
 
--- the annotator: a refusal, or "the front part of the caller's output memory"
-pub data Annotation : Type 0 where
-  refuses : Refusal → Annotation
-  writes : List ℕ → Annotation
+-- the annotator's answer: a refusal, or what stands in "the front part of the caller's output memory"
+pub data AnnotatorAnswer : Type 0 where
+  refuses : Refusal → AnnotatorAnswer
+  writes : List ℕ → AnnotatorAnswer
 
-unfoldable pub annotationFor : Verdict → List ℕ → Annotation
-annotationFor (Refused r) f = refuses r
-annotationFor Accepted f = writes (annotation f)
+unfoldable pub writesUnless : Verdict → List ℕ → AnnotatorAnswer
+writesUnless (Refused r) g = refuses r
+writesUnless Accepted g = writes g
 
 -- what the annotator answers to the bytes f with `lent` bytes of output memory
-unfoldable pub annotated : List ℕ → ℕ → Annotation
-annotated f lent = annotationFor (lowest (annotatorStages f lent)) f
+unfoldable pub annotated : List ℕ → ℕ → AnnotatorAnswer
+annotated f lent = writesUnless (lowest (annotatorStages f lent)) (fileOf (annotate (program f)))
+
+-- "handed back as the front part of the caller's output memory; bytes behind it keep their contents": that memory afterwards
+unfoldable pub annotatorMemory : AnnotatorAnswer → List ℕ → List ℕ
+annotatorMemory (refuses r) before = before
+annotatorMemory (writes g) before = frontWritten g before
+
+-- the bytes that the annotator program lends
+abbrev pub annotatorBytes : ℕ
+annotatorBytes = 65536
 
 -- what the checker answers
 unfoldable pub checked : List ℕ → Verdict

@@ -1,4 +1,6 @@
 -- "Checker, along each path: it carries the held regions and the sound variables." Number 8.
+-- Here paths that meet are joined. `Paths` in crate `paths` has the rules along one path, one for each sentence; `Accepting` there proves that this
+-- accepts exactly if they hold on every path.
 use Prim.Native.Nat.{ℕ}
 use mathlib.Core.Bool.{Bool, true, false}
 use mathlib.Core.List.{List, [], _∷_}

@@ -30,7 +30,7 @@ unfolding Digits.bit Tests._&_ Tests._or_ Tests.neg Sets.member Sets.oneAt Sets.
 setsOpen = tt
 
 unfoldable pub listsOpen : Unit {0}
-unfolding Lists.nth Lists.nth1 Lists.all Lists.upFrom Lists.one Lists.count Lists.among Lists.choose Lists.put Lists.isNone
+unfolding Lists.nth Lists.nth1 Lists.all Lists.upFrom Lists.one Lists.count Lists.frontWritten Lists.among Lists.choose Lists.put Lists.isNone
 listsOpen = tt
 
 unfoldable pub numbersOpen : Unit {0}
@@ -98,11 +98,11 @@ unfolding AcceptedRun.cellOf AcceptedRun.liesIn AcceptedRun.withCell AcceptedRun
 acceptedRunOpen = tt
 
 unfoldable pub machineOpen : Unit {0}
-unfolding Machine.holds Machine.roomIn Machine.cellsHeld Machine.countAlive Machine.regionsHeld Machine.roomOr Machine.outlookFor Machine.outlookIn Machine.outlookAt Machine.outlook Machine.endedWith Machine.runOn Machine.runFrom Machine.run
+unfolding Machine.runnerLent Machine.holds Machine.roomIn Machine.cellsHeld Machine.countAlive Machine.regionsHeld Machine.roomOr Machine.outlookFor Machine.outlookIn Machine.outlookAt Machine.outlook Machine.endedWith Machine.runOn Machine.runFrom Machine.run Machine.printPlaces
 machineOpen = tt
 
 unfoldable pub answersOpen : Unit {0}
-unfolding Answers.refusalNumber Answers.stopNumber Answers.lowest Answers.program Answers.fileStages Answers.annotation Answers.roomOk Answers.annotatorStages Answers.checkerStages Answers.annotationFor Answers.annotated Answers.checked Answers.runFor Answers.ran
+unfolding Answers.refusalNumber Answers.stopNumber Answers.lowest Answers.program Answers.fileStages Answers.fileOf Answers.roomOk Answers.annotatorStages Answers.checkerStages Answers.writesUnless Answers.annotated Answers.annotatorMemory Answers.checked Answers.runFor Answers.ran
 answersOpen = tt
 
 unfoldable pub outputOpen : Unit {0}

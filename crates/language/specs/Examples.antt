@@ -2,27 +2,27 @@
 use Prim.Native.Nat.{ℕ}
 use mathlib.Core.List.{List, [], _∷_}
 use mathlib.Core.Path.{_≡_, refl}
-use lib.IntN.{pos}
+use lib.IntN.{pos, negsuc}
 use Rattle.language.specs.declared.Refusal.the-variants.{Form, Typing, Values, Regions, Annotated, Classes, Rules}
 use Rattle.language.specs.declared.Verdict.{Verdict}
 use Rattle.language.specs.declared.Verdict.the-variants.{Refused, Accepted}
 use Rattle.language.specs.declared.Stop.the-variants.{Frames}
 use Rattle.language.specs.declared.Ending.the-variants.{Refused as RunRefused, Finished, Stopped}
-use Rattle.language.specs.Machine.{Run}
-use Rattle.language.specs.Answers.{Annotation, annotated, refuses, writes, checked, ran}
+use Rattle.language.specs.Machine.{Run, runnerLent, printPlaces}
+use Rattle.language.specs.Answers.{AnnotatorAnswer, annotated, refuses, writes, annotatorMemory, annotatorBytes, checked, ran}
 use Rattle.language.specs.Computing.{computing}
-use Rattle.language.specs.Table.{eight, rows, file, lent, silent}
+use Rattle.language.specs.Table.{eight, rows, file, silent}
 
 -- what the annotator, the checker and the runner answer to a file
-abbrev Answered : List ℕ → Annotation → Verdict → Run → Type 0
-Answered f a c r = (annotated f 65536 ≡ a) × (checked f ≡ c) × (ran f lent ≡ r)
+abbrev Answered : List ℕ → AnnotatorAnswer → Verdict → Run → Type 0
+Answered f a c r = (annotated f annotatorBytes ≡ a) × (checked f ≡ c) × (ran f runnerLent ≡ r)
 
 -- number 2: two procedures refer to one goal
 unfoldable referredTwice : List ℕ
 referredTwice = file ((1 ∷ 1 ∷ 0 ∷ 4 ∷ []) ∷ (4 ∷ 2 ∷ 0 ∷ 0 ∷ 3 ∷ []) ∷ (4 ∷ 0 ∷ 0 ∷ 0 ∷ 3 ∷ []) ∷ (17 ∷ 0 ∷ 1 ∷ []) ∷ [])
 
 referredTwice-answers : Answered referredTwice (refuses Form) (Refused Form) (silent (RunRefused Form) 0)
-unfolding computing eight rows file lent silent referredTwice
+unfolding computing eight rows file silent referredTwice
 referredTwice-answers = (refl, refl, refl)
 
 -- the lower of two numbers that apply
@@ -32,7 +32,7 @@ lowestNumber =
     (1 ∷ 1 ∷ 0 ∷ 5 ∷ []) ∷ (4 ∷ 0 ∷ 2 ∷ 0 ∷ 3 ∷ []) ∷ (5 ∷ []) ∷ (17 ∷ 4 ∷ 1 ∷ []) ∷ (17 ∷ 0 ∷ 2 ∷ []) ∷ [])
 
 lowestNumber-answers : Answered lowestNumber (refuses Typing) (Refused Typing) (silent (RunRefused Typing) 0)
-unfolding computing eight rows file lent silent lowestNumber
+unfolding computing eight rows file silent lowestNumber
 lowestNumber-answers = (refl, refl, refl)
 
 -- number 4: given where some path already did
@@ -43,7 +43,7 @@ somePath =
     (8 ∷ 0 ∷ 2 ∷ 2 ∷ []) ∷ (8 ∷ 0 ∷ 2 ∷ 3 ∷ []) ∷ [])
 
 somePath-answers : Answered somePath (refuses Values) (Refused Values) (silent (RunRefused Values) 0)
-unfolding computing eight rows file lent silent somePath
+unfolding computing eight rows file silent somePath
 somePath-answers = (refl, refl, refl)
 
 -- number 5: a call that maps one region two ways
@@ -56,7 +56,7 @@ mappedTwoWays =
     (6 ∷ 0 ∷ 1 ∷ []) ∷ [])
 
 mappedTwoWays-answers : Answered mappedTwoWays (refuses Regions) (Refused Regions) (silent (RunRefused Regions) 0)
-unfolding computing eight rows file lent silent mappedTwoWays
+unfolding computing eight rows file silent mappedTwoWays
 mappedTwoWays-answers = (refl, refl, refl)
 
 -- a local region with a class: 6 comes before 7 for the annotator
@@ -67,7 +67,7 @@ localClass =
     (18 ∷ 7 ∷ 1 ∷ []) ∷ (11 ∷ 8 ∷ 1 ∷ []) ∷ (19 ∷ 0 ∷ 1 ∷ []) ∷ [])
 
 localClass-answers : Answered localClass (refuses Annotated) (Refused Classes) (silent (RunRefused Classes) 0)
-unfolding computing eight rows file lent silent localClass
+unfolding computing eight rows file silent localClass
 localClass-answers = (refl, refl, refl)
 
 -- two regions of a callee on one of the caller, one of them dead
@@ -79,7 +79,7 @@ sharedImage =
     (5 ∷ 12 ∷ 1 ∷ 1 ∷ 1 ∷ []) ∷ (5 ∷ 0 ∷ 1 ∷ 1 ∷ 2 ∷ []) ∷ (6 ∷ 14 ∷ 1 ∷ 2 ∷ []) ∷ (6 ∷ 0 ∷ 1 ∷ []) ∷ [])
 
 sharedImage-answers : Answered sharedImage (refuses Classes) (Refused Rules) (silent (RunRefused Rules) 0)
-unfolding computing eight rows file lent silent sharedImage
+unfolding computing eight rows file silent sharedImage
 sharedImage-answers = (refl, refl, refl)
 
 -- a region created again: a variable from before is not sound
@@ -91,7 +91,7 @@ createdAgain =
     (19 ∷ 0 ∷ 1 ∷ []) ∷ [])
 
 createdAgain-answers : Answered createdAgain (refuses Annotated) (Refused Rules) (silent (RunRefused Rules) 0)
-unfolding computing eight rows file lent silent createdAgain
+unfolding computing eight rows file silent createdAgain
 createdAgain-answers = (refl, refl, refl)
 
 -- a dead image that the caller keeps for its own caller
@@ -105,7 +105,7 @@ keptImage =
     (19 ∷ 0 ∷ 1 ∷ []) ∷ [])
 
 keptImage-answers : Answered keptImage (refuses Annotated) (Refused Rules) (silent (RunRefused Rules) 0)
-unfolding computing eight rows file lent silent keptImage
+unfolding computing eight rows file silent keptImage
 keptImage-answers = (refl, refl, refl)
 
 -- a region removed that another name still holds
@@ -118,7 +118,7 @@ removedShared =
     (19 ∷ 17 ∷ 1 ∷ []) ∷ (12 ∷ 0 ∷ 2 ∷ 18 ∷ []) ∷ (13 ∷ []) ∷ [])
 
 removedShared-answers : Answered removedShared (refuses Annotated) (Refused Rules) (silent (RunRefused Rules) 0)
-unfolding computing eight rows file lent silent removedShared
+unfolding computing eight rows file silent removedShared
 removedShared-answers = (refl, refl, refl)
 
 -- a variable whose whole reach is held when it is given
@@ -132,7 +132,7 @@ reachHeld =
     (19 ∷ 21 ∷ 1 ∷ []) ∷ (19 ∷ 0 ∷ 2 ∷ []) ∷ [])
 
 reachHeld-answers : Answered reachHeld (refuses Annotated) Accepted (silent Finished 6)
-unfolding computing eight rows file lent silent reachHeld
+unfolding computing eight rows file silent reachHeld
 reachHeld-answers = (refl, refl, refl)
 
 -- a run that stops for want of a frame
@@ -142,7 +142,7 @@ recursion =
     (1 ∷ 1 ∷ 0 ∷ 3 ∷ []) ∷ (4 ∷ 0 ∷ 0 ∷ 0 ∷ 2 ∷ []) ∷ (15 ∷ []) ∷ [])
 
 recursion-answers : Answered recursion (writes recursion) Accepted (silent (Stopped Frames) 99)
-unfolding computing eight rows file lent silent recursion
+unfolding computing eight rows file silent recursion
 recursion-answers = (refl, refl, refl)
 
 -- arms that give the same variable, annotated
@@ -162,11 +162,11 @@ armsShare-annotated =
     (13 ∷ 0 ∷ 17 ∷ 1 ∷ 2 ∷ []) ∷ (19 ∷ 0 ∷ 1 ∷ []) ∷ [])
 
 armsShare-answers : Answered armsShare (writes armsShare-annotated) (Refused Rules) (silent (RunRefused Rules) 0)
-unfolding computing eight rows file lent silent armsShare armsShare-annotated
+unfolding computing eight rows file silent armsShare armsShare-annotated
 armsShare-answers = (refl, refl, refl)
 
 armsShare-annotated-answers : Answered armsShare-annotated (refuses Annotated) Accepted (record { ending = Finished; steps = 6; printed = pos 5 ∷ [] })
-unfolding computing eight rows file lent silent armsShare-annotated
+unfolding computing eight rows file silent armsShare-annotated
 armsShare-annotated-answers = (refl, refl, refl)
 
 -- two kept regions may share an image
@@ -185,9 +185,16 @@ keptShared-annotated =
     (4 ∷ 0 ∷ 13 ∷ 15 ∷ []) ∷ (5 ∷ 14 ∷ 1 ∷ 1 ∷ 1 ∷ []) ∷ (5 ∷ 0 ∷ 1 ∷ 1 ∷ 2 ∷ []) ∷ (6 ∷ 16 ∷ 1 ∷ []) ∷ (6 ∷ 0 ∷ 1 ∷ []) ∷ [])
 
 keptShared-answers : Answered keptShared (writes keptShared-annotated) (Refused Rules) (silent (RunRefused Rules) 0)
-unfolding computing eight rows file lent silent keptShared keptShared-annotated
+unfolding computing eight rows file silent keptShared keptShared-annotated
 keptShared-answers = (refl, refl, refl)
 
 keptShared-annotated-answers : Answered keptShared-annotated (refuses Annotated) Accepted (silent Finished 4)
-unfolding computing eight rows file lent silent keptShared-annotated
+unfolding computing eight rows file silent keptShared-annotated
 keptShared-annotated-answers = (refl, refl, refl)
+
+-- what stands in lent memory afterwards: two bytes of three written, one number of two places printed; all as it was after a refusal
+memory-after :
+    (annotatorMemory (writes (1 ∷ 2 ∷ [])) (7 ∷ 8 ∷ 9 ∷ []) ≡ 1 ∷ 2 ∷ 9 ∷ []) × (annotatorMemory (refuses Form) (7 ∷ 8 ∷ 9 ∷ []) ≡ 7 ∷ 8 ∷ 9 ∷ [])
+    × (printPlaces (record { ending = Finished; steps = 2; printed = negsuc 0 ∷ [] }) (5 ∷ 6 ∷ []) ≡ 4294967295 ∷ 6 ∷ [])
+unfolding computing
+memory-after = (refl, refl, refl)

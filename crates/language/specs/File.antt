@@ -49,7 +49,8 @@ padded (suc n) (u ∷ us) = u ∷ padded n us
 unfoldable pub rowIn : ℕ → Chain → List Use → Row
 rowIn k c us = record { kind = k; chain = c; next = c; words = padded 6 us }
 
--- the table
+-- The table. A kind that it does not list is kNone, which stands in no chain: such a record is refused because nothing can lead to it, and every record
+-- but 0 must be led to.
 unfoldable pub row : Kind → Row
 row kNone = rowIn 0 nowhere []
 row kHeader = record { kind = headerKind; chain = nowhere; next = procedures; words = padded 6 (first types ∷ number ∷ []) }

@@ -1,7 +1,7 @@
 -- "The machine": the accepted file's run in lent memory, with document 01's stops.
-use Prim.Native.Nat.{ℕ, zero, suc, _+_, _/_, min}
+use Prim.Native.Nat.{ℕ, zero, suc, _+_, _*_, _/_, min}
 use mathlib.Core.Bool.{Bool, true, false}
-use mathlib.Core.List.{List, [], _∷_}
+use mathlib.Core.List.{List, [], _∷_, map}
 use lib.Dec.{ltb}
 use lib.IntN.{ℤ}
 use lib.ListN.{length}
@@ -9,7 +9,8 @@ use Rattle.language.specs.declared.Stop.{Stop}
 use Rattle.language.specs.declared.Stop.the-variants.{Steps, Cells, Places, Frames, Prints}
 use Rattle.language.specs.declared.Ending.{Ending}
 use Rattle.language.specs.declared.Ending.the-variants.{Finished, Stopped}
-use Rattle.language.specs.Lists.{one, upFrom}
+use Rattle.language.specs.Lists.{one, upFrom, frontWritten}
+use Rattle.language.specs.Numbers.{residue}
 use Rattle.language.specs.Program.{Step, literal, sum, assign, construct, call, print, create, remove, Goals, done, _then_, Goal, step, switch, ifLess, Program}
 use Rattle.language.specs.AcceptedRun.{RegionFrame, RegionCell, Memory, State, start, stepOf}
 
@@ -20,6 +21,10 @@ pub record Lent : Type 0 where
   pub frameWords : ℕ
   pub printWords : ℕ
   pub steps : ℕ
+
+-- "The runner program has 1,024 cells, 1,024 regions, 100 frames, 1,024 prints, 1,000,000 steps."
+unfoldable pub runnerLent : Lent
+runnerLent = record { cellWords = 8 * 1024; regionWords = 2 * 1024; frameWords = 136 * 100; printWords = 1024; steps = 1000000 }
 
 -- how many of each sort the lent words hold
 pub record Room : Type 0 where
@@ -110,3 +115,7 @@ runFrom false P k l = endedWith (Stopped Frames) 0 (start P)
 
 unfoldable pub run : Program → Lent → Run
 run P l = runFrom (ltb 0 (roomIn l .frames)) P (roomIn l) (l .steps)
+
+-- The lent places for printed numbers after a run: "printed places past the last keep their contents". A number stands there as its 32-bit word.
+unfoldable pub printPlaces : Run → List ℕ → List ℕ
+printPlaces r before = frontWritten (map residue (r .printed)) before

@@ -12,8 +12,8 @@ use Rattle.language.specs.declared.Ending.{Ending}
 use Rattle.language.specs.declared.Ending.the-variants.{Refused as RunRefused, Finished, Stopped}
 use Rattle.language.specs.Numbers.{sumNumber}
 use Rattle.language.specs.Layout.{bytesOf}
-use Rattle.language.specs.Machine.{Lent, Run}
-use Rattle.language.specs.Answers.{annotated, refuses, writes, checked, ran}
+use Rattle.language.specs.Machine.{Lent, Run, runnerLent}
+use Rattle.language.specs.Answers.{annotated, refuses, writes, annotatorBytes, checked, ran}
 use Rattle.language.specs.Output.{finishedWord, runnerOutput}
 use Rattle.language.specs.Computing.{computing}
 
@@ -58,18 +58,19 @@ early = with5 9 ((18 ∷ 7 ∷ 1 ∷ []) ∷ (19 ∷ 8 ∷ 1 ∷ []) ∷ (11 ∷
 unfoldable pub twice : List ℕ
 twice = with5 10 ((18 ∷ 7 ∷ 1 ∷ []) ∷ (11 ∷ 8 ∷ 1 ∷ 0 ∷ []) ∷ (19 ∷ 9 ∷ 1 ∷ []) ∷ (19 ∷ 0 ∷ 1 ∷ []) ∷ [])
 
--- "The runner program has 1,024 cells, 1,024 regions, 100 frames, 1,024 prints, 1,000,000 steps."
-unfoldable pub lent : Lent
-lent = record { cellWords = 8192; regionWords = 2048; frameWords = 13600; printWords = 1024; steps = 1000000 }
+-- what the runner program is lent, but for 2 steps; no cells; no frame and no steps
+unfoldable pub lending : ℕ → ℕ → ℕ → Lent
+lending cellWords frameWords n =
+    record { cellWords = cellWords; regionWords = runnerLent .regionWords; frameWords = frameWords; printWords = runnerLent .printWords; steps = n }
 
 unfoldable pub twoSteps : Lent
-twoSteps = record { cellWords = 8192; regionWords = 2048; frameWords = 13600; printWords = 1024; steps = 2 }
+twoSteps = lending (runnerLent .cellWords) (runnerLent .frameWords) 2
 
 unfoldable pub noCells : Lent
-noCells = record { cellWords = 0; regionWords = 2048; frameWords = 13600; printWords = 1024; steps = 1000000 }
+noCells = lending 0 (runnerLent .frameWords) (runnerLent .steps)
 
 unfoldable pub noFrames : Lent
-noFrames = record { cellWords = 8192; regionWords = 2048; frameWords = 0; printWords = 1024; steps = 0 }
+noFrames = lending (runnerLent .cellWords) 0 0
 
 -- a run that printed nothing
 unfoldable pub silent : Ending → ℕ → Run
@@ -77,7 +78,7 @@ silent e n = record { ending = e; steps = n; printed = [] }
 
 -- the three programs' answers where they are one refusal
 abbrev pub AllRefuse : List ℕ → Refusal → Type 0
-AllRefuse f r = (annotated f 65536 ≡ refuses r) × (checked f ≡ Refused r) × (ran f lent ≡ silent (RunRefused r) 0)
+AllRefuse f r = (annotated f annotatorBytes ≡ refuses r) × (checked f ≡ Refused r) × (ran f runnerLent ≡ silent (RunRefused r) 0)
 
 pub record Table : Type 0 where
   pub annotated-144 : annotated U 144 ≡ writes A
@@ -85,20 +86,22 @@ pub record Table : Type 0 where
   pub empty-file : AllRefuse [] Header
   pub unused-word : AllRefuse U5 Form
   pub past-arity : AllRefuse U6 Typing
-  pub already-annotated : annotated A 65536 ≡ refuses Annotated
+  pub already-annotated : annotated A annotatorBytes ≡ refuses Annotated
   pub A-checked : checked A ≡ Accepted
   pub U-checked : checked U ≡ Refused Rules
   pub removed-early : checked early ≡ Refused Rules
   pub removed-twice : checked twice ≡ Refused Rules
-  pub A-run : ran A lent ≡ silent Finished 3
-  pub A-lines : runnerOutput (ran A lent) ≡ finishedWord ++ (51 ∷ 10 ∷ [])
+  pub A-run : ran A runnerLent ≡ silent Finished 3
+  pub A-lines : runnerOutput (ran A runnerLent) ≡ finishedWord ++ (51 ∷ 10 ∷ [])
   pub steps-spent : ran A twoSteps ≡ silent (Stopped Steps) 2
   pub no-cell : ran A noCells ≡ silent (Stopped Cells) 1
   pub no-frame : ran A noFrames ≡ silent (Stopped Frames) 0
   pub sum-wraps : sumNumber 0 (pos 2147483647) (pos 1) ≡ negsuc 2147483647
+  pub sum-wraps-below : sumNumber 0 (negsuc 2147483647) (negsuc 0) ≡ pos 2147483647
+  pub difference-wraps : sumNumber 1 (negsuc 2147483647) (pos 1) ≡ pos 2147483647
 
 pub table : Table
-unfolding computing eight rows file five with5 U A U5 U6 early twice lent twoSteps noCells noFrames silent
+unfolding computing eight rows file five with5 U A U5 U6 early twice lending twoSteps noCells noFrames silent
 table = record {
   annotated-144 = refl;
   annotated-143 = refl;
@@ -116,4 +119,6 @@ table = record {
   no-cell = refl;
   no-frame = refl;
   sum-wraps = refl;
+  sum-wraps-below = refl;
+  difference-wraps = refl;
 }

@@ -1,5 +1,5 @@
 -- The accepted file's run and the plain run go in lock step: of n steps of the one, those that are no creates and removes are the steps
--- of the other; the two print the same, and one ends if and only if the other does.
+-- of the other; the two print the same, and one ends when the other does.
 use mathlib.Core.Path.{_≡_, refl, ap, sym, _∙_}
 use mathlib.Core.Bool.{Bool, true, false}
 use mathlib.Core.List.{List, [], _∷_}
@@ -12,7 +12,7 @@ use Rattle.language.specs.AcceptedRun.{RegionFrame, Memory, stepOf, steps}
 use Rattle.lockstep.specs.Counted.{isPlain, price, priceOf, nextGoal, spends, spent, Safe}
 use Rattle.lockstep.specs.Erase.{eraseFrames, erase, erase-start}
 use Rattle.lockstep.specs.Ready.{ready-steps, toDo}
-use Rattle.lockstep.specs.Turn.{Turn, quiet, plain, turn, over-erased, ended}
+use Rattle.lockstep.specs.Turn.{Turn, quiet, plain, turn, over-erased, seen-end}
 
 -- ---- counting
 price-most : (gs : List Goal) → priceOf gs ≤ 1
@@ -90,18 +90,28 @@ module _ (P : Program) (safe : Safe P) where
       let s = settles (toDo (steps P (o .0) .frames)) (o .0) (omega arith) in
       (suc (s .0), after-plain P (s .0) (s .2) ∙ ap suc (s .1 ∙ o .1))
 
-  -- 4. one run ends if and only if the other does
+  -- 4. once the run has ended after n steps, the plain run has after the plain ones of them ..
+  pub ended : (n : ℕ) → steps P n .frames ≡ [] → plainSteps (stripped P) (n - spent P n) .frames ≡ []
+  ended n e = ap (λ t. t .frames) (sym (lock n)) ∙ over-erased P (steps P n) e
+
+  -- .. and once the plain run has ended there, the run ends after creates and removes alone
+  pub plainEnded : (n : ℕ) → plainSteps (stripped P) (n - spent P n) .frames ≡ [] → (m : ℕ) × (m - spent P m ≡ n - spent P n) × (steps P m .frames ≡ [])
+  plainEnded n e =
+      let s = settles (toDo (steps P n .frames)) n (omega arith) in (
+        s .0,
+        s .1,
+        seen-end P (steps P (s .0)) (ready-steps P (s .0)) (s .2)
+            (ap (λ t. t .frames) (lock (s .0)) ∙ ap (λ k. plainSteps (stripped P) k .frames) (s .1) ∙ e),
+      )
+
+  -- 5. one run ends if and only if the other does
   pub both : ((n : ℕ) × (steps P n .frames ≡ [])) ↔ ((k : ℕ) × (plainSteps (stripped P) k .frames ≡ []))
   both = (forth, back)
     where
       forth : ((n : ℕ) × (steps P n .frames ≡ [])) → ((k : ℕ) × (plainSteps (stripped P) k .frames ≡ []))
-      forth e = (e .0 - spent P (e .0), ap (λ t. t .frames) (sym (lock (e .0))) ∙ over-erased P (steps P (e .0)) (e .1))
+      forth e = (e .0 - spent P (e .0), ended (e .0) (e .1))
 
       back : ((k : ℕ) × (plainSteps (stripped P) k .frames ≡ [])) → ((n : ℕ) × (steps P n .frames ≡ []))
       back e =
           let o = each (e .0) in
-          let s = settles (toDo (steps P (o .0) .frames)) (o .0) (omega arith) in (
-            s .0,
-            ended P (steps P (s .0)) (ready-steps P (s .0)) (s .2)
-                (ap (λ t. t .frames) (lock (s .0)) ∙ ap (λ k. plainSteps (stripped P) k .frames) (s .1 ∙ o .1) ∙ e .1),
-          )
+          let m = plainEnded (o .0) (ap (λ k. plainSteps (stripped P) k .frames) (o .1) ∙ e .1) in (m .0, m .2)

@@ -82,6 +82,6 @@ module _ (P : Program) (s : State) where
   turn (ready f fs g gs e h) free = ready-turn f fs g gs e h (isPlain g) refl (erase-take P g _ fs _) (free f fs g gs e h)
 
   -- where the plain run sees the end and no create or remove comes next, the run has ended
-  pub ended : Ready (s .frames) → spends P s ≡ 0 → erase P s .frames ≡ [] → s .frames ≡ []
-  ended (over e) z q = e
-  ended (ready f fs g gs e h) z q = ready-seen f fs g gs e h (isPlain g) refl z q
+  pub seen-end : Ready (s .frames) → spends P s ≡ 0 → erase P s .frames ≡ [] → s .frames ≡ []
+  seen-end (over e) z q = e
+  seen-end (ready f fs g gs e h) z q = ready-seen f fs g gs e h (isPlain g) refl z q

@@ -1,6 +1,6 @@
--- Every rule of document 01's checker is needed: for each there is a file that it refuses, that passes without it, and whose run would go wrong.
--- Three rules follow from the others (`AtTheEnd`, `DeadImages`), and one is needed by no run while those are kept (`Implied`): for these four a second
--- rule is left out too.
+-- Of the checker's 22 rules, 18 are needed one by one: a file that only this rule refuses and whose run would go wrong. The other four are needed in
+-- pairs: such a file that only two rules refuse, each of them alone too (`Implied`). Three of the four follow from other rules (`AtTheEnd`,
+-- `DeadImages`), and no run needs the fourth, on a given variable's reach, while those are kept.
 use mathlib.Core.List.{List, [], _∷_}
 use Rattle.needed.specs.Without.{Rule, createNotHeld, removeHeld, removeNotKept, removeUnsound, readSound, constructHeld, deadHeld, keptHeld, deadNotKept, bornNotHeld, deadUnshared, bornUnshared, deadGone, deadUnsound, bornThenHeld, reachHeld, armsEqual, everyArm, endBorn, endKept, endOther, outsSound}
 use Rattle.needed.specs.Faults.{Needed}

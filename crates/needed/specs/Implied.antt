@@ -26,6 +26,11 @@ pub keptGone-needs : Needed (endKept ∷ removeNotKept ∷ [])
 unfolding computing keptGone
 keptGone-needs = record { bytes = keptGone; refused = refl; accepted = refl; wrong = stays 4 refl }
 
+-- each of the two refuses it
+pub keptGone-twice : (checkedWithout (endKept ∷ []) keptGone ≡ Refused Rules) × (checkedWithout (removeNotKept ∷ []) keptGone ≡ Refused Rules)
+unfolding computing keptGone
+keptGone-twice = (refl, refl)
+
 -- "At the end: born .. regions held". A born region is in the reach of an out variable, which is sound, and so its whole reach is held:
 -- `endBorn-follows` in `AtTheEnd`. Where sound does not ask that, the caller removes a region that was never created.
 --     main, region 1 leads to region 2: q(X) · remove 1 · remove 2
@@ -43,6 +48,11 @@ bornMissing =
 pub bornMissing-needs : Needed (endBorn ∷ reachHeld ∷ [])
 unfolding computing bornMissing
 bornMissing-needs = record { bytes = bornMissing; refused = refl; accepted = refl; wrong = stays 4 refl }
+
+-- each of the two refuses it
+pub bornMissing-twice : (checkedWithout (endBorn ∷ []) bornMissing ≡ Refused Rules) × (checkedWithout (reachHeld ∷ []) bornMissing ≡ Refused Rules)
+unfolding computing bornMissing
+bornMissing-twice = (refl, refl)
 
 -- "Call: images of dead .. regions are held". A dead region is an input region and no output region, so its image is in the reach of an in argument. That
 -- is read, so it is sound, and its whole reach is held: `deadHeld-follows` in `DeadImages`. Where sound does not ask that, the callee removes a region that

@@ -7,13 +7,13 @@ use borrow.Author.Tests.{leb-true}
 use Rattle.sets.specs.Tests.{and-true}
 use Rattle.language.specs.declared.Verdict.{Verdict}
 use Rattle.language.specs.declared.Verdict.the-variants.{Refused, Accepted}
-use Rattle.language.specs.Layout.{size, written}
+use Rattle.language.specs.Layout.{size}
 use Rattle.language.specs.Program.{Program}
 use Rattle.language.specs.Records.{programTree}
 use Rattle.language.specs.Lifetimes.{declaredClassesOk}
 use Rattle.language.specs.Annotation.{annotate}
 use Rattle.language.specs.Checking.{rulesOk}
-use Rattle.language.specs.Answers.{lowest, program, annotation, roomOk, annotatorStages, checkerStages, Annotation, refuses, writes, annotationFor, annotated, checked}
+use Rattle.language.specs.Answers.{lowest, program, fileOf, roomOk, annotatorStages, checkerStages, AnnotatorAnswer, refuses, writes, writesUnless, annotated, checked}
 use Rattle.laws.specs.Stages.{lowest-passed, passed-lowest, Read, passed-read, read-passed}
 use Rattle.layout.specs.Programs.{program-written, form-of-program, header-of-program}
 use Rattle.placement.specs.Whole.{Annotatable, accepted-again, typed-again, values-again, regions-again, classes-again}
@@ -47,11 +47,20 @@ pub demand-3 : Demand3
 demand-3 f e =
     let A = accepted-program f (checked-is f e) in
     let S = safe A in
-    record { safe = S; clean = clean A; prints = Lock.prints (program f) S; each = Lock.each (program f) S; both = Lock.both (program f) S }
+    record {
+      safe = S;
+      clean = clean A;
+      prints = Lock.prints (program f) S;
+      each = Lock.each (program f) S;
+      both = Lock.both (program f) S;
+      ended = Lock.ended (program f) S;
+      plainEnded = Lock.plainEnded (program f) S;
+    }
 
 -- ---- an annotated file
 -- the annotation of a program passes every stage of the checker
-annotation-checked : (P : Program) → Annotatable P → size (programTree (annotate P)) ≤ 4096 → Checked (written (programTree (annotate P)))
+annotation-checked : (P : Program) → Annotatable P → size (programTree (annotate P)) ≤ 4096 → Checked (fileOf (annotate P))
+unfolding fileOf
 annotation-checked P A l =
     let e = program-written (annotate P) in
     record {
@@ -66,27 +75,27 @@ annotation-checked P A l =
       rules = rw e (accepted-again P A);
     }
 
-unfoldable bytesIn : Annotation → List ℕ
+unfoldable bytesIn : AnnotatorAnswer → List ℕ
 bytesIn (refuses r) = []
 bytesIn (writes g) = g
 
--- bytes that are written are the annotation, and every stage has been passed
-writes-passed : (v : Verdict) (f g : List ℕ) → annotationFor v f ≡ writes g → (v ≡ Accepted) × (annotation f ≡ g)
-unfolding annotationFor bytesIn
-writes-passed (Refused r) f g e = absurd (no-answer e)
+-- where bytes are written, every stage has been passed
+writes-passed : (v : Verdict) (h g : List ℕ) → writesUnless v h ≡ writes g → (v ≡ Accepted) × (h ≡ g)
+unfolding writesUnless bytesIn
+writes-passed (Refused r) h g e = absurd (no-answer e)
   where
     no-answer : refuses r ≡ writes g → ⊥
     no-answer z = false≢true cc
-writes-passed Accepted f g e = (refl, ap bytesIn e)
+writes-passed Accepted h g e = (refl, ap bytesIn e)
 
 pub written-accepted : Written
-unfolding annotated annotatorStages roomOk annotation
+unfolding annotated annotatorStages roomOk
 written-accepted f lent g e =
-    let w = writes-passed (lowest (annotatorStages f lent)) f g e in
+    let w = writes-passed (lowest (annotatorStages f lent)) (fileOf (annotate (program f))) g e in
     let p = passed-read f _ (lowest-passed (annotatorStages f lent) (w .0)) in
     let c = and-true (p .1 .1 .0) in
     let l = leb-true (size (programTree (annotate (program f)))) 4096 (and-true (p .1 .1 .1 .0) .0) in
     rw (← w .1)
-    (is-checked (annotation f)
+    (is-checked (fileOf (annotate (program f)))
     (annotation-checked (program f)
     (record { typing = p .0 .typing; values = p .0 .values; regions = p .0 .regions; classes = c .0; calls = c .1 }) l))

@@ -6,9 +6,10 @@ use mathlib.Core.Path.{_≡_, refl}
 use lib.IntN.{pos}
 use Rattle.language.specs.declared.Verdict.the-variants.{Accepted}
 use Rattle.language.specs.declared.Ending.the-variants.{Finished}
-use Rattle.language.specs.Answers.{annotated, writes, checked, ran}
+use Rattle.language.specs.Machine.{runnerLent}
+use Rattle.language.specs.Answers.{annotated, writes, annotatorBytes, checked, ran}
 use Rattle.language.specs.Computing.{computing}
-use Rattle.language.specs.Table.{eight, rows, file, lent}
+use Rattle.language.specs.Table.{eight, rows, file}
 use Rattle.soundness.specs.Statement.{Sound}
 use Rattle.soundness.specs.Demand3.{demand-3, written-accepted}
 
@@ -44,7 +45,7 @@ listed =
     (5 ∷ 0 ∷ 0 ∷ 1 ∷ 1 ∷ []) ∷ (6 ∷ 0 ∷ 1 ∷ 2 ∷ 53 ∷ []) ∷ (7 ∷ 0 ∷ 1 ∷ 2 ∷ 1 ∷ []) ∷ (12 ∷ 0 ∷ 1 ∷ 55 ∷ []) ∷ (13 ∷ 57 ∷ 56 ∷ []) ∷
     (19 ∷ 0 ∷ 1 ∷ []) ∷ (13 ∷ 0 ∷ 58 ∷ 1 ∷ 2 ∷ 3 ∷ []) ∷ (17 ∷ 59 ∷ 2 ∷ []) ∷ (15 ∷ 0 ∷ 3 ∷ 60 ∷ []) ∷ (16 ∷ 0 ∷ 3 ∷ []) ∷ [])
 
-pub source-annotated : annotated source 65536 ≡ writes listed
+pub source-annotated : annotated source annotatorBytes ≡ writes listed
 unfolding computing eight rows file source listed
 source-annotated = refl
 
@@ -52,8 +53,8 @@ pub listed-checked : checked listed ≡ Accepted
 unfolding computing eight rows file listed
 listed-checked = refl
 
-pub listed-run : ran listed lent ≡ record { ending = Finished; steps = 35; printed = pos 2 ∷ pos 1 ∷ pos 2 ∷ pos 1 ∷ [] }
-unfolding computing eight rows file lent listed
+pub listed-run : ran listed runnerLent ≡ record { ending = Finished; steps = 35; printed = pos 2 ∷ pos 1 ∷ pos 2 ∷ pos 1 ∷ [] }
+unfolding computing eight rows file listed
 listed-run = refl
 
 -- by the claims, with no further computation
@@ -61,4 +62,4 @@ pub listed-sound : Sound listed
 listed-sound = demand-3 listed listed-checked
 
 pub listed-written : checked listed ≡ Accepted
-listed-written = written-accepted source 65536 listed source-annotated
+listed-written = written-accepted source annotatorBytes listed source-annotated

@@ -26,6 +26,11 @@ pub record Sound (f : List ℕ) : Type 0 where
   pub each : (k : ℕ) → (n : ℕ) × (n - spent (program f) n ≡ k)
   -- "both end or neither"
   pub both : ((n : ℕ) × (steps (program f) n .frames ≡ [])) ↔ ((k : ℕ) × (plainSteps (stripped (program f)) k .frames ≡ []))
+  -- .. and when: once the run has ended after n steps, the plain run has after n less those spent;
+  pub ended : (n : ℕ) → steps (program f) n .frames ≡ [] → plainSteps (stripped (program f)) (n - spent (program f) n) .frames ≡ []
+  -- once the plain run has ended there, the run ends after creates and removes alone
+  pub plainEnded : (n : ℕ) → plainSteps (stripped (program f)) (n - spent (program f) n) .frames ≡ []
+      → (m : ℕ) × (m - spent (program f) m ≡ n - spent (program f) n) × (steps (program f) m .frames ≡ [])
 
 -- "For every accepted file .."
 abbrev pub Demand3 : Type 0

@@ -1,47 +1,96 @@
-// Puts each file that an argument names through the stages that all programs share, and prints its name and the number that it is
-// refused with, or 0.
-use language::Verdict;
+// Puts the jobs of each pack that an argument names to the checker, and prints the name of each and the checker's line.
+//
+// A pack is jobs one behind the other, as tools/pack-jobs writes them: the length of the name in one byte, the name, the length of the file in three
+// bytes, low byte first, and the file.
+use answering::print_checked;
 use libc::STDOUT_FILENO;
-use rules::check_classes;
-use rules::refusal_number;
+ghost use Prim.Native.Nat.{_≤_};
 ghost use mathlib.Core.Path.{_≡_};
 ghost use lib.ListN.{length};
+ghost use Rattle.io.specs.Counts.{Counts};
 
 // One byte more than the longest file has, so that a longer one is seen to be too long.
-fn input() -> [u8; 65537]
+fn memory() -> [u8; 65537]
     ensures { λ r. ⌜ 65537 ≡ length r ⌝ }
 {
     [0; 65537]
 }
 
-fn print_number(file: &[u8]) {
-    let answer = check_classes(file);
-    let Verdict::Refused(r) = answer else {
-        io::write_all(STDOUT_FILENO, b" 0\n");
-        return;
-    };
-    io::write_all(STDOUT_FILENO, b" ");
-    io::print_decimal(STDOUT_FILENO, refusal_number(r));
-    io::write_all(STDOUT_FILENO, b"\n");
+fn wide(x: u8) -> usize
+    ensures { λ r. ⌜ r ≤ 255 ⌝ }
+{
+    x as usize
 }
 
-fn try_file(path: &[u8]) {
-    io::write_all(STDOUT_FILENO, path);
+// The next byte; 256 at the end of the pack.
+fn next_byte(fd: i32) -> usize
+    ensures { λ r. ⌜ r ≤ 256 ⌝ }
+{
+    let mut byte = [0u8; 1];
+    if io::read_full(fd, &mut byte) == 0 {
+        return 256;
+    }
+    wide(byte[0])
+}
+
+// The next n bytes, as far as they fit.
+fn next_bytes(fd: i32, out: &mut [u8], n: usize) -> usize
+    ensures { λ r. ⌜ Counts r (now (out .exit)) ⌝ }
+{
+    if n < out.len() {
+        io::read_full(fd, &mut out[..n])
+    } else {
+        io::read_full(fd, out)
+    }
+}
+
+fn print_name(fd: i32, n: usize) {
+    let mut name = io::buffer();
+    let k = next_bytes(fd, &mut name, n);
+    io::write_all(STDOUT_FILENO, &name[..k]);
+    io::write_all(STDOUT_FILENO, b" ");
+}
+
+fn try_file(fd: i32, n: usize) {
+    let mut file = memory();
+    let k = next_bytes(fd, &mut file, n);
+    print_checked(&file[..k]);
+}
+
+// Whether there was a job.
+fn try_job(fd: i32) -> bool {
+    let n = next_byte(fd);
+    if n == 256 {
+        return false;
+    }
+    print_name(fd, n);
+    let low = next_byte(fd);
+    let middle = next_byte(fd);
+    let high = next_byte(fd);
+    try_file(fd, low + 256 * middle + 65536 * high);
+    true
+}
+
+fn try_pack(path: &[u8]) {
     let fd = os::open_read(path);
     if fd < 0 {
         os::fail(path);
         return;
     }
-    let mut file = input();
-    let n = io::read_full(fd, &mut file);
-    print_number(&file[..n]);
+    let mut left: usize = 1000;
+    while left > 0 {
+        left -= 1;
+        if !try_job(fd) {
+            left = 0;
+        }
+    }
     libc::close(fd);
 }
 
 fn try_argument(i: usize) {
     let mut path = io::buffer();
     let n = os::arg(i, &mut path);
-    try_file(&path[..n]);
+    try_pack(&path[..n]);
 }
 
 fn main() {

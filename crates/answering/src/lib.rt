@@ -1,0 +1,24 @@
+// Answers on standard output. The programs and `vectors` write by the same functions, so that the gate sees what each writes for files of every answer.
+use checking::check;
+use libc::STDERR_FILENO;
+use libc::STDOUT_FILENO;
+use lines::checker_output;
+ghost use Rattle.language.specs.Answers.{checked};
+ghost use Rattle.language.specs.Output.{checkerOutput};
+ghost use Rattle.lines.specs.Put.{Front};
+
+// What the checker prints, at the front of `out`. Answers how many bytes that are.
+fn answer(file: &[u8], out: &mut [u8; 10]) -> usize
+    ensures { λ n. ⌜ Front (checkerOutput (checked (now (file .entry)))) (now (out .entry)) (now (out .exit)) n ⌝ }
+{
+    checker_output(check(file), out)
+}
+
+// Writes that and nothing else; where it cannot be written, a message to standard error.
+pub fn print_checked(file: &[u8]) {
+    let mut line = [0; 10];
+    let n = answer(file, &mut line);
+    if !io::write_all(STDOUT_FILENO, &line[..n]) {
+        io::write_all(STDERR_FILENO, b"the answer could not be written\n");
+    }
+}

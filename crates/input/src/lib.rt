@@ -1,0 +1,27 @@
+// What a program reads.
+ghost use Rattle.input.specs.Input.{Taken};
+
+// What was read: how many bytes, at the front of the memory, or that a read failed.
+pub enum Input {
+    Bytes(usize),
+    Failed,
+}
+
+// Reads to the end of the input, or until `file` is full.
+pub fn read_input(fd: i32, file: &mut [u8]) -> Input
+    ensures { λ r. ⌜ Taken r (now (file .exit)) ⌝ }
+{
+    let mut at = 0;
+    while at < file.len() {
+        let got = libc::read(fd, &mut file[at..]);
+        if got < 0 {
+            return Input::Failed;
+        }
+        let n = io::count(got, &file[at..]);
+        if n == 0 {
+            return Input::Bytes(at);
+        }
+        at += n;
+    }
+    Input::Bytes(at)
+}
