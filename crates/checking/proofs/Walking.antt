@@ -1,36 +1,49 @@
--- The walk over goals, one law for each way through it, over the code's own values.
+-- The walk over goals, one law for each way through it, over the code's own values: the laws of every walk, with the procedure that the records belong
+-- to carried along.
 use Prim.Native.Nat.{ℕ, _<_, _≤_}
 use native.Mathlib.Omega.{arith}
-use mathlib.Core.Path.{_≡_, refl, sym, ap, _∙_}
+use mathlib.Core.Path.{_≡_, refl, sym, ap, ap₂, _∙_}
 use mathlib.Core.Bool.{Bool, true, false}
 use mathlib.Core.List.{List}
 use Rattle.sets.specs.Sets.{member}
 use Rattle.sets.specs.Members.{setOf}
 use Rattle.sets.specs.declared.Set.{Set}
 use Rattle.language.specs.File.{goals, arms, word}
-use Rattle.language.specs.Program.{four, argumentsOf, Signature, _then_}
-use Rattle.language.specs.Checking.{joinArms, soundGiven}
+use Rattle.language.specs.Program.{four, argumentsOf, Signature, Program, _then_, Goals, Goal, step, signatureOf}
+use Rattle.language.specs.Checking.{soundGiven}
 use Rattle.language.specs.Answers.{program}
-use Rattle.chains.specs.Formed.{Formed, Stands, Onward, ahead, goalsAt, goalAt, armsAt, goals-none, arms-none}
-use Rattle.chains.specs.Parts.{SwitchAt, IfAt, ArmAt, arm-at}
-use Rattle.chains.specs.Is.{arm-is, goals-step}
-use Rattle.values.specs.Shapes.{goal-here, switch-here, if-here}
-use Rattle.checking.specs.declared.Carried.{Carried as Answer}
-use Rattle.checking.specs.declared.Carried.the-variants.{Broken, Carries}
-use Rattle.checking.specs.Meaning.{meant, chain-end, chain-stop, chain-next, switch-stop, switch-goes, if-first, if-second, if-goes, arms-end, arms-one, arms-more}
-use Rattle.checking.specs.Passed.{first-passed, rest-passed, arms-passed, then-passed, else-passed, arm-passed}
-use Rattle.lifetimes.specs.Reaching.{ReachTables}
-use Rattle.checking.specs.Ready.{GoalsChecked, GoalChecked, ArmsChecked, GoalsRest}
+use Rattle.chains.specs.Formed.{Formed, Stands, Onward, ahead, goalsAt, goalAt, goals-none}
+use Rattle.chains.specs.Is.{goals-step}
+use Rattle.chains.specs.Shapes.{IsSwitch, IsIf, goal-here, step-here}
+use Rattle.values.specs.Walk.{outcome, goesOn, Walker, walkGoals, chain-end, chain-stop, chain-next, step-goes}
+use Rattle.values.specs.Along.{GoalsWalked, GoalWalked, ArmsWalked, switch-stops, switch-walked, if-unread, if-unread-2, if-then-stops, if-else-stops, if-walked, arms-none-walked, arm-stops, arm-last, arm-rest-stops, arms-walked}
+use Rattle.tables.specs.Rows.{givesIn}
+use Rattle.tables.specs.Filled.{StepAt}
+use Rattle.checking.specs.Checker.{State, carrying, checker}
+use Rattle.checking.specs.Carried.{heldIn, soundIn, state}
+use Rattle.checking.specs.Sound.{Reached}
+use Rattle.checking.specs.Rules.{StepChecked}
+use Rattle.checking.specs.Ready.{Ready, Belongs, GoalsChecked, GoalChecked, ArmsChecked}
+
+-- the walk of procedure q's goals
+abbrev walker : List ℕ → ℕ → Walker State
+walker f q = checker (program f) (signatureOf (program f) q)
+
+-- what a test of a sound variable says
+test-of : (f c : List ℕ) {t : Set} → t ≡ soundIn c → (q x : ℕ) {b : Bool} → b ≡ member t x → b ≡ walker f q .readable (state c) x
+unfolding checker
+test-of f c e q x h = h ∙ ap (λ (u : Set). member u x) e
 
 -- ---- along a chain
-pub record Walking (f ps vs rs reaches classes : List ℕ) (own : Set) (start : ℕ) (held sound h s : Set) (i : ℕ) : Type 0 where
+pub record Walking (f rows own : List ℕ) (start : ℕ) (c₀ c : List ℕ) (i : ℕ) : Type 0 where
   pub stands : Stands f goals i
   pub near : ahead f i ≤ ahead f start
-  pub rest : GoalsRest f ps vs rs reaches classes own start held sound i h s
+  pub rest : (o : ℕ → ℕ) (q : ℕ) → Ready f rows own o q → Belongs o q start
+      → Belongs o q i × (walkGoals (walker f q) (goalsAt f i) (state c) ≡ walkGoals (walker f q) (goalsAt f start) (state c₀))
 
-module _ {f ps vs rs reaches classes : List ℕ} {own : Set} {start : ℕ} {held sound h s : Set} {i : ℕ} (F : Formed f) (w : Walking f ps vs rs reaches classes own start held sound h s i) where
-  pub walk-last : i ≡ 0 → GoalsChecked f ps vs rs reaches classes own start held sound (Carries h s)
-  walk-last z S y p = chain-end (program f) S h s (goals-none f z) ∙ w .rest S y p .1
+module _ {f rows own : List ℕ} {start : ℕ} {c₀ c : List ℕ} {i : ℕ} (F : Formed f) (w : Walking f rows own start c₀ c i) where
+  pub walk-last : i ≡ 0 → GoalsChecked f rows own start c₀ true c
+  walk-last z o q y p = chain-end (walker f q) (state c) (goals-none f z) ∙ w .rest o q y p .1
 
   module _ (z : i ≡ 0 → ⊥) where
     here : goalsAt f i ≡ goalAt f i then goalsAt f (word f i 1)
@@ -39,87 +52,115 @@ module _ {f ps vs rs reaches classes : List ℕ} {own : Set} {start : ℕ} {held
     pub walk-onward : {n : ℕ} → n ≡ word f i 1 → Onward f goals i n
     walk-onward k = rw k (goal-here F (w .stands) z .to-next)
 
-    module _ (r : Answer) (m : GoalChecked f ps vs rs reaches classes own i h s r) where
-      pub walk-stop : r ≡ Broken → GoalsChecked f ps vs rs reaches classes own start held sound Broken
-      walk-stop e S y p =
-          let q = w .rest S y p in
-          chain-stop (program f) S h s here (m S y (first-passed here (q .0))) e ∙ q .1
+    module _ (c′ : List ℕ) (b : Bool) (m : GoalChecked f rows own i c b c′) where
+      pub walk-stop : (d : List ℕ) → b ≡ false → GoalsChecked f rows own start c₀ false d
+      walk-stop d e o q y p =
+          let r = w .rest o q y p in
+          chain-stop (walker f q) (state c) (state c′) here (m o q y (r .0 z)) (state d) e ∙ r .1
 
-      pub walk-next : {k t : Set} {n : ℕ} → r ≡ Carries k t → n ≡ word f i 1 → Walking f ps vs rs reaches classes own start held sound k t n
-      walk-next {k} {t} {n} e j =
-          let o = walk-onward j in
+      pub walk-next : {n : ℕ} → b ≡ true → n ≡ word f i 1 → Walking f rows own start c₀ c′ n
+      walk-next {n} e j =
+          let u = walk-onward j in
           record {
-            stands = o .stands;
-            near = omega (arith, o .falls, w .near);
-            rest = λ S y p. let q = w .rest S y p in
-                (rw j (rest-passed here (q .0)), rw j (chain-next (program f) S h s here (m S y (first-passed here (q .0))) e) ∙ q .1);
+            stands = u .stands;
+            near = omega (arith, u .falls, w .near);
+            rest = λ o q y p.
+                let r = w .rest o q y p in (
+                  λ v. y .owning .to-next i (w .stands) z n j v ∙ r .0 z,
+                  rw j (chain-next (walker f q) (state c) (state c′) here (m o q y (r .0 z)) e) ∙ r .1,
+                );
           }
 
+-- ---- a step
+same-goal : {gs hs ks : Goals} {g h : Goal} → gs ≡ g then hs → gs ≡ h then ks → g ≡ h
+same-goal p q = cc
+
+pub step-checked : {f : List ℕ} (rows own : List ℕ) (i : ℕ) (c : List ℕ) (b : Bool) (c′ : List ℕ) {w : ℕ} → Formed f → Stands f goals i → (z : i ≡ 0 → ⊥)
+    → w ≡ word f i 0 → (w ≡ 12 → ⊥) → (w ≡ 14 → ⊥) → StepChecked rows own i c b c′ → GoalChecked f rows own i c b c′
+step-checked {f} rows own i c b c′ F s z e p r m o q y h =
+    let t = step-here F s z e p r in
+    let v : goalAt f i ≡ step (t .one) = same-goal (goals-step F s z refl) (t .view) in
+    step-goes (walker f q) (state c) (state c′) b v (m f o q (t .one) (y .accessed) (y .effected) (y .window) (record { stands = s; some = z; view = v }) h)
+
 -- ---- a switch
-module _ {f : List ℕ} (i : ℕ) (F : Formed f) (k : word f i 0 ≡ 12) where
-  switch-at : SwitchAt f i (word f i 1) (word f i 2) (word f i 3)
-  switch-at = switch-here F refl k
+module _ {f : List ℕ} (rows own : List ℕ) {i : ℕ} (c : List ℕ) (F : Formed f) (k : IsSwitch f i) {t : Set} {x : ℕ} {b : Bool} (et : t ≡ soundIn c)
+    (j : x ≡ word f i 2) (e : b ≡ member t x) where
+  pub switch-broken : (d : List ℕ) → b ≡ false → GoalChecked f rows own i c false d
+  switch-broken d p o q y h = switch-stops (walker f q) f F i k (state c) j (test-of f c et q x e) (state d) p
 
-  pub to-arms : {w : ℕ} → w ≡ word f i 3 → Onward f arms i w
-  to-arms e = rw e (switch-at .to-arms)
-
-  module _ (ps vs rs reaches classes : List ℕ) (own h s : Set) {b : Bool} {x : ℕ} (j : x ≡ word f i 2) (e : b ≡ member s x) where
-    pub switch-broken : b ≡ false → GoalChecked f ps vs rs reaches classes own i h s Broken
-    switch-broken p S y g = switch-stop (program f) S (switch-at .goal) h s (rw j at e) p
-
-    pub switch-done : {w : ℕ} (r : Answer) → b ≡ true → w ≡ word f i 3 → ArmsChecked f ps vs rs reaches classes own w h s r → GoalChecked f ps vs rs reaches classes own i h s r
-    switch-done {w} r p l m S y g =
-        switch-goes (program f) S (switch-at .goal) h s (rw j at e) p r (rw l at (m S y (rw l (arms-passed (switch-at .goal) g))))
+  pub switch-done : {w : ℕ} (r : Bool) (d : List ℕ) → b ≡ true → w ≡ word f i 3 → ArmsChecked f rows own w c r d → GoalChecked f rows own i c r d
+  switch-done {w} r d p l m o q y h =
+      switch-walked (walker f q) f F i k (state c) j (test-of f c et q x e) p (state d) r l
+      (m o q y (λ v. y .owning .to-arms i k w l v ∙ h))
 
 -- ---- an if
-module _ {f : List ℕ} (i : ℕ) (F : Formed f) (k : word f i 0 ≡ 14) where
-  if-at : IfAt f i (word f i 1) (word f i 2) (word f i 3) (word f i 4) (word f i 5)
-  if-at = if-here F refl k
+module _ {f : List ℕ} (rows own : List ℕ) {i : ℕ} (c : List ℕ) (F : Formed f) (k : IsIf f i) {t : Set} {x : ℕ} {b : Bool} (et : t ≡ soundIn c)
+    (j : x ≡ word f i 2) (e : b ≡ member t x) where
+  pub if-broken : (d : List ℕ) → b ≡ false → GoalChecked f rows own i c false d
+  if-broken d p o q y h = if-unread (walker f q) f F i k (state c) j (test-of f c et q x e) (state d) p
 
-  pub to-then : {w : ℕ} → w ≡ word f i 4 → Onward f goals i w
-  to-then e = rw e (if-at .to-then)
+  module _ {x′ : ℕ} {b′ : Bool} (p : b ≡ true) (j′ : x′ ≡ word f i 3) (e′ : b′ ≡ member t x′) where
+    pub if-broken-2 : (d : List ℕ) → b′ ≡ false → GoalChecked f rows own i c false d
+    if-broken-2 d p′ o q y h =
+        if-unread-2 (walker f q) f F i k (state c) j (test-of f c et q x e) p j′ (test-of f c et q x′ e′) (state d) p′
 
-  pub to-else : {w : ℕ} → w ≡ word f i 5 → Onward f goals i w
-  to-else e = rw e (if-at .to-else)
+    -- after the first part, whether it is broken or goes on to the second
+    module _ (p′ : b′ ≡ true) {u : ℕ} (eu : u ≡ word f i 4) (c₁ : List ℕ) (a₁ : Bool) (m₁ : GoalsChecked f rows own u c a₁ c₁) where
+      pub then-broken : (d : List ℕ) → a₁ ≡ false → GoalChecked f rows own i c false d
+      then-broken d e₁ o q y h =
+          if-then-stops (walker f q) f F i k (state c) j (test-of f c et q x e) p j′ (test-of f c et q x′ e′) p′ (state c₁) a₁ eu (m₁ o q y (λ v. y .owning .to-then i k u eu v ∙ h)) (state d) e₁
 
-  module _ (ps vs rs reaches classes : List ℕ) (own h s : Set) {b : Bool} {y : ℕ} (j : y ≡ word f i 2) (e : b ≡ member s y) where
-    pub if-broken : b ≡ false → GoalChecked f ps vs rs reaches classes own i h s Broken
-    if-broken p S t g = if-first (program f) S (if-at .goal) h s (rw j at e) p
+      module _ (e₁ : a₁ ≡ true) {v : ℕ} (ev : v ≡ word f i 5) (c₂ : List ℕ) (eh : heldIn c₂ ≡ heldIn c) (es : soundIn c₂ ≡ soundIn c) (c₃ : List ℕ) (a₂ : Bool)
+          (m₂ : GoalsChecked f rows own v c₂ a₂ c₃) where
+        pub else-broken : (d : List ℕ) → a₂ ≡ false → GoalChecked f rows own i c false d
+        else-broken d e₂ o q y h =
+            if-else-stops (walker f q) f F i k (state c) j (test-of f c et q x e) p j′ (test-of f c et q x′ e′) p′ (state c₁) a₁ eu (m₁ o q y (λ n. y .owning .to-then i k u eu n ∙ h)) e₁
+            (state c₂) (ap₂ carrying eh es) (state c₃) a₂ ev (m₂ o q y (λ n. y .owning .to-else i k v ev n ∙ h)) (state d) e₂
 
-    module _ {c : Bool} {z : ℕ} (p : b ≡ true) (l : z ≡ word f i 3) (n : c ≡ member s z) where
-      pub if-broken-2 : c ≡ false → GoalChecked f ps vs rs reaches classes own i h s Broken
-      if-broken-2 q S t g = if-second (program f) S (if-at .goal) h s (rw j at e) p (rw l at n) q
-
-      pub if-done : {u v : ℕ} (r a d : Answer) → c ≡ true → u ≡ word f i 4 → v ≡ word f i 5 → GoalsChecked f ps vs rs reaches classes own u h s a
-          → GoalsChecked f ps vs rs reaches classes own v h s d → meant r ≡ joinArms (meant a) (meant d) → GoalChecked f ps vs rs reaches classes own i h s r
-      if-done r a d q o t x y m S w g =
-          if-goes (program f) S (if-at .goal) h s (rw j at e) p (rw l at n) q r a d (rw o at (x S w (rw o (then-passed (if-at .goal) g))))
-          (rw t at (y S w (rw t (else-passed (if-at .goal) g)))) m
+        pub if-done : (r : Bool) (d : List ℕ) {g s : Set} → a₂ ≡ true → g ≡ heldIn c₁ → s ≡ soundIn c₁
+            → ((P : Program) (S : Signature) → outcome r (state d) ≡ checker P S .join (carrying g s) (state c₃)) → GoalChecked f rows own i c r d
+        if-done r d {g} {s} e₂ eg ef n o q y h =
+            if-walked (walker f q) f F i k (state c) j (test-of f c et q x e) p j′ (test-of f c et q x′ e′) p′ (state c₁) a₁ eu (m₁ o q y (λ n. y .owning .to-then i k u eu n ∙ h)) e₁
+            (state c₂) (ap₂ carrying eh es) (state c₃) a₂ ev (m₂ o q y (λ n. y .owning .to-else i k v ev n ∙ h)) (state d) r (carrying g s) (ap₂ carrying eg ef) e₂
+            (n (program f) (signatureOf (program f) q))
 
 -- ---- arms
-pub arms-none-checked : (f ps vs rs reaches classes : List ℕ) (own : Set) (i : ℕ) (h s : Set) → i ≡ 0 → ArmsChecked f ps vs rs reaches classes own i h s (Carries h s)
-arms-none-checked f ps vs rs reaches classes own i h s z S y p = arms-end (program f) S h s (arms-none f z)
+pub arms-none-checked : (f rows own : List ℕ) (i : ℕ) (c : List ℕ) → i ≡ 0 → ArmsChecked f rows own i c true c
+arms-none-checked f rows own i c z o q y p = arms-none-walked (walker f q) f (state c) z
 
-module _ {f : List ℕ} {i : ℕ} (F : Formed f) (st : Stands f arms i) (z : i ≡ 0 → ⊥) where
-  pub arm-here : ArmAt f i (word f i 1) (word f i 2) (word f i 3) (word f i 4) (word f i 5) (word f i 6) (word f i 7)
-  arm-here = arm-at F refl (arm-is st z)
+module _ {f : List ℕ} (rows own : List ℕ) (i : ℕ) (c : List ℕ) (F : Formed f) (st : Stands f arms i) (z : i ≡ 0 → ⊥) (c₁ : List ℕ) (eh : heldIn c₁ ≡ heldIn c)
+    (es : (S : Signature) → Reached S own → soundIn c₁ ≡ soundGiven S (givesIn rows i) (heldIn c) (soundIn c))
+    {g : ℕ} (eg : g ≡ word f i 2) (c₂ : List ℕ) (a₁ : Bool) (m₁ : GoalsChecked f rows own g c₁ a₁ c₂) where
+  module _ (o : ℕ → ℕ) (q : ℕ) (y : Ready f rows own o q) where
+    entered : outcome true (state c₁) ≡ walker f q .enter (four (word f i 4) (word f i 5) (word f i 6) (word f i 7)) (state c)
+    unfolding outcome checker
+    entered =
+        ap₂ (λ (h s : Set). goesOn (carrying h s)) eh
+        (es (signatureOf (program f) q) (y .window .reached)
+        ∙ ap (λ (u : Set). soundGiven (signatureOf (program f) q) u (heldIn c) (soundIn c)) (y .accessed .arm-gives i st z))
 
-  pub arm-goals : {w : ℕ} → w ≡ word f i 2 → Onward f goals i w
-  arm-goals e = rw e (arm-here .to-goals)
+    inside : o i ≡ q → GoalsWalked (walker f q) f g (state c₁) a₁ (state c₂)
+    inside h = m₁ o q y (λ n. y .owning .arm-goals i st z g eg n ∙ h)
 
-  pub arm-next : {w : ℕ} → w ≡ word f i 1 → Onward f arms i w
-  arm-next e = rw e (arm-here .to-next)
+  pub arm-broken : (d : List ℕ) → a₁ ≡ false → ArmsChecked f rows own i c false d
+  arm-broken d e o q y p =
+      arm-stops (walker f q) f F st z (state c) (state c₁) (entered o q y) refl (state c₂) a₁ eg (inside o q y (p z)) (state d) e
 
-  module _ (ps vs rs reaches classes : List ℕ) (own h s : Set) {t : Set}
-      (a : (S : Signature) → ReachTables f S vs reaches → t ≡ soundGiven S (setOf (argumentsOf (four (word f i 4) (word f i 5) (word f i 6) (word f i 7)))) h s)
-      {g n : ℕ} (eg : g ≡ word f i 2) (en : n ≡ word f i 1) (q : Answer) (o : GoalsChecked f ps vs rs reaches classes own g h t q) where
-    pub arm-last : n ≡ 0 → ArmsChecked f ps vs rs reaches classes own i h s q
-    arm-last e S y p =
-        let b = arm-passed (arm-here .view) p in
-        arms-one (program f) S h s (arm-here .view) (a S (y .tables .reach)) q (rw eg at (o S y (rw eg (b .0)))) (arms-none f (sym en ∙ e))
+  module _ (e₁ : a₁ ≡ true) {n : ℕ} (en : n ≡ word f i 1) where
+    pub arm-ended : n ≡ 0 → ArmsChecked f rows own i c true c₂
+    arm-ended e o q y p =
+        arm-last (walker f q) f F st z (state c) (state c₁) (entered o q y) refl (state c₂) a₁ eg (inside o q y (p z)) e₁ en e
 
-    pub arm-more : (x w : Answer) → (n ≡ 0 → ⊥) → ArmsChecked f ps vs rs reaches classes own n h s x → meant w ≡ joinArms (meant q) (meant x) → ArmsChecked f ps vs rs reaches classes own i h s w
-    arm-more x w e c j S y p =
-        let b = arm-passed (arm-here .view) p in
-        let l = arm-at F refl (arm-is (arm-here .to-next .stands) (λ k. e (en ∙ k))) in
-        arms-more (program f) S h s (arm-here .view) (a S (y .tables .reach)) q (rw eg at (o S y (rw eg (b .0)))) x w (l .view) (rw en at (c S y (rw en (b .1)))) j
+    module _ (z′ : n ≡ 0 → ⊥) (c₃ : List ℕ) (eh₃ : heldIn c₃ ≡ heldIn c) (es₃ : soundIn c₃ ≡ soundIn c) (c₄ : List ℕ) (a₂ : Bool)
+        (m₂ : ArmsChecked f rows own n c₃ a₂ c₄) where
+      pub rest-broken : (d : List ℕ) → a₂ ≡ false → ArmsChecked f rows own i c false d
+      rest-broken d e₂ o q y p =
+          arm-rest-stops (walker f q) f F st z (state c) (state c₁) (entered o q y) refl (state c₂) a₁ eg (inside o q y (p z)) e₁ en z′ (state c₃)
+          (ap₂ carrying eh₃ es₃) (state c₄) a₂ (m₂ o q y (λ v. y .owning .arm-next i st z n en v ∙ p z)) (state d) e₂
+
+      pub arm-more : (r : Bool) (d : List ℕ) {g s : Set} → a₂ ≡ true → g ≡ heldIn c₂ → s ≡ soundIn c₂
+          → ((P : Program) (S : Signature) → outcome r (state d) ≡ checker P S .join (carrying g s) (state c₄)) → ArmsChecked f rows own i c r d
+      arm-more r d {g} {s} e₂ ek ex x o q y p =
+          arms-walked (walker f q) f F st z (state c) (state c₁) (entered o q y) refl (state c₂) a₁ eg (inside o q y (p z)) e₁ en z′ (state c₃)
+          (ap₂ carrying eh₃ es₃) (state c₄) a₂ (m₂ o q y (λ v. y .owning .arm-next i st z n en v ∙ p z)) (state d) r (carrying g s) (ap₂ carrying ek ex) e₂
+          (x (program f) (signatureOf (program f) q))

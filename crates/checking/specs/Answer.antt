@@ -1,26 +1,39 @@
--- The checker's stages are those that all programs share, and number 8.
-use Prim.Native.Nat.{ℕ}
-use mathlib.Core.Bool.{Bool, true, false}
+-- The checker's stages: those before the tables are made, and those after.
+use Prim.Native.Nat.{ℕ, _≤_}
+use native.Mathlib.Omega.{arith}
 use mathlib.Core.List.{List, [], _∷_, _++_}
-use mathlib.Core.Path.{_≡_, sym, _∙_}
+use mathlib.Core.Path.{_≡_, refl, sym, ap, _∙_}
+use lib.ListN.{length, replicate, length-replicate}
 use Rattle.language.specs.declared.Refusal.{Refusal}
 use Rattle.language.specs.declared.Refusal.the-variants.{Rules}
 use Rattle.language.specs.declared.Verdict.{Verdict}
 use Rattle.language.specs.declared.Verdict.the-variants.{Refused, Accepted}
 use Rattle.language.specs.Checking.{rulesOk}
-use Rattle.language.specs.Answers.{stage, lowest, program, fileStages, checkerStages, checked}
-use Rattle.records.specs.Verdicts.{formStages}
-use Rattle.rules.specs.Stages.{classesStages, passed-up, refused-here, passed-here}
+use Rattle.language.specs.Answers.{Stage, stage, lowest, program, fileStages, checkerStages, checked}
+use Rattle.records.specs.Verdicts.{formStages, after, lowest-append}
+use Rattle.rules.specs.Stages.{typingStages, tableStages}
 
-module _ (f : List ℕ) {v : Verdict} (e : v ≡ lowest (classesStages f)) where
-  pub checker-passes-up : {r : Refusal} → v ≡ Refused r → v ≡ checked f
-  unfolding checked checkerStages fileStages formStages
-  checker-passes-up p = passed-up (classesStages f) Rules (rulesOk (program f)) e p
+-- numbers 4, 5, 7 and 8
+abbrev pub ruleStages : List ℕ → List Stage
+ruleStages f = tableStages f ++ (stage Rules (rulesOk (program f)) ∷ [])
 
-  pub checker-refuses : {b : Bool} → v ≡ Accepted → b ≡ rulesOk (program f) → b ≡ false → Refused Rules ≡ checked f
-  unfolding checked checkerStages fileStages formStages
-  checker-refuses p h q = refused-here (classesStages f) Rules e p (sym h ∙ q)
+all-stages : (f : List ℕ) → typingStages f ++ ruleStages f ≡ checkerStages f
+unfolding checkerStages fileStages formStages
+all-stages f = refl
 
-  pub checker-accepts : {b : Bool} → v ≡ Accepted → b ≡ rulesOk (program f) → b ≡ true → Accepted ≡ checked f
-  unfolding checked checkerStages fileStages formStages
-  checker-accepts p h q = passed-here (classesStages f) Rules e p (sym h ∙ q)
+checked-by : (f : List ℕ) → checked f ≡ after (lowest (typingStages f)) (lowest (ruleStages f))
+unfolding checked
+checked-by f = ap lowest (sym (all-stages f)) ∙ lowest-append (typingStages f) (ruleStages f)
+
+module _ (f : List ℕ) {v : Verdict} (e : v ≡ lowest (typingStages f)) where
+  pub checker-refuses : {r : Refusal} → v ≡ Refused r → v ≡ checked f
+  unfolding after
+  checker-refuses g = g ∙ sym (checked-by f ∙ ap (λ (w : Verdict). after w (lowest (ruleStages f))) (sym e ∙ g))
+
+  pub checker-goes : {w : Verdict} → v ≡ Accepted → w ≡ lowest (ruleStages f) → w ≡ checked f
+  unfolding after
+  checker-goes g h = h ∙ sym (checked-by f ∙ ap (λ (u : Verdict). after u (lowest (ruleStages f))) (sym e ∙ g))
+
+-- a table of zeros is as long as it was made
+pub blank-fits : (n : ℕ) {t : List ℕ} → t ≡ replicate n 0 → n ≤ length t
+blank-fits n e = omega (arith, ap length e, length-replicate {A = ℕ} n 0)

@@ -1,7 +1,7 @@
-pub mod Keeping
-pub mod Meaning
-pub mod Passed
-pub mod Ready
+pub mod Checker
+pub mod Carried
+pub mod Sound
 pub mod Rules
-pub mod Stage
+pub mod Ready
+pub mod Procedures
 pub mod Answer

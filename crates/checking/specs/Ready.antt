@@ -1,47 +1,34 @@
--- The tables that the walk carries, and what its functions answer by them.
+-- What the walk over goals asks of the tables, and what its functions answer by them.
 use Prim.Native.Nat.{ℕ}
-use mathlib.Core.Bool.{true}
+use mathlib.Core.Bool.{Bool}
 use mathlib.Core.List.{List}
 use mathlib.Core.Path.{_≡_}
-use Rattle.sets.specs.declared.Set.{Set}
-use Rattle.language.specs.Program.{Signature}
-use Rattle.language.specs.Typing.{signatureOk, typingOk}
-use Rattle.language.specs.Lifetimes.{kept, declaredClassesOk}
-use Rattle.language.specs.Checking.{checkGoals, checkGoal, checkArms}
+use Rattle.language.specs.Program.{signatureOf}
 use Rattle.language.specs.Answers.{program}
-use Rattle.chains.specs.Formed.{goalsAt, goalAt, armsAt}
-use Rattle.values.specs.Callees.{Listed}
-use Rattle.lifetimes.specs.Tabled.{Tables}
-use Rattle.lifetimes.specs.Stored.{ClassTable}
-use Rattle.checking.specs.declared.Carried.{Carried as Answer}
-use Rattle.checking.specs.Meaning.{meant}
-use Rattle.checking.specs.Passed.{Passed, PassedGoal, PassedArms}
+use Rattle.tables.specs.Window.{Window}
+use Rattle.tables.specs.Filled.{Accessed, Effected, Owning}
+use Rattle.values.specs.Along.{GoalsWalked, GoalWalked, ArmsWalked}
+use Rattle.checking.specs.Checker.{checker}
+use Rattle.checking.specs.Carried.{state}
 
--- S is the signature of a procedure, and these are its tables, those of the whole file, and its kept regions
-pub record Ready (f : List ℕ) (S : Signature) (procedures variables regions reaches classes : List ℕ) (own : Set) : Type 0 where
-  pub typed : typingOk (program f) ≡ true
-  pub right : declaredClassesOk (program f) ≡ true
-  pub signature : signatureOk (program f .types) S ≡ true
-  pub listed : Listed f procedures
-  pub tables : Tables f S variables regions reaches
-  pub classed : ClassTable (program f) classes
-  pub own-kept : own ≡ kept S
+-- the rows are those of the file, the window is that of procedure q
+pub record Ready (f rows own : List ℕ) (o : ℕ → ℕ) (q : ℕ) : Type 0 where
+  pub accessed : Accessed f rows
+  pub effected : Effected f o rows
+  pub owning : Owning f o
+  pub window : Window f (signatureOf (program f) q) own
 
-abbrev pub Readied : List ℕ → List ℕ → List ℕ → List ℕ → List ℕ → List ℕ → Set → Type 0
-Readied f procedures variables regions reaches classes own = (S : Signature) × Ready f S procedures variables regions reaches classes own
+-- record i belongs to procedure q, if there is such a record
+abbrev pub Belongs : (ℕ → ℕ) → ℕ → ℕ → Type 0
+Belongs o q i = (i ≡ 0 → ⊥) → o i ≡ q
 
-module _ (f procedures variables regions reaches classes : List ℕ) (own : Set) (i : ℕ) (held sound : Set) where
-  abbrev pub GoalsChecked : Answer → Type 0
-  GoalsChecked r = (S : Signature) → Ready f S procedures variables regions reaches classes own → Passed (program f) S (goalsAt f i) → meant r ≡ checkGoals (program f) S (goalsAt f i) held sound
+-- ---- b, and what is carried afterwards, is number 8 of the goals, the goal, the arms
+module _ (f rows own : List ℕ) (i : ℕ) (c : List ℕ) (b : Bool) (c′ : List ℕ) where
+  abbrev pub GoalsChecked : Type 0
+  GoalsChecked = (o : ℕ → ℕ) (q : ℕ) → Ready f rows own o q → Belongs o q i → GoalsWalked (checker (program f) (signatureOf (program f) q)) f i (state c) b (state c′)
 
-  abbrev pub GoalChecked : Answer → Type 0
-  GoalChecked r = (S : Signature) → Ready f S procedures variables regions reaches classes own → PassedGoal (program f) S (goalAt f i) → meant r ≡ checkGoal (program f) S (goalAt f i) held sound
+  abbrev pub GoalChecked : Type 0
+  GoalChecked = (o : ℕ → ℕ) (q : ℕ) → Ready f rows own o q → o i ≡ q → GoalWalked (checker (program f) (signatureOf (program f) q)) f i (state c) b (state c′)
 
-  abbrev pub ArmsChecked : Answer → Type 0
-  ArmsChecked r = (S : Signature) → Ready f S procedures variables regions reaches classes own → PassedArms (program f) S (armsAt f i) → meant r ≡ checkArms (program f) S (armsAt f i) held sound
-
-  -- in a loop: the rest from record i on passes, and what it comes to is what the whole does
-  abbrev pub GoalsRest : ℕ → Set → Set → Type 0
-  GoalsRest j h s =
-      (S : Signature) → Ready f S procedures variables regions reaches classes own → Passed (program f) S (goalsAt f i)
-      → Passed (program f) S (goalsAt f j) × (checkGoals (program f) S (goalsAt f j) h s ≡ checkGoals (program f) S (goalsAt f i) held sound)
+  abbrev pub ArmsChecked : Type 0
+  ArmsChecked = (o : ℕ → ℕ) (q : ℕ) → Ready f rows own o q → Belongs o q i → ArmsWalked (checker (program f) (signatureOf (program f) q)) f i (state c) b (state c′)

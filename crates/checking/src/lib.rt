@@ -1,16 +1,10 @@
-// Number 8: the checker's rules along each path.
+// Number 8: the checker's rules along each path; and the checker's answer to any bytes.
 mod answer;
+mod carried;
+mod procedures;
 mod sound;
-mod stage;
-mod steps;
+mod step;
 mod walk;
 
 pub use answer::check;
-use sets::Set;
-pub use stage::rules_ok;
-
-// What the checker carries, the held regions and the sound variables, or that a rule is broken.
-pub enum Carried {
-    Broken,
-    Carries(Set, Set),
-}
+pub use procedures::rules_ok;

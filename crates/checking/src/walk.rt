@@ -1,302 +1,130 @@
-// The walk over goals: what is held and sound after them, from what is held and sound before. Callees and images are room for a
-// call's own tables.
-use crate::Carried;
-use crate::steps::arm_sound;
-use crate::steps::check_step;
-use records::Record;
-use records::record_at;
+// The walk over goals: what is held and sound after them, from what is held and sound before, in place; false where a rule is broken.
+use crate::carried::carry;
+use crate::carried::held_in;
+use crate::carried::join;
+use crate::carried::sound_in;
+use crate::step::enter;
+use crate::step::step;
+use language::format::ARM_GOALS;
+use language::format::GOAL_X;
+use language::format::IF;
+use language::format::IF_ELSE;
+use language::format::IF_THEN;
+use language::format::IF_Y;
+use language::format::IF_Z;
+use language::format::KIND;
+use language::format::NEXT;
+use language::format::SWITCH;
+use language::format::SWITCH_ARMS;
 use records::word;
-use sets::Set;
+use tables::ROWS;
 ghost use mathlib.Core.Path.{_≡_};
-ghost use Rattle.language.specs.File.{goals, arms, word};
-ghost use Rattle.language.specs.Checking.{joinArms};
+ghost use Rattle.language.specs.File;
 ghost use Rattle.chains.specs.Formed.{Formed, Stands};
-ghost use Rattle.checking.specs.Ready.{Readied, GoalChecked, GoalsChecked, ArmsChecked};
-ghost use Rattle.checking.specs.Meaning.{meant};
-
-// "Arms end with equal held regions; sound afterwards is sound after every arm."
-fn join(a: Carried, b: Carried) -> Carried
-    ensures { λ r. ⌜ meant r ≡ joinArms (meant a) (meant b) ⌝ }
-{
-    let Carried::Carries(h, s) = a else {
-        return Carried::Broken;
-    };
-    let Carried::Carries(k, t) = b else {
-        return Carried::Broken;
-    };
-    if !h.same(k) {
-        return Carried::Broken;
-    }
-    Carried::Carries(h, s.intersection(t))
-}
+ghost use Rattle.chains.specs.Shapes.{IsSwitch, IsIf};
+ghost use Rattle.checking.specs.Ready.{GoalsChecked, GoalChecked, ArmsChecked};
 
 // After the goals from record start on.
-pub fn chain(
+pub fn goals(
     file: &[u8],
-    procedures: &[usize; 256],
-    variables: &[usize; 65],
-    regions: &[usize; 65],
-    reaches: &[u64; 65],
-    classes: &[u64; 768],
-    callees: &mut [usize; 65],
-    images: &mut [usize; 65],
-    kept: Set,
+    rows: &[u64; ROWS],
+    own: &[u64],
+    carried: &mut [u64; 2],
     start: usize,
-    held: Set,
-    sound: Set,
-) -> Carried
+) -> bool
     requires { ⌜ Formed (now file) ⌝ }
-    requires { ⌜ Readied (now file) (now procedures) (now variables) (now regions) (now reaches) (now classes) kept ⌝ }
-    requires { ⌜ Stands (now file) goals start ⌝ }
-    ensures { λ r. ⌜ GoalsChecked (now (file .entry)) (now (procedures .entry)) (now (variables .entry)) (now (regions .entry)) (now (reaches .entry)) (now (classes .entry)) kept start held sound r ⌝ }
+    requires { ⌜ Stands (now file) File.goals start ⌝ }
+    ensures { λ b. ⌜ GoalsChecked (now (file .entry)) (now (rows .entry)) (now (own .entry)) start (now (carried .entry)) b (now (carried .exit)) ⌝ }
 {
     let mut i = start;
-    let mut h = held;
-    let mut s = sound;
     while i != 0 {
-        let Carried::Carries(k, t) = goal(
-            file,
-            procedures,
-            variables,
-            regions,
-            reaches,
-            classes,
-            callees,
-            images,
-            kept,
-            i,
-            h,
-            s,
-        ) else {
-            return Carried::Broken;
-        };
-        h = k;
-        s = t;
-        i = word(file, i, 1);
+        if !goal(file, rows, own, carried, i) {
+            return false;
+        }
+        i = word(file, i, NEXT);
     }
-    Carried::Carries(h, s)
+    true
 }
 
 // After the goal at record i.
-fn goal(
-    file: &[u8],
-    procedures: &[usize; 256],
-    variables: &[usize; 65],
-    regions: &[usize; 65],
-    reaches: &[u64; 65],
-    classes: &[u64; 768],
-    callees: &mut [usize; 65],
-    images: &mut [usize; 65],
-    kept: Set,
-    i: usize,
-    held: Set,
-    sound: Set,
-) -> Carried
+fn goal(file: &[u8], rows: &[u64; ROWS], own: &[u64], carried: &mut [u64; 2], i: usize) -> bool
     requires { ⌜ Formed (now file) ⌝ }
-    requires { ⌜ Readied (now file) (now procedures) (now variables) (now regions) (now reaches) (now classes) kept ⌝ }
-    requires { ⌜ Stands (now file) goals i × (i ≡ 0 → ⊥) ⌝ }
-    ensures { λ r. ⌜ GoalChecked (now (file .entry)) (now (procedures .entry)) (now (variables .entry)) (now (regions .entry)) (now (reaches .entry)) (now (classes .entry)) kept i held sound r ⌝ }
+    requires { ⌜ Stands (now file) File.goals i × (i ≡ 0 → ⊥) ⌝ }
+    ensures { λ b. ⌜ GoalChecked (now (file .entry)) (now (rows .entry)) (now (own .entry)) i (now (carried .entry)) b (now (carried .exit)) ⌝ }
 {
-    match word(file, i, 0) {
-        12 => switch(
-            file,
-            procedures,
-            variables,
-            regions,
-            reaches,
-            classes,
-            callees,
-            images,
-            kept,
-            i,
-            held,
-            sound,
-        ),
-        14 => branches(
-            file,
-            procedures,
-            variables,
-            regions,
-            reaches,
-            classes,
-            callees,
-            images,
-            kept,
-            i,
-            held,
-            sound,
-        ),
-        _ => check_step(
-            file,
-            procedures,
-            variables,
-            regions,
-            reaches,
-            classes,
-            callees,
-            images,
-            kept,
-            i,
-            held,
-            sound,
-        ),
+    match word(file, i, KIND) {
+        SWITCH => switch(file, rows, own, carried, i),
+        IF => branches(file, rows, own, carried, i),
+        _ => step(rows, own, carried, i),
     }
 }
 
-fn switch(
-    file: &[u8],
-    procedures: &[usize; 256],
-    variables: &[usize; 65],
-    regions: &[usize; 65],
-    reaches: &[u64; 65],
-    classes: &[u64; 768],
-    callees: &mut [usize; 65],
-    images: &mut [usize; 65],
-    kept: Set,
-    i: usize,
-    held: Set,
-    sound: Set,
-) -> Carried
+// After any of the arms of a switch.
+fn switch(file: &[u8], rows: &[u64; ROWS], own: &[u64], carried: &mut [u64; 2], i: usize) -> bool
     requires { ⌜ Formed (now file) ⌝ }
-    requires { ⌜ Readied (now file) (now procedures) (now variables) (now regions) (now reaches) (now classes) kept ⌝ }
-    requires { ⌜ word (now file) i 0 ≡ 12 ⌝ }
-    ensures { λ r. ⌜ GoalChecked (now (file .entry)) (now (procedures .entry)) (now (variables .entry)) (now (regions .entry)) (now (reaches .entry)) (now (classes .entry)) kept i held sound r ⌝ }
+    requires { ⌜ IsSwitch (now file) i ⌝ }
+    ensures { λ b. ⌜ GoalChecked (now (file .entry)) (now (rows .entry)) (now (own .entry)) i (now (carried .entry)) b (now (carried .exit)) ⌝ }
 {
-    if !sound.has(word(file, i, 2)) {
-        return Carried::Broken;
+    if !sound_in(carried).has(word(file, i, GOAL_X)) {
+        return false;
     }
-    arms(
-        file,
-        procedures,
-        variables,
-        regions,
-        reaches,
-        classes,
-        callees,
-        images,
-        kept,
-        word(file, i, 3),
-        held,
-        sound,
-    )
+    let first = word(file, i, SWITCH_ARMS);
+    arms(file, rows, own, carried, first)
 }
 
 // After either part of an if.
-fn branches(
-    file: &[u8],
-    procedures: &[usize; 256],
-    variables: &[usize; 65],
-    regions: &[usize; 65],
-    reaches: &[u64; 65],
-    classes: &[u64; 768],
-    callees: &mut [usize; 65],
-    images: &mut [usize; 65],
-    kept: Set,
-    i: usize,
-    held: Set,
-    sound: Set,
-) -> Carried
+fn branches(file: &[u8], rows: &[u64; ROWS], own: &[u64], carried: &mut [u64; 2], i: usize) -> bool
     requires { ⌜ Formed (now file) ⌝ }
-    requires { ⌜ Readied (now file) (now procedures) (now variables) (now regions) (now reaches) (now classes) kept ⌝ }
-    requires { ⌜ word (now file) i 0 ≡ 14 ⌝ }
-    ensures { λ r. ⌜ GoalChecked (now (file .entry)) (now (procedures .entry)) (now (variables .entry)) (now (regions .entry)) (now (reaches .entry)) (now (classes .entry)) kept i held sound r ⌝ }
+    requires { ⌜ IsIf (now file) i ⌝ }
+    ensures { λ b. ⌜ GoalChecked (now (file .entry)) (now (rows .entry)) (now (own .entry)) i (now (carried .entry)) b (now (carried .exit)) ⌝ }
 {
-    if !sound.has(word(file, i, 2)) {
-        return Carried::Broken;
+    let held = held_in(carried);
+    let sound = sound_in(carried);
+    if !sound.has(word(file, i, IF_Y)) {
+        return false;
     }
-    if !sound.has(word(file, i, 3)) {
-        return Carried::Broken;
+    if !sound.has(word(file, i, IF_Z)) {
+        return false;
     }
-    let first = chain(
-        file,
-        procedures,
-        variables,
-        regions,
-        reaches,
-        classes,
-        callees,
-        images,
-        kept,
-        word(file, i, 4),
-        held,
-        sound,
-    );
-    join(
-        first,
-        chain(
-            file,
-            procedures,
-            variables,
-            regions,
-            reaches,
-            classes,
-            callees,
-            images,
-            kept,
-            word(file, i, 5),
-            held,
-            sound,
-        ),
-    )
+    let yes = word(file, i, IF_THEN);
+    if !goals(file, rows, own, carried, yes) {
+        return false;
+    }
+    let h = held_in(carried);
+    let s = sound_in(carried);
+    carry(carried, held, sound);
+    let no = word(file, i, IF_ELSE);
+    if !goals(file, rows, own, carried, no) {
+        return false;
+    }
+    join(h, s, carried)
 }
 
 // After any of the arms from record i on.
-fn arms(
-    file: &[u8],
-    procedures: &[usize; 256],
-    variables: &[usize; 65],
-    regions: &[usize; 65],
-    reaches: &[u64; 65],
-    classes: &[u64; 768],
-    callees: &mut [usize; 65],
-    images: &mut [usize; 65],
-    kept: Set,
-    i: usize,
-    held: Set,
-    sound: Set,
-) -> Carried
+fn arms(file: &[u8], rows: &[u64; ROWS], own: &[u64], carried: &mut [u64; 2], i: usize) -> bool
     requires { ⌜ Formed (now file) ⌝ }
-    requires { ⌜ Readied (now file) (now procedures) (now variables) (now regions) (now reaches) (now classes) kept ⌝ }
-    requires { ⌜ Stands (now file) arms i ⌝ }
-    ensures { λ r. ⌜ ArmsChecked (now (file .entry)) (now (procedures .entry)) (now (variables .entry)) (now (regions .entry)) (now (reaches .entry)) (now (classes .entry)) kept i held sound r ⌝ }
+    requires { ⌜ Stands (now file) File.arms i ⌝ }
+    ensures { λ b. ⌜ ArmsChecked (now (file .entry)) (now (rows .entry)) (now (own .entry)) i (now (carried .entry)) b (now (carried .exit)) ⌝ }
 {
     if i == 0 {
-        return Carried::Carries(held, sound);
+        return true;
     }
-    let inside = arm_sound(file, variables, reaches, i, held, sound);
-    let after = chain(
-        file,
-        procedures,
-        variables,
-        regions,
-        reaches,
-        classes,
-        callees,
-        images,
-        kept,
-        word(file, i, 2),
-        held,
-        inside,
-    );
-    let next = word(file, i, 1);
+    let held = held_in(carried);
+    let sound = sound_in(carried);
+    enter(rows, own, carried, i);
+    let inside = word(file, i, ARM_GOALS);
+    if !goals(file, rows, own, carried, inside) {
+        return false;
+    }
+    let next = word(file, i, NEXT);
     if next == 0 {
-        return after;
+        return true;
     }
-    join(
-        after,
-        arms(
-            file,
-            procedures,
-            variables,
-            regions,
-            reaches,
-            classes,
-            callees,
-            images,
-            kept,
-            next,
-            held,
-            sound,
-        ),
-    )
+    let h = held_in(carried);
+    let s = sound_in(carried);
+    carry(carried, held, sound);
+    if !arms(file, rows, own, carried, next) {
+        return false;
+    }
+    join(h, s, carried)
 }

@@ -1,12 +1,1 @@
-pub mod Walks
-pub mod Reaching
-pub mod Tabled
-pub mod Sorting
-pub mod Classed
-pub mod Stored
-pub mod Listing
-pub mod Doubled
-pub mod Unshared
-pub mod Imaging
-pub mod Effects
-pub mod Calling
+pub mod Wanted

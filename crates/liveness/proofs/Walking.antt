@@ -1,25 +1,24 @@
 -- The walk over goals, one law for each way through it, over the code's own values.
 use Prim.Native.Nat.{ℕ}
-use mathlib.Core.Path.{_≡_, refl, sym, ap, _∙_}
+use mathlib.Core.Path.{_≡_, refl, sym, ap, ap₂, _∙_}
 use mathlib.Core.List.{List, [], _∷_, _++_}
 use Rattle.sets.specs.Sets.{emptySet, single, _∪_, _∖_}
-use Rattle.sets.specs.SetLaws.{empty-union}
 use Rattle.sets.specs.Members.{setOf}
 use Rattle.sets.specs.declared.Set.{Set}
 use Rattle.language.specs.File.{goals, arms, word}
-use Rattle.language.specs.Program.{four, fourWords, argumentsOf, Step, Goals, _then_, Goal, step, switch, ifLess, Arms, arm, Program}
+use Rattle.language.specs.Program.{four, argumentsOf, Step, Goals, _then_, Goal, step, switch, ifLess, Arms, arm, Program}
 use Rattle.language.specs.Values.{reads, gives}
 use Rattle.language.specs.Lifetimes.{liveStep, live, liveGoal, liveArms}
 use Rattle.language.specs.Answers.{program}
 use Rattle.chains.specs.Formed.{Formed, Stands, Onward, goalsAt, goalAt, firstGoal, armsAt, goals-none, arms-none}
 use Rattle.chains.specs.Parts.{SwitchAt, IfAt, ArmAt, arm-at}
 use Rattle.chains.specs.Is.{chain-next, goals-step, arm-is}
-use Rattle.values.specs.declared.Access.{Access}
-use Rattle.values.specs.Accesses.{Accesses, reads-is, gives-is}
-use Rattle.values.specs.Gathering.{noAccess, givenIn, giveAll, fourGiven, four-given}
-use Rattle.values.specs.Shapes.{StepAt, step-here, switch-here, if-here}
+use Rattle.values.specs.Shapes.{StepAt as Stepped, step-here, switch-here, if-here}
+use Rattle.tables.specs.Rows.{readsIn, givesIn}
+use Rattle.tables.specs.Filled.{StepAt, Accessed}
 use Rattle.liveness.specs.Points.{Point, point, points, partPoints, goalPoints, armsPoints}
 use Rattle.liveness.specs.Table.{Fills, fills-none, fills-more}
+use Rattle.liveness.specs.Done.{GoalsDone, GoalDone, ArmsDone}
 
 -- ---- over goals
 module _ (P : Program) where
@@ -64,17 +63,6 @@ module _ (P : Program) where
   if-parts after e = rw e refl
 
 -- ---- over the records
-module _ (f : List ℕ) (i : ℕ) (after : Set) (t u : List ℕ) (s end : ℕ) (r : Set) where
-  -- what was written for the goals at record i, for the goal there, for the arms there
-  abbrev pub GoalsDone : Type 0
-  GoalsDone = (r ≡ live (program f) (goalsAt f i) after) × Fills t u s end (points (program f) (goalsAt f i) after)
-
-  abbrev pub GoalDone : Type 0
-  GoalDone = (r ≡ liveGoal (program f) (goalAt f i) after) × Fills t u s end (goalPoints (program f) (goalAt f i) after)
-
-  abbrev pub ArmsDone : Type 0
-  ArmsDone = (r ≡ liveArms (program f) (armsAt f i) after) × Fills t u s end (armsPoints (program f) (armsAt f i) after)
-
 -- ---- a chain
 pub goals-last : (f : List ℕ) (i : ℕ) (after : Set) (t : List ℕ) (end : ℕ) → i ≡ 0 → GoalsDone f i after t t end end after
 unfolding live points
@@ -91,20 +79,20 @@ goals-more f i after F s z h k =
 
 -- ---- a step
 module _ (f : List ℕ) (i : ℕ) (F : Formed f) (S : Stands f goals i) (z : i ≡ 0 → ⊥) (p : word f i 0 ≡ 12 → ⊥) (q : word f i 0 ≡ 14 → ⊥) where
-  step-at : StepAt f i
+  step-at : Stepped f i
   step-at = step-here F S z refl p q
 
   step-goal : goalAt f i ≡ step (step-at .one)
   unfolding goalAt firstGoal
   step-goal = ap firstGoal (step-at .view)
 
-  pub step-lives : (after : Set) {a : Access} {d r : Set} → ((g : Step) (gs : Goals) → goalsAt f i ≡ step g then gs → Accesses (program f) g a)
-      → d ≡ after ∖ a .gives → r ≡ d ∪ a .reads → r ≡ liveGoal (program f) (goalAt f i) after
-  step-lives after {a} {d} {r} h e k =
-      let x = h (step-at .one) _ (step-at .view) in
-      let v = gives-is x in
-      let w = reads-is x in
-      k ∙ cc (e, v, w) ∙ step-live (program f) after step-goal
+  step-stands : StepAt f i (step-at .one)
+  step-stands = record { stands = S; some = z; view = step-goal }
+
+  pub step-lives : (after : Set) {rows : List ℕ} {r : Set} → Accessed f rows → r ≡ (after ∖ givesIn rows i) ∪ readsIn rows i
+      → r ≡ liveGoal (program f) (goalAt f i) after
+  step-lives after A e =
+      e ∙ ap₂ (λ g s. (after ∖ g) ∪ s) (A .gives i (step-at .one) step-stands) (A .reads i (step-at .one) step-stands) ∙ step-live (program f) after step-goal
 
   pub step-done : (after : Set) {t u : List ℕ} {s end : ℕ} {b r : Set} → b ≡ liveGoal (program f) (goalAt f i) after → r ≡ b
       → Fills t u s end (point b after ∷ []) → GoalDone f i after t u s end r
@@ -161,17 +149,6 @@ module _ (f : List ℕ) (i : ℕ) (F : Formed f) (S : Stands f arms i) (z : i �
       → d ≡ own ∖ bound → r ≡ d ∪ others → ArmsDone f i after t v s end r
   unfolding liveArms armsPoints
   arms-more after e h j b d r = rw (arm-here .view) (r ∙ cc (e, h .0, j .0, b, d), fills-more (rw e at (h .1)) (j .1))
-
--- the arguments of an arm
-pub arguments-are : (a b c d : ℕ) → single a ∪ single b ∪ single c ∪ single d ≡ setOf (argumentsOf (four a b c d))
-unfolding fourGiven giveAll givenIn noAccess fourWords
-arguments-are a b c d = ap (λ s. s ∪ single b ∪ single c ∪ single d) (sym (empty-union (single a))) ∙ four-given (four a b c d) .given
-
-pub arguments-done : (f : List ℕ) (i : ℕ) {a b c d : ℕ} {o p q r s t u : Set} → a ≡ word f i 4 → b ≡ word f i 5 → c ≡ word f i 6 → d ≡ word f i 7
-    → o ≡ single a → p ≡ single b → q ≡ single c → r ≡ single d → s ≡ o ∪ p → t ≡ s ∪ q → u ≡ t ∪ r
-    → u ≡ setOf (argumentsOf (four (word f i 4) (word f i 5) (word f i 6) (word f i 7)))
-arguments-done f i e₁ e₂ e₃ e₄ e₅ e₆ e₇ e₈ e₉ e₁₀ e₁₁ =
-    cc (e₁, e₂, e₃, e₄, e₅, e₆, e₇, e₈, e₉, e₁₀, e₁₁) ∙ arguments-are (word f i 4) (word f i 5) (word f i 6) (word f i 7)
 
 -- ---- the goals that a word leads to
 pub part-stands : (f : List ℕ) (i k : ℕ) {w : ℕ} → w ≡ word f i k → Stands f goals (word f i k) → Stands f goals w

@@ -3,3 +3,4 @@ pub mod Counts
 pub mod Room
 pub mod Table
 pub mod Holds
+pub mod Done

@@ -6,8 +6,6 @@ mod whole;
 use sets::Set;
 pub use table::live_after;
 pub use table::live_before;
-pub use walk::arm_gives;
-pub use walk::fill_goals;
 pub use whole::list_live;
 
 // What is live before the goals whose points were written, and the place of the first of them in the table.

@@ -2,35 +2,45 @@
 // a chain first, then the goal's parts, then the goal's own point.
 use crate::Filled;
 use crate::table::note;
+use language::format::ARM_GOALS;
+use language::format::GOAL_X;
+use language::format::IF;
+use language::format::IF_ELSE;
+use language::format::IF_THEN;
+use language::format::IF_Y;
+use language::format::IF_Z;
+use language::format::KIND;
+use language::format::NEXT;
+use language::format::SWITCH;
+use language::format::SWITCH_ARMS;
 use records::word;
 use sets::Set;
-use values::step_access;
+use tables::ROWS;
+use tables::gives_at;
+use tables::reads_at;
 ghost use mathlib.Core.Path.{_≡_};
 ghost use Prim.Native.Nat.{_<_};
-ghost use Rattle.sets.specs.Members.{setOf};
+ghost use Rattle.sets.specs.Sets.{_∪_, _∖_};
 ghost use Rattle.language.specs.File.{goals, arms, word};
-ghost use Rattle.language.specs.Program.{four, argumentsOf};
-ghost use Rattle.language.specs.Lifetimes.{live, liveGoal, liveArms};
-ghost use Rattle.language.specs.Answers.{program};
-ghost use Rattle.chains.specs.Formed.{Formed, Stands, goalsAt, goalAt, armsAt};
-ghost use Rattle.values.specs.Callees.{Listed};
-ghost use Rattle.liveness.specs.Points.{points, goalPoints, armsPoints};
-ghost use Rattle.liveness.specs.Table.{Fills};
+ghost use Rattle.language.specs.Format.{kindWord, switchKind, ifKind};
+ghost use Rattle.chains.specs.Formed.{Formed, Stands};
+ghost use Rattle.tables.specs.Rows.{readsIn, givesIn};
+ghost use Rattle.tables.specs.Filled.{Accessed};
+ghost use Rattle.liveness.specs.Done.{GoalsDone, GoalDone, ArmsDone};
 
 // Writes the points of the goals from record i on in front of place end, where `after` is live behind them.
-pub fn fill_goals(
+pub fn goals(
     file: &[u8],
-    procedures: &[usize],
+    rows: &[u64; ROWS],
     i: usize,
     after: Set,
     end: usize,
     table: &mut [u64],
 ) -> Filled
     requires { ⌜ Formed (now file) ⌝ }
-    requires { ⌜ Listed (now file) (now procedures) ⌝ }
+    requires { ⌜ Accessed (now file) (now rows) ⌝ }
     requires { ⌜ Stands (now file) goals i ⌝ }
-    ensures { λ r. ⌜ r .live ≡ live (program (now (file .entry))) (goalsAt (now (file .entry)) i) after ⌝ }
-    ensures { λ r. ⌜ Fills (now (table .entry)) (now (table .exit)) (r .start) end (points (program (now (file .entry))) (goalsAt (now (file .entry)) i) after) ⌝ }
+    ensures { λ r. ⌜ GoalsDone (now (file .entry)) i after (now (table .entry)) (now (table .exit)) (r .start) end (r .live) ⌝ }
 {
     if i == 0 {
         return Filled {
@@ -38,15 +48,15 @@ pub fn fill_goals(
             start: end,
         };
     }
-    let rest = fill_part(file, procedures, i, 1, after, end, table);
+    let rest = part(file, rows, i, NEXT, after, end, table);
     let live = rest.live;
-    fill_goal(file, procedures, i, live, rest.start, table)
+    goal(file, rows, i, live, rest.start, table)
 }
 
 // The same for the goals that word k of record i leads to. Every call back into the walk goes through here, which keeps a level's stack small.
-fn fill_part(
+fn part(
     file: &[u8],
-    procedures: &[usize],
+    rows: &[u64; ROWS],
     i: usize,
     k: usize,
     after: Set,
@@ -54,93 +64,84 @@ fn fill_part(
     table: &mut [u64],
 ) -> Filled
     requires { ⌜ Formed (now file) ⌝ }
-    requires { ⌜ Listed (now file) (now procedures) ⌝ }
+    requires { ⌜ Accessed (now file) (now rows) ⌝ }
     requires { ⌜ (k < 8) × Stands (now file) goals (word (now file) i k) ⌝ }
-    ensures { λ r. ⌜ r .live ≡ live (program (now (file .entry))) (goalsAt (now (file .entry)) (word (now (file .entry)) i k)) after ⌝ }
-    ensures { λ r. ⌜ Fills (now (table .entry)) (now (table .exit)) (r .start) end (points (program (now (file .entry))) (goalsAt (now (file .entry)) (word (now (file .entry)) i k)) after) ⌝ }
+    ensures { λ r. ⌜ GoalsDone (now (file .entry)) (word (now (file .entry)) i k) after (now (table .entry)) (now (table .exit)) (r .start) end (r .live) ⌝ }
 {
-    fill_goals(file, procedures, word(file, i, k), after, end, table)
+    goals(file, rows, word(file, i, k), after, end, table)
 }
 
 // Writes the points of the goal at record i.
-fn fill_goal(
+fn goal(
     file: &[u8],
-    procedures: &[usize],
+    rows: &[u64; ROWS],
     i: usize,
     after: Set,
     end: usize,
     table: &mut [u64],
 ) -> Filled
     requires { ⌜ Formed (now file) ⌝ }
-    requires { ⌜ Listed (now file) (now procedures) ⌝ }
+    requires { ⌜ Accessed (now file) (now rows) ⌝ }
     requires { ⌜ Stands (now file) goals i × (i ≡ 0 → ⊥) ⌝ }
-    ensures { λ r. ⌜ r .live ≡ liveGoal (program (now (file .entry))) (goalAt (now (file .entry)) i) after ⌝ }
-    ensures { λ r. ⌜ Fills (now (table .entry)) (now (table .exit)) (r .start) end (goalPoints (program (now (file .entry))) (goalAt (now (file .entry)) i) after) ⌝ }
+    ensures { λ r. ⌜ GoalDone (now (file .entry)) i after (now (table .entry)) (now (table .exit)) (r .start) end (r .live) ⌝ }
 {
-    match word(file, i, 0) {
-        12 => fill_switch(file, procedures, i, after, end, table),
-        14 => fill_if(file, procedures, i, after, end, table),
-        _ => note(live_step(file, procedures, i, after), after, end, table),
+    match word(file, i, KIND) {
+        SWITCH => switch(file, rows, i, after, end, table),
+        IF => branches(file, rows, i, after, end, table),
+        _ => note(live_step(rows, i, after), after, end, table),
     }
 }
 
 // What is live before the step at record i.
-fn live_step(file: &[u8], procedures: &[usize], i: usize, after: Set) -> Set
-    requires { ⌜ Formed (now file) ⌝ }
-    requires { ⌜ Listed (now file) (now procedures) ⌝ }
-    requires { ⌜ Stands (now file) goals i × (i ≡ 0 → ⊥) ⌝ }
-    requires { ⌜ (word (now file) i 0 ≡ 12 → ⊥) × (word (now file) i 0 ≡ 14 → ⊥) ⌝ }
-    ensures { λ r. ⌜ r ≡ liveGoal (program (now (file .entry))) (goalAt (now (file .entry)) i) after ⌝ }
+fn live_step(rows: &[u64; ROWS], i: usize, after: Set) -> Set
+    ensures { λ r. ⌜ r ≡ (after ∖ givesIn (now (rows .entry)) i) ∪ readsIn (now (rows .entry)) i ⌝ }
 {
-    let a = step_access(file, procedures, i);
-    let gives = a.gives;
-    let reads = a.reads;
+    let gives = gives_at(rows, i);
+    let reads = reads_at(rows, i);
     after.difference(gives).union(reads)
 }
 
 // A switch: its arms, then its own point.
-fn fill_switch(
+fn switch(
     file: &[u8],
-    procedures: &[usize],
+    rows: &[u64; ROWS],
     i: usize,
     after: Set,
     end: usize,
     table: &mut [u64],
 ) -> Filled
     requires { ⌜ Formed (now file) ⌝ }
-    requires { ⌜ Listed (now file) (now procedures) ⌝ }
-    requires { ⌜ word (now file) i 0 ≡ 12 ⌝ }
-    ensures { λ r. ⌜ r .live ≡ liveGoal (program (now (file .entry))) (goalAt (now (file .entry)) i) after ⌝ }
-    ensures { λ r. ⌜ Fills (now (table .entry)) (now (table .exit)) (r .start) end (goalPoints (program (now (file .entry))) (goalAt (now (file .entry)) i) after) ⌝ }
+    requires { ⌜ Accessed (now file) (now rows) ⌝ }
+    requires { ⌜ word (now file) i kindWord ≡ switchKind ⌝ }
+    ensures { λ r. ⌜ GoalDone (now (file .entry)) i after (now (table .entry)) (now (table .exit)) (r .start) end (r .live) ⌝ }
 {
-    let first = word(file, i, 3);
-    let parts = fill_arms(file, procedures, first, after, end, table);
-    let x = Set::of(word(file, i, 2));
+    let first = word(file, i, SWITCH_ARMS);
+    let parts = arms(file, rows, first, after, end, table);
+    let x = Set::of(word(file, i, GOAL_X));
     let needed = parts.live;
     note(x.union(needed), after, parts.start, table)
 }
 
 // An if: its second part, its first, then its own point.
-fn fill_if(
+fn branches(
     file: &[u8],
-    procedures: &[usize],
+    rows: &[u64; ROWS],
     i: usize,
     after: Set,
     end: usize,
     table: &mut [u64],
 ) -> Filled
     requires { ⌜ Formed (now file) ⌝ }
-    requires { ⌜ Listed (now file) (now procedures) ⌝ }
-    requires { ⌜ word (now file) i 0 ≡ 14 ⌝ }
-    ensures { λ r. ⌜ r .live ≡ liveGoal (program (now (file .entry))) (goalAt (now (file .entry)) i) after ⌝ }
-    ensures { λ r. ⌜ Fills (now (table .entry)) (now (table .exit)) (r .start) end (goalPoints (program (now (file .entry))) (goalAt (now (file .entry)) i) after) ⌝ }
+    requires { ⌜ Accessed (now file) (now rows) ⌝ }
+    requires { ⌜ word (now file) i kindWord ≡ ifKind ⌝ }
+    ensures { λ r. ⌜ GoalDone (now (file .entry)) i after (now (table .entry)) (now (table .exit)) (r .start) end (r .live) ⌝ }
 {
-    let second = fill_part(file, procedures, i, 5, after, end, table);
+    let second = part(file, rows, i, IF_ELSE, after, end, table);
     let other = second.live;
-    let first = fill_part(file, procedures, i, 4, after, second.start, table);
+    let first = part(file, rows, i, IF_THEN, after, second.start, table);
     let one = first.live;
-    let y = Set::of(word(file, i, 2));
-    let z = Set::of(word(file, i, 3));
+    let y = Set::of(word(file, i, IF_Y));
+    let z = Set::of(word(file, i, IF_Z));
     note(
         y.union(z).union(one.union(other)),
         after,
@@ -150,19 +151,18 @@ fn fill_if(
 }
 
 // Writes the points of the arms from record i on, all with the same live behind them.
-fn fill_arms(
+fn arms(
     file: &[u8],
-    procedures: &[usize],
+    rows: &[u64; ROWS],
     i: usize,
     after: Set,
     end: usize,
     table: &mut [u64],
 ) -> Filled
     requires { ⌜ Formed (now file) ⌝ }
-    requires { ⌜ Listed (now file) (now procedures) ⌝ }
+    requires { ⌜ Accessed (now file) (now rows) ⌝ }
     requires { ⌜ Stands (now file) arms i ⌝ }
-    ensures { λ r. ⌜ r .live ≡ liveArms (program (now (file .entry))) (armsAt (now (file .entry)) i) after ⌝ }
-    ensures { λ r. ⌜ Fills (now (table .entry)) (now (table .exit)) (r .start) end (armsPoints (program (now (file .entry))) (armsAt (now (file .entry)) i) after) ⌝ }
+    ensures { λ r. ⌜ ArmsDone (now (file .entry)) i after (now (table .entry)) (now (table .exit)) (r .start) end (r .live) ⌝ }
 {
     if i == 0 {
         return Filled {
@@ -170,25 +170,14 @@ fn fill_arms(
             start: end,
         };
     }
-    let next = word(file, i, 1);
-    let others = fill_arms(file, procedures, next, after, end, table);
+    let next = word(file, i, NEXT);
+    let others = arms(file, rows, next, after, end, table);
     let other = others.live;
-    let own = fill_part(file, procedures, i, 2, after, others.start, table);
+    let own = part(file, rows, i, ARM_GOALS, after, others.start, table);
     let live = own.live;
-    let bound = arm_gives(file, i);
+    let bound = gives_at(rows, i);
     Filled {
         live: live.difference(bound).union(other),
         start: own.start,
     }
-}
-
-// The variables that the arm at record i gives a value.
-pub fn arm_gives(file: &[u8], i: usize) -> Set
-    ensures { λ r. ⌜ r ≡ setOf (argumentsOf (four (word (now (file .entry)) i 4) (word (now (file .entry)) i 5) (word (now (file .entry)) i 6) (word (now (file .entry)) i 7))) ⌝ }
-{
-    let a = Set::of(word(file, i, 4));
-    let b = Set::of(word(file, i, 5));
-    let c = Set::of(word(file, i, 6));
-    let d = Set::of(word(file, i, 7));
-    a.union(b).union(c).union(d)
 }

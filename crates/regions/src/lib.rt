@@ -1,13 +1,11 @@
-// Reach, the call's mapping, and number 5.
-mod arguments;
-mod mapping;
-mod places;
-mod reach;
-mod stage;
-mod steps;
-mod walk;
+// The call's mapping, what a step does to regions, and number 5, in one pass over the records.
+mod calls;
+mod effects;
+mod images;
+mod pairs;
+mod pass;
+mod repeats;
+mod single;
+mod terms;
 
-pub use mapping::map_call;
-pub use reach::list_reaches;
-pub use reach::reach_of;
-pub use stage::regions_ok;
+pub use pass::regions_agree;

@@ -20,22 +20,9 @@ module _ (f : List ℕ) where
   abbrev pub typingStages : List Stage
   typingStages = formStages f ++ (stage Typing (typingOk (program f)) ∷ [])
 
-  -- numbers 1 to 4
-  abbrev pub valuesStages : List Stage
-  valuesStages = typingStages ++ (stage Values (valuesOk (program f)) ∷ [])
-
-  -- numbers 1 to 5
-  abbrev pub regionsStages : List Stage
-  regionsStages = valuesStages ++ (stage Regions (regionsOk (program f)) ∷ [])
-
-  -- numbers 1 to 5 and 7's part for every program
-  abbrev pub classesStages : List Stage
-  classesStages = regionsStages ++ (stage Classes (declaredClassesOk (program f)) ∷ [])
-
-  -- numbers 1 to 5 are the front part of every program's stages
-  pub file-stages : regionsStages ≡ fileStages f
-  unfolding formStages fileStages
-  file-stages = refl
+  -- numbers 4 and 5, and 7's part for every program
+  abbrev pub tableStages : List Stage
+  tableStages = stage Values (valuesOk (program f)) ∷ stage Regions (regionsOk (program f)) ∷ stage Classes (declaredClassesOk (program f)) ∷ []
 
 -- ---- one stage more
 both : (q : Refusal) (w : Verdict) (c : Bool) → after w (lowest (stage q c ∷ [])) ≡ Accepted → (w ≡ Accepted) × (c ≡ true)
@@ -68,12 +55,6 @@ module _ (ss : List Stage) where
   passed-both q {b} e g = both q (lowest ss) b (sym (lowest-append ss (stage q b ∷ [])) ∙ sym e ∙ g)
 
 -- ---- what an accepting stage has found
-pub record Passing (f : List ℕ) : Type 0 where
-  pub formed : Formed f
-  pub typing : typingOk (program f) ≡ true
-  pub values : valuesOk (program f) ≡ true
-  pub regions : regionsOk (program f) ≡ true
-
 module _ (f : List ℕ) where
   pub form-lowest : {v : Verdict} → v ≡ formVerdict f → v ≡ lowest (formStages f)
   unfolding formVerdict
@@ -83,16 +64,25 @@ module _ (f : List ℕ) where
   unfolding formVerdict
   typing-found e g = let p = passed-both (formStages f) Typing e g in (formed refl (p .0), p .1)
 
-  pub values-found : {v : Verdict} → v ≡ lowest (valuesStages f) → v ≡ Accepted → (Formed f × (typingOk (program f) ≡ true)) × (valuesOk (program f) ≡ true)
-  values-found e g = let p = passed-both (typingStages f) Values e g in (typing-found refl (p .0), p .1)
+-- ---- the table's stages, one law for each way through them
+module _ (f : List ℕ) {a : Bool} (ea : a ≡ valuesOk (program f)) where
+  pub values-refused : a ≡ false → Refused Values ≡ lowest (tableStages f)
+  unfolding lowest
+  values-refused p = rw (sym ea ∙ p) refl
 
-  -- numbers 1 to 5
-  pub regions-found : {v : Verdict} → v ≡ lowest (regionsStages f) → v ≡ Accepted → Passing f
-  regions-found e g =
-      let p = passed-both (valuesStages f) Regions e g in
-      let q = values-found refl (p .0) in
-      record { formed = q .0 .0; typing = q .0 .1; values = q .1; regions = p .1 }
+  module _ {b : Bool} (p : a ≡ true) (eb : b ≡ regionsOk (program f)) where
+    pub regions-refused : b ≡ false → Refused Regions ≡ lowest (tableStages f)
+    unfolding lowest
+    regions-refused q = rw (sym ea ∙ p, sym eb ∙ q) refl
 
-  -- and number 7's part for every program
-  pub classes-found : {v : Verdict} → v ≡ lowest (classesStages f) → v ≡ Accepted → Passing f × (declaredClassesOk (program f) ≡ true)
-  classes-found e g = let p = passed-both (regionsStages f) Classes e g in (regions-found refl (p .0), p .1)
+    module _ {c : Bool} (q : b ≡ true) (ec : c ≡ declaredClassesOk (program f)) where
+      pub classes-refused : c ≡ false → Refused Classes ≡ lowest (tableStages f)
+      unfolding lowest
+      classes-refused r = rw (sym ea ∙ p, sym eb ∙ q, sym ec ∙ r) refl
+
+      pub tables-passed : c ≡ true → Accepted ≡ lowest (tableStages f)
+      unfolding lowest
+      tables-passed r = rw (sym ea ∙ p, sym eb ∙ q, sym ec ∙ r) refl
+
+pub not-accepted : {A : Type 0} {r : Refusal} → Refused r ≡ Accepted → A
+not-accepted e = absurd (false≢true cc)

@@ -1,14 +1,30 @@
-// Numbers 3, 4, 5 and 7, each after those before it.
+// Numbers 1 to 3 of any bytes; then numbers 4 and 5, and 7's part for every program, with the tables that later stages read.
 use language::Refusal;
 use language::Verdict;
-use lifetimes::declared_classes_ok;
+use owners::list_owners;
+use records::blank::blank_owners;
 use records::check_form;
-use regions::regions_ok;
+use regions::regions_agree;
+use tables::ROWS;
+use tables::TABLE;
 use typing::typing_ok;
 use values::values_ok;
+use windows::list_procedures;
 ghost use mathlib.Core.Path.{_≡_};
-ghost use Rattle.language.specs.Answers.{lowest};
-ghost use Rattle.rules.specs.Stages.{typingStages, valuesStages, regionsStages, classesStages};
+ghost use mathlib.Core.Bool.{true};
+ghost use Prim.Native.Nat.{_≤_};
+ghost use lib.ListN.{length};
+ghost use Rattle.language.specs.declared.Verdict.the-variants.{Accepted};
+ghost use Rattle.language.specs.Typing.{typingOk};
+ghost use Rattle.language.specs.Regions.{regionsOk};
+ghost use Rattle.language.specs.Answers.{lowest, program};
+ghost use Rattle.records.specs.Blank.{fileWords, rowWords};
+ghost use Rattle.chains.specs.Formed.{Formed};
+ghost use Rattle.owners.specs.Owner.{ownerOf};
+ghost use Rattle.tables.specs.Window.{FileTable};
+ghost use Rattle.tables.specs.Filled.{Effected, Prepared};
+ghost use Rattle.regions.specs.Rowed.{Unread};
+ghost use Rattle.rules.specs.Stages.{typingStages, tableStages};
 
 // Numbers 1 to 3.
 pub fn check_typing(file: &[u8]) -> Verdict
@@ -24,43 +40,37 @@ pub fn check_typing(file: &[u8]) -> Verdict
     Verdict::Accepted
 }
 
-// Numbers 1 to 4.
-pub fn check_values(file: &[u8]) -> Verdict
-    ensures { λ r. ⌜ r ≡ lowest (valuesStages (now (file .entry))) ⌝ }
+// Number 5, with what each step does to regions in its row.
+fn regions_ok(file: &[u8], table: &[u64; TABLE], rows: &mut [u64; ROWS]) -> bool
+    requires { ⌜ Formed (now file) ⌝ }
+    requires { ⌜ typingOk (program (now file)) ≡ true ⌝ }
+    requires { ⌜ FileTable (now file) (now table) ⌝ }
+    requires { ⌜ rowWords ≤ length (now rows) ⌝ }
+    ensures { λ b. ⌜ b ≡ regionsOk (program (now (file .entry))) ⌝ }
+    ensures { λ b. ⌜ (b ≡ true → Effected (now (file .entry)) (ownerOf (now (file .entry))) (now (rows .exit))) ⌝ }
+    ensures { λ b. ⌜ Unread (now (rows .entry)) (now (rows .exit)) ⌝ }
 {
-    let answer = check_typing(file);
-    let Verdict::Accepted = answer else {
-        return answer;
-    };
-    if !values_ok(file) {
+    let mut owners = blank_owners();
+    list_owners(file, &mut owners);
+    regions_agree(file, table, &owners, rows)
+}
+
+// Numbers 4 and 5, and 7's part for every program, of a file that passed number 3. Fills the file's table and the rows.
+pub fn check_classes(file: &[u8], table: &mut [u64; TABLE], rows: &mut [u64; ROWS]) -> Verdict
+    requires { ⌜ Formed (now file) ⌝ }
+    requires { ⌜ typingOk (program (now file)) ≡ true ⌝ }
+    requires { ⌜ (fileWords ≤ length (now table)) × (rowWords ≤ length (now rows)) ⌝ }
+    ensures { λ r. ⌜ r ≡ lowest (tableStages (now (file .entry))) ⌝ }
+    ensures { λ r. ⌜ (r ≡ Accepted → Prepared (now (file .entry)) (now (table .exit)) (now (rows .exit))) ⌝ }
+{
+    let right = list_procedures(file, table);
+    if !values_ok(file, table, rows) {
         return Verdict::Refused(Refusal::Values);
     }
-    Verdict::Accepted
-}
-
-// Numbers 1 to 5.
-pub fn check_regions(file: &[u8]) -> Verdict
-    ensures { λ r. ⌜ r ≡ lowest (regionsStages (now (file .entry))) ⌝ }
-{
-    let answer = check_values(file);
-    let Verdict::Accepted = answer else {
-        return answer;
-    };
-    if !regions_ok(file) {
+    if !regions_ok(file, table, rows) {
         return Verdict::Refused(Refusal::Regions);
     }
-    Verdict::Accepted
-}
-
-// Numbers 1 to 5, and 7's part for every program.
-pub fn check_classes(file: &[u8]) -> Verdict
-    ensures { λ r. ⌜ r ≡ lowest (classesStages (now (file .entry))) ⌝ }
-{
-    let answer = check_regions(file);
-    let Verdict::Accepted = answer else {
-        return answer;
-    };
-    if !declared_classes_ok(file) {
+    if !right {
         return Verdict::Refused(Refusal::Classes);
     }
     Verdict::Accepted

@@ -1,11 +1,11 @@
 -- What the rows say of every goal, and which procedure each record belongs to: what the walks over goals ask of the tables.
-use Prim.Native.Nat.{ℕ, _<_}
+use Prim.Native.Nat.{ℕ, _≤_, _<_}
 use mathlib.Core.List.{List}
 use mathlib.Core.Path.{_≡_}
 use lib.ListN.{length}
 use Rattle.sets.specs.Members.{setOf}
 use Rattle.language.specs.File.{procedures, goals, arms, word}
-use Rattle.language.specs.Format.{nextWord, switchKind, ifKind, switchArms, armGoals, ifThen, ifElse, procedureGoals}
+use Rattle.language.specs.Format.{maxProcedures, nextWord, switchKind, ifKind, switchArms, armGoals, ifThen, ifElse, procedureGoals}
 use Rattle.language.specs.Lists.{nth}
 use Rattle.language.specs.Program.{four, argumentsOf, Step, step, signatureOf}
 use Rattle.language.specs.Values
@@ -13,6 +13,7 @@ use Rattle.language.specs.Lifetimes.{effect}
 use Rattle.language.specs.Answers.{program}
 use Rattle.chains.specs.Formed.{Stands, goalAt}
 use Rattle.chains.specs.Records.{chainRecords}
+use Rattle.tables.specs.Window.{FileTable}
 use Rattle.tables.specs.Rows.{readsIn, givesIn, needsIn, bearsIn, endsIn, markIn}
 
 module _ (f : List ℕ) where
@@ -46,3 +47,12 @@ module _ (f : List ℕ) where
     pub to-arms : (i : ℕ) → word f i 0 ≡ switchKind → (j : ℕ) → j ≡ word f i switchArms → (j ≡ 0 → ⊥) → owner j ≡ owner i
     pub arm-goals : (i : ℕ) → Stands f arms i → (i ≡ 0 → ⊥) → (j : ℕ) → j ≡ word f i armGoals → (j ≡ 0 → ⊥) → owner j ≡ owner i
     pub arm-next : (i : ℕ) → Stands f arms i → (i ≡ 0 → ⊥) → (j : ℕ) → j ≡ word f i nextWord → (j ≡ 0 → ⊥) → owner j ≡ owner i
+
+-- the file's table and its rows are filled: what the stages that all programs share leave for those of each
+pub record Prepared (f table rows : List ℕ) : Type 0 where
+  pub owner : ℕ → ℕ
+  pub few : length (program f .procedures) ≤ maxProcedures
+  pub windows : FileTable f table
+  pub accessed : Accessed f rows
+  pub effected : Effected f owner rows
+  pub owning : Owning f owner

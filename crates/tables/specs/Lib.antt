@@ -1,3 +1,5 @@
 pub mod Window
 pub mod Rows
 pub mod Filled
+pub mod Starts
+pub mod Walks

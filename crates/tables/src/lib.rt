@@ -1,8 +1,11 @@
 // The tables that the stages share. The file's table has a window for each procedure, behind the places where the windows start; the rows say of
 // each record what its goal does.
+mod reaches;
 mod rows;
 mod window;
+mod windows;
 
+pub use reaches::reach_all;
 pub use rows::access_at;
 pub use rows::bears_at;
 pub use rows::ends_at;
@@ -18,6 +21,8 @@ pub use window::home;
 pub use window::reach;
 pub use window::set_at;
 pub use window::word_at;
+pub use windows::body_of;
+pub use windows::start_of;
 
 // Words of a row, and of the rows of 4,096 records.
 pub const ROW: usize = 6;

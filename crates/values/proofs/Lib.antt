@@ -1,4 +1,2 @@
 mod Turning
 mod Stepping
-mod Walking
-mod Staging

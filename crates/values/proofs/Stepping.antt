@@ -14,16 +14,14 @@ use Rattle.records.specs.declared.Record.{Record}
 use Rattle.records.specs.declared.Record.the-variants.{Literal, Sum, Assign, Construct, Call, Print, Create, Remove}
 use Rattle.chains.specs.Formed.{Formed, Stands, goalsAt, argumentsAt}
 use Rattle.chains.specs.Kinds.{same-read}
+use Rattle.chains.specs.Is.{arm-is}
 use Rattle.chains.specs.Goals.{literal-at, sum-at, assign-at, construct-at, print-at, create-at, remove-at}
 use Rattle.chains.specs.Parts.{switch-at, if-at, call-at}
-use Rattle.values.specs.declared.Access.{Access}
+use Rattle.tables.specs.declared.Access.{Access}
 use Rattle.values.specs.Gathering.{noAccess, readIn, givenIn, fourRead}
 use Rattle.values.specs.Accesses.{Accesses, literal-access, sum-access, assign-access, construct-access, print-access, create-access, remove-access, at-step, no-switch, no-if}
+use Rattle.values.specs.Fitting.{Stepped, Fits}
 use Rattle.values.specs.Shapes.{goal-kind}
-
--- of the step at record i, whichever it is
-abbrev pub Stepped : List ℕ → ℕ → Access → Type 0
-Stepped f i a = (g : Step) (gs : Goals) → goalsAt f i ≡ step g then gs → Accesses (program f) g a
 
 module _ (f : List ℕ) (i : ℕ) (F : Formed f) {r : Record} (e : r ≡ recordAt f i) where
   pub literal-done : {n x v : ℕ} {a b : Access} → r ≡ Literal n x v → a ≡ noAccess → b ≡ givenIn a x → Stepped f i b
@@ -50,21 +48,25 @@ module _ (f : List ℕ) (i : ℕ) (F : Formed f) {r : Record} (e : r ≡ recordA
   pub call-done : {n q y : ℕ} {a : Access} → r ≡ Call n q y → Accesses (program f) (call q (argumentsAt f y)) a → Stepped f i a
   call-done k p = at-step (call-at F e k .view) p
 
-  -- no step is left
-  abbrev others : List ℕ
-  others = 0 ∷ 1 ∷ 2 ∷ 3 ∷ 4 ∷ 5 ∷ 6 ∷ 11 ∷ 12 ∷ 13 ∷ 15 ∷ 19 ∷ []
+  -- a record that is neither an arm nor a step that reads or gives
+  abbrev rest : List ℕ
+  rest = 0 ∷ 1 ∷ 2 ∷ 3 ∷ 4 ∷ 5 ∷ 6 ∷ 11 ∷ 13 ∷ 15 ∷ 17 ∷ 18 ∷ 19 ∷ []
 
-  pub other-done : (a : Access) → Stands f goals i → (i ≡ 0 → ⊥) → OneOf others (tagOf the-type r) → Stepped f i a
-  other-done a s z h = let k = goal-kind F s z in go (k .0) (k .1)
+  pub fits-other : {a : Access} → a ≡ noAccess → OneOf rest (tagOf the-type r) → Fits f i a
+  fits-other {a} p h =
+      record {
+        step = λ s z. let k = goal-kind F s z in go (k .0) (k .1);
+        arm = λ s z. absurd (miss rest 12 tt (rw (ap (tagOf the-type) (e ∙ arm-is s z)) at h));
+      }
     where
       go : (g : GoalKind) → kindOf (word f i 0) ≡ kGoal g → Stepped f i a
-      go kLiteral k = absurd (miss others 7 tt (rw (ap (tagOf the-type) (same-read f i e k)) at h))
-      go kSum k = absurd (miss others 8 tt (rw (ap (tagOf the-type) (same-read f i e k)) at h))
-      go kAssign k = absurd (miss others 9 tt (rw (ap (tagOf the-type) (same-read f i e k)) at h))
-      go kConstruct k = absurd (miss others 10 tt (rw (ap (tagOf the-type) (same-read f i e k)) at h))
+      go kLiteral k = absurd (miss rest 7 tt (rw (ap (tagOf the-type) (same-read f i e k)) at h))
+      go kSum k = absurd (miss rest 8 tt (rw (ap (tagOf the-type) (same-read f i e k)) at h))
+      go kAssign k = absurd (miss rest 9 tt (rw (ap (tagOf the-type) (same-read f i e k)) at h))
+      go kConstruct k = absurd (miss rest 10 tt (rw (ap (tagOf the-type) (same-read f i e k)) at h))
       go kSwitch k = λ g gs v. no-switch (switch-at F e (same-read f i e k) .view) g gs v
       go kIf k = λ g gs v. no-if (if-at F e (same-read f i e k) .view) g gs v
-      go kCall k = absurd (miss others 14 tt (rw (ap (tagOf the-type) (same-read f i e k)) at h))
-      go kPrint k = absurd (miss others 16 tt (rw (ap (tagOf the-type) (same-read f i e k)) at h))
-      go kCreate k = absurd (miss others 17 tt (rw (ap (tagOf the-type) (same-read f i e k)) at h))
-      go kRemove k = absurd (miss others 18 tt (rw (ap (tagOf the-type) (same-read f i e k)) at h))
+      go kCall k = absurd (miss rest 14 tt (rw (ap (tagOf the-type) (same-read f i e k)) at h))
+      go kPrint k = absurd (miss rest 16 tt (rw (ap (tagOf the-type) (same-read f i e k)) at h))
+      go kCreate k = create-done (same-read f i e k) p
+      go kRemove k = remove-done (same-read f i e k) p

@@ -6,7 +6,7 @@ use mathlib.Core.List.{List, [], _∷_}
 use Rattle.language.specs.Program.{Four, four, fourWords, Variable, Step, literal, sum, assign, construct, call, print, create, remove, Goals, _then_, step, switch, ifLess, Program, signatureOf, parametersOf, argumentsIn, inMode, outMode}
 use Rattle.language.specs.Values.{access, accessing, reads, gives}
 use Rattle.sets.specs.declared.Set.{Set}
-use Rattle.values.specs.declared.Access.{Access}
+use Rattle.tables.specs.declared.Access.{Access}
 use Rattle.values.specs.Gathering.{noAccess, readIn, givenIn, readAll, fourRead, Gathers, gathers-none, gathers-read, gathers-give, four-read}
 use Rattle.values.specs.Matching.{passing, Matches}
 

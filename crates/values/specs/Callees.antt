@@ -1,11 +1,8 @@
--- The table of procedure records, filled once and lent down, and what a procedure's number finds in it.
-use Prim.Native.Nat.{ℕ, zero, suc, _<_, _≤_}
+-- The records of procedures, and where the entry's variables start.
+use Prim.Native.Nat.{ℕ, zero, suc, _<_}
 use native.Mathlib.Omega.{arith}
 use mathlib.Core.Path.{_≡_, refl, sym, ap, _∙_}
 use mathlib.Core.List.{List, [], _∷_, map}
-use mathlib.Core.Bool.{true}
-use mathlib.Core.Logic.{inr}
-use lib.ListN.{length, getD}
 use Rattle.language.specs.File.{procedures, variables, word, recordCount}
 use Rattle.language.specs.Lists.{nth}
 use Rattle.language.specs.Program.{Procedure, Program, done, procedureAt, signatureOf}
@@ -16,13 +13,7 @@ use Rattle.chains.specs.Formed.{Formed, Stands, stands-none, variablesAt, regio
 use Rattle.chains.specs.Declared.{procedure-at}
 use Rattle.chains.specs.Is.{procedure-is}
 use Rattle.chains.specs.Records.{chainRecords, Somes, records-some, along, view-map, records-step, records-none}
-use Rattle.chains.specs.Tables.{tableOf, from-zero}
 use Rattle.chains.specs.Fields.{fieldOf, field-none, field-some}
-
--- every procedure's record, in order
-pub record Listed (f t : List ℕ) : Type 0 where
-  pub table : t ≡ tableOf 0 (length t) (chainRecords f (word f 0 1))
-  pub all : length (chainRecords f (word f 0 1)) ≤ length t
 
 -- the procedure at record i
 unfoldable pub procedureIn : List ℕ → ℕ → Procedure
@@ -75,12 +66,6 @@ declares {f} F q {p} {v} e g =
           (nth-variables f (record { signature = record { variables = []; regions = [] }; body = done }) (sym (variables-none f {i = 0} refl))
           (chainRecords f (word f 0 1)) (records-some f (word f 0 1)) q);
     }
-
--- by the table
-pub callee-declares : {f t : List ℕ} → Formed f → Listed f t → (q : ℕ) {p v : ℕ} → p ≡ getD t q 0 → v ≡ fieldOf f p 2 → Declares f q v
-callee-declares {f} {t} F L q e g =
-    let l = L .all in
-    declares F q (e ∙ ap (λ u. getD u q 0) (L .table) ∙ from-zero (length t) (chainRecords f (word f 0 1)) q (inr (omega arith))) g
 
 -- the entry's record is the first
 first-record : {f : List ℕ} → Formed f → (i : ℕ) → i < recordCount f → i ≡ nth 0 (chainRecords f i) 0

@@ -12,9 +12,8 @@ use Rattle.sets.specs.Members.{setOf}
 use Rattle.sets.specs.declared.Set.{Set}
 use Rattle.language.specs.Lists.{count, choose}
 use Rattle.language.specs.Program.{Four, four, fourWords, argumentsOf, trimmed, inMode, outMode}
-use Rattle.language.specs.Values.{distinct}
-use Rattle.values.specs.declared.Access.{Access}
-use Rattle.values.specs.Ranged.{InRange, Ranged, ranged-front, set-snoc, fresh-is, distinct-snoc, trim-fold}
+use Rattle.tables.specs.declared.Access.{Access}
+use Rattle.values.specs.Ranged.{set-snoc, freshFrom, fresh, fresh-snoc, trim-fold}
 
 unfoldable pub noAccess : Access
 noAccess = record { reads = emptySet; gives = emptySet; once = true }
@@ -50,16 +49,16 @@ fourGiven ws = giveAll noAccess (fourWords ws)
 pub record Gathers (a : Access) (ys xs : List ℕ) : Type 0 where
   pub read : a .reads ≡ setOf ys
   pub given : a .gives ≡ setOf xs
-  pub twice : Ranged xs → a .once ≡ distinct xs
+  pub none-twice : a .once ≡ fresh xs
 
 pub gathers-none : Gathers noAccess [] []
-unfolding noAccess setOf distinct
-gathers-none = record { read = refl; given = refl; twice = λ r. refl }
+unfolding noAccess setOf fresh freshFrom
+gathers-none = record { read = refl; given = refl; none-twice = refl }
 
 module _ {a : Access} {ys xs : List ℕ} (h : Gathers a ys xs) where
   pub gathers-read : (y : ℕ) → Gathers (readIn a y) (ys ++ y ∷ []) xs
   unfolding readIn
-  gathers-read y = record { read = ap (λ s. s ∪ single y) (h .read) ∙ sym (set-snoc ys y); given = h .given; twice = h .twice }
+  gathers-read y = record { read = ap (λ s. s ∪ single y) (h .read) ∙ sym (set-snoc ys y); given = h .given; none-twice = h .none-twice }
 
   pub gathers-give : (x : ℕ) → Gathers (givenIn a x) ys (xs ++ x ∷ [])
   unfolding givenIn
@@ -67,9 +66,7 @@ module _ {a : Access} {ys xs : List ℕ} (h : Gathers a ys xs) where
       record {
         read = h .read;
         given = ap (λ s. s ∪ single x) (h .given) ∙ sym (set-snoc xs x);
-        twice = λ r.
-            let p = ranged-front xs r in
-            rw (h .twice (p .0), h .given) (ap (λ b. distinct xs & b) (sym (fresh-is xs x (p .1))) ∙ sym (distinct-snoc xs x));
+        none-twice = rw (h .none-twice, h .given) (sym (fresh-snoc xs x));
       }
 
 pub gathers-read-all : (zs : List ℕ) {a : Access} {ys xs : List ℕ} → Gathers a ys xs → Gathers (readAll a zs) (ys ++ zs) xs

@@ -6,5 +6,12 @@ pub mod Callees
 pub mod Accesses
 pub mod Typed
 pub mod Listing
-pub mod Meaning
 pub mod Shapes
+pub mod Fitting
+pub mod Noting
+pub mod Walk
+pub mod Along
+pub mod Valuing
+pub mod Carrying
+pub mod Turns
+pub mod Windows

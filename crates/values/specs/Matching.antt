@@ -9,7 +9,7 @@ use Rattle.sets.specs.Tests.{clash}
 use Rattle.sets.specs.Members.{consIf}
 use Rattle.language.specs.Lists.{choose}
 use Rattle.language.specs.Program.{Variable, Parameter, parameterIn, parametersFrom, argumentsIn, inMode, outMode}
-use Rattle.values.specs.declared.Access.{Access}
+use Rattle.tables.specs.declared.Access.{Access}
 use Rattle.values.specs.Gathering.{noAccess, readIn, givenIn, passedIn, Gathers, gathers-none, gathers-read, gathers-give}
 
 -- the arguments ys at the places of one mode, among variables numbered from x on

@@ -3,7 +3,7 @@ use Prim.Native.Nat.{ℕ, zero, suc, _+_, _≤_}
 use native.Mathlib.Omega.{arith}
 use mathlib.Core.Path.{_≡_, refl, sym, ap, _∙_}
 use mathlib.Core.Bool.{Bool, true, false}
-use mathlib.Core.List.{List, [], _∷_, _++_}
+use mathlib.Core.List.{List, [], _∷_, _++_, append-nil, append-assoc}
 use mathlib.Core.Logic.{inl, inr, ⊎-elim}
 use lib.Dec.{eqb}
 use borrow.Author.Tests.{eqb-true, eqb-false, eq-eqb, ne-eqb}
@@ -12,6 +12,7 @@ use Rattle.sets.specs.Sets.{member, emptySet, single, _∪_, single-zero}
 use Rattle.sets.specs.SetLaws.{union-empty, empty-union, union-assoc}
 use Rattle.sets.specs.Members.{setOf, inList, nil-in, cons-here, cons-later, cons-in}
 use Rattle.sets.specs.MemberLaws.{setOf-in, setOf-mk}
+use Rattle.sets.specs.declared.Set.{Set}
 use Rattle.language.specs.Lists.{one, count}
 use Rattle.language.specs.Program.{trimOnto, trimmed}
 use Rattle.language.specs.Values.{distinct}
@@ -27,6 +28,10 @@ Ranged (x ∷ xs) = InRange x × Ranged xs
 pub ranged-front : (xs : List ℕ) {x : ℕ} → Ranged (xs ++ x ∷ []) → Ranged xs × InRange x
 ranged-front [] r = (tt, r .0)
 ranged-front (y ∷ xs) r = let s = ranged-front xs (r .1) in ((r .0, s .0), s .1)
+
+ranged-left : (xs ys : List ℕ) → Ranged (xs ++ ys) → Ranged xs
+ranged-left [] ys r = tt
+ranged-left (x ∷ xs) ys r = (r .0, ranged-left xs ys (r .1))
 
 -- ---- the set of a list
 pub set-snoc : (xs : List ℕ) (x : ℕ) → setOf (xs ++ x ∷ []) ≡ setOf xs ∪ single x
@@ -84,6 +89,50 @@ unfolding distinct count
 distinct-snoc [] x = refl
 distinct-snoc (y ∷ xs) x =
     rw (count-snoc y xs x, distinct-snoc xs x, eqb-turn y x) (twice-step (eqb x y) (count y xs) (count x xs) (distinct xs))
+
+-- ---- none stands twice, as the code finds out: it keeps the set of those before
+unfoldable pub freshFrom : Set → List ℕ → Bool
+freshFrom s [] = true
+freshFrom s (x ∷ xs) = neg (member s x) & freshFrom (s ∪ single x) xs
+
+unfoldable pub fresh : List ℕ → Bool
+fresh xs = freshFrom emptySet xs
+
+and-through : (a b c : Bool) → a & (b & c) ≡ (a & b) & c
+unfolding _&_
+and-through true b c = refl
+and-through false b c = refl
+
+and-true-right : (b : Bool) → true & b ≡ b & true
+unfolding _&_
+and-true-right true = refl
+and-true-right false = refl
+
+from-snoc : (s : Set) (xs : List ℕ) (x : ℕ) → freshFrom s (xs ++ x ∷ []) ≡ freshFrom s xs & neg (member (s ∪ setOf xs) x)
+unfolding freshFrom setOf
+from-snoc s [] x = rw (union-empty s) (sym (and-true-right (neg (member s x))))
+from-snoc s (y ∷ xs) x =
+    rw (from-snoc (s ∪ single y) xs x, union-assoc s (single y) (setOf xs))
+    (and-through (neg (member s y)) (freshFrom (s ∪ single y) xs) (neg (member (s ∪ (single y ∪ setOf xs)) x)))
+
+pub fresh-snoc : (xs : List ℕ) (x : ℕ) → fresh (xs ++ x ∷ []) ≡ fresh xs & neg (member (setOf xs) x)
+unfolding fresh
+fresh-snoc xs x = from-snoc emptySet xs x ∙ rw (empty-union (setOf xs)) refl
+
+-- right for numbers that a set can hold
+distinct-from : (ys xs : List ℕ) → Ranged (ys ++ xs) → distinct ys & freshFrom (setOf ys) xs ≡ distinct (ys ++ xs)
+unfolding freshFrom distinct _&_
+distinct-from ys [] r = rw (append-nil ys) (sym (and-true-right (distinct ys)))
+distinct-from ys (x ∷ xs) r =
+    let e = append-assoc ys (x ∷ []) xs in
+    let h = distinct-from (ys ++ x ∷ []) xs (rw e r) in
+    let d = distinct-snoc ys x ∙ ap (λ b. distinct ys & b) (fresh-is ys x (ranged-front ys (ranged-left (ys ++ x ∷ []) xs (rw e r)) .1)) in
+    and-through (distinct ys) (neg (member (setOf ys) x)) (freshFrom (setOf ys ∪ single x) xs)
+    ∙ ap (λ b. b & freshFrom (setOf ys ∪ single x) xs) (sym d) ∙ ap (λ s. distinct (ys ++ x ∷ []) & freshFrom s xs) (sym (set-snoc ys x)) ∙ h ∙ ap distinct e
+
+pub fresh-distinct : (xs : List ℕ) → Ranged xs → fresh xs ≡ distinct xs
+unfolding fresh distinct setOf _&_
+fresh-distinct xs r = distinct-from [] xs r
 
 -- ---- a zero at the end of a list is no member
 pub trim-fold : {A : Type 0} (f : A → ℕ → A) → ((a : A) → f a 0 ≡ a) → (g : A → List ℕ → A) → ((a : A) → g a [] ≡ a)

@@ -33,7 +33,7 @@ pub record StepAt (f : List ℕ) (i : ℕ) : Type 0 where
   pub view : goalsAt f i ≡ step one then goalsAt f (word f i 1)
 
 -- a switch has number 12 and an if number 14
-kind-number : (w : ℕ) (k : Kind) → kindOf w ≡ k → (k ≡ kNone → ⊥) → w ≡ row k .kind
+pub kind-number : (w : ℕ) (k : Kind) → kindOf w ≡ k → (k ≡ kNone → ⊥) → w ≡ row k .kind
 kind-number w k e n = go (number-kind w)
   where
     go : (kindOf w ≡ kNone) ⊎ (w ≡ row (kindOf w) .kind) → w ≡ row k .kind

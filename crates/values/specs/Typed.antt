@@ -124,10 +124,6 @@ pub typed-all : (P : Program) → typingOk P ≡ true → TypedAll P (P .procedu
 unfolding typingOk
 typed-all P e = record { ok = and-true (and-true e .1) .1 }
 
-pub typed-count : (P : Program) → typingOk P ≡ true → length (P .procedures) ≤ 256
-unfolding typingOk among
-typed-count P e = leb-true (length (P .procedures)) 256 (and-true (and-true (and-true e .1) .0) .1)
-
 pub record TypedHead (P : Program) (p : Procedure) (ps : List Procedure) : Type 0 where
   pub goals : TypedGoals P (p .body)
   pub rest : TypedAll P ps

@@ -1,85 +1,90 @@
-// Number 4 of a whole file.
-use crate::Valued;
+// Number 4 of a whole file. The rows are filled on the way.
+use crate::carried::carry;
+use crate::carried::every_in;
+use crate::carried::pair;
 use crate::declared::all_local;
-use crate::declared::variables_in;
-use crate::walk::chain;
+use crate::rows::list_accesses;
+use crate::walk::goals;
+use chains::chain_length;
 use chains::field;
-use chains::list_chain;
-use records::Record;
-use records::record_at;
+use language::format::HEADER_PROCEDURES;
+use language::format::PROCEDURE_VARIABLES;
 use records::word;
+use tables::BODY;
+use tables::INS;
+use tables::OUTS;
+use tables::ROWS;
+use tables::TABLE;
+use tables::set_at;
+use tables::word_at;
 ghost use mathlib.Core.Path.{_≡_};
 ghost use mathlib.Core.Bool.{true};
+ghost use Prim.Native.Nat.{_<_, _≤_};
 ghost use lib.ListN.{length};
-ghost use Rattle.language.specs.File.{procedures, variables, goals};
 ghost use Rattle.language.specs.Lists.{all};
-ghost use Rattle.language.specs.Program.{Procedure};
+ghost use Rattle.language.specs.Program.{procedureAt};
 ghost use Rattle.language.specs.Typing.{typingOk};
 ghost use Rattle.language.specs.Values.{procedureValues, valuesOk};
 ghost use Rattle.language.specs.Answers.{program};
-ghost use Rattle.chains.specs.Formed.{Formed, Stands, goalsAt, variablesAt, proceduresAt};
-ghost use Rattle.values.specs.Callees.{Listed};
-ghost use Rattle.values.specs.Typed.{TypedGoals, TypedAll};
-
-fn empty_table() -> [usize; 256]
-    ensures { λ r. ⌜ 256 ≡ length r ⌝ }
-{
-    [0; 256]
-}
+ghost use Rattle.chains.specs.Formed.{Formed};
+ghost use Rattle.tables.specs.Window.{FileTable};
+ghost use Rattle.tables.specs.Filled.{Accessed};
+ghost use Rattle.values.specs.Noting.{rowWords, Noted, Kept};
 
 // Number 4.
-pub fn values_ok(file: &[u8]) -> bool
+pub fn values_ok(file: &[u8], table: &[u64; TABLE], rows: &mut [u64; ROWS]) -> bool
     requires { ⌜ Formed (now file) ⌝ }
     requires { ⌜ typingOk (program (now file)) ≡ true ⌝ }
-    ensures { λ r. ⌜ r ≡ valuesOk (program (now (file .entry))) ⌝ }
+    requires { ⌜ FileTable (now file) (now table) ⌝ }
+    requires { ⌜ rowWords ≤ length (now rows) ⌝ }
+    ensures { λ b. ⌜ b ≡ valuesOk (program (now (file .entry))) ⌝ }
+    ensures { λ _. ⌜ Accessed (now (file .entry)) (now (rows .exit)) ⌝ }
+    ensures { λ _. ⌜ Kept (now (file .entry)) (now (rows .entry)) (now (rows .exit)) ⌝ }
 {
-    let mut table = empty_table();
-    let first = word(file, 0, 1);
-    list_chain(file, first, 0, &mut table);
-    if !all_local(file, field(file, first, 2)) {
+    list_accesses(file, table, rows);
+    let first = word(file, 0, HEADER_PROCEDURES);
+    if !all_local(file, field(file, first, PROCEDURE_VARIABLES)) {
         return false;
     }
-    procedures_ok(file, &table, first)
+    procedures_ok(file, table, rows)
 }
 
-// Whether the procedures from record first on pass.
-fn procedures_ok(file: &[u8], table: &[usize], first: usize) -> bool
+// Whether every procedure passes.
+fn procedures_ok(file: &[u8], table: &[u64; TABLE], rows: &[u64; ROWS]) -> bool
     requires { ⌜ Formed (now file) ⌝ }
-    requires { ⌜ Listed (now file) (now table) ⌝ }
-    requires { ⌜ Stands (now file) procedures first ⌝ }
-    requires { ⌜ TypedAll (program (now file)) (proceduresAt (now file) first) ⌝ }
-    ensures { λ r. ⌜ r ≡ all (procedureValues (program (now (file .entry)))) (proceduresAt (now (file .entry)) first) ⌝ }
+    requires { ⌜ typingOk (program (now file)) ≡ true ⌝ }
+    requires { ⌜ FileTable (now file) (now table) ⌝ }
+    requires { ⌜ Noted (now file) (now rows) ⌝ }
+    ensures { λ b. ⌜ b ≡ all (procedureValues (program (now (file .entry)))) (program (now (file .entry)) .procedures) ⌝ }
 {
-    let mut i = first;
-    while i != 0 {
-        let Record::Procedure {
-            next,
-            variables: v,
-            regions: _,
-            goals: g,
-        } = record_at(file, i)
-        else {
-            return false;
-        };
-        if !procedure_ok(file, table, v, g) {
+    let count = chain_length(file, word(file, 0, HEADER_PROCEDURES));
+    let mut q = 0;
+    while q < count {
+        if !procedure_ok(file, table, rows, q) {
             return false;
         }
-        i = next;
+        q += 1;
     }
     true
 }
 
-// Whether a procedure with these variables and goals passes.
-fn procedure_ok(file: &[u8], table: &[usize], v: usize, g: usize) -> bool
+// Whether procedure q passes.
+fn procedure_ok(file: &[u8], table: &[u64; TABLE], rows: &[u64; ROWS], q: usize) -> bool
     requires { ⌜ Formed (now file) ⌝ }
-    requires { ⌜ Listed (now file) (now table) ⌝ }
-    requires { ⌜ Stands (now file) variables v × Stands (now file) goals g ⌝ }
-    requires { ⌜ TypedGoals (program (now file)) (goalsAt (now file) g) ⌝ }
-    ensures { λ r. ⌜ ((p : Procedure) → p .signature .variables ≡ variablesAt (now (file .entry)) v → p .body ≡ goalsAt (now (file .entry)) g → r ≡ procedureValues (program (now (file .entry))) p) ⌝ }
+    requires { ⌜ typingOk (program (now file)) ≡ true ⌝ }
+    requires { ⌜ FileTable (now file) (now table) ⌝ }
+    requires { ⌜ Noted (now file) (now rows) ⌝ }
+    requires { ⌜ q < length (program (now file) .procedures) ⌝ }
+    ensures { λ b. ⌜ b ≡ procedureValues (program (now (file .entry))) (procedureAt (program (now (file .entry))) q) ⌝ }
 {
-    let ins = variables_in(file, v, 1);
-    let Valued::Known(e, _) = chain(file, table, g, ins, ins) else {
+    let window = word_at(table, q);
+    let ins = set_at(table, window + INS);
+    let body = word_at(table, window + BODY);
+    let outs = set_at(table, window + OUTS);
+    let mut carried = pair();
+    carry(&mut carried, ins, ins);
+    if !goals(file, rows, &mut carried, body) {
         return false;
-    };
-    variables_in(file, v, 2).is_subset(e)
+    }
+    outs.is_subset(every_in(&carried))
 }

@@ -1,21 +1,28 @@
-// What a step reads and gives.
-use crate::Access;
-use chains::entry;
-use chains::field;
+// What a step or an arm reads and gives.
+use language::format::ARGUMENT_VARIABLE;
+use language::format::MODE_IN;
+use language::format::MODE_OUT;
+use language::format::NEXT;
+use language::format::VARIABLE_MODE;
 use records::Record;
 use records::record_at;
 use records::word;
 use sets::Set;
+use tables::Access;
+use tables::FIRST;
+use tables::TABLE;
+use tables::word_at;
 ghost use mathlib.Core.Path.{_≡_};
-ghost use Rattle.language.specs.File.{variables, arguments, goals};
-ghost use Rattle.language.specs.Program.{Step, Goals, step, _then_, call, four};
-ghost use Rattle.language.specs.Values.{reads, gives};
+ghost use lib.ListN.{length};
+ghost use Rattle.language.specs.File.{variables, arguments};
+ghost use Rattle.language.specs.Program.{call, four};
 ghost use Rattle.language.specs.Answers.{program};
-ghost use Rattle.chains.specs.Formed.{Formed, Stands, goalsAt, argumentsAt, variablesAt};
-ghost use Rattle.values.specs.Gathering.{noAccess, readIn, givenIn, passedIn, fourRead};
-ghost use Rattle.values.specs.Callees.{Listed};
+ghost use Rattle.chains.specs.Formed.{Formed, Stands, argumentsAt, variablesAt};
+ghost use Rattle.values.specs.Gathering.{noAccess, readIn, givenIn, passedIn, fourRead, fourGiven};
 ghost use Rattle.values.specs.Matching.{Matches};
 ghost use Rattle.values.specs.Accesses.{Accesses};
+ghost use Rattle.tables.specs.Window.{FileTable};
+ghost use Rattle.values.specs.Fitting.{Fits};
 
 // Nothing yet.
 pub fn no_access() -> Access
@@ -28,76 +35,74 @@ pub fn no_access() -> Access
     }
 }
 
-impl Access {
-    // y is read too.
-    pub fn read(self, y: usize) -> Access
-        ensures { λ r. ⌜ r ≡ readIn self y ⌝ }
-    {
-        let reads = self.reads;
-        let gives = self.gives;
-        Access {
-            reads: reads.union(Set::of(y)),
-            gives,
-            once: self.once,
-        }
+// y is read too.
+fn read(a: Access, y: usize) -> Access
+    ensures { λ r. ⌜ r ≡ readIn a y ⌝ }
+{
+    let reads = a.reads;
+    let gives = a.gives;
+    Access {
+        reads: reads.union(Set::of(y)),
+        gives,
+        once: a.once,
     }
+}
 
-    // x is given a value too.
-    pub fn give(self, x: usize) -> Access
-        ensures { λ r. ⌜ r ≡ givenIn self x ⌝ }
-    {
-        let reads = self.reads;
-        let gives = self.gives;
-        let again = gives.has(x);
-        Access {
-            reads,
-            gives: gives.union(Set::of(x)),
-            once: self.once & !again,
-        }
+// x is given a value too.
+fn give(a: Access, x: usize) -> Access
+    ensures { λ r. ⌜ r ≡ givenIn a x ⌝ }
+{
+    let reads = a.reads;
+    let gives = a.gives;
+    let again = gives.has(x);
+    Access {
+        reads,
+        gives: gives.union(Set::of(x)),
+        once: a.once & !again,
     }
+}
 
-    // y stands at the place of a variable of that mode.
-    fn pass(self, mode: usize, y: usize) -> Access
-        ensures { λ r. ⌜ r ≡ passedIn mode self y ⌝ }
-    {
-        if mode == 1 {
-            return self.read(y);
-        }
-        if mode == 2 {
-            return self.give(y);
-        }
-        self
+// y stands at the place of a variable of that mode.
+fn pass(a: Access, mode: usize, y: usize) -> Access
+    ensures { λ r. ⌜ r ≡ passedIn mode a y ⌝ }
+{
+    if mode == MODE_IN {
+        return read(a, y);
     }
+    if mode == MODE_OUT {
+        return give(a, y);
+    }
+    a
 }
 
 // A construct reads its arguments.
 fn read_four(a1: usize, a2: usize, a3: usize, a4: usize) -> Access
     ensures { λ r. ⌜ r ≡ fourRead (four a1 a2 a3 a4) ⌝ }
 {
-    no_access().read(a1).read(a2).read(a3).read(a4)
+    read(read(read(read(no_access(), a1), a2), a3), a4)
 }
 
-// What the step at record i reads and gives.
-pub fn step_access(file: &[u8], procedures: &[usize], i: usize) -> Access
+// What the step or arm at record i reads and gives, where there are that many procedures; of another record nothing.
+pub fn record_access(file: &[u8], table: &[u64; TABLE], procedures: usize, i: usize) -> Access
     requires { ⌜ Formed (now file) ⌝ }
-    requires { ⌜ Listed (now file) (now procedures) ⌝ }
-    requires { ⌜ Stands (now file) goals i × (i ≡ 0 → ⊥) ⌝ }
-    ensures { λ r. ⌜ ((g : Step) (gs : Goals) → goalsAt (now (file .entry)) i ≡ step g then gs → Accesses (program (now (file .entry))) g r) ⌝ }
+    requires { ⌜ FileTable (now file) (now table) ⌝ }
+    requires { ⌜ procedures ≡ length (program (now file) .procedures) ⌝ }
+    ensures { λ r. ⌜ Fits (now (file .entry)) i r ⌝ }
 {
     match record_at(file, i) {
         Record::Literal {
             next: _,
             x,
             value: _,
-        } => no_access().give(x),
+        } => give(no_access(), x),
         Record::Sum {
             next: _,
             x,
             operation: _,
             y,
             z,
-        } => no_access().read(y).read(z).give(x),
-        Record::Assign { next: _, x, y } => no_access().read(y).give(x),
+        } => give(read(read(no_access(), y), z), x),
+        Record::Assign { next: _, x, y } => give(read(no_access(), y), x),
         Record::Construct {
             next: _,
             x,
@@ -106,47 +111,46 @@ pub fn step_access(file: &[u8], procedures: &[usize], i: usize) -> Access
             a2,
             a3,
             a4,
-        } => read_four(a1, a2, a3, a4).give(x),
+        } => give(read_four(a1, a2, a3, a4), x),
         Record::Call {
             next: _,
             procedure,
             arguments,
-        } => call_access(file, procedures, procedure, arguments),
-        Record::Print { next: _, y } => no_access().read(y),
-        Record::Create { next: _, region: _ } => no_access(),
-        Record::Remove { next: _, region: _ } => no_access(),
+        } => called_access(file, table, procedures, procedure, arguments),
+        Record::Print { next: _, y } => read(no_access(), y),
+        Record::Arm {
+            next: _,
+            goals: _,
+            functor: _,
+            a1,
+            a2,
+            a3,
+            a4,
+        } => give_four(a1, a2, a3, a4),
         _ => no_access(),
     }
 }
 
-pub fn reads(file: &[u8], procedures: &[usize], i: usize) -> Set
+// What a call of procedure q reads and gives, its argument records from y on. A procedure that is not there has no variables.
+fn called_access(file: &[u8], table: &[u64; TABLE], procedures: usize, q: usize, y: usize) -> Access
     requires { ⌜ Formed (now file) ⌝ }
-    requires { ⌜ Listed (now file) (now procedures) ⌝ }
-    requires { ⌜ Stands (now file) goals i × (i ≡ 0 → ⊥) ⌝ }
-    ensures { λ r. ⌜ ((g : Step) (gs : Goals) → goalsAt (now (file .entry)) i ≡ step g then gs → r ≡ reads (program (now (file .entry))) g) ⌝ }
-{
-    step_access(file, procedures, i).reads
-}
-
-pub fn gives(file: &[u8], procedures: &[usize], i: usize) -> Set
-    requires { ⌜ Formed (now file) ⌝ }
-    requires { ⌜ Listed (now file) (now procedures) ⌝ }
-    requires { ⌜ Stands (now file) goals i × (i ≡ 0 → ⊥) ⌝ }
-    ensures { λ r. ⌜ ((g : Step) (gs : Goals) → goalsAt (now (file .entry)) i ≡ step g then gs → r ≡ gives (program (now (file .entry))) g) ⌝ }
-{
-    step_access(file, procedures, i).gives
-}
-
-// What a call of procedure q reads and gives, its argument records from y on.
-pub fn call_access(file: &[u8], procedures: &[usize], q: usize, y: usize) -> Access
-    requires { ⌜ Formed (now file) ⌝ }
-    requires { ⌜ Listed (now file) (now procedures) ⌝ }
+    requires { ⌜ FileTable (now file) (now table) ⌝ }
+    requires { ⌜ procedures ≡ length (program (now file) .procedures) ⌝ }
     requires { ⌜ Stands (now file) arguments y ⌝ }
     ensures { λ r. ⌜ Accesses (program (now (file .entry))) (call q (argumentsAt (now (file .entry)) y)) r ⌝ }
 {
-    let callee = entry(procedures, q);
-    let v = field(file, callee, 2);
-    match_arguments(file, v, y)
+    if q >= procedures {
+        return no_access();
+    }
+    let window = word_at(table, q);
+    match_arguments(file, word_at(table, window + FIRST), y)
+}
+
+// An arm gives its arguments.
+pub fn give_four(a1: usize, a2: usize, a3: usize, a4: usize) -> Access
+    ensures { λ r. ⌜ r ≡ fourGiven (four a1 a2 a3 a4) ⌝ }
+{
+    give(give(give(give(no_access(), a1), a2), a3), a4)
 }
 
 // The arguments from record y0 on, matched with the in and out variables among those from record v0 on.
@@ -160,15 +164,15 @@ fn match_arguments(file: &[u8], v0: usize, y0: usize) -> Access
     let mut v = v0;
     let mut y = y0;
     while v != 0 {
-        let mode = word(file, v, 2);
+        let mode = word(file, v, VARIABLE_MODE);
         if mode != 0 {
             if y == 0 {
                 return a;
             }
-            a = a.pass(mode, word(file, y, 2));
-            y = word(file, y, 1);
+            a = pass(a, mode, word(file, y, ARGUMENT_VARIABLE));
+            y = word(file, y, NEXT);
         }
-        v = word(file, v, 1);
+        v = word(file, v, NEXT);
     }
     a
 }

@@ -1,171 +1,143 @@
-// The walk over goals: what has a value after them, from what has one before.
-use crate::Access;
-use crate::Valued;
-use crate::steps::no_access;
-use crate::steps::step_access;
-use records::Record;
-use records::record_at;
+// Number 4's walk over goals. What has a value is carried in place; the answer says that no fault was met.
+use crate::carried::apply;
+use crate::carried::carry;
+use crate::carried::every_in;
+use crate::carried::join;
+use crate::carried::some_in;
+use crate::rows::is_step;
+use language::format::ARM;
+use language::format::ARM_GOALS;
+use language::format::GOAL_X;
+use language::format::IF;
+use language::format::IF_ELSE;
+use language::format::IF_THEN;
+use language::format::IF_Y;
+use language::format::IF_Z;
+use language::format::KIND;
+use language::format::NEXT;
+use language::format::SWITCH;
+use language::format::SWITCH_ARMS;
 use records::word;
-use sets::Set;
+use tables::ROWS;
 ghost use mathlib.Core.Path.{_≡_};
 ghost use Rattle.language.specs.File.{goals, arms, word};
-ghost use Rattle.language.specs.Program.{four, Step, Goal, Goals, step, _then_};
-ghost use Rattle.language.specs.Values.{stepValues, goalValues, goalsValues, armsValues, meetValues};
-ghost use Rattle.language.specs.Answers.{program};
-ghost use Rattle.chains.specs.Formed.{Formed, Stands, goalsAt, armsAt};
-ghost use Rattle.values.specs.Gathering.{fourGiven};
-ghost use Rattle.values.specs.Callees.{Listed};
-ghost use Rattle.values.specs.Typed.{TypedGoals, TypedArms};
-ghost use Rattle.values.specs.Meaning.{meant, applied};
+ghost use Rattle.language.specs.Format.{kindWord, switchKind, ifKind};
+ghost use Rattle.chains.specs.Formed.{Formed, Stands};
+ghost use Rattle.values.specs.Noting.{Noted};
+ghost use Rattle.values.specs.Carrying.{GoalsValued, GoalValued, ArmsValued};
 
-// Where paths meet.
-fn meet(a: Valued, b: Valued) -> Valued
-    ensures { λ r. ⌜ meant r ≡ meetValues (meant a) (meant b) ⌝ }
-{
-    let Valued::Known(e, s) = a else {
-        return Valued::Faulty;
-    };
-    let Valued::Known(d, t) = b else {
-        return Valued::Faulty;
-    };
-    Valued::Known(e.intersection(d), s.union(t))
-}
-
-// After a goal that reads and gives that: a variable read has a value on every path, one given has one on no path.
-fn apply(a: Access, every: Set, some: Set) -> Valued
-    ensures { λ r. ⌜ meant r ≡ applied a every some ⌝ }
-{
-    let reads = a.reads;
-    let gives = a.gives;
-    if !reads.is_subset(every) {
-        return Valued::Faulty;
-    }
-    if !a.once {
-        return Valued::Faulty;
-    }
-    if !gives.intersection(some).same(Set::EMPTY) {
-        return Valued::Faulty;
-    }
-    Valued::Known(every.union(gives), some.union(gives))
-}
-
-// An arm gives its arguments.
-fn give_four(a1: usize, a2: usize, a3: usize, a4: usize) -> Access
-    ensures { λ r. ⌜ r ≡ fourGiven (four a1 a2 a3 a4) ⌝ }
-{
-    no_access().give(a1).give(a2).give(a3).give(a4)
-}
-
-// After the goals from record start on.
-pub fn chain(file: &[u8], procedures: &[usize], start: usize, every: Set, some: Set) -> Valued
+// The goals from record start on.
+pub fn goals(file: &[u8], rows: &[u64; ROWS], carried: &mut [u64; 2], start: usize) -> bool
     requires { ⌜ Formed (now file) ⌝ }
-    requires { ⌜ Listed (now file) (now procedures) ⌝ }
+    requires { ⌜ Noted (now file) (now rows) ⌝ }
     requires { ⌜ Stands (now file) goals start ⌝ }
-    requires { ⌜ TypedGoals (program (now file)) (goalsAt (now file) start) ⌝ }
-    ensures { λ r. ⌜ meant r ≡ goalsValues (program (now (file .entry))) (goalsAt (now (file .entry)) start) every some ⌝ }
+    ensures { λ b. ⌜ GoalsValued (now (file .entry)) start (now (carried .entry)) b (now (carried .exit)) ⌝ }
 {
     let mut i = start;
-    let mut e = every;
-    let mut s = some;
     while i != 0 {
-        let Valued::Known(d, t) = goal(file, procedures, i, e, s) else {
-            return Valued::Faulty;
-        };
-        e = d;
-        s = t;
-        i = word(file, i, 1);
+        if !goal(file, rows, carried, i) {
+            return false;
+        }
+        i = word(file, i, NEXT);
     }
-    Valued::Known(e, s)
+    true
 }
 
-// After the goal at record i.
-fn goal(file: &[u8], procedures: &[usize], i: usize, every: Set, some: Set) -> Valued
+// The goal at record i.
+fn goal(file: &[u8], rows: &[u64; ROWS], carried: &mut [u64; 2], i: usize) -> bool
     requires { ⌜ Formed (now file) ⌝ }
-    requires { ⌜ Listed (now file) (now procedures) ⌝ }
+    requires { ⌜ Noted (now file) (now rows) ⌝ }
     requires { ⌜ Stands (now file) goals i × (i ≡ 0 → ⊥) ⌝ }
-    requires { ⌜ TypedGoals (program (now file)) (goalsAt (now file) i) ⌝ }
-    ensures { λ r. ⌜ ((g : Goal) (gs : Goals) → goalsAt (now (file .entry)) i ≡ g then gs → meant r ≡ goalValues (program (now (file .entry))) g every some) ⌝ }
+    ensures { λ b. ⌜ GoalValued (now (file .entry)) i (now (carried .entry)) b (now (carried .exit)) ⌝ }
 {
-    match word(file, i, 0) {
-        12 => switch(file, procedures, i, every, some),
-        14 => branches(file, procedures, i, every, some),
-        _ => after_step(file, procedures, i, every, some),
+    let kind = word(file, i, KIND);
+    match kind {
+        SWITCH => switch(file, rows, carried, i),
+        IF => branches(file, rows, carried, i),
+        _ => {
+            if !is_step(kind) {
+                return false;
+            }
+            apply(rows, i, carried)
+        }
     }
 }
 
-fn after_step(file: &[u8], procedures: &[usize], i: usize, every: Set, some: Set) -> Valued
+fn switch(file: &[u8], rows: &[u64; ROWS], carried: &mut [u64; 2], i: usize) -> bool
     requires { ⌜ Formed (now file) ⌝ }
-    requires { ⌜ Listed (now file) (now procedures) ⌝ }
-    requires { ⌜ Stands (now file) goals i × (i ≡ 0 → ⊥) ⌝ }
-    requires { ⌜ TypedGoals (program (now file)) (goalsAt (now file) i) ⌝ }
-    ensures { λ r. ⌜ ((g : Step) (gs : Goals) → goalsAt (now (file .entry)) i ≡ step g then gs → meant r ≡ stepValues (program (now (file .entry))) g every some) ⌝ }
+    requires { ⌜ Noted (now file) (now rows) ⌝ }
+    requires { ⌜ word (now file) i kindWord ≡ switchKind ⌝ }
+    ensures { λ b. ⌜ GoalValued (now (file .entry)) i (now (carried .entry)) b (now (carried .exit)) ⌝ }
 {
-    apply(step_access(file, procedures, i), every, some)
+    if !every_in(carried).has(word(file, i, GOAL_X)) {
+        return false;
+    }
+    let first = word(file, i, SWITCH_ARMS);
+    arms(file, rows, carried, first)
 }
 
-fn switch(file: &[u8], procedures: &[usize], i: usize, every: Set, some: Set) -> Valued
+// An if: its first part, then from what was carried before its second.
+fn branches(file: &[u8], rows: &[u64; ROWS], carried: &mut [u64; 2], i: usize) -> bool
     requires { ⌜ Formed (now file) ⌝ }
-    requires { ⌜ Listed (now file) (now procedures) ⌝ }
-    requires { ⌜ word (now file) i 0 ≡ 12 ⌝ }
-    requires { ⌜ TypedGoals (program (now file)) (goalsAt (now file) i) ⌝ }
-    ensures { λ r. ⌜ ((g : Goal) (gs : Goals) → goalsAt (now (file .entry)) i ≡ g then gs → meant r ≡ goalValues (program (now (file .entry))) g every some) ⌝ }
+    requires { ⌜ Noted (now file) (now rows) ⌝ }
+    requires { ⌜ word (now file) i kindWord ≡ ifKind ⌝ }
+    ensures { λ b. ⌜ GoalValued (now (file .entry)) i (now (carried .entry)) b (now (carried .exit)) ⌝ }
 {
-    if !every.has(word(file, i, 2)) {
-        return Valued::Faulty;
+    let every = every_in(carried);
+    let some = some_in(carried);
+    if !every.has(word(file, i, IF_Y)) {
+        return false;
     }
-    arms(file, procedures, word(file, i, 3), every, some)
+    if !every.has(word(file, i, IF_Z)) {
+        return false;
+    }
+    let first = word(file, i, IF_THEN);
+    if !goals(file, rows, carried, first) {
+        return false;
+    }
+    let e = every_in(carried);
+    let s = some_in(carried);
+    carry(carried, every, some);
+    let second = word(file, i, IF_ELSE);
+    if !goals(file, rows, carried, second) {
+        return false;
+    }
+    join(e, s, carried);
+    true
 }
 
-// After either part of an if.
-fn branches(file: &[u8], procedures: &[usize], i: usize, every: Set, some: Set) -> Valued
+// The arms from record i on, each from what is carried before them.
+fn arms(file: &[u8], rows: &[u64; ROWS], carried: &mut [u64; 2], i: usize) -> bool
     requires { ⌜ Formed (now file) ⌝ }
-    requires { ⌜ Listed (now file) (now procedures) ⌝ }
-    requires { ⌜ word (now file) i 0 ≡ 14 ⌝ }
-    requires { ⌜ TypedGoals (program (now file)) (goalsAt (now file) i) ⌝ }
-    ensures { λ r. ⌜ ((g : Goal) (gs : Goals) → goalsAt (now (file .entry)) i ≡ g then gs → meant r ≡ goalValues (program (now (file .entry))) g every some) ⌝ }
-{
-    if !every.has(word(file, i, 2)) {
-        return Valued::Faulty;
-    }
-    if !every.has(word(file, i, 3)) {
-        return Valued::Faulty;
-    }
-    let first = chain(file, procedures, word(file, i, 4), every, some);
-    meet(
-        first,
-        chain(file, procedures, word(file, i, 5), every, some),
-    )
-}
-
-// After any of the arms from record i on.
-fn arms(file: &[u8], procedures: &[usize], i: usize, every: Set, some: Set) -> Valued
-    requires { ⌜ Formed (now file) ⌝ }
-    requires { ⌜ Listed (now file) (now procedures) ⌝ }
+    requires { ⌜ Noted (now file) (now rows) ⌝ }
     requires { ⌜ Stands (now file) arms i ⌝ }
-    requires { ⌜ TypedArms (program (now file)) (armsAt (now file) i) ⌝ }
-    ensures { λ r. ⌜ meant r ≡ armsValues (program (now (file .entry))) (armsAt (now (file .entry)) i) every some ⌝ }
+    ensures { λ b. ⌜ ArmsValued (now (file .entry)) i (now (carried .entry)) b (now (carried .exit)) ⌝ }
 {
     if i == 0 {
-        return Valued::Known(every, some);
+        return true;
     }
-    let Record::Arm {
-        next,
-        goals: first,
-        functor: _,
-        a1,
-        a2,
-        a3,
-        a4,
-    } = record_at(file, i)
-    else {
-        return Valued::Faulty;
-    };
-    let Valued::Known(e, s) = apply(give_four(a1, a2, a3, a4), every, some) else {
-        return Valued::Faulty;
-    };
-    let after = chain(file, procedures, first, e, s);
+    if word(file, i, KIND) != ARM {
+        return false;
+    }
+    let every = every_in(carried);
+    let some = some_in(carried);
+    if !apply(rows, i, carried) {
+        return false;
+    }
+    let first = word(file, i, ARM_GOALS);
+    if !goals(file, rows, carried, first) {
+        return false;
+    }
+    let next = word(file, i, NEXT);
     if next == 0 {
-        return after;
+        return true;
     }
-    meet(after, arms(file, procedures, next, every, some))
+    let e = every_in(carried);
+    let s = some_in(carried);
+    carry(carried, every, some);
+    if !arms(file, rows, carried, next) {
+        return false;
+    }
+    join(e, s, carried);
+    true
 }

@@ -3,17 +3,16 @@ use Prim.Native.Nat.{_-_}
 use mathlib.Core.Logic.{⊎-elim}
 use mathlib.Core.Path.{sym, _∙_}
 use borrow.Author.Tests.{not-true, not-false}
-use Rattle.lifetimes.specs.Walks.{next-falls}
-use Rattle.checking.specs.Keeping.{Keeping, keep-first, keep-one, keep-none, keep-last, reachHeld, held-here, given-is}
+use Rattle.checking.specs.Sound.{next-falls, Keeping, keep-first, keep-one, keep-none, keep-last, reachHeld, held-here, given-is}
 use borrow.Author.Needs.{needs}
 use Rattle.checking.proofs.sound.sound_given.Statement.{statement}
 use Rattle.checking.proofs.sound.sound_given.Tie as tie
 
 abbrev Inv-loop : tie.InvT-loop
-Inv-loop file variables reaches given held sound found₀ x₀ found x = Keeping (reachHeld file variables reaches held) given found x
+Inv-loop own given held sound found₀ x₀ found x = Keeping (reachHeld own held) given found x
 
 abbrev μ-loop : tie.MeasureT-loop
-μ-loop file variables reaches given held sound found₀ x₀ found x = 65 - x
+μ-loop own given held sound found₀ x₀ found x = 65 - x
 
 after-requires : tie.Need-after-requires Inv-loop μ-loop
 after-requires c κs = search needs
@@ -21,8 +20,8 @@ after-requires c κs = search needs
 loop-holds : tie.Need-loop-holds Inv-loop μ-loop
 loop-holds c = keep-first _ _ (c .after .ensures)
 
-reach-by-requires : tie.Need-reach-by-requires Inv-loop μ-loop
-reach-by-requires c κs = search needs
+reach-requires : tie.Need-reach-requires Inv-loop μ-loop
+reach-requires c κs = search needs
 
 is-subset-requires : tie.Need-is-subset-requires Inv-loop μ-loop
 is-subset-requires c κs = search needs
@@ -41,10 +40,10 @@ loop-less c = next-falls _ (c .before .before .before .before .loop-test .taken)
 
 loop-again : tie.Need-loop-again Inv-loop μ-loop
 loop-again c =
-    let a = c .before .before .before .before .before .before .before .before .before .before .args in
+    let a = c .before .before .before .before .before .before .before .before .args in
     let w = c .before .before in
     let l = w .before .before in
-    let e = held-here (a .file .now) (a .variables .now) (a .reaches .now) _ _ (w .before .reach-by .ensures) (w .is-subset .ensures) in
+    let e = held-here (a .own .now) _ _ (w .before .reach .ensures) (w .is-subset .ensures) in
     ⊎-elim
     (λ t. keep-one _ _ (l .before .loop .inv) (l .loop-test .taken) (sym e ∙ t .0 .taken) (t .1 .ensures) (t .3 ∙ t .2 .ensures) (c .after2 .ensures))
     (λ t. rw (t .1) (keep-none _ _ (l .before .loop .inv) (l .loop-test .taken) (sym e ∙ t .0 .left) (c .after2 .ensures))) (c .before .if1 .came)
@@ -57,9 +56,9 @@ union-requires-2 c κs = search needs
 
 returns : tie.Need-returns Inv-loop μ-loop
 returns c =
-    let a = c .before .before .before .before .before .before .before .before .args in
+    let a = c .before .before .before .before .before .before .args in
     let l = c .before .before in
-    λ S t. given-is (a .file .now) (a .variables .now) (a .reaches .now) S t _ _ _ (keep-last _ _ (l .before .loop .inv) (l .loop-test .left)) (c .before .difference .ensures) (c .union2 .ensures)
+    λ S t. given-is (a .own .now) S t _ _ _ (keep-last _ _ (l .before .loop .inv) (l .loop-test .left)) (c .before .difference .ensures) (c .union2 .ensures)
 
 pub sound-given-spec : {M : Type 1} → statement M
 sound-given-spec =
@@ -69,7 +68,7 @@ sound-given-spec =
     μ-loop
     after-requires
     loop-holds
-    reach-by-requires
+    reach-requires
     is-subset-requires
     of-requires
     union-requires

@@ -1,11 +1,15 @@
 -- `live_step` meets its contract.
-use Rattle.liveness.proofs.Walking.{step-lives}
+use mathlib.Core.Path.{ap, ap₂, _∙_}
+use Rattle.sets.specs.Sets.{_∪_, _∖_}
 use borrow.Author.Needs.{needs}
 use Rattle.liveness.proofs.walk.live_step.Statement.{statement}
 use Rattle.liveness.proofs.walk.live_step.Tie as tie
 
-step-access-requires : tie.Need-step-access-requires
-step-access-requires c κs = search needs
+gives-at-requires : tie.Need-gives-at-requires
+gives-at-requires c κs = search needs
+
+reads-at-requires : tie.Need-reads-at-requires
+reads-at-requires c κs = search needs
 
 difference-requires : tie.Need-difference-requires
 difference-requires c κs = search needs
@@ -15,9 +19,7 @@ union-requires c κs = search needs
 
 returns : tie.Need-returns
 returns c =
-    let p = c .before .before .before .before .before .before .before .pre in
-    step-lives _ _ (p .0) (p .1 .1 .0 .0) (p .1 .1 .0 .1) (p .1 .1 .1 .0) (p .1 .1 .1 .1) _ (c .before .before .before .before .step-access .ensures)
-    (c .before .difference .ensures) (c .union .ensures)
+    c .union .ensures ∙ ap₂ _∪_ (c .before .difference .ensures ∙ ap (_∖_ _) (c .before .before .before .gives-at .ensures)) (c .before .before .reads-at .ensures)
 
 pub live-step-spec : {M : Type 1} → statement M
-live-step-spec = tie.close (tie.spec step-access-requires difference-requires union-requires returns)
+live-step-spec = tie.close (tie.spec gives-at-requires reads-at-requires difference-requires union-requires returns)

@@ -1,0 +1,74 @@
+-- `without_some` meets its contract: a walk over the sound variables.
+use Prim.Native.Nat.{_-_}
+use mathlib.Core.Logic.{⊎-elim}
+use mathlib.Core.Path.{sym, _∙_}
+use Rattle.checking.specs.Sound.{next-falls, Keeping, keep-first, keep-one, keep-none, keep-last, reachApart, apart-here, without-is}
+use borrow.Author.Needs.{needs}
+use Rattle.checking.proofs.sound.without_some.Statement.{statement}
+use Rattle.checking.proofs.sound.without_some.Tie as tie
+
+abbrev Inv-loop : tie.InvT-loop
+Inv-loop own gone sound found₀ x₀ found x = Keeping (reachApart own gone) sound found x
+
+abbrev μ-loop : tie.MeasureT-loop
+μ-loop own gone sound found₀ x₀ found x = 65 - x
+
+after-requires : tie.Need-after-requires Inv-loop μ-loop
+after-requires c κs = search needs
+
+loop-holds : tie.Need-loop-holds Inv-loop μ-loop
+loop-holds c = keep-first _ _ (c .after .ensures)
+
+reach-requires : tie.Need-reach-requires Inv-loop μ-loop
+reach-requires c κs = search needs
+
+intersection-requires : tie.Need-intersection-requires Inv-loop μ-loop
+intersection-requires c κs = search needs
+
+same-requires : tie.Need-same-requires Inv-loop μ-loop
+same-requires c κs = search needs
+
+of-requires : tie.Need-of-requires Inv-loop μ-loop
+of-requires c κs = search needs
+
+union-requires : tie.Need-union-requires Inv-loop μ-loop
+union-requires c κs = search needs
+
+after-requires-2 : tie.Need-after-requires-2 Inv-loop μ-loop
+after-requires-2 c κs = search needs
+
+loop-less : tie.Need-loop-less Inv-loop μ-loop
+loop-less c = next-falls _ (c .before .before .before .before .before .loop-test .taken) (c .after2 .ensures)
+
+loop-again : tie.Need-loop-again Inv-loop μ-loop
+loop-again c =
+    let a = c .before .before .before .before .before .before .before .before .before .args in
+    let w = c .before .before in
+    let l = w .before .before .before in
+    let e = apart-here (a .own .now) _ _ (w .before .before .reach .ensures) (w .before .intersection .ensures) (w .same .ensures) in
+    ⊎-elim
+    (λ t. keep-one _ _ (l .before .loop .inv) (l .loop-test .taken) (sym e ∙ t .0 .taken) (t .1 .ensures) (t .3 ∙ t .2 .ensures) (c .after2 .ensures))
+    (λ t. rw (t .1) (keep-none _ _ (l .before .loop .inv) (l .loop-test .taken) (sym e ∙ t .0 .left) (c .after2 .ensures))) (c .before .if1 .came)
+
+returns : tie.Need-returns Inv-loop μ-loop
+returns c =
+    let a = c .before .before .before .before .args in
+    λ S t. without-is (a .own .now) S t _ _ (keep-last _ _ (c .before .loop .inv) (c .loop-test .left))
+
+pub without-some-spec : {M : Type 1} → statement M
+without-some-spec =
+    tie.close
+    (tie.spec
+    Inv-loop
+    μ-loop
+    after-requires
+    loop-holds
+    reach-requires
+    intersection-requires
+    same-requires
+    of-requires
+    union-requires
+    after-requires-2
+    loop-less
+    loop-again
+    returns)

@@ -1,0 +1,354 @@
+-- The walk over goals meets its contract: one law of Walking for each way through it. The records ahead fall.
+use borrow.Author.Tests.{not-true, not-false}
+use native.Mathlib.Omega.{arith}
+use mathlib.Core.Path.{_≡_, refl, sym, _∙_}
+use Rattle.chains.specs.Formed.{ahead}
+use Rattle.chains.specs.Shapes.{to-arms, to-then, to-else, arm-goals, arm-next}
+use Rattle.checking.proofs.Walking.{Walking, walk-last, walk-onward, walk-stop, walk-next, step-checked, switch-broken, switch-done, if-broken, if-broken-2, then-broken, else-broken, if-done, arms-none-checked, arm-broken, arm-ended, rest-broken, arm-more}
+use borrow.Author.Needs.{needs}
+use Prim.Native.Nat.{ℕ, _<_, _+_, _*_}
+use borrow.Fn.Kinds.{In}
+use borrow.Fn.PlainCycle.{Measures, is, falls, and}
+use Rattle.checking.proofs.walk.arms.Reads as arms
+use Rattle.checking.proofs.walk.arms.Kinds as arms-kinds
+use Rattle.checking.proofs.walk.+arms+branches+goal+goals+switch.Lts-arms as arms-lts
+use Rattle.checking.proofs.walk.branches.Reads as branches
+use Rattle.checking.proofs.walk.branches.Kinds as branches-kinds
+use Rattle.checking.proofs.walk.+arms+branches+goal+goals+switch.Lts-branches as branches-lts
+use Rattle.checking.proofs.walk.goal.Reads as goal
+use Rattle.checking.proofs.walk.goal.Kinds as goal-kinds
+use Rattle.checking.proofs.walk.+arms+branches+goal+goals+switch.Lts-goal as goal-lts
+use Rattle.checking.proofs.walk.goals.Reads as goals
+use Rattle.checking.proofs.walk.goals.Kinds as goals-kinds
+use Rattle.checking.proofs.walk.+arms+branches+goal+goals+switch.Lts-goals as goals-lts
+use Rattle.checking.proofs.walk.switch.Reads as switch
+use Rattle.checking.proofs.walk.switch.Kinds as switch-kinds
+use Rattle.checking.proofs.walk.+arms+branches+goal+goals+switch.Lts-switch as switch-lts
+use Rattle.checking.proofs.carried.carry.Reads as carry-reads
+use Rattle.checking.proofs.carried.held_in.Reads as held-in-reads
+use Rattle.checking.proofs.carried.join.Reads as join-reads
+use Rattle.checking.proofs.carried.sound_in.Reads as sound-in-reads
+use Rattle.checking.proofs.step.enter.Reads as enter-reads
+use Rattle.checking.proofs.step.step.Reads as step-reads
+use Rattle.records.proofs.word.Reads as word-reads
+use Rattle.sets.proofs.Set.has.Reads as has-reads
+use Rattle.checking.proofs.walk.+arms+branches+goal+goals+switch.{statement}
+use Rattle.checking.proofs.walk.+arms+branches+goal+goals+switch.Tie.{close}
+
+abbrev μ-arms : Measures 4 arms-kinds.ps ℕ
+μ-arms κs a = 4 * ahead (a .0 .now) (a .1 .1 .1 .1 .0) + 3
+
+abbrev μ-branches : Measures 4 branches-kinds.ps ℕ
+μ-branches κs a = 4 * ahead (a .0 .now) (a .1 .1 .1 .1 .0) + 1
+
+abbrev μ-goal : Measures 4 goal-kinds.ps ℕ
+μ-goal κs a = 4 * ahead (a .0 .now) (a .1 .1 .1 .1 .0) + 2
+
+abbrev μ-goals : Measures 4 goals-kinds.ps ℕ
+μ-goals κs a = 4 * ahead (a .0 .now) (a .1 .1 .1 .1 .0) + 3
+
+abbrev μ-switch : Measures 4 switch-kinds.ps ℕ
+μ-switch κs a = 4 * ahead (a .0 .now) (a .1 .1 .1 .1 .0) + 1
+
+abbrev arms-at : ℕ → In 4 arms-kinds.ps
+arms-at t = and 4 arms-kinds.ps (is 4 arms-kinds.ps μ-arms t) arms.Pre
+
+abbrev arms-below : ℕ → In 4 arms-kinds.ps
+arms-below t = and 4 arms-kinds.ps (falls 4 arms-kinds.ps _<_ μ-arms t) arms.Pre
+
+abbrev branches-at : ℕ → In 4 branches-kinds.ps
+branches-at t = and 4 branches-kinds.ps (is 4 branches-kinds.ps μ-branches t) branches.Pre
+
+abbrev branches-below : ℕ → In 4 branches-kinds.ps
+branches-below t =
+    and 4 branches-kinds.ps (falls 4 branches-kinds.ps _<_ μ-branches t) branches.Pre
+
+abbrev goal-at : ℕ → In 4 goal-kinds.ps
+goal-at t = and 4 goal-kinds.ps (is 4 goal-kinds.ps μ-goal t) goal.Pre
+
+abbrev goal-below : ℕ → In 4 goal-kinds.ps
+goal-below t = and 4 goal-kinds.ps (falls 4 goal-kinds.ps _<_ μ-goal t) goal.Pre
+
+abbrev goals-at : ℕ → In 4 goals-kinds.ps
+goals-at t = and 4 goals-kinds.ps (is 4 goals-kinds.ps μ-goals t) goals.Pre
+
+abbrev goals-below : ℕ → In 4 goals-kinds.ps
+goals-below t = and 4 goals-kinds.ps (falls 4 goals-kinds.ps _<_ μ-goals t) goals.Pre
+
+abbrev switch-at : ℕ → In 4 switch-kinds.ps
+switch-at t = and 4 switch-kinds.ps (is 4 switch-kinds.ps μ-switch t) switch.Pre
+
+abbrev switch-below : ℕ → In 4 switch-kinds.ps
+switch-below t = and 4 switch-kinds.ps (falls 4 switch-kinds.ps _<_ μ-switch t) switch.Pre
+
+-- what each member's callees ask and give
+abbrev arms-calls : ℕ → arms-lts.Claims
+arms-calls t =
+    (held-in-reads.Asked, held-in-reads.Learnt, sound-in-reads.Asked, sound-in-reads.Learnt, enter-reads.Asked, enter-reads.Learnt, word-reads.Asked, word-reads.Learnt, goals-below t, goals.Post, carry-reads.Asked, carry-reads.Learnt, arms-below t, arms.Post, join-reads.Asked, join-reads.Learnt)
+
+abbrev branches-calls : ℕ → branches-lts.Claims
+branches-calls t =
+    (held-in-reads.Asked, held-in-reads.Learnt, sound-in-reads.Asked, sound-in-reads.Learnt, word-reads.Asked, word-reads.Learnt, has-reads.Asked, has-reads.Learnt, goals-below t, goals.Post, carry-reads.Asked, carry-reads.Learnt, join-reads.Asked, join-reads.Learnt)
+
+abbrev goal-calls : ℕ → goal-lts.Claims
+goal-calls t =
+    (word-reads.Asked, word-reads.Learnt, switch-below t, switch.Post, branches-below t, branches.Post, step-reads.Asked, step-reads.Learnt)
+
+abbrev goals-calls : ℕ → goals-lts.Claims
+goals-calls t =
+    (goal-below t, goal.Post, word-reads.Asked, word-reads.Learnt)
+
+abbrev switch-calls : ℕ → switch-lts.Claims
+switch-calls t =
+    (sound-in-reads.Asked, sound-in-reads.Learnt, word-reads.Asked, word-reads.Learnt, has-reads.Asked, has-reads.Learnt, arms-below t, arms.Post)
+
+arms-returns : (t : ℕ) → arms-lts.Need-returns (arms-calls t) (arms-at t) arms.Post
+arms-returns t c = arms-none-checked _ _ _ _ _ (c .if1 .taken)
+
+arms-held-in-requires : (t : ℕ) → arms-lts.Need-held-in-requires (arms-calls t) (arms-at t) arms.Post
+arms-held-in-requires t c κs = search needs
+
+arms-sound-in-requires : (t : ℕ) → arms-lts.Need-sound-in-requires (arms-calls t) (arms-at t) arms.Post
+arms-sound-in-requires t c κs = search needs
+
+arms-enter-requires : (t : ℕ) → arms-lts.Need-enter-requires (arms-calls t) (arms-at t) arms.Post
+arms-enter-requires t c κs = search needs
+
+arms-word-requires : (t : ℕ) → arms-lts.Need-word-requires (arms-calls t) (arms-at t) arms.Post
+arms-word-requires t c κs = search needs
+
+arms-goals-requires : (t : ℕ) → arms-lts.Need-goals-requires (arms-calls t) (arms-at t) arms.Post
+arms-goals-requires t c κs = let a = c .before .before .before .before .before .before .before .before .before .before .before .pre in let o = arm-goals (a .1 .0) (c .before .before .before .before .before .before .before .before .if1 .left) (a .1 .1) (c .before .word .ensures .0) in (omega (arith, o .falls, a .0), (a .1 .0, o .stands))
+
+arms-returns-2 : (t : ℕ) → arms-lts.Need-returns-2 (arms-calls t) (arms-at t) arms.Post
+arms-returns-2 t c = let p = c .before .before .before .before .before .before .before .before .before .before .before .before .before .pre .1 in arm-broken _ _ _ _ (p .0) (p .1) (c .before .before .before .before .before .before .before .before .before .before .if1 .left) _ (c .before .before .before .before .enter .ensures .0) (c .before .before .before .before .enter .ensures .1) (c .before .before .before .word .ensures .0) _ _ (c .before .goals .ensures) _ (not-true _ (c .if2 .taken))
+
+arms-word-requires-2 : (t : ℕ) → arms-lts.Need-word-requires-2 (arms-calls t) (arms-at t) arms.Post
+arms-word-requires-2 t c κs = search needs
+
+arms-returns-3 : (t : ℕ) → arms-lts.Need-returns-3 (arms-calls t) (arms-at t) arms.Post
+arms-returns-3 t c = let p = c .before .before .before .before .before .before .before .before .before .before .before .before .before .before .before .pre .1 in arm-ended _ _ _ _ (p .0) (p .1) (c .before .before .before .before .before .before .before .before .before .before .before .before .if1 .left) _ (c .before .before .before .before .before .before .enter .ensures .0) (c .before .before .before .before .before .before .enter .ensures .1) (c .before .before .before .before .before .word .ensures .0) _ _ (c .before .before .before .goals .ensures) (not-false _ (c .before .before .if2 .left)) (c .before .word2 .ensures .0) (c .if3 .taken)
+
+arms-held-in-requires-2 : (t : ℕ) → arms-lts.Need-held-in-requires-2 (arms-calls t) (arms-at t) arms.Post
+arms-held-in-requires-2 t c κs = search needs
+
+arms-sound-in-requires-2 : (t : ℕ) → arms-lts.Need-sound-in-requires-2 (arms-calls t) (arms-at t) arms.Post
+arms-sound-in-requires-2 t c κs = search needs
+
+arms-carry-requires : (t : ℕ) → arms-lts.Need-carry-requires (arms-calls t) (arms-at t) arms.Post
+arms-carry-requires t c κs = search needs
+
+arms-arms-requires : (t : ℕ) → arms-lts.Need-arms-requires (arms-calls t) (arms-at t) arms.Post
+arms-arms-requires t c κs = let a = c .before .before .before .before .before .before .before .before .before .before .before .before .before .before .before .before .before .before .before .before .before .before .pre in let o = arm-next (a .1 .0) (c .before .before .before .before .before .before .before .before .before .before .before .before .before .before .before .before .before .before .before .if1 .left) (a .1 .1) (c .before .before .before .before .before .before .before .before .word2 .ensures .0) in (omega (arith, o .falls, a .0), (a .1 .0, o .stands))
+
+arms-returns-4 : (t : ℕ) → arms-lts.Need-returns-4 (arms-calls t) (arms-at t) arms.Post
+arms-returns-4 t c = let p = c .before .before .before .before .before .before .before .before .before .before .before .before .before .before .before .before .before .before .before .before .before .before .before .before .pre .1 in rest-broken _ _ _ _ (p .0) (p .1) (c .before .before .before .before .before .before .before .before .before .before .before .before .before .before .before .before .before .before .before .before .before .if1 .left) _ (c .before .before .before .before .before .before .before .before .before .before .before .before .before .before .before .enter .ensures .0) (c .before .before .before .before .before .before .before .before .before .before .before .before .before .before .before .enter .ensures .1) (c .before .before .before .before .before .before .before .before .before .before .before .before .before .before .word .ensures .0) _ _ (c .before .before .before .before .before .before .before .before .before .before .before .before .goals .ensures) (not-false _ (c .before .before .before .before .before .before .before .before .before .before .before .if2 .left)) (c .before .before .before .before .before .before .before .before .before .before .word2 .ensures .0) (c .before .before .before .before .before .before .before .before .before .if3 .left) _ ((c .before .before .before .carry .ensures .0) ∙ c .before .before .before .before .before .before .before .before .before .before .before .before .before .before .before .before .before .before .before .held-in .ensures) ((c .before .before .before .carry .ensures .1) ∙ c .before .before .before .before .before .before .before .before .before .before .before .before .before .before .before .before .before .sound-in .ensures) _ _ (c .before .arms .ensures) _ (not-true _ (c .if4 .taken))
+
+arms-join-requires : (t : ℕ) → arms-lts.Need-join-requires (arms-calls t) (arms-at t) arms.Post
+arms-join-requires t c κs = search needs
+
+arms-returns-5 : (t : ℕ) → arms-lts.Need-returns-5 (arms-calls t) (arms-at t) arms.Post
+arms-returns-5 t c = let p = c .before .before .before .before .before .before .before .before .before .before .before .before .before .before .before .before .before .before .before .before .before .before .before .before .before .before .pre .1 in arm-more _ _ _ _ (p .0) (p .1) (c .before .before .before .before .before .before .before .before .before .before .before .before .before .before .before .before .before .before .before .before .before .before .before .if1 .left) _ (c .before .before .before .before .before .before .before .before .before .before .before .before .before .before .before .before .before .enter .ensures .0) (c .before .before .before .before .before .before .before .before .before .before .before .before .before .before .before .before .before .enter .ensures .1) (c .before .before .before .before .before .before .before .before .before .before .before .before .before .before .before .before .word .ensures .0) _ _ (c .before .before .before .before .before .before .before .before .before .before .before .before .before .before .goals .ensures) (not-false _ (c .before .before .before .before .before .before .before .before .before .before .before .before .before .if2 .left)) (c .before .before .before .before .before .before .before .before .before .before .before .before .word2 .ensures .0) (c .before .before .before .before .before .before .before .before .before .before .before .if3 .left) _ ((c .before .before .before .before .before .carry .ensures .0) ∙ c .before .before .before .before .before .before .before .before .before .before .before .before .before .before .before .before .before .before .before .before .before .held-in .ensures) ((c .before .before .before .before .before .carry .ensures .1) ∙ c .before .before .before .before .before .before .before .before .before .before .before .before .before .before .before .before .before .before .before .sound-in .ensures) _ _ (c .before .before .before .arms .ensures) _ _ (not-false _ (c .before .before .if4 .left)) (c .before .before .before .before .before .before .before .before .before .held-in2 .ensures) (c .before .before .before .before .before .before .before .sound-in2 .ensures) (c .join .ensures)
+
+branches-held-in-requires : (t : ℕ) → branches-lts.Need-held-in-requires (branches-calls t) (branches-at t) branches.Post
+branches-held-in-requires t c κs = search needs
+
+branches-sound-in-requires : (t : ℕ) → branches-lts.Need-sound-in-requires (branches-calls t) (branches-at t) branches.Post
+branches-sound-in-requires t c κs = search needs
+
+branches-word-requires : (t : ℕ) → branches-lts.Need-word-requires (branches-calls t) (branches-at t) branches.Post
+branches-word-requires t c κs = search needs
+
+branches-has-requires : (t : ℕ) → branches-lts.Need-has-requires (branches-calls t) (branches-at t) branches.Post
+branches-has-requires t c κs = search needs
+
+branches-returns : (t : ℕ) → branches-lts.Need-returns (branches-calls t) (branches-at t) branches.Post
+branches-returns t c = let p = c .before .before .before .before .before .before .before .before .before .pre .1 in if-broken _ _ _ (p .0) (p .1) (c .before .before .before .sound-in .ensures) (c .before .before .word .ensures .0) (c .before .has .ensures) _ (not-true _ (c .if1 .taken))
+
+branches-word-requires-2 : (t : ℕ) → branches-lts.Need-word-requires-2 (branches-calls t) (branches-at t) branches.Post
+branches-word-requires-2 t c κs = search needs
+
+branches-has-requires-2 : (t : ℕ) → branches-lts.Need-has-requires-2 (branches-calls t) (branches-at t) branches.Post
+branches-has-requires-2 t c κs = search needs
+
+branches-returns-2 : (t : ℕ) → branches-lts.Need-returns-2 (branches-calls t) (branches-at t) branches.Post
+branches-returns-2 t c = let p = c .before .before .before .before .before .before .before .before .before .before .before .before .pre .1 in if-broken-2 _ _ _ (p .0) (p .1) (c .before .before .before .before .before .before .sound-in .ensures) (c .before .before .before .before .before .word .ensures .0) (c .before .before .before .before .has .ensures) (not-false _ (c .before .before .before .if1 .left)) (c .before .before .word2 .ensures .0) (c .before .has2 .ensures) _ (not-true _ (c .if2 .taken))
+
+branches-word-requires-3 : (t : ℕ) → branches-lts.Need-word-requires-3 (branches-calls t) (branches-at t) branches.Post
+branches-word-requires-3 t c κs = search needs
+
+branches-goals-requires : (t : ℕ) → branches-lts.Need-goals-requires (branches-calls t) (branches-at t) branches.Post
+branches-goals-requires t c κs = let a = c .before .before .before .before .before .before .before .before .before .before .before .before .before .before .pre in let o = to-then (a .1 .0) (a .1 .1) (c .before .word3 .ensures .0) in (omega (arith, o .falls, a .0), (a .1 .0, o .stands))
+
+branches-returns-3 : (t : ℕ) → branches-lts.Need-returns-3 (branches-calls t) (branches-at t) branches.Post
+branches-returns-3 t c = let p = c .before .before .before .before .before .before .before .before .before .before .before .before .before .before .before .before .pre .1 in then-broken _ _ _ (p .0) (p .1) (c .before .before .before .before .before .before .before .before .before .before .sound-in .ensures) (c .before .before .before .before .before .before .before .before .before .word .ensures .0) (c .before .before .before .before .before .before .before .before .has .ensures) (not-false _ (c .before .before .before .before .before .before .before .if1 .left)) (c .before .before .before .before .before .before .word2 .ensures .0) (c .before .before .before .before .before .has2 .ensures) (not-false _ (c .before .before .before .before .if2 .left)) (c .before .before .before .word3 .ensures .0) _ _ (c .before .goals .ensures) _ (not-true _ (c .if3 .taken))
+
+branches-held-in-requires-2 : (t : ℕ) → branches-lts.Need-held-in-requires-2 (branches-calls t) (branches-at t) branches.Post
+branches-held-in-requires-2 t c κs = search needs
+
+branches-sound-in-requires-2 : (t : ℕ) → branches-lts.Need-sound-in-requires-2 (branches-calls t) (branches-at t) branches.Post
+branches-sound-in-requires-2 t c κs = search needs
+
+branches-carry-requires : (t : ℕ) → branches-lts.Need-carry-requires (branches-calls t) (branches-at t) branches.Post
+branches-carry-requires t c κs = search needs
+
+branches-word-requires-4 : (t : ℕ) → branches-lts.Need-word-requires-4 (branches-calls t) (branches-at t) branches.Post
+branches-word-requires-4 t c κs = search needs
+
+branches-goals-requires-2 : (t : ℕ) → branches-lts.Need-goals-requires-2 (branches-calls t) (branches-at t) branches.Post
+branches-goals-requires-2 t c κs = let a = c .before .before .before .before .before .before .before .before .before .before .before .before .before .before .before .before .before .before .before .before .before .before .before .before .pre in let o = to-else (a .1 .0) (a .1 .1) (c .before .word4 .ensures .0) in (omega (arith, o .falls, a .0), (a .1 .0, o .stands))
+
+branches-returns-4 : (t : ℕ) → branches-lts.Need-returns-4 (branches-calls t) (branches-at t) branches.Post
+branches-returns-4 t c = let p = c .before .before .before .before .before .before .before .before .before .before .before .before .before .before .before .before .before .before .before .before .before .before .before .before .before .before .pre .1 in else-broken _ _ _ (p .0) (p .1) (c .before .before .before .before .before .before .before .before .before .before .before .before .before .before .before .before .before .before .before .before .sound-in .ensures) (c .before .before .before .before .before .before .before .before .before .before .before .before .before .before .before .before .before .before .before .word .ensures .0) (c .before .before .before .before .before .before .before .before .before .before .before .before .before .before .before .before .before .before .has .ensures) (not-false _ (c .before .before .before .before .before .before .before .before .before .before .before .before .before .before .before .before .before .if1 .left)) (c .before .before .before .before .before .before .before .before .before .before .before .before .before .before .before .before .word2 .ensures .0) (c .before .before .before .before .before .before .before .before .before .before .before .before .before .before .before .has2 .ensures) (not-false _ (c .before .before .before .before .before .before .before .before .before .before .before .before .before .before .if2 .left)) (c .before .before .before .before .before .before .before .before .before .before .before .before .before .word3 .ensures .0) _ _ (c .before .before .before .before .before .before .before .before .before .before .before .goals .ensures) (not-false _ (c .before .before .before .before .before .before .before .before .before .before .if3 .left)) (c .before .before .before .word4 .ensures .0) _ ((c .before .before .before .before .carry .ensures .0) ∙ c .before .before .before .before .before .before .before .before .before .before .before .before .before .before .before .before .before .before .before .before .before .before .held-in .ensures) ((c .before .before .before .before .carry .ensures .1) ∙ c .before .before .before .before .before .before .before .before .before .before .before .before .before .before .before .before .before .before .before .before .sound-in .ensures) _ _ (c .before .goals2 .ensures) _ (not-true _ (c .if4 .taken))
+
+branches-join-requires : (t : ℕ) → branches-lts.Need-join-requires (branches-calls t) (branches-at t) branches.Post
+branches-join-requires t c κs = search needs
+
+branches-returns-5 : (t : ℕ) → branches-lts.Need-returns-5 (branches-calls t) (branches-at t) branches.Post
+branches-returns-5 t c = let p = c .before .before .before .before .before .before .before .before .before .before .before .before .before .before .before .before .before .before .before .before .before .before .before .before .before .before .before .before .pre .1 in if-done _ _ _ (p .0) (p .1) (c .before .before .before .before .before .before .before .before .before .before .before .before .before .before .before .before .before .before .before .before .before .before .sound-in .ensures) (c .before .before .before .before .before .before .before .before .before .before .before .before .before .before .before .before .before .before .before .before .before .word .ensures .0) (c .before .before .before .before .before .before .before .before .before .before .before .before .before .before .before .before .before .before .before .before .has .ensures) (not-false _ (c .before .before .before .before .before .before .before .before .before .before .before .before .before .before .before .before .before .before .before .if1 .left)) (c .before .before .before .before .before .before .before .before .before .before .before .before .before .before .before .before .before .before .word2 .ensures .0) (c .before .before .before .before .before .before .before .before .before .before .before .before .before .before .before .before .before .has2 .ensures) (not-false _ (c .before .before .before .before .before .before .before .before .before .before .before .before .before .before .before .before .if2 .left)) (c .before .before .before .before .before .before .before .before .before .before .before .before .before .before .before .word3 .ensures .0) _ _ (c .before .before .before .before .before .before .before .before .before .before .before .before .before .goals .ensures) (not-false _ (c .before .before .before .before .before .before .before .before .before .before .before .before .if3 .left)) (c .before .before .before .before .before .word4 .ensures .0) _ ((c .before .before .before .before .before .before .carry .ensures .0) ∙ c .before .before .before .before .before .before .before .before .before .before .before .before .before .before .before .before .before .before .before .before .before .before .before .before .held-in .ensures) ((c .before .before .before .before .before .before .carry .ensures .1) ∙ c .before .before .before .before .before .before .before .before .before .before .before .before .before .before .before .before .before .before .before .before .before .before .sound-in .ensures) _ _ (c .before .before .before .goals2 .ensures) _ _ (not-false _ (c .before .before .if4 .left)) (c .before .before .before .before .before .before .before .before .before .before .held-in2 .ensures) (c .before .before .before .before .before .before .before .before .sound-in2 .ensures) (c .join .ensures)
+
+goal-word-requires : (t : ℕ) → goal-lts.Need-word-requires (goal-calls t) (goal-at t) goal.Post
+goal-word-requires t c κs = search needs
+
+goal-switch-requires : (t : ℕ) → goal-lts.Need-switch-requires (goal-calls t) (goal-at t) goal.Post
+goal-switch-requires t c κs = let a = c .before .before .before .before .before .pre in (omega (arith, a .0), (a .1 .0, sym (c .before .before .word .ensures .0) ∙ c .before .match .keys1))
+
+goal-branches-requires : (t : ℕ) → goal-lts.Need-branches-requires (goal-calls t) (goal-at t) goal.Post
+goal-branches-requires t c κs = let a = c .before .before .before .before .before .pre in (omega (arith, a .0), (a .1 .0, sym (c .before .before .word .ensures .0) ∙ c .before .match .keys2))
+
+goal-step-requires : (t : ℕ) → goal-lts.Need-step-requires (goal-calls t) (goal-at t) goal.Post
+goal-step-requires t c κs = search needs
+
+goal-returns : (t : ℕ) → goal-lts.Need-returns (goal-calls t) (goal-at t) goal.Post
+goal-returns t c = c .switch .ensures
+
+goal-returns-2 : (t : ℕ) → goal-lts.Need-returns-2 (goal-calls t) (goal-at t) goal.Post
+goal-returns-2 t c = c .branches .ensures
+
+goal-returns-3 : (t : ℕ) → goal-lts.Need-returns-3 (goal-calls t) (goal-at t) goal.Post
+goal-returns-3 t c = let p = c .before .before .before .before .before .before .pre .1 in step-checked _ _ _ _ _ _ (p .0) (p .1 .0) (p .1 .1) (c .before .before .before .word .ensures .0) (c .before .before .match .rest .0 .1) (c .before .before .match .rest .1) (c .step .ensures)
+
+abbrev goals-Inv-loop : goals-lts.InvT-loop
+goals-Inv-loop file rows own carried₀ start i₀ carried i = Walking file rows own start carried₀ carried i
+
+abbrev goals-μ-loop : goals-lts.MeasureT-loop
+goals-μ-loop file rows own carried₀ start i₀ carried i = ahead file i
+
+goals-loop-holds : (t : ℕ) → goals-lts.Need-loop-holds (goals-calls t) (goals-at t) goals.Post goals-Inv-loop goals-μ-loop
+goals-loop-holds t c = let p = c .before .before .pre .1 in record { stands = p .1; near = omega arith; rest = λ o q y h. (h, refl) }
+
+goals-goal-requires : (t : ℕ) → goals-lts.Need-goal-requires (goals-calls t) (goals-at t) goals.Post goals-Inv-loop goals-μ-loop
+goals-goal-requires t c κs = let a = c .before .before .before .before .before .pre in let w = (c .before .before .loop .inv) in (omega (arith, w .near, a .0), (a .1 .0, (w .stands, c .before .loop-test .taken)))
+
+goals-returns : (t : ℕ) → goals-lts.Need-returns (goals-calls t) (goals-at t) goals.Post goals-Inv-loop goals-μ-loop
+goals-returns t c = walk-stop (c .before .before .before .before .before .before .before .pre .1 .0) (c .before .before .before .before .loop .inv) (c .before .before .before .loop-test .taken) _ _ (c .before .goal .ensures) _ (not-true _ (c .if1 .taken))
+
+goals-word-requires : (t : ℕ) → goals-lts.Need-word-requires (goals-calls t) (goals-at t) goals.Post goals-Inv-loop goals-μ-loop
+goals-word-requires t c κs = search needs
+
+goals-loop-less : (t : ℕ) → goals-lts.Need-loop-less (goals-calls t) (goals-at t) goals.Post goals-Inv-loop goals-μ-loop
+goals-loop-less t c = walk-onward (c .before .before .before .before .before .before .before .before .pre .1 .0) (c .before .before .before .before .before .loop .inv) (c .before .before .before .before .loop-test .taken) (c .word .ensures .0) .falls
+
+goals-loop-again : (t : ℕ) → goals-lts.Need-loop-again (goals-calls t) (goals-at t) goals.Post goals-Inv-loop goals-μ-loop
+goals-loop-again t c = walk-next (c .before .before .before .before .before .before .before .before .pre .1 .0) (c .before .before .before .before .before .loop .inv) (c .before .before .before .before .loop-test .taken) _ _ (c .before .before .goal .ensures) (not-false _ (c .before .if1 .left)) (c .word .ensures .0)
+
+goals-returns-2 : (t : ℕ) → goals-lts.Need-returns-2 (goals-calls t) (goals-at t) goals.Post goals-Inv-loop goals-μ-loop
+goals-returns-2 t c = walk-last (c .before .before .before .before .pre .1 .0) (c .before .loop .inv) (c .loop-test .left)
+
+switch-sound-in-requires : (t : ℕ) → switch-lts.Need-sound-in-requires (switch-calls t) (switch-at t) switch.Post
+switch-sound-in-requires t c κs = search needs
+
+switch-word-requires : (t : ℕ) → switch-lts.Need-word-requires (switch-calls t) (switch-at t) switch.Post
+switch-word-requires t c κs = search needs
+
+switch-has-requires : (t : ℕ) → switch-lts.Need-has-requires (switch-calls t) (switch-at t) switch.Post
+switch-has-requires t c κs = search needs
+
+switch-returns : (t : ℕ) → switch-lts.Need-returns (switch-calls t) (switch-at t) switch.Post
+switch-returns t c = let p = c .before .before .before .before .before .before .before .pre .1 in switch-broken _ _ _ (p .0) (p .1) (c .before .before .before .sound-in .ensures) (c .before .before .word .ensures .0) (c .before .has .ensures) _ (not-true _ (c .if1 .taken))
+
+switch-word-requires-2 : (t : ℕ) → switch-lts.Need-word-requires-2 (switch-calls t) (switch-at t) switch.Post
+switch-word-requires-2 t c κs = search needs
+
+switch-arms-requires : (t : ℕ) → switch-lts.Need-arms-requires (switch-calls t) (switch-at t) switch.Post
+switch-arms-requires t c κs = let a = c .before .before .before .before .before .before .before .before .before .pre in let o = to-arms (a .1 .0) (a .1 .1) (c .before .word2 .ensures .0) in (omega (arith, o .falls, a .0), (a .1 .0, o .stands))
+
+switch-returns-2 : (t : ℕ) → switch-lts.Need-returns-2 (switch-calls t) (switch-at t) switch.Post
+switch-returns-2 t c = let p = c .before .before .before .before .before .before .before .before .before .before .pre .1 in switch-done _ _ _ (p .0) (p .1) (c .before .before .before .before .before .before .sound-in .ensures) (c .before .before .before .before .before .word .ensures .0) (c .before .before .before .before .has .ensures) _ _ (not-false _ (c .before .before .before .if1 .left)) (c .before .before .word2 .ensures .0) (c .arms .ensures)
+
+pub +arms+branches+goal+goals+switch-spec : {M : Type 1} → statement M
++arms+branches+goal+goals+switch-spec =
+    close μ-arms μ-branches μ-goal μ-goals μ-switch (λ t. arms-lts.spec (arms-calls t)
+    (arms-at t)
+    arms.Post
+    (arms-returns t)
+    (arms-held-in-requires t)
+    (arms-sound-in-requires t)
+    (arms-enter-requires t)
+    (arms-word-requires t)
+    (arms-goals-requires t)
+    (arms-returns-2 t)
+    (arms-word-requires-2 t)
+    (arms-returns-3 t)
+    (arms-held-in-requires-2 t)
+    (arms-sound-in-requires-2 t)
+    (arms-carry-requires t)
+    (arms-arms-requires t)
+    (arms-returns-4 t)
+    (arms-join-requires t)
+    (arms-returns-5 t))
+    (λ t. branches-lts.spec (branches-calls t)
+    (branches-at t)
+    branches.Post
+    (branches-held-in-requires t)
+    (branches-sound-in-requires t)
+    (branches-word-requires t)
+    (branches-has-requires t)
+    (branches-returns t)
+    (branches-word-requires-2 t)
+    (branches-has-requires-2 t)
+    (branches-returns-2 t)
+    (branches-word-requires-3 t)
+    (branches-goals-requires t)
+    (branches-returns-3 t)
+    (branches-held-in-requires-2 t)
+    (branches-sound-in-requires-2 t)
+    (branches-carry-requires t)
+    (branches-word-requires-4 t)
+    (branches-goals-requires-2 t)
+    (branches-returns-4 t)
+    (branches-join-requires t)
+    (branches-returns-5 t))
+    (λ t. goal-lts.spec (goal-calls t)
+    (goal-at t)
+    goal.Post
+    (goal-word-requires t)
+    (goal-switch-requires t)
+    (goal-branches-requires t)
+    (goal-step-requires t)
+    (goal-returns t)
+    (goal-returns-2 t)
+    (goal-returns-3 t))
+    (λ t. goals-lts.spec
+    (goal-below t, goal.Post, word-reads.Asked, word-reads.Learnt)
+    (goals-at t)
+    goals.Post
+    goals-Inv-loop
+    goals-μ-loop
+    (goals-loop-holds t)
+    (goals-goal-requires t)
+    (goals-returns t)
+    (goals-word-requires t)
+    (goals-loop-less t)
+    (goals-loop-again t)
+    (goals-returns-2 t))
+    λ t. switch-lts.spec (switch-calls t)
+    (switch-at t)
+    switch.Post
+    (switch-sound-in-requires t)
+    (switch-word-requires t)
+    (switch-has-requires t)
+    (switch-returns t)
+    (switch-word-requires-2 t)
+    (switch-arms-requires t)
+    (switch-returns-2 t)

@@ -1,2 +1,0 @@
-mod Turning
-mod Stepping

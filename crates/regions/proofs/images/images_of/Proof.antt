@@ -1,0 +1,58 @@
+-- `images_of` meets its contract.
+use Prim.Native.Nat.{_-_}
+use borrow.Author.Needs.{needs}
+use Rattle.regions.specs.Pairs.{imagesIn}
+use Rattle.sets.specs.Sets.{single}
+use Rattle.tables.specs.Walks.{Gathering, gather-first, gather-more, gather-last, next-falls}
+use Rattle.regions.specs.Images.{image-here, images-are}
+use Rattle.regions.proofs.images.images_of.Statement.{statement}
+use Rattle.regions.proofs.images.images_of.Tie as tie
+
+abbrev Inv-loop : tie.InvT-loop
+Inv-loop images rs found₀ r₀ found r = Gathering (λ q. single (imagesIn images q)) rs found r
+
+abbrev μ-loop : tie.MeasureT-loop
+μ-loop images rs found₀ r₀ found r = 65 - r
+
+after-requires : tie.Need-after-requires Inv-loop μ-loop
+after-requires c κs = search needs
+
+loop-holds : tie.Need-loop-holds Inv-loop μ-loop
+loop-holds c = gather-first _ _ (c .after .ensures)
+
+entry-requires : tie.Need-entry-requires Inv-loop μ-loop
+entry-requires c κs = search needs
+
+of-requires : tie.Need-of-requires Inv-loop μ-loop
+of-requires c κs = search needs
+
+union-requires : tie.Need-union-requires Inv-loop μ-loop
+union-requires c κs = search needs
+
+after-requires-2 : tie.Need-after-requires-2 Inv-loop μ-loop
+after-requires-2 c κs = search needs
+
+loop-less : tie.Need-loop-less Inv-loop μ-loop
+loop-less c = next-falls _ (c .before .before .before .before .loop-test .taken) (c .after2 .ensures)
+
+loop-again : tie.Need-loop-again Inv-loop μ-loop
+loop-again c = gather-more _ _ (c .before .before .before .before .before .loop .inv) (c .before .before .before .before .loop-test .taken) (image-here (c .before .before .before .before .before .before .before .before .args .images .now) _ (c .before .before .before .entry .ensures) (c .before .before .of .ensures)) (c .before .union .ensures) (c .after2 .ensures)
+
+returns : tie.Need-returns Inv-loop μ-loop
+returns c = images-are _ _ (gather-last _ _ (c .before .loop .inv) (c .loop-test .left))
+
+pub images-of-spec : {M : Type 1} → statement M
+images-of-spec =
+    tie.close
+    (tie.spec
+    Inv-loop
+    μ-loop
+    after-requires
+    loop-holds
+    entry-requires
+    of-requires
+    union-requires
+    after-requires-2
+    loop-less
+    loop-again
+    returns)

@@ -1,0 +1,79 @@
+-- `call_ok` meets its contract.
+use Prim.Native.Nat.{ℕ, _<_, _≤_}
+use native.Mathlib.Omega.{arith}
+use mathlib.Core.List.{List}
+use mathlib.Core.Path.{refl, sym, _∙_}
+use borrow.Author.Tests.{not-true, not-false}
+use lib.ListN.{length}
+use Rattle.language.specs.Format.{maxRecords}
+use Rattle.chains.specs.Formed.{counted}
+use Rattle.tables.specs.Rows.{rowsLength}
+use Rattle.regions.specs.CallEffect.{blank, call-own, call-callee, call-arguments, call-agrees, call-made}
+use Rattle.regions.specs.Rowed.{rowed-put, rowed-not}
+use borrow.Author.Needs.{needs}
+use Rattle.regions.proofs.pass.call_ok.Statement.{statement}
+use Rattle.regions.proofs.pass.call_ok.Tie as tie
+
+no-images-requires : tie.Need-no-images-requires
+no-images-requires c κs = search needs
+
+word-requires : tie.Need-word-requires
+word-requires c κs = search needs
+
+slice-aggregate-map-call : tie.Need-slice-aggregate-map-call
+slice-aggregate-map-call c = search needs
+
+map-call-requires : tie.Need-map-call-requires
+map-call-requires c κs =
+    let a = c .before .before .before .before .before .before in
+    let K = a .pre .0 in
+    (K .here .formed, (call-own K, (call-callee K, call-arguments K (c .before .word .ensures .0))))
+
+returns : tie.Need-returns
+returns c =
+    let m = c .before .before in
+    let a = m .before .before .before .before .before .before .before in
+    let K = a .pre .0 in
+    let z = not-true _ (c .if1 .taken) in
+    (sym z ∙ call-agrees K (m .before .before .word .ensures .0) (blank (m .before .before .before .no-images .ensures)) _ _ (m .map-call .ensures), rowed-not (a .args .file .now) (a .args .i) _ refl)
+
+slice-aggregate-image-effect : tie.Need-slice-aggregate-image-effect
+slice-aggregate-image-effect c = search needs
+
+image-effect-requires : tie.Need-image-effect-requires
+image-effect-requires c κs = search needs
+
+put-effect-requires : tie.Need-put-effect-requires
+put-effect-requires c κs =
+    let K = c .before .before .before .before .before .before .before .before .before .before .before .before .pre .0 in
+    let b = K .here .below in
+    omega (arith, counted (K .here .formed) .most, b)
+
+returns-2 : tie.Need-returns-2
+returns-2 c =
+    let m = c .before .before .before .before .before .before in
+    let a = m .before .before .before .before .before .before .before in
+    let K = a .pre .0 in
+    let y = not-false _ (c .before .before .before .before .if1 .left) in
+    let B = blank (m .before .before .before .no-images .ensures) in
+    let e = m .before .before .word .ensures .0 in
+    let below = K .here .below in
+    let few : a .args .i < maxRecords = omega (arith, counted (K .here .formed) .most, below) in
+    let long = a .pre .1 in (
+      sym y ∙ call-agrees K e B _ _ (m .map-call .ensures),
+      rowed-put (a .args .file .now) (a .args .i) (a .args .rows .now) few long (c .put-effect .ensures) (λ q. call-made K e B _ _ (m .map-call .ensures) y (c .before .image-effect .ensures)),
+    )
+
+pub call-ok-spec : {M : Type 1} → statement M
+call-ok-spec =
+    tie.close
+    (tie.spec
+    no-images-requires
+    word-requires
+    slice-aggregate-map-call
+    map-call-requires
+    returns
+    slice-aggregate-image-effect
+    image-effect-requires
+    put-effect-requires
+    returns-2)

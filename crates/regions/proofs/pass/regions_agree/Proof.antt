@@ -1,0 +1,81 @@
+-- `regions_agree` meets its contract: the records below are done, and the rest decides.
+use borrow.Author.Needs.{needs}
+use Prim.Native.Nat.{ℕ, _-_, _<_}
+use native.Mathlib.Omega.{arith}
+use mathlib.Core.Bool.{false≢true}
+use mathlib.Core.Logic.{⊎-elim}
+use mathlib.Core.Path.{_≡_}
+use borrow.Author.Tests.{not-true, not-false}
+use Rattle.language.specs.File.{recordCount}
+use Rattle.regions.specs.Rowed.{Going, going-first, going-stop, going-next, going-last, going-effected, going-before, unread-trans}
+use Rattle.regions.proofs.pass.regions_agree.Statement.{statement}
+use Rattle.regions.proofs.pass.regions_agree.Tie as tie
+
+abbrev Inv-loop : tie.InvT-loop
+Inv-loop file table owners rows₀ n last₀ i₀ rows last i = Going file rows₀ rows n i × (last < i)
+
+abbrev μ-loop : tie.MeasureT-loop
+μ-loop file table owners rows₀ n last₀ i₀ rows last i = n - i
+
+word-requires : tie.Need-word-requires Inv-loop μ-loop
+word-requires c κs = search needs
+
+loop-holds : tie.Need-loop-holds Inv-loop μ-loop
+unfolding recordCount
+loop-holds c = (going-first _ (c .before .before .before .before .pre .0 .formed) (c .word .ensures .0), omega arith)
+
+next-ok-requires : tie.Need-next-ok-requires Inv-loop μ-loop
+next-ok-requires c κs =
+    let l = c .before .before in
+    let a = l .before .before .before .before .before in
+    let k = l .loop .inv .0 in
+    let m = k .unread .size in
+    (a .pre .0, ((k .some, omega (arith, c .before .loop-test .taken, k .count)), (omega (arith, a .pre .1, m), going-before k (a .pre .0 .formed) (l .loop .inv .1))))
+
+returns : tie.Need-returns Inv-loop μ-loop
+returns c =
+    let r = c .before in
+    let t = r .before .before in
+    let k = t .before .loop .inv .0 in
+    let e = r .next-ok .ensures in
+    (going-stop k (t .loop-test .taken) (e .0) (not-true _ (c .if1 .taken)), ((λ y. absurd (false≢true y)), unread-trans (k .unread) (e .1 .unread)))
+
+word-requires-2 : tie.Need-word-requires-2 Inv-loop μ-loop
+word-requires-2 c κs = search needs
+
+add-i : tie.Need-add-i Inv-loop μ-loop
+add-i c = search needs
+
+loop-less : tie.Need-loop-less Inv-loop μ-loop
+loop-less c = omega arith
+
+loop-again : tie.Need-loop-again Inv-loop μ-loop
+loop-again c =
+    let i = c .before .before in
+    let r = i .before in
+    let t = r .before .before in
+    let k = t .before .loop .inv in
+    let e = r .next-ok .ensures in
+    (going-next (k .0) (t .loop-test .taken) (e .0) (e .1) (not-false _ (i .if1 .left)), ⊎-elim (λ y. omega (arith, y .1)) (λ y. omega (arith, y .1, k .1)) (c .if2 .came))
+
+returns-2 : tie.Need-returns-2 Inv-loop μ-loop
+returns-2 c =
+    let k = c .before .loop .inv .0 in
+    let l = c .loop-test .left in
+    (going-last k l, ((λ y. going-effected k l), k .unread))
+
+pub regions-agree-spec : {M : Type 1} → statement M
+regions-agree-spec =
+    tie.close
+    (tie.spec
+    Inv-loop
+    μ-loop
+    word-requires
+    loop-holds
+    next-ok-requires
+    returns
+    word-requires-2
+    add-i
+    loop-less
+    loop-again
+    returns-2)

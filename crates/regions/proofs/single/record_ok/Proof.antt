@@ -1,0 +1,105 @@
+-- `record_ok` meets its contract.
+use mathlib.Core.Path.{refl, sym, _∙_}
+use Rattle.language.specs.File.{kConstruct, kSwitch}
+use Rattle.chains.specs.Shapes.{to-arms}
+use Rattle.regions.specs.Here.{construct-kind, switch-kind, edges-stand, assign-agrees, construct-agrees, switch-agrees, other-agrees}
+use borrow.Author.Needs.{needs}
+use Rattle.regions.proofs.single.record_ok.Statement.{statement}
+use Rattle.regions.proofs.single.record_ok.Tie as tie
+
+word-requires : tie.Need-word-requires
+word-requires c κs = search needs
+
+word-requires-2 : tie.Need-word-requires-2
+word-requires-2 c κs = search needs
+
+home-requires : tie.Need-home-requires
+home-requires c κs = search needs
+
+word-requires-3 : tie.Need-word-requires-3
+word-requires-3 c κs = search needs
+
+home-requires-2 : tie.Need-home-requires-2
+home-requires-2 c κs = search needs
+
+word-requires-4 : tie.Need-word-requires-4
+word-requires-4 c κs = search needs
+
+home-requires-3 : tie.Need-home-requires-3
+home-requires-3 c κs = search needs
+
+edges-requires : tie.Need-edges-requires
+edges-requires c κs = search needs
+
+in-targets-requires : tie.Need-in-targets-requires
+in-targets-requires c κs =
+    let m = c .before .before .before in
+    let a = m .before .before .before .before in
+    let H = a .pre .0 in
+    let k = construct-kind (a .args .file .now) (a .args .i) (sym (m .before .word .ensures .0) ∙ m .match .keys2) in
+    (H .formed, edges-stand H kConstruct k (c .before .before .word4 .ensures .0) (c .before .home3 .ensures) (c .edges .ensures))
+
+word-requires-5 : tie.Need-word-requires-5
+word-requires-5 c κs = search needs
+
+home-requires-4 : tie.Need-home-requires-4
+home-requires-4 c κs = search needs
+
+word-requires-6 : tie.Need-word-requires-6
+word-requires-6 c κs = search needs
+
+edges-requires-2 : tie.Need-edges-requires-2
+edges-requires-2 c κs = search needs
+
+arms-ok-requires : tie.Need-arms-ok-requires
+arms-ok-requires c κs =
+    let m = c .before .before .before .before in
+    let a = m .before .before .before .before in
+    let H = a .pre .0 in
+    let n = sym (m .before .word .ensures .0) ∙ m .match .keys3 in
+    let k = switch-kind (a .args .file .now) (a .args .i) n in
+    (H .formed, (edges-stand H kSwitch k (c .before .before .before .word5 .ensures .0) (c .before .before .home4 .ensures) (c .edges2 .ensures), to-arms (H .formed) n (c .before .word6 .ensures .0) .stands))
+
+returns : tie.Need-returns
+returns c =
+    let m = c .before .before .before .before in
+    assign-agrees (m .before .before .before .before .pre .0) (m .before .word .ensures .0) (m .match .keys1) (c .before .before .before .word2 .ensures .0) (c .before .before .home .ensures) (c .before .word3 .ensures .0) (c .home2 .ensures) refl
+
+returns-2 : tie.Need-returns-2
+returns-2 c =
+    let m = c .before .before .before .before in
+    construct-agrees (m .before .before .before .before .pre .0) (m .before .word .ensures .0) (m .match .keys2) (c .before .before .before .word4 .ensures .0) (c .before .before .home3 .ensures) (c .before .edges .ensures) (c .in-targets .ensures)
+
+returns-3 : tie.Need-returns-3
+returns-3 c =
+    let m = c .before .before .before .before .before in
+    switch-agrees (m .before .before .before .before .pre .0) (m .before .word .ensures .0) (m .match .keys3) (c .before .before .before .before .word5 .ensures .0) (c .before .before .before .home4 .ensures) (c .before .edges2 .ensures) (c .before .before .word6 .ensures .0) (c .arms-ok .ensures)
+
+returns-4 : tie.Need-returns-4
+returns-4 c =
+    let p = c .before .before .before .before .pre in
+    let r = c .match .rest in
+    other-agrees (p .0) (c .before .word .ensures .0) (r .0 .0 .1) (r .0 .1) (r .1) (p .1)
+
+pub record-ok-spec : {M : Type 1} → statement M
+record-ok-spec =
+    tie.close
+    (tie.spec
+    word-requires
+    word-requires-2
+    home-requires
+    word-requires-3
+    home-requires-2
+    word-requires-4
+    home-requires-3
+    edges-requires
+    in-targets-requires
+    word-requires-5
+    home-requires-4
+    word-requires-6
+    edges-requires-2
+    arms-ok-requires
+    returns
+    returns-2
+    returns-3
+    returns-4)

@@ -1,0 +1,100 @@
+-- A call that repeats another: of the same procedure, from the same procedure, with arguments in the same regions. The mapping goes by these alone.
+use Prim.Native.Nat.{ℕ, _<_}
+use native.Mathlib.Omega.{arith}
+use mathlib.Core.Bool.{Bool, true}
+use mathlib.Core.List.{List, [], _∷_}
+use mathlib.Core.Logic.{inr}
+use mathlib.Core.Path.{_≡_, refl, sym, ap, ap₂, _∙_}
+use lib.ListN.{getD}
+use Rattle.language.specs.File.{kCall, Kind, kGoal, goals, row, kindOf, word, recordCount}
+use Rattle.language.specs.Format.{kindWord, callProcedure, callArguments}
+use Rattle.language.specs.Program.{call, step, Signature, Program, signatureOf}
+use Rattle.language.specs.Regions.{mapping, oneWay, regionsOf, stepRegions}
+use Rattle.language.specs.Lifetimes
+use Rattle.language.specs.Lifetimes.{callEffect, effect}
+use Rattle.language.specs.Answers.{program}
+use Rattle.chains.specs.Layout.{all-rows}
+use Rattle.chains.specs.Formed.{Formed, argumentsAt}
+use Rattle.chains.specs.Shapes.{IsCall, call-here}
+use Rattle.owners.specs.Owner.{ownerOf}
+use Rattle.owners.specs.Everywhere.{recordTest, ifGoal}
+use Rattle.owners.specs.TreeLaw.{record-kind}
+use Rattle.tables.specs.Filled.{StepAt}
+use Rattle.tables.specs.Rows.{effectIn}
+use Rattle.tables.specs.declared.Effect.{Effect}
+use Rattle.regions.specs.CallMap.{homesIn, homes-regions}
+use Rattle.regions.specs.Single.{agreesHere, agrees}
+use Rattle.regions.specs.Here.{signatureAt, Given, Here, call-kind, goal-test}
+use Rattle.regions.specs.Effects.{Effects, EffectAt, effect-made}
+use Rattle.regions.specs.Rowed.{Before}
+
+-- the call at record i repeats that at record j, by the window of its procedure
+pub record Repeats (f own owners : List ℕ) (j i : ℕ) : Type 0 where
+  pub here : IsCall f i
+  pub kind : IsCall f j
+  pub owner : getD owners i 0 ≡ getD owners j 0
+  pub callee : word f i callProcedure ≡ word f j callProcedure
+  pub homes : homesIn own (argumentsAt f (word f i callArguments)) ≡ homesIn own (argumentsAt f (word f j callArguments))
+
+-- the mapping goes by the regions of the arguments
+same-mapping : (C Q : Signature) (xs ys : List ℕ) → regionsOf C xs ≡ regionsOf C ys → mapping C Q xs ≡ mapping C Q ys
+unfolding mapping
+same-mapping C Q xs ys e = rw e refl
+
+module _ {f own owners : List ℕ} {i j : ℕ} (H : Here f own i) (R : Repeats f own owners j i) (o : ownerOf f i ≡ ownerOf f j) where
+  abbrev k : IsCall f i
+  k = R .here
+
+  abbrev C : Signature
+  C = signatureAt f i
+
+  abbrev Q : Signature
+  Q = signatureOf (program f) (word f i callProcedure)
+
+  same : mapping C Q (argumentsAt f (word f i callArguments)) ≡ mapping C Q (argumentsAt f (word f j callArguments))
+  same =
+      let W = H .window kCall (call-kind f i k) in
+      same-mapping C Q _ _ (sym (homes-regions C W (argumentsAt f (word f i callArguments))) ∙ R .homes ∙ homes-regions C W (argumentsAt f (word f j callArguments)))
+
+  -- number 5 of the other is its own
+  pub repeat-agrees : true ≡ recordTest (agrees f) f j → true ≡ recordTest (agrees f) f i
+  unfolding ifGoal agrees agreesHere stepRegions
+  repeat-agrees y =
+      goal-test H kCall (call-kind f i k) (call-here (H .formed) refl k .goal)
+      (y ∙ record-kind (agrees f) (H .formed) j (kGoal kCall) (call-kind f j (R .kind)) ∙ rw (call-here (H .formed) refl (R .kind) .goal, ← o, ← R .callee) (ap oneWay (sym same)))
+
+  -- .. and so is its effect
+  pub repeat-made : {e : Effect} → EffectAt f j e → EffectAt f i e
+  unfolding effect all-rows
+  repeat-made {e} m =
+      let v = call-here (H .formed) refl (R .kind) in
+      let s : StepAt f j (call (word f j callProcedure) (argumentsAt f (word f j callArguments))) = record {
+        stands = record { below = v .below; sort = inr (ap (λ (n : Kind). row n .chain) (call-kind f j (R .kind))) };
+        some = λ z. let l = v .some in omega arith;
+        view = v .goal;
+      } in
+      let h = m _ s in
+      let d : effect (program f) (signatureAt f j) (call (word f j callProcedure) (argumentsAt f (word f j callArguments))) ≡ effect (program f) C (call (word f i callProcedure) (argumentsAt f (word f i callArguments))) =
+      rw (← o, ← R .callee) (ap (λ n. callEffect n Q) (sym same)) in
+      effect-made f i (call-here (H .formed) refl k .goal) (record {
+        needs = h .needs ∙ ap (λ (x : Lifetimes.Effect). x .needs) d;
+        bears = h .bears ∙ ap (λ (x : Lifetimes.Effect). x .bears) d;
+        ends = h .ends ∙ ap (λ (x : Lifetimes.Effect). x .ends) d;
+        unshared = h .unshared ∙ ap (λ (x : Lifetimes.Effect). x .unshared) d;
+      })
+
+-- what the pass knows of the record j is true of a call at record i that repeats it
+module _ {f table owners own : List ℕ} (G : Given f table owners) {i j : ℕ} (H : Here f own i) {t : List ℕ} (B : Before f t j) (R : Repeats f own owners j i) where
+  same-owner : ownerOf f i ≡ ownerOf f j
+  same-owner = sym (G .owned i (H .below)) ∙ R .owner ∙ G .owned j (B .below)
+
+  pub repeated-agrees : true ≡ recordTest (agrees f) f i
+  repeated-agrees = repeat-agrees H R same-owner (B .agrees (R .kind))
+
+  pub repeated-made : {e : Effect} → e ≡ effectIn t j → EffectAt f i e
+  repeated-made d = repeat-made H R same-owner (rw d (B .made))
+
+-- ---- along two chains of arguments: where the rest is in the same regions, so is the whole
+pub same-next : (t xs ys xs′ ys′ : List ℕ) {u v : ℕ} → homesIn t xs ≡ u ∷ homesIn t xs′ → homesIn t ys ≡ v ∷ homesIn t ys′ → u ≡ v
+    → homesIn t xs′ ≡ homesIn t ys′ → homesIn t xs ≡ homesIn t ys
+same-next t xs ys xs′ ys′ e g z h = e ∙ ap₂ _∷_ z h ∙ sym g

@@ -1,0 +1,136 @@
+// Number 5 of a file, in one pass over its records. What each step does to regions goes into its row on the way.
+use crate::calls::map_call;
+use crate::effects::step_effect;
+use crate::images::image_effect;
+use crate::repeats::owner_of;
+use crate::repeats::repeats;
+use crate::single::record_ok;
+use language::format;
+use language::format::PLACES;
+use records::word;
+use tables::Effect;
+use tables::ROWS;
+use tables::bears_at;
+use tables::ends_at;
+use tables::marked;
+use tables::needs_at;
+use tables::put_effect;
+use tables::start_of;
+ghost use mathlib.Core.Path.{_≡_};
+ghost use mathlib.Core.Bool.{true};
+ghost use Prim.Native.Nat.{_≤_, _<_};
+ghost use lib.ListN.{length, replicate};
+ghost use Rattle.language.specs.File.{recordCount};
+ghost use Rattle.language.specs.Regions.{regionsOk};
+ghost use Rattle.language.specs.Answers.{program};
+ghost use Rattle.owners.specs.Owner.{ownerOf};
+ghost use Rattle.owners.specs.Everywhere.{recordTest};
+ghost use Rattle.tables.specs.Window.{FileTable};
+ghost use Rattle.tables.specs.Rows.{rowsLength, effectIn};
+ghost use Rattle.tables.specs.Filled.{Effected};
+ghost use Rattle.regions.specs.Single.{agrees};
+ghost use Rattle.regions.specs.Here.{Given, Here};
+ghost use Rattle.regions.specs.CallEffect.{CallHere};
+ghost use Rattle.regions.specs.Rowed.{Before, Rowed, Unread};
+
+// Places for the images of 64 regions, numbered from 1; none yet.
+fn no_images() -> [usize; PLACES]
+    ensures { λ r. ⌜ r ≡ replicate 65 0 ⌝ }
+{
+    [0; PLACES]
+}
+
+// The call at record i of the procedure with the window callee: it maps no region two ways.
+fn call_ok(file: &[u8], own: &[u64], callee: &[u64], i: usize, rows: &mut [u64; ROWS]) -> bool
+    requires { ⌜ CallHere (now file) (now own) (now callee) i ⌝ }
+    requires { ⌜ rowsLength ≤ length (now rows) ⌝ }
+    ensures { λ b. ⌜ b ≡ recordTest (agrees (now (file .entry))) (now (file .entry)) i ⌝ }
+    ensures { λ b. ⌜ Rowed (now (file .entry)) i (now (rows .entry)) b (now (rows .exit)) ⌝ }
+{
+    let mut images = no_images();
+    let arguments = word(file, i, format::CALL_ARGUMENTS);
+    if !map_call(file, own, callee, arguments, &mut images) {
+        return false;
+    }
+    put_effect(rows, i, image_effect(&images, callee));
+    true
+}
+
+// Record i, of the procedure with the window own.
+fn row_ok(file: &[u8], table: &[u64], own: &[u64], i: usize, rows: &mut [u64; ROWS]) -> bool
+    requires { ⌜ Here (now file) (now own) i ⌝ }
+    requires { ⌜ FileTable (now file) (now table) ⌝ }
+    requires { ⌜ rowsLength ≤ length (now rows) ⌝ }
+    ensures { λ b. ⌜ b ≡ recordTest (agrees (now (file .entry))) (now (file .entry)) i ⌝ }
+    ensures { λ b. ⌜ Rowed (now (file .entry)) i (now (rows .entry)) b (now (rows .exit)) ⌝ }
+{
+    if word(file, i, format::KIND) == format::CALL {
+        let start = start_of(table, word(file, i, format::CALL_PROCEDURE));
+        return call_ok(file, own, &table[start..], i, rows);
+    }
+    put_effect(rows, i, step_effect(file, own, i));
+    record_ok(file, own, i)
+}
+
+// What the row of record i says that its step does to regions.
+fn effect_at(rows: &[u64; ROWS], i: usize) -> Effect
+    ensures { λ e. ⌜ e ≡ effectIn (now (rows .entry)) i ⌝ }
+{
+    let needs = needs_at(rows, i);
+    let bears = bears_at(rows, i);
+    let ends = ends_at(rows, i);
+    Effect {
+        needs,
+        bears,
+        ends,
+        unshared: marked(rows, i),
+    }
+}
+
+// Record i. A call that repeats the call at record last has its effect.
+fn next_ok(
+    file: &[u8],
+    table: &[u64],
+    owners: &[u16],
+    last: usize,
+    i: usize,
+    rows: &mut [u64; ROWS],
+) -> bool
+    requires { ⌜ Given (now file) (now table) (now owners) ⌝ }
+    requires { ⌜ (0 < i) × (i < recordCount (now file)) ⌝ }
+    requires { ⌜ rowsLength ≤ length (now rows) ⌝ }
+    requires { ⌜ Before (now file) (now rows) last ⌝ }
+    ensures { λ b. ⌜ b ≡ recordTest (agrees (now (file .entry))) (now (file .entry)) i ⌝ }
+    ensures { λ b. ⌜ Rowed (now (file .entry)) i (now (rows .entry)) b (now (rows .exit)) ⌝ }
+{
+    let start = start_of(table, owner_of(owners, i));
+    if repeats(file, &table[start..], owners, last, i) {
+        let effect = effect_at(rows, last);
+        put_effect(rows, i, effect);
+        return true;
+    }
+    row_ok(file, table, &table[start..], i, rows)
+}
+
+// Number 5.
+pub fn regions_agree(file: &[u8], table: &[u64], owners: &[u16], rows: &mut [u64; ROWS]) -> bool
+    requires { ⌜ Given (now file) (now table) (now owners) ⌝ }
+    requires { ⌜ rowsLength ≤ length (now rows) ⌝ }
+    ensures { λ b. ⌜ b ≡ regionsOk (program (now (file .entry))) ⌝ }
+    ensures { λ b. ⌜ (b ≡ true → Effected (now (file .entry)) (ownerOf (now (file .entry))) (now (rows .exit))) ⌝ }
+    ensures { λ b. ⌜ Unread (now (rows .entry)) (now (rows .exit)) ⌝ }
+{
+    let n = word(file, 0, format::HEADER_COUNT);
+    let mut last = 0;
+    let mut i = 1;
+    while i < n {
+        if !next_ok(file, table, owners, last, i, rows) {
+            return false;
+        }
+        if word(file, i, format::KIND) == format::CALL {
+            last = i;
+        }
+        i += 1;
+    }
+    true
+}

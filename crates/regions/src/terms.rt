@@ -1,0 +1,92 @@
+// The arguments of a construct or an arm against the targets of their edges.
+use language::format::EDGE_FUNCTOR;
+use language::format::EDGE_POSITION;
+use language::format::EDGE_TARGET;
+use language::format::NEXT;
+use language::format::TERM_ARGUMENTS;
+use language::format::TERM_FUNCTOR;
+use records::word;
+use tables::home;
+ghost use mathlib.Core.Path.{_≡_};
+ghost use Prim.Native.Nat.{ℕ, _≤_};
+ghost use Rattle.language.specs.Format;
+ghost use Rattle.language.specs.File.{edges};
+ghost use Rattle.language.specs.Regions.{targetFor};
+ghost use Rattle.chains.specs.Formed.{Formed, Stands, edgesAt};
+ghost use Rattle.regions.specs.Terms.{argumentsHere, wordsFrom, termIn};
+
+// The target of the edge for functor f and position k in the chain at record start; 0 where there is none.
+fn target_for(file: &[u8], start: usize, f: usize, k: usize) -> usize
+    requires { ⌜ Formed (now file) ⌝ }
+    requires { ⌜ Stands (now file) edges start ⌝ }
+    ensures { λ r. ⌜ r ≡ targetFor (edgesAt (now (file .entry)) start) f k ⌝ }
+{
+    let mut i = start;
+    while i != 0 {
+        let next = word(file, i, NEXT);
+        if word(file, i, EDGE_FUNCTOR) == f {
+            if word(file, i, EDGE_POSITION) == k {
+                return word(file, i, EDGE_TARGET);
+            }
+        }
+        i = next;
+    }
+    0
+}
+
+// The first edge for functor f in the chain at record start; 0 where there is none.
+fn edges_for(file: &[u8], start: usize, f: usize) -> usize
+    requires { ⌜ Formed (now file) ⌝ }
+    requires { ⌜ Stands (now file) edges start ⌝ }
+    ensures { λ r. ⌜ Stands (now (file .entry)) edges r ⌝ }
+    ensures { λ r. ⌜ ((k : ℕ) → targetFor (edgesAt (now (file .entry)) r) f k ≡ targetFor (edgesAt (now (file .entry)) start) f k) ⌝ }
+{
+    let mut i = start;
+    while i != 0 {
+        if word(file, i, EDGE_FUNCTOR) == f {
+            return i;
+        }
+        i = word(file, i, NEXT);
+    }
+    i
+}
+
+// How many arguments the construct or arm at record i has: a zero at the end is none.
+fn count_arguments(file: &[u8], i: usize) -> usize
+    ensures { λ n. ⌜ n ≤ 4 ⌝ }
+    ensures { λ n. ⌜ argumentsHere (now (file .entry)) i ≡ wordsFrom (now (file .entry)) i Format.termArguments n ⌝ }
+{
+    if word(file, i, TERM_ARGUMENTS + 3) != 0 {
+        return 4;
+    }
+    if word(file, i, TERM_ARGUMENTS + 2) != 0 {
+        return 3;
+    }
+    if word(file, i, TERM_ARGUMENTS + 1) != 0 {
+        return 2;
+    }
+    if word(file, i, TERM_ARGUMENTS) != 0 {
+        return 1;
+    }
+    0
+}
+
+// Whether the arguments at record i, of a construct or an arm, are in the targets of their edges, which are in the chain at record start.
+pub fn in_targets(file: &[u8], own: &[u64], start: usize, i: usize) -> bool
+    requires { ⌜ Formed (now file) ⌝ }
+    requires { ⌜ Stands (now file) edges start ⌝ }
+    ensures { λ b. ⌜ b ≡ termIn (now (file .entry)) (now (own .entry)) start i ⌝ }
+{
+    let functor = word(file, i, TERM_FUNCTOR);
+    let first = edges_for(file, start, functor);
+    let n = count_arguments(file, i);
+    let mut k = 0;
+    while k < n {
+        let r = home(own, word(file, i, TERM_ARGUMENTS + k));
+        if r != target_for(file, first, functor, k + 1) {
+            return false;
+        }
+        k += 1;
+    }
+    true
+}

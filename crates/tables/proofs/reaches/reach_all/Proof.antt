@@ -1,0 +1,54 @@
+-- `reach_all` meets its contract: a walk over the members.
+use Prim.Native.Nat.{_-_}
+use borrow.Author.Needs.{needs}
+use Rattle.tables.specs.Walks.{Gathering, gather-first, gather-more, gather-last, next-falls}
+use Rattle.tables.specs.Window.{reachIn}
+use Rattle.tables.proofs.reaches.reach_all.Statement.{statement}
+use Rattle.tables.proofs.reaches.reach_all.Tie as tie
+
+abbrev Inv-loop : tie.InvT-loop
+Inv-loop own xs found₀ x₀ found x = Gathering (reachIn own) xs found x
+
+abbrev μ-loop : tie.MeasureT-loop
+μ-loop own xs found₀ x₀ found x = 65 - x
+
+after-requires : tie.Need-after-requires Inv-loop μ-loop
+after-requires c κs = search needs
+
+loop-holds : tie.Need-loop-holds Inv-loop μ-loop
+loop-holds c = gather-first _ _ (c .after .ensures)
+
+reach-requires : tie.Need-reach-requires Inv-loop μ-loop
+reach-requires c κs = search needs
+
+union-requires : tie.Need-union-requires Inv-loop μ-loop
+union-requires c κs = search needs
+
+after-requires-2 : tie.Need-after-requires-2 Inv-loop μ-loop
+after-requires-2 c κs = search needs
+
+loop-less : tie.Need-loop-less Inv-loop μ-loop
+loop-less c = next-falls _ (c .before .before .before .loop-test .taken) (c .after2 .ensures)
+
+loop-again : tie.Need-loop-again Inv-loop μ-loop
+loop-again c =
+    gather-more _ _ (c .before .before .before .before .loop .inv) (c .before .before .before .loop-test .taken) (c .before .before .reach .ensures) (c .before .union .ensures)
+    (c .after2 .ensures)
+
+returns : tie.Need-returns Inv-loop μ-loop
+returns c = gather-last _ _ (c .before .loop .inv) (c .loop-test .left)
+
+pub reach-all-spec : {M : Type 1} → statement M
+reach-all-spec =
+    tie.close
+    (tie.spec
+    Inv-loop
+    μ-loop
+    after-requires
+    loop-holds
+    reach-requires
+    union-requires
+    after-requires-2
+    loop-less
+    loop-again
+    returns)

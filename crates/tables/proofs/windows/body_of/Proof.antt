@@ -1,0 +1,46 @@
+-- `body_of` meets its contract: the table is lent from the window's start on (`window-lent`).
+use mathlib.Core.Path.{ap, _∙_}
+use mathlib.Core.List.{List}
+use Prim.Native.Nat.{ℕ}
+use lib.ListN.{getD}
+use Rattle.tables.specs.Window.{bodyPlace}
+use Rattle.tables.specs.Starts.{window-lent}
+use borrow.Author.Needs.{needs}
+use Rattle.tables.proofs.windows.body_of.Statement.{statement}
+use Rattle.tables.proofs.windows.body_of.Tie as tie
+
+start-of-requires : tie.Need-start-of-requires
+start-of-requires c κs = search needs
+
+mul-word-at : tie.Need-mul-word-at
+mul-word-at c = search needs
+
+sub-word-at : tie.Need-sub-word-at
+sub-word-at c = search needs
+
+part-word-at-start : tie.Need-part-word-at-start
+part-word-at-start c = search needs
+
+part-word-at-end : tie.Need-part-word-at-end
+part-word-at-end c = search needs
+
+word-at-requires : tie.Need-word-at-requires
+word-at-requires c κs = search needs
+
+returns : tie.Need-returns
+returns c =
+    let on-start = c .before .before in
+    let a = on-start .before .before .args in
+    c .word-at .ensures ∙ ap (λ (t : List ℕ). getD t bodyPlace 0) (window-lent (a .table .now) (a .q) (on-start .start-of .ensures .0))
+
+pub body-of-spec : {M : Type 1} → statement M
+body-of-spec =
+    tie.close
+    (tie.spec
+    start-of-requires
+    mul-word-at
+    sub-word-at
+    part-word-at-start
+    part-word-at-end
+    word-at-requires
+    returns)

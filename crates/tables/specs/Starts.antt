@@ -1,0 +1,58 @@
+-- Where a procedure's window starts in the file's table. A start that is past the table's end counts as 0, so that a window can be lent in any case.
+use Prim.Native.Nat.{ℕ, _-_, _≤_, _<_}
+use native.Mathlib.Omega.{arith}
+use native.Mathlib.Decide.{decLt}
+use mathlib.Core.List.{List}
+use mathlib.Core.Path.{_≡_, refl, sym, ap, _∙_}
+use borrow.Author.Tests.{le-leb, lt-leb}
+use lib.Dec.{leb}
+use lib.ListN.{length, getD, take, drop, List·getD-eq-default, length-drop}
+use lib.Seq.{take-all}
+use Rattle.language.specs.Lists.{nth, choose}
+use Rattle.language.specs.File.{word}
+use Rattle.language.specs.Format.{procedureGoals}
+use Rattle.language.specs.Program.{procedureAt}
+use Rattle.language.specs.Answers.{program}
+use Rattle.chains.specs.Records.{chainRecords}
+use Rattle.tables.specs.Window.{bodyPlace, WindowOf, FileTable}
+
+unfoldable pub startIn : List ℕ → ℕ → ℕ
+startIn t q = choose (leb (getD t q 0) (length t)) (getD t q 0) 0
+
+unfoldable pub windowIn : List ℕ → ℕ → List ℕ
+windowIn t q = drop (startIn t q) t
+
+module _ (t : List ℕ) (q : ℕ) where
+  pub start-is : getD t q 0 ≤ length t → startIn t q ≡ getD t q 0
+  unfolding startIn choose
+  start-is h = rw (le-leb (getD t q 0) (length t) h)
+
+  pub start-past : length t < getD t q 0 → startIn t q ≡ 0
+  unfolding startIn choose
+  start-past h = rw (lt-leb (getD t q 0) (length t) h)
+
+  -- no such place
+  pub start-none : length t ≤ q → startIn t q ≡ 0
+  start-none h = let e = List·getD-eq-default t 0 h in start-is (omega arith) ∙ e
+
+  pub start-within : startIn t q ≤ length t
+  start-within =
+      elim (decLt (length t) (getD t q 0)) [
+        | yes l ↦ (let e = start-past l in omega arith)
+        | no l ↦ (let e = start-is (omega arith) in omega arith)
+      ]
+
+  -- what is lent from a start on is the window
+  pub window-lent : {s : ℕ} → s ≡ startIn t q → take (length t - s) (drop s t) ≡ windowIn t q
+  unfolding windowIn
+  window-lent {s} e = rw (← e) (take-all (length t - s) (drop s t) (omega (arith, length-drop s t)))
+
+-- the window of a procedure of the program
+module _ {f t : List ℕ} (h : FileTable f t) {q : ℕ} (l : q < length (program f .procedures)) where
+  pub window-here : WindowOf f (procedureAt (program f) q) (windowIn t q)
+  unfolding windowIn
+  window-here = rw (start-is t q (h .starts q l)) (h .at q l)
+
+  pub body-here : getD (windowIn t q) bodyPlace 0 ≡ word f (nth 0 (chainRecords f (word f 0 1)) q) procedureGoals
+  unfolding windowIn
+  body-here = rw (start-is t q (h .starts q l)) (h .body q l)

@@ -1,0 +1,71 @@
+-- `list_accesses` meets its contract: the rows of the records passed are filled.
+use Prim.Native.Nat.{_<_, _-_}
+use native.Mathlib.Omega.{arith}
+use borrow.Author.Needs.{needs}
+use Rattle.language.specs.File.{recordCount}
+use Rattle.chains.specs.Formed.{procedures-stand}
+use Rattle.values.specs.Listing.{procedure-count}
+use Rattle.values.specs.Noting.{Noting, noting-first, noting-next, noting-last, noted-accessed}
+use Rattle.values.proofs.rows.list_accesses.Statement.{statement}
+use Rattle.values.proofs.rows.list_accesses.Tie as tie
+use Rattle.values.proofs.rows.list_accesses.Reads as reads
+use Rattle.values.proofs.rows.list_accesses.Lts as lts
+use Rattle.chains.proofs.chain_length.Reads as chain-length-reads
+use Rattle.records.proofs.word.Reads as word-reads
+use Rattle.values.proofs.rows.list_access.Reads as list-access-reads
+
+abbrev Inv-loop : tie.InvT-loop
+Inv-loop file table rows₀ procedures count i₀ rows i = (0 < i) × Noting file rows₀ i rows
+
+abbrev μ-loop : tie.MeasureT-loop
+μ-loop file table rows₀ procedures count i₀ rows i = count - i
+
+word-requires : tie.Need-word-requires Inv-loop μ-loop
+word-requires c κs = search needs
+
+chain-length-requires : tie.Need-chain-length-requires Inv-loop μ-loop
+chain-length-requires c κs = let F = c .before .before .pre .0 in (F, rw (c .word .ensures .0) (procedures-stand F .below))
+
+word-requires-2 : tie.Need-word-requires-2 Inv-loop μ-loop
+word-requires-2 c κs = search needs
+
+loop-holds : tie.Need-loop-holds Inv-loop μ-loop
+loop-holds c = (omega arith, noting-first _ _)
+
+list-access-requires : tie.Need-list-access-requires Inv-loop μ-loop
+unfolding recordCount
+list-access-requires c κs =
+    let p = c .before .before .before .before .before .before .before .pre in
+    (p .0, (p .1 .0, (procedure-count (p .0) (c .before .before .before .before .before .word .ensures .0) (c .before .before .before .before .chain-length .ensures), (rw (c .before .before .before .word2 .ensures .0) at (c .before .loop-test .taken), omega (arith, c .before .before .loop .inv .1 .kept .length, p .1 .1)))))
+
+add-i : tie.Need-add-i Inv-loop μ-loop
+add-i c = search needs
+
+loop-less : tie.Need-loop-less Inv-loop μ-loop
+loop-less c = search needs
+
+loop-again : tie.Need-loop-again Inv-loop μ-loop
+loop-again c = (omega arith, noting-next (c .before .before .before .loop .inv .1) (c .list-access .ensures))
+
+returns : tie.Need-returns Inv-loop μ-loop
+unfolding recordCount
+returns c =
+    let h = c .before .loop .inv .1 in
+    let n = noting-last h (rw (c .before .before .word2 .ensures .0) at (c .loop-test .left)) in
+    (noted-accessed n, (n, h .kept))
+
+pub list-accesses-spec : {M : Type 1} → statement M
+list-accesses-spec =
+    tie.close
+    (tie.spec
+    Inv-loop
+    μ-loop
+    word-requires
+    chain-length-requires
+    word-requires-2
+    loop-holds
+    list-access-requires
+    add-i
+    loop-less
+    loop-again
+    returns)

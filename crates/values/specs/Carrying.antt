@@ -1,0 +1,91 @@
+-- Number 4's walk as the code makes it: two words carried in place, and what a step and an arm do read off their rows.
+use Prim.Native.Nat.{ℕ, _≤_}
+use native.Mathlib.Omega.{arith}
+use mathlib.Core.Path.{_≡_, refl, sym, ap, ap₂, _∙_}
+use mathlib.Core.Bool.{Bool, true, false}
+use mathlib.Core.List.{List, []}
+use lib.ListN.{length, getD, set, length-set}
+use lib.Seq.{getD-set-same, getD-set-other}
+use Rattle.sets.specs.Tests.{clash}
+use Rattle.sets.specs.Sets.{member, _∪_, _∩_, stored, loaded, loaded-stored}
+use Rattle.sets.specs.Members.{setOf}
+use Rattle.sets.specs.declared.Set.{Set}
+use Rattle.language.specs.File.{kArm, goals, arms, word}
+use Rattle.language.specs.Format.{kindWord, switchKind, ifKind, armKind}
+use Rattle.language.specs.Program.{four, Step, step}
+use Rattle.language.specs.Values.{access, reads, gives}
+use Rattle.language.specs.Answers.{program}
+use Rattle.layout.specs.Table.{all-rows}
+use Rattle.chains.specs.Formed.{Formed, Stands, goalsAt, firstGoal, goalAt}
+use Rattle.tables.specs.Rows.{readsIn, givesIn, markIn}
+use Rattle.tables.specs.Filled.{StepAt}
+use Rattle.values.specs.Fitting.{armArguments, arm-kind}
+use Rattle.values.specs.Noting.{isStep, Noted, step-kind, arm-some}
+use Rattle.values.specs.Shapes.{step-here, kind-number}
+use Rattle.values.specs.Walk.{outcome, goesOn, step-goes}
+use Rattle.values.specs.Along.{GoalsWalked, GoalWalked, ArmsWalked}
+use Rattle.values.specs.Valuing.{Valuation, everyIn, someIn, both, valuation, giving, valuer}
+
+-- with the words c before and d behind, the answer r is right
+abbrev pub GoalsValued : List ℕ → ℕ → List ℕ → Bool → List ℕ → Type 0
+GoalsValued f i c r d = GoalsWalked (valuer (program f)) f i (valuation c) r (valuation d)
+
+abbrev pub GoalValued : List ℕ → ℕ → List ℕ → Bool → List ℕ → Type 0
+GoalValued f i c r d = GoalWalked (valuer (program f)) f i (valuation c) r (valuation d)
+
+abbrev pub ArmsValued : List ℕ → ℕ → List ℕ → Bool → List ℕ → Type 0
+ArmsValued f i c r d = ArmsWalked (valuer (program f)) f i (valuation c) r (valuation d)
+
+-- what row i does
+abbrev pub RowValued : List ℕ → ℕ → List ℕ → Bool → List ℕ → Type 0
+RowValued rows i c r d = outcome r (valuation d) ≡ giving (readsIn rows i) (givesIn rows i) (markIn rows i) (valuation c)
+
+-- ---- two words stored
+pub carried-both : (c : List ℕ) {x y : ℕ} {e s : Set} → 2 ≤ length c → x ≡ stored e → y ≡ stored s → valuation (set (set c 0 x) 1 y) ≡ both e s
+unfolding everyIn someIn
+carried-both c {x} {y} {e} {s} l p q =
+    let n = length-set c 0 x in
+    ap₂ both (ap loaded (getD-set-other (set c 0 x) 1 0 y 0 (λ z. omega arith) ∙ getD-set-same c 0 x 0 (omega arith) ∙ p) ∙ loaded-stored e)
+    (ap loaded (getD-set-same (set c 0 x) 1 y 0 (omega arith) ∙ q) ∙ loaded-stored s)
+
+module _ (f : List ℕ) {rows : List ℕ} (N : Noted f rows) where
+  -- ---- a step's row
+  row-step : (i : ℕ) {g : Step} (c d : List ℕ) (r : Bool) → StepAt f i g → RowValued rows i c r d → outcome r (valuation d) ≡ valuer (program f) .atStep g (valuation c)
+  unfolding valuer reads gives
+  row-step i {g} c d r s m = let h = N .at i .step g s in m ∙ rw (h .read, h .given, h .none-twice) refl
+
+  module _ (F : Formed f) (i : ℕ) (S : Stands f goals i) (z : i ≡ 0 → ⊥) {w : ℕ} (e : w ≡ word f i kindWord) (p : w ≡ switchKind → ⊥) (q : w ≡ ifKind → ⊥) where
+    one : Step
+    one = step-here F S z e p q .one
+
+    one-at : StepAt f i one
+    unfolding goalAt firstGoal one
+    one-at = record { stands = S; some = z; view = ap firstGoal (step-here F S z e p q .view) }
+
+    pub goal-step : (c d : List ℕ) (r : Bool) → RowValued rows i c r d → GoalValued f i c r d
+    goal-step c d r m = step-goes (valuer (program f)) (valuation c) (valuation d) r (one-at .view) (row-step i c d r one-at m)
+
+    -- nothing else stands there
+    pub goal-closed : {A : Type 0} {b : Bool} → b ≡ isStep w → b ≡ false → A
+    goal-closed h k = absurd (clash (ap isStep e ∙ step-kind i F one one-at) (sym h ∙ k))
+
+  -- ---- an arm's row
+  module _ (i : ℕ) (S : Stands f arms i) (z : i ≡ 0 → ⊥) where
+    pub row-arm : (c d : List ℕ) (r : Bool) → RowValued rows i c r d
+        → outcome r (valuation d) ≡ valuer (program f) .enter (four (word f i 4) (word f i 5) (word f i 6) (word f i 7)) (valuation c)
+    unfolding valuer setOf armArguments
+    row-arm c d r m = let h = N .at i .arm S z in m ∙ rw (h .read, h .given, h .none-twice) refl
+
+    pub arm-closed : {A : Type 0} {w : ℕ} → w ≡ word f i kindWord → (w ≡ armKind → ⊥) → A
+    unfolding all-rows
+    arm-closed e h = absurd (h (e ∙ kind-number (word f i 0) kArm (arm-kind f i S z) arm-some))
+
+-- ---- what may be read
+pub readable-is : (f c : List ℕ) {b : Bool} {e : Set} (x : ℕ) → b ≡ member e x → e ≡ everyIn c → b ≡ valuer (program f) .readable (valuation c) x
+unfolding valuer
+readable-is f c x h e = h ∙ ap (λ s. member s x) e
+
+-- ---- paths meet: a was carried behind the one, b behind the other
+pub joined : (f : List ℕ) (a b c : Valuation) → c ≡ both (a .every ∩ b .every) (a .some ∪ b .some) → outcome true c ≡ valuer (program f) .join a b
+unfolding valuer outcome
+joined f a b c e = ap goesOn e

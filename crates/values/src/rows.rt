@@ -1,0 +1,87 @@
+// What every step and every arm reads and gives, worked out once, into the rows.
+use crate::steps::record_access;
+use chains::chain_length;
+use language::format::ARM;
+use language::format::ASSIGN;
+use language::format::CALL;
+use language::format::CONSTRUCT;
+use language::format::CREATE;
+use language::format::HEADER_COUNT;
+use language::format::HEADER_PROCEDURES;
+use language::format::KIND;
+use language::format::LITERAL;
+use language::format::PRINT;
+use language::format::REMOVE;
+use language::format::SUM;
+use records::word;
+use tables::ROWS;
+use tables::TABLE;
+use tables::put_access;
+ghost use mathlib.Core.Path.{_≡_};
+ghost use Prim.Native.Nat.{_<_, _≤_};
+ghost use lib.ListN.{length};
+ghost use Rattle.language.specs.File.{recordCount};
+ghost use Rattle.language.specs.Answers.{program};
+ghost use Rattle.chains.specs.Formed.{Formed};
+ghost use Rattle.tables.specs.Window.{FileTable};
+ghost use Rattle.tables.specs.Filled.{Accessed};
+ghost use Rattle.values.specs.Noting.{rowWords, isStep, Noted, Kept, RowListed};
+
+// Fills the rows of steps and arms: what they read and give, and whether they give no variable twice.
+pub fn list_accesses(file: &[u8], table: &[u64; TABLE], rows: &mut [u64; ROWS])
+    requires { ⌜ Formed (now file) ⌝ }
+    requires { ⌜ FileTable (now file) (now table) ⌝ }
+    requires { ⌜ rowWords ≤ length (now rows) ⌝ }
+    ensures { λ _. ⌜ Accessed (now (file .entry)) (now (rows .exit)) ⌝ }
+    ensures { λ _. ⌜ Noted (now (file .entry)) (now (rows .exit)) ⌝ }
+    ensures { λ _. ⌜ Kept (now (file .entry)) (now (rows .entry)) (now (rows .exit)) ⌝ }
+{
+    let procedures = chain_length(file, word(file, 0, HEADER_PROCEDURES));
+    let count = word(file, 0, HEADER_COUNT);
+    let mut i = 1;
+    while i < count {
+        list_access(file, table, procedures, i, rows);
+        i += 1;
+    }
+}
+
+// Fills the row of record i, where it is a step or an arm. There are that many procedures.
+fn list_access(
+    file: &[u8],
+    table: &[u64; TABLE],
+    procedures: usize,
+    i: usize,
+    rows: &mut [u64; ROWS],
+)
+    requires { ⌜ Formed (now file) ⌝ }
+    requires { ⌜ FileTable (now file) (now table) ⌝ }
+    requires { ⌜ procedures ≡ length (program (now file) .procedures) ⌝ }
+    requires { ⌜ (i < recordCount (now file)) × (rowWords ≤ length (now rows)) ⌝ }
+    ensures { λ _. ⌜ RowListed (now (file .entry)) i (now (rows .entry)) (now (rows .exit)) ⌝ }
+{
+    let kind = word(file, i, KIND);
+    if kind != ARM {
+        if !is_step(kind) {
+            return;
+        }
+    }
+    let a = record_access(file, table, procedures, i);
+    put_access(rows, i, a);
+}
+
+// Whether a goal of that kind is a step.
+pub fn is_step(kind: usize) -> bool
+    ensures { λ b. ⌜ b ≡ isStep kind ⌝ }
+{
+    match kind {
+        LITERAL => true,
+        SUM => true,
+        ASSIGN => true,
+        CONSTRUCT => true,
+        CALL => true,
+        PRINT => true,
+        CREATE => true,
+        REMOVE => true,
+        _ => false,
+    }
+}

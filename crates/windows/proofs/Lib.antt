@@ -1,0 +1,2 @@
+mod Variables
+mod Regions

@@ -1,0 +1,14 @@
+pub mod Targets
+pub mod Reading
+pub mod Closing
+pub mod Modes
+pub mod Sorting
+pub mod Along
+pub mod Storing
+pub mod Parts
+pub mod Fitting
+pub mod Kept
+pub mod Classed
+pub mod Making
+pub mod Procedure
+pub mod Listing

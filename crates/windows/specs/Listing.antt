@@ -1,0 +1,201 @@
+-- Going through the procedures: the windows of those before record i are written below place `at`, those from it on are still to come.
+use Prim.Native.Nat.{ℕ, suc, _+_, _*_, _≤_, _<_}
+use native.Mathlib.Decide.{ℕ-discrete}
+use native.Mathlib.Omega.{arith}
+use mathlib.Core.Bool.{Bool, true, false, _&&_}
+use mathlib.Core.List.{List, _∷_}
+use mathlib.Core.Path.{_≡_, refl, sym, ap, _∙_}
+use lib.ListN.{length, getD, set, drop}
+use lib.Seq.{getD-drop}
+use Rattle.sets.specs.Tests.{_&_}
+use Rattle.language.specs.File
+use Rattle.language.specs.File.{procedures, word}
+use Rattle.language.specs.Lists.{all, nth}
+use Rattle.language.specs.Program.{Procedure, procedureAt, signatureOf}
+use Rattle.language.specs.Typing.{typingOk}
+use Rattle.language.specs.Lifetimes.{classesOk, declaredClassesOk}
+use Rattle.language.specs.Answers.{program}
+use Rattle.laws.specs.Tests.{and-assoc, and-yes}
+use Rattle.region_graph.specs.Typed.{noProcedure, signature-typed, procedures-count, variables-few, regions-few}
+use Rattle.chains.specs.Formed.{Formed, Stands, proceduresAt, goalsAt, procedures-none, procedures-stand, program-procedures}
+use Rattle.chains.specs.Declared.{ProcedureAt, procedure-at}
+use Rattle.chains.specs.Elements.{variables-count, regions-count}
+use Rattle.chains.specs.Is.{procedure-is}
+use Rattle.chains.specs.Records.{chainRecords}
+use Rattle.tables.specs.Window.{WindowOf, FileTable}
+use Rattle.windows.specs.Along.{Along, along-first, along-here, along-next}
+use Rattle.windows.specs.Storing.{set-here, set-else}
+use Rattle.windows.specs.Fitting.{windowSize, windowsSize, windows-fit}
+use Rattle.windows.specs.Kept.{procedure-kept}
+use Rattle.windows.specs.Classed.{SignatureAt}
+use Rattle.windows.specs.Procedure.{Room, ProcedureListed}
+use Rattle.windows.specs.declared.Listed.{Listed}
+
+abbrev rightAll : List Procedure → Bool
+rightAll ps = all (λ p. classesOk (p .signature)) ps
+
+-- ---- the window of procedure p ends at or below place `at`
+pub record Filled (f : List ℕ) (p at : ℕ) (t : List ℕ) : Type 0 where
+  pub start : ℕ
+  pub here : getD t p 0 ≡ start
+  pub low : 256 ≤ start
+  pub ends : start + (10 + 2 * getD (drop start t) 0 0 + getD (drop start t) 1 0) ≤ at
+  pub window : WindowOf f (procedureAt (program f) p) (drop start t)
+  pub body : getD (drop start t) 2 0 ≡ word f (nth 0 (chainRecords f (word f 0 1)) p) 4
+
+filled-kept : (f : List ℕ) (p at to : ℕ) (t u : List ℕ) → Filled f p at t → at ≤ to → getD u p 0 ≡ getD t p 0
+    → ((k : ℕ) → 256 ≤ k → k < at → getD u k 0 ≡ getD t k 0) → Filled f p to u
+filled-kept f p at to t u h l e same = record {
+  start = h .start;
+  here = e ∙ h .here;
+  low = h .low;
+  ends = omega (arith, h .ends, agree 0 (omega arith), agree 1 (omega arith));
+  window = procedure-kept (drop (h .start) t) (drop (h .start) u) agree (h .window);
+  body = agree 2 (omega arith) ∙ h .body;
+}
+  where
+    agree : (k : ℕ) → k < 10 + 2 * getD (drop (h .start) t) 0 0 + getD (drop (h .start) t) 1 0 → getD (drop (h .start) u) k 0 ≡ getD (drop (h .start) t) k 0
+    agree k m =
+        getD-drop (h .start) u k 0 ∙ same (h .start + k) (omega (arith, h .low)) (omega (arith, h .ends)) ∙ sym (getD-drop (h .start) t k 0)
+
+-- ---- q procedures are written in t, and `right` tells whether they are right
+pub record Listing (f t : List ℕ) (right : Bool) (i q at : ℕ) : Type 0 where
+  pub along : Along f procedures (word f 0 1) i q
+  pub rest : (n : ℕ) → procedureAt (program f) (q + n) ≡ nth noProcedure (proceduresAt f i) n
+  pub count : q + length (proceduresAt f i) ≡ length (program f .procedures)
+  pub low : 256 ≤ at
+  pub long : 11008 ≤ length t
+  pub room : at + windowsSize (proceduresAt f i) ≤ 11008
+  pub filled : (p : ℕ) → p < q → Filled f p at t
+  pub same : (right & rightAll (proceduresAt f i)) ≡ declaredClassesOk (program f)
+
+and-same : (a b : Bool) → (a && b) ≡ (a & b)
+unfolding _&_
+and-same true b = refl
+and-same false b = refl
+
+pub listing-first : {f : List ℕ} (t : List ℕ) {i : ℕ} → Formed f → typingOk (program f) ≡ true → 11008 ≤ length t → i ≡ word f 0 1 → Listing f t true i 0 256
+unfolding procedureAt declaredClassesOk _&_
+listing-first {f} t F T l e =
+    rw e (record {
+      along = along-first (procedures-stand F);
+      rest = λ n. let z : 0 + n ≡ n = omega arith in ap (λ (k : ℕ). procedureAt (program f) k) z ∙ ap (λ (ps : List Procedure). nth noProcedure ps n) (program-procedures F);
+      count = let g = ap length (program-procedures F) in omega arith;
+      low = omega arith;
+      long = l;
+      room = let g = ap windowsSize (program-procedures F) in omega (arith, windows-fit F T);
+      filled = λ p l. absurd (omega arith);
+      same = ap rightAll (sym (program-procedures F));
+    })
+
+module _ {f t : List ℕ} {right : Bool} {i q at : ℕ} (F : Formed f) (T : typingOk (program f) ≡ true) (h : Listing f t right i q at) (z : i ≡ 0 → ⊥) where
+  view : ProcedureAt f i (word f i 1) (word f i 2) (word f i 3) (word f i 4)
+  view = procedure-at F refl (procedure-is (h .along .stands) z)
+
+  -- the procedure at record i is number q
+  is-here : procedureAt (program f) q ≡ nth noProcedure (proceduresAt f i) 0
+  is-here = let e : q ≡ q + 0 = omega arith in ap (λ (k : ℕ). procedureAt (program f) k) e ∙ h .rest 0
+
+  pub signature-here : SignatureAt f (word f i 2) (word f i 3) (signatureOf (program f) q)
+  unfolding signatureOf nth
+  signature-here =
+      let e = is-here ∙ ap (λ (ps : List Procedure). nth noProcedure ps 0) (view .view) in
+      record {
+        variables = ap (λ (p : Procedure). p .signature .variables) e;
+        regions = ap (λ (p : Procedure). p .signature .regions) e;
+        types = program f .types;
+        ok = signature-typed (program f) T q;
+      }
+
+  pub place-here : q < 256
+  place-here =
+      let k = ap length (view .view) in
+      let m = procedures-count (program f) T .1 in
+      omega (arith, h .count)
+
+  pub place-low : q < length t
+  place-low = omega (arith, place-here, h .long)
+
+  size-here : windowsSize (proceduresAt f i) ≡ windowSize (signatureOf (program f) q) + windowsSize (proceduresAt f (word f i 1))
+  unfolding windowsSize signatureOf nth
+  size-here =
+      ap windowsSize (view .view)
+      ∙ ap (λ (p : Procedure). windowSize (p .signature) + windowsSize (proceduresAt f (word f i 1))) (sym (is-here ∙ ap (λ (ps : List Procedure). nth noProcedure ps 0) (view .view)))
+
+  pub room-here : {n : ℕ} → n ≡ length t → Room f i at n
+  unfolding windowSize
+  room-here e =
+      let s = signature-here in
+      let v = ap length (s .variables) ∙ variables-count F (word f i 2) (view .to-variables .stands) in
+      let r = ap length (s .regions) ∙ regions-count F (word f i 3) (view .to-regions .stands) in
+      record {
+        regions = omega (arith, regions-few (s .types) (signatureOf (program f) q) (s .ok), r);
+        words = omega (arith, h .room, h .long, size-here, v, r, e);
+      }
+
+  module _ {l : Listed} (t₁ t₂ : List ℕ) (e₁ : t₁ ≡ set t q at) (P : ProcedureListed f (signatureOf (program f) q) i at t₁ l t₂) where
+    pub fits-here : at + l .size ≤ 11008
+    fits-here = omega (arith, P .size, h .room, size-here)
+
+    filled-here : Filled f q (at + l .size) t₂
+    unfolding signatureOf windowSize nth
+    filled-here = record {
+      start = at;
+      here = P .before q (omega (arith, place-here, h .low)) ∙ set-here t place-low e₁ refl;
+      low = h .low;
+      ends = omega (arith, P .variables, P .regions, P .size);
+      window = record {
+        window = P .window;
+        body = ap (goalsAt f) (P .body) ∙ sym (ap (λ (p : Procedure). p .body) (is-here ∙ ap (λ (ps : List Procedure). nth noProcedure ps 0) (view .view)));
+        stands = rw (P .body) (view .to-goals .stands);
+      };
+      body = P .body ∙ ap (λ (j : ℕ). word f j 4) (sym (along-here F (h .along) z));
+    }
+
+    filled-else : (p : ℕ) → p < q → Filled f p (at + l .size) t₂
+    filled-else p m =
+        filled-kept f p at (at + l .size) t t₂ (h .filled p m) (omega arith)
+        (P .before p (omega (arith, place-here, h .low)) ∙ set-else t q at e₁ p (λ o. omega arith))
+        (λ k a b. P .before k b ∙ set-else t q at e₁ k (λ o. omega (arith, place-here)))
+
+    pub listing-next : {right′ : Bool} {w : ℕ} → length t₂ ≡ length t → right′ ≡ (right && l .right) → w ≡ word f i 1 → Listing f t₂ right′ w (q + 1) (at + l .size)
+    unfolding all signatureOf nth
+    listing-next {right′} {w} k e o =
+        let p = is-here ∙ ap (λ (ps : List Procedure). nth noProcedure ps 0) (view .view) in
+        let g = view .view in
+        rw o (record {
+          along = along-next F (h .along) z refl;
+          rest = λ n.
+              let y : q + 1 + n ≡ q + suc n = omega arith in
+              ap (λ (j : ℕ). procedureAt (program f) j) y ∙ h .rest (suc n) ∙ ap (λ (ps : List Procedure). nth noProcedure ps (suc n)) g;
+          count = let j = ap length g in omega (arith, h .count);
+          low = omega (arith, h .low);
+          long = omega (arith, h .long, k);
+          room = omega (arith, h .room, size-here, P .size);
+          filled = λ n b. go n b (ℕ-discrete n q);
+          same =
+              ap (λ (a : Bool). a & rightAll (proceduresAt f (word f i 1))) (e ∙ and-same right (l .right))
+              ∙ and-assoc right (l .right) (rightAll (proceduresAt f (word f i 1)))
+              ∙ ap (λ (a : Bool). right & (a & rightAll (proceduresAt f (word f i 1)))) (P .right ∙ ap (λ (x : Procedure). classesOk (x .signature)) p)
+              ∙ ap (λ (ps : List Procedure). right & rightAll ps) (sym g) ∙ h .same;
+        })
+      where
+        go : (n : ℕ) → n < q + 1 → Dec (n ≡ q) → Filled f n (at + l .size) t₂
+        go n b (yes y) = rw y filled-here
+        go n b (no y) = filled-else n (omega (arith, y))
+
+-- ---- all are
+module _ {f t : List ℕ} {right : Bool} {i q at : ℕ} (h : Listing f t right i q at) (z : i ≡ 0) where
+  pub listing-right : right ≡ declaredClassesOk (program f)
+  unfolding all
+  listing-right = sym (and-yes right) ∙ ap (λ (ps : List Procedure). right & rightAll ps) (sym (procedures-none f z)) ∙ h .same
+
+  all-filled : (p : ℕ) → p < length (program f .procedures) → Filled f p at t
+  all-filled p l = let k = ap length (procedures-none f z) in h .filled p (omega (arith, h .count))
+
+  pub listing-table : FileTable f t
+  listing-table = record {
+    starts = λ p l. let w = all-filled p l in omega (arith, w .here, w .ends, h .room, h .long);
+    at = λ p l. let w = all-filled p l in rw (w .here) (w .window);
+    body = λ p l. let w = all-filled p l in rw (w .here) (w .body);
+  }

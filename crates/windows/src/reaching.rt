@@ -1,0 +1,61 @@
+// Reach along edges: a region's direct targets, and the regions that it leads to by way of others.
+use language::format::EDGE_TARGET;
+use language::format::NEXT;
+use language::format::PLACES;
+use records::word;
+use sets::Set;
+ghost use mathlib.Core.Path.{_≡_};
+ghost use Prim.Native.Nat.{_<_};
+ghost use lib.ListN.{length};
+ghost use Rattle.sets.specs.Members.{setOf};
+ghost use Rattle.language.specs.File.{edges};
+ghost use Rattle.language.specs.Regions.{targetsIn};
+ghost use Rattle.chains.specs.Formed.{Formed, Stands, edgesAt};
+ghost use Rattle.windows.specs.Targets.{RegionReach};
+ghost use Rattle.windows.specs.Closing.{Closing};
+
+// Where the edges of the chain at record start lead.
+pub fn targets_of(file: &[u8], start: usize) -> Set
+    requires { ⌜ Formed (now file) ⌝ }
+    requires { ⌜ Stands (now file) edges start ⌝ }
+    ensures { λ r. ⌜ r ≡ setOf (targetsIn (edgesAt (now (file .entry)) start)) ⌝ }
+{
+    let mut found = Set::EMPTY;
+    let mut i = start;
+    while i != 0 {
+        found = found.union(Set::of(word(file, i, EDGE_TARGET)));
+        i = word(file, i, NEXT);
+    }
+    found
+}
+
+// The regions that edges lead to from region r, with r, by a table of where each region's edges lead.
+pub fn reach_from(targets: &[u64], r: usize) -> Set
+    requires { ⌜ 65 ≡ length (now targets) ⌝ }
+    ensures { λ x. ⌜ RegionReach (now (targets .entry)) r x ⌝ }
+{
+    let mut found = Set::of(r);
+    let mut unread = Set::of(r);
+    let mut u = unread.after(0);
+    while u < PLACES {
+        let new = Set::loaded(targets[u]).difference(found);
+        found = found.union(new);
+        unread = unread.difference(Set::of(u)).union(new);
+        u = unread.after(0);
+    }
+    found
+}
+
+// Puts what each region reaches in the place of where its edges lead, for the regions 1 to n.
+pub fn list_reaches(targets: &mut [u64], n: usize)
+    requires { ⌜ 65 ≡ length (now targets) ⌝ }
+    requires { ⌜ n < 65 ⌝ }
+    ensures { λ _. ⌜ Closing (now (targets .entry)) n (now (targets .exit)) ⌝ }
+{
+    let mut r = 0;
+    while r < n {
+        let reach = reach_from(targets, r + 1);
+        targets[r + 1] = reach.stored();
+        r += 1;
+    }
+}

@@ -1,0 +1,124 @@
+// The windows of all procedures.
+use crate::Classes;
+use crate::Counts;
+use crate::Listed;
+use crate::reaching::list_reaches;
+use crate::sorting::classes_of;
+use crate::writing::list_regions;
+use crate::writing::list_variables;
+use crate::writing::store;
+use chains::chain_length;
+use language::format::HEADER_PROCEDURES;
+use language::format::MAX_PROCEDURES;
+use language::format::NEXT;
+use language::format::PLACES;
+use language::format::PROCEDURE_GOALS;
+use language::format::PROCEDURE_REGIONS;
+use language::format::PROCEDURE_VARIABLES;
+use records::word;
+ghost use mathlib.Core.Path.{_≡_};
+ghost use mathlib.Core.Bool.{true};
+ghost use Prim.Native.Nat.{_+_, _≤_};
+ghost use lib.ListN.{length};
+ghost use Rattle.language.specs.File;
+ghost use Rattle.language.specs.Typing.{typingOk};
+ghost use Rattle.language.specs.Lifetimes.{declaredClassesOk};
+ghost use Rattle.language.specs.Answers.{program};
+ghost use Rattle.chains.specs.Formed.{Formed, Stands};
+ghost use Rattle.tables.specs.Window.{FileTable};
+ghost use Rattle.windows.specs.Storing.{Stored};
+ghost use Rattle.windows.specs.Procedure.{headerWords, Room, ListedAt};
+
+// Stores the first words of a window.
+fn put_header(table: &mut [u64], at: usize, n: Counts, c: Classes)
+    requires { ⌜ at + 10 ≤ length (now table) ⌝ }
+    ensures { λ _. ⌜ Stored (now (table .entry)) at (headerWords n c) 10 (now (table .exit)) ⌝ }
+{
+    let ins = c.ins;
+    let outs = c.outs;
+    let born = c.born;
+    let dead = c.dead;
+    let kept = c.kept;
+    let passed = c.passed;
+    let words = [
+        n.variables as u64,
+        n.regions as u64,
+        n.body as u64,
+        ins.stored(),
+        outs.stored(),
+        born.stored(),
+        dead.stored(),
+        kept.stored(),
+        passed.stored(),
+        n.first as u64,
+    ];
+    store(table, at, &words);
+}
+
+// Fills the window of the procedure at record i, from place `at` on. Targets is room for where the edges
+// of its regions lead, and then for what they reach.
+fn list_procedure(
+    file: &[u8],
+    i: usize,
+    table: &mut [u64],
+    at: usize,
+    targets: &mut [u64],
+) -> Listed
+    requires { ⌜ Formed (now file) ⌝ }
+    requires { ⌜ Stands (now file) File.procedures i × (i ≡ 0 → ⊥) ⌝ }
+    requires { ⌜ Room (now file) i at (length (now table)) ⌝ }
+    requires { ⌜ 65 ≡ length (now targets) ⌝ }
+    ensures { λ l. ⌜ ListedAt (now (file .entry)) i at (now (table .entry)) l (now (table .exit)) ⌝ }
+{
+    let v = word(file, i, PROCEDURE_VARIABLES);
+    let r = word(file, i, PROCEDURE_REGIONS);
+    let g = word(file, i, PROCEDURE_GOALS);
+    let variables = chain_length(file, v);
+    let regions = list_regions(file, r, table, at + 10 + 2 * variables, targets);
+    list_reaches(targets, regions);
+    table[at] = variables as u64;
+    list_variables(file, v, table, at + 10, targets);
+    let c = classes_of(file, v, r, table, at);
+    let n = Counts {
+        variables,
+        regions,
+        body: g,
+        first: v,
+    };
+    put_header(table, at, n, c);
+    Listed {
+        size: 10 + 2 * variables + regions,
+        right: c.right(),
+    }
+}
+
+fn target_table() -> [u64; PLACES]
+    ensures { λ r. ⌜ 65 ≡ length r ⌝ }
+{
+    [0; PLACES]
+}
+
+// Fills the file's table, and tells whether every procedure's classes are right: number 7 for every program. What stands
+// behind the last window is not said.
+pub fn list_procedures(file: &[u8], table: &mut [u64]) -> bool
+    requires { ⌜ Formed (now file) ⌝ }
+    requires { ⌜ typingOk (program (now file)) ≡ true ⌝ }
+    requires { ⌜ 11008 ≤ length (now table) ⌝ }
+    ensures { λ b. ⌜ b ≡ declaredClassesOk (program (now (file .entry))) ⌝ }
+    ensures { λ _. ⌜ FileTable (now (file .entry)) (now (table .exit)) ⌝ }
+{
+    let mut targets = target_table();
+    let mut right = true;
+    let mut i = word(file, 0, HEADER_PROCEDURES);
+    let mut q = 0;
+    let mut at = MAX_PROCEDURES;
+    while i != 0 {
+        table[q] = at as u64;
+        let one = list_procedure(file, i, table, at, &mut targets);
+        right = right & one.right;
+        at += one.size;
+        q += 1;
+        i = word(file, i, NEXT);
+    }
+    right
+}
