@@ -1,0 +1,3 @@
+pub mod Laws
+pub mod Passing
+pub mod Regions

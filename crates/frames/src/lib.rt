@@ -1,0 +1,19 @@
+// Frames of 136 lent words: values and regions of a frame's numbers, what a call and a return copy, and words of numbers.
+mod numbers;
+mod passing;
+mod regions;
+mod words;
+
+pub use numbers::less_words;
+pub use numbers::literal_word;
+pub use numbers::sum_word;
+pub use passing::arm_of;
+pub use passing::values_in;
+pub use passing::values_out;
+pub use regions::regions_in;
+pub use regions::regions_out;
+pub use words::base;
+pub use words::clear;
+pub use words::put_from;
+pub use words::region_base;
+pub use words::word_from;

@@ -1,0 +1,70 @@
+-- The arm that a switch takes, by its record.
+use Prim.Native.Nat.{ℕ}
+use native.Mathlib.Omega.{arith}
+use mathlib.Core.Path.{_≡_, refl, sym, _∙_}
+use mathlib.Core.Bool.{true, false}
+use mathlib.Core.List.{List}
+use mathlib.Core.Logic.{_⊎_, inl, inr}
+use lib.Dec.{eqb}
+use Rattle.sets.specs.Tests.{truth}
+use Rattle.language.specs.Lists.{choose}
+use Rattle.language.specs.File.{arms, goals, word}
+use Rattle.language.specs.Program.{four, argumentsOf, Goals}
+use Rattle.language.specs.Frames.{noArm, picked, pick}
+use Rattle.laws.specs.Choices.{choose-true, choose-false}
+use Rattle.layout.specs.Chains.{real}
+use Rattle.chains.specs.Formed.{Formed, Stands, goalsAt, armsAt, arms-none}
+use Rattle.chains.specs.Is.{arm-is}
+use Rattle.chains.specs.Parts.{arm-at}
+use Rattle.chains.specs.Records.{chainRecords, records-step, along}
+use Rattle.word_machine.specs.Tables.{Tables, Tabled, Starts}
+use Rattle.word_machine.specs.Machine.{armOf}
+
+module _ {f : List ℕ} {T : Tables} (B : Tabled f T) (F : Formed f) where
+  -- record j is the arm with arguments ys and goals gs, in a chain that goes on at c and is procedure p's
+  pub record ArmFound (c p : ℕ) (ys : List ℕ) (gs : Goals) (j : ℕ) : Type 0 where
+    pub arguments : ys ≡ argumentsOf (four (word f j 4) (word f j 5) (word f j 6) (word f j 7))
+    pub goals-are : gs ≡ goalsAt f (word f j 2)
+    pub stands : Stands f goals (word f j 2)
+    pub starts : Starts (B .onward) (B .owner) (word f j 2) c p
+
+  picked-arguments : {ys zs : List ℕ} {gs hs : Goals} → picked ys gs ≡ picked zs hs → zs ≡ ys
+  picked-arguments e = cc
+
+  picked-goals : {ys zs : List ℕ} {gs hs : Goals} → picked ys gs ≡ picked zs hs → hs ≡ gs
+  picked-goals e = cc
+
+  module _ (c p k : ℕ) (ys : List ℕ) (gs : Goals) where
+    here : (j : ℕ) → Stands f arms j → (j ≡ 0 → ⊥) → B .onward j ≡ c → B .owner j ≡ p
+        → picked (argumentsOf (four (word f j 4) (word f j 5) (word f j 6) (word f j 7))) (goalsAt f (word f j 2)) ≡ picked ys gs → ArmFound c p ys gs j
+    here j s z o w e = record {
+      arguments = picked-arguments e;
+      goals-are = picked-goals e;
+      stands = arm-at F refl (arm-is s z) .to-goals .stands;
+      starts = λ y. let b = B .arm-goals j s z y in (b .0 ∙ o, b .1 ∙ w);
+    }
+
+    one-arm : (j : ℕ) (s : Stands f arms j) (z : j ≡ 0 → ⊥) → B .onward j ≡ c → B .owner j ≡ p
+        → (pick (armsAt f (word f j 1)) k ≡ picked ys gs → ArmFound c p ys gs (armOf f k (chainRecords f (word f j 1))))
+        → pick (armsAt f j) k ≡ picked ys gs → ArmFound c p ys gs (armOf f k (chainRecords f j))
+    unfolding pick armOf
+    one-arm j s z o w ih e =
+        let v = arm-at F refl (arm-is s z) in
+        rw (records-step {w = word f j 1} F z (s .below) refl) (by (truth (eqb (word f j 3) k)) (rw (v .view) at e))
+      where
+        by : (eqb (word f j 3) k ≡ true) ⊎ (eqb (word f j 3) k ≡ false)
+            → choose (eqb (word f j 3) k) (picked (argumentsOf (four (word f j 4) (word f j 5) (word f j 6) (word f j 7))) (goalsAt f (word f j 2))) (pick (armsAt f (word f j 1)) k) ≡ picked ys gs
+            → ArmFound c p ys gs (choose (eqb (word f j 3) k) j (armOf f k (chainRecords f (word f j 1))))
+        by (inl t) e = rw (choose-true _ j (armOf f k (chainRecords f (word f j 1))) t) (here j s z o w (sym (choose-true _ _ _ t) ∙ e))
+        by (inr t) e = rw (choose-false _ j (armOf f k (chainRecords f (word f j 1))) t) (ih (sym (choose-false _ _ _ t) ∙ e))
+
+    pub arm-found : (a : ℕ) → Stands f arms a → Starts (B .onward) (B .owner) a c p → pick (armsAt f a) k ≡ picked ys gs
+        → ArmFound c p ys gs (armOf f k (chainRecords f a))
+    unfolding pick real
+    arm-found =
+        along F arms refl (λ a. Starts (B .onward) (B .owner) a c p → pick (armsAt f a) k ≡ picked ys gs → ArmFound c p ys gs (armOf f k (chainRecords f a)))
+        (λ s e. absurd (never (rw (arms-none f {i = 0} refl) at e)))
+        (λ j s z ih o. one-arm j s z (o z .0) (o z .1) (ih (λ y. let b = B .arm-next j s z y in (b .0 ∙ o z .0, b .1 ∙ o z .1))))
+      where
+        never : noArm ≡ picked ys gs → ⊥
+        never e = let x : _≡_ {A = ℕ} 0 1 = cc in omega arith

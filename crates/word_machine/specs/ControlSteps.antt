@@ -1,0 +1,181 @@
+-- Ifs, switches and calls: the goals that other goals follow.
+use Prim.Native.Nat.{ℕ, suc, _+_, _*_, _≤_, _<_}
+use native.Mathlib.Omega.{arith}
+use mathlib.Core.Path.{_≡_, refl, ap, _∙_}
+use mathlib.Core.Bool.{Bool, true, false}
+use mathlib.Core.List.{List, _∷_, map}
+use mathlib.Core.Logic.{_⊎_, inl, inr}
+use borrow.Author.Tests.{ltb-true}
+use lib.Dec.{ltb}
+use lib.ListN.{length, getD}
+use mir.Syntax.{w32}
+use mir.Val.{toZ}
+use Rattle.language.specs.declared.Stop.the-variants.{Frames}
+use Rattle.language.specs.Lists.{choose}
+use Rattle.language.specs.File.{goals, word}
+use Rattle.language.specs.Numbers.{less}
+use Rattle.language.specs.Program.{four, fourWords, trimmed, argumentsOf, call, Goals, step, switch, ifLess, Arms, _before_}
+use Rattle.language.specs.Typing.{isVariable}
+use Rattle.language.specs.Frames.{Value, Cell, Frame, numberIn, withGoals, giveEach, branchIn, picked, pick, enterArm, cellIn, openCell, calleeFrame}
+use Rattle.language.specs.AcceptedRun.{RegionFrame, Memory, liesIn, cellOf, withFrame, calleeRegions, state}
+use Rattle.language.specs.AcceptedRun as Run
+use Rattle.language.specs.Machine.{Room, goes, roomOr}
+use Rattle.language.specs.Answers.{program}
+use Rattle.records.specs.Records.{recordAt}
+use Rattle.records.specs.declared.Record.the-variants.{Switch, If, Call}
+use Rattle.chains.specs.Formed.{Formed, Stands, goalsAt, armsAt, argumentsAt}
+use Rattle.chains.specs.Records.{chainRecords}
+use Rattle.chains.specs.Parts.{if-at, switch-at, call-at}
+use Rattle.safety.specs.Premises.{Accepted, laws}
+use Rattle.region_graph.specs.Shared.{variable-top}
+use Rattle.heap.specs.Words.{argumentWords, arguments-are}
+use Rattle.heap.specs.Standing.{StandEach}
+use Rattle.heap.specs.Represents.{Reads}
+use Rattle.heap.specs.Reading.{reads}
+use Rattle.word_machine.specs.Tables.{Tables, Tabled, onto, Starts}
+use Rattle.word_machine.specs.Machine.{Words, valuePlace, regionPlace, callPlace, withFrames, valueOf, went, ifRoom, armOf, entersArm, switches, calls}
+use Rattle.word_machine.specs.Successors.{Todo, todo-before}
+use Rattle.word_machine.specs.Premises.{Number, Found}
+use Rattle.word_machine.specs.Relation.{Where, whereIn, Means, not-later, sig, FrameOk, Linked, Waiting, waiting-later, waiting-depth, Running, Stored}
+use Rattle.word_machine.specs.Stepping.{frame-goals}
+use Rattle.word_machine.specs.Arms.{ArmFound, arm-found}
+use Rattle.word_machine.specs.Switching.{setEach, arm-each, each-length, Ranged, each-other, each-means}
+use Rattle.word_machine.specs.Calls.{callee-is, longe, called-frame, called-waiting}
+use Rattle.word_machine.specs.Steps.{After, onward, halts, value-means, value-number}
+
+module _ {f : List ℕ} {T : Tables} (B : Tabled f T) (A : Accepted (program f)) (F : Formed f) (K : Room) (qs : List ℕ) (w : Words) (u : RegionFrame)
+    (fs : List RegionFrame) (m : Memory) (ρ χ : ℕ → ℕ) (i : ℕ) (mine : B .owner i ≡ u .frame .procedure)
+    (G : FrameOk B (w .frames) (w .top) (whereIn m ρ χ) (T .successor i) u)
+    (W : Waiting B (w .frames) (whereIn m ρ χ) (u .frame .procedure) (u .frame .arguments) (w .top) fs) (Q : Stored K qs w m ρ χ) where
+  abbrev L : Where
+  L = whereIn m ρ χ
+
+  -- ---- an if: one of two chains, and then the rest
+  branch-todo : (c : Bool) (a b : ℕ) → Stands f goals a → Stands f goals b → Starts (B .onward) (B .owner) a (T .successor i) (B .owner i)
+      → Starts (B .onward) (B .owner) b (T .successor i) (B .owner i)
+      → Todo B (u .frame .procedure) (onto (choose c a b) (T .successor i)) (choose c (goalsAt f a) (goalsAt f b) before u .frame .goals)
+  unfolding choose
+  branch-todo true a b sa sb ta tb = todo-before B F _ _ _ (G .todo) a sa (λ z. let t = ta z in (t .0, t .1 ∙ mine))
+  branch-todo false a b sa sb ta tb = todo-before B F _ _ _ (G .todo) b sb (λ z. let t = tb z in (t .0, t .1 ∙ mine))
+
+  pub if-after : (n y z a b : ℕ) → recordAt f i ≡ If n y z a b → isVariable (sig f (u .frame .procedure)) y ≡ true
+      → isVariable (sig f (u .frame .procedure)) z ≡ true → Number (u .frame .values y) → Number (u .frame .values z)
+      → After B A F K qs (ifLess y z (goalsAt f a) (goalsAt f b)) u fs m goes
+      (went (withFrames w (w .frames) (onto (choose (less (toZ w32 (valueOf w y)) (toZ w32 (valueOf w z))) a b) (T .successor i))))
+  unfolding Run.take withFrames withFrame withGoals branchIn
+  if-after n y z a b e vy vz ny nz =
+      let I = if-at F refl e in
+      rw (value-number B A F K qs w u fs m ρ χ i G W Q y vy ny, value-number B A F K qs w u fs m ρ χ i G W Q z vz nz)
+      (onward refl
+      (record {
+        newest =
+            frame-goals B A G
+            (branch-todo (less (numberIn (u .frame .values y)) (numberIn (u .frame .values z))) a b (I .to-then .stands) (I .to-else .stands)
+            (B .if-then i n y z a b e) (B .if-else i n y z a b e));
+        waiting = W;
+      })
+      (record { represents = Q .represents; printed = Q .printed; frame-room = Q .frame-room; print-room = Q .print-room }))
+
+  -- ---- a call
+  module _ (q ys : ℕ) (N : Linked B i (u .frame .procedure) q (argumentsAt f ys)) (w3 : ys ≡ word f i 3) (room : 136 * suc (suc (w .top)) ≤ length (w .frames)) where
+    call-running : Running B (calls f T w i q ys) L (calleeRegions (program f) u q (argumentsAt f ys)) (u ∷ fs)
+    unfolding calls calleeRegions calleeFrame
+    call-running =
+        let c = callee-is B A F G W N w3 room in
+        record { newest = rw c (called-frame B A F G W N w3 room); waiting = rw c (called-waiting B A F G W N w3 room) }
+
+    call-stored : Stored K qs (calls f T w i q ys) m ρ χ
+    unfolding calls
+    call-stored = record {
+      represents = Q .represents;
+      printed = Q .printed;
+      frame-room = rw (callee-is B A F G W N w3 room, longe B A F G W N w3 room) (Q .frame-room);
+      print-room = Q .print-room;
+    }
+
+  call-by : (n q ys : ℕ) → recordAt f i ≡ Call n q ys → Linked B i (u .frame .procedure) q (argumentsAt f ys) → (b : Bool) → ltb (suc (w .top)) (K .frames) ≡ b
+      → After B A F K qs (step (call q (argumentsAt f ys))) u fs m (roomOr b Frames) (ifRoom b Frames (calls f T w i q ys))
+  unfolding roomOr ifRoom Run.take
+  call-by n q ys e N false o = halts
+  call-by n q ys e N true o =
+      let w3 = call-at F refl e .w3 in
+      let r : 136 * suc (suc (w .top)) ≤ length (w .frames) = omega (arith, ltb-true (suc (w .top)) (K .frames) o, Q .frame-room) in
+      onward refl (call-running q ys N w3 r) (call-stored q ys N w3 r)
+
+  pub call-after : (n q ys : ℕ) → recordAt f i ≡ Call n q ys → Linked B i (u .frame .procedure) q (argumentsAt f ys)
+      → After B A F K qs (step (call q (argumentsAt f ys))) u fs m (roomOr (ltb (suc (length fs)) (K .frames)) Frames)
+      (ifRoom (ltb (suc (w .top)) (K .frames)) Frames (calls f T w i q ys))
+  call-after n q ys e N = rw (← waiting-depth B W) (call-by n q ys e N (ltb (suc (w .top)) (K .frames)) refl)
+
+  -- ---- a switch on X, whose cell stands at place p and has functor c: the arm at record j has arguments ys and goals gs
+  module _ (j : ℕ) (ys : List ℕ) (gs : Goals) (vs : List Value) (p : ℕ) (found : ArmFound B F (T .successor i) (u .frame .procedure) ys gs j)
+      (words : StandEach χ (length (m .cells)) (argumentWords (w .cells) p) vs) (count : length vs ≡ length ys) (range : Ranged ys) where
+    -- the frame in the arm
+    abbrev inArm : RegionFrame
+    inArm = withFrame u (record { procedure = u .frame .procedure; arguments = u .frame .arguments; goals = gs before u .frame .goals; values = giveEach ys vs (u .frame .values) })
+
+    abbrev four′ : List ℕ
+    four′ = fourWords (four (word f j 4) (word f j 5) (word f j 6) (word f j 7))
+
+    abbrev fw : List ℕ
+    fw = setEach (136 * w .top) four′ (argumentWords (w .cells) p) (w .frames)
+
+    long : length fw ≡ length (w .frames)
+    long = each-length (136 * w .top) four′ (argumentWords (w .cells) p) (w .frames)
+
+    trimmed-are : ys ≡ trimmed four′
+    unfolding argumentsOf
+    trimmed-are = found .arguments
+
+    arm-values : (x : ℕ) → 1 ≤ x → x ≤ 64 → isVariable (sig f (u .frame .procedure)) x ≡ true → Means L (getD fw (valuePlace (w .top) x) 0) (giveEach ys vs (u .frame .values) x)
+    unfolding fourWords
+    arm-values x l h v =
+        rw trimmed-are
+        (each-means (136 * w .top) L x l four′ (argumentWords (w .cells) p) vs (w .frames) (u .frame .values) (rw (arguments-are (w .cells) p) (omega arith))
+        (omega (arith, G .fits)) words (count ∙ ap length trimmed-are) (rw trimmed-are at range) (G .values x l h v))
+
+    other : (k : ℕ) → (k < 136 * w .top) ⊎ (136 * w .top + 64 < k) → getD fw k 0 ≡ getD (w .frames) k 0
+    other k = each-other (136 * w .top) four′ (argumentWords (w .cells) p) (w .frames) k (rw trimmed-are at range)
+
+    arm-frame : FrameOk B fw (w .top) L (onto (word f j 2) (T .successor i)) inArm
+    unfolding withFrame
+    arm-frame = record {
+      fits = omega (arith, G .fits, long);
+      values = arm-values;
+      regions = λ r l h. rw (other (regionPlace (w .top) r) (inr (omega arith))) (G .regions r l h);
+      todo = rw (found .goals-are) (todo-before B F _ _ _ (G .todo) (word f j 2) (found .stands) (found .starts));
+    }
+
+    arm-waiting : Waiting B fw L (u .frame .procedure) (u .frame .arguments) (w .top) fs
+    arm-waiting = waiting-later B (not-later L) long (λ k h. other k (inl h)) (other (callPlace (w .top)) (inr (omega arith))) W
+
+    arm-running : Running B (entersArm f T w p j (T .successor i)) L inArm fs
+    unfolding entersArm withFrames withFrame
+    arm-running = let e = arm-each f T w p j in record { newest = rw e arm-frame; waiting = rw e arm-waiting }
+
+    arm-stored : Stored K qs (entersArm f T w p j (T .successor i)) m ρ χ
+    unfolding entersArm withFrames
+    arm-stored = record { represents = Q .represents; printed = Q .printed; frame-room = rw (arm-each f T w p j, long) (Q .frame-room); print-room = Q .print-room }
+
+  arm-taken : (cs : Arms) (c found : Cell) (ys : List ℕ) (gs : Goals) → found ≡ c → pick cs (c .functor) ≡ picked ys gs
+      → openCell found cs (u .frame)
+      ≡ record { procedure = u .frame .procedure; arguments = u .frame .arguments; goals = gs before u .frame .goals; values = giveEach ys (c .contents) (u .frame .values) }
+  unfolding openCell enterArm
+  arm-taken cs c found ys gs e q = ap (λ (k : Cell). openCell k cs (u .frame)) e ∙ (rw q)
+
+  pub switch-after : (n x cs : ℕ) → recordAt f i ≡ Switch n x cs → isVariable (sig f (u .frame .procedure)) x ≡ true
+      → m .alive (liesIn (m .cells) (u .frame .values x)) ≡ true → Found (sig f (u .frame .procedure)) (m .cells) (u .frame .values x) (armsAt f cs)
+      → After B A F K qs (switch x (armsAt f cs)) u fs m goes (went (switches f T w (valueOf w x) cs (T .successor i)))
+  unfolding switches Run.take
+  switch-after n x cs e v l H =
+      let R = reads (Q .represents) (valueOf w x) (u .frame .values x) (value-means B A F K qs w u fs m ρ χ i G W Q x v) l in
+      let R′ : Reads (w .cells) χ (length (m .cells)) (valueOf w x) (H .cell) = rw (H .is) at R in
+      let j = armOf f (H .cell .functor) (chainRecords f cs) in
+      let D = arm-found B F (T .successor i) (u .frame .procedure) (H .cell .functor) (H .arguments) (H .goals) cs (switch-at F refl e .to-arms .stands)
+      (λ z. let t = B .switch-arms i n x cs e z in (t .0, t .1 ∙ mine)) (H .picks) in
+      let r : Ranged (H .arguments) = λ y h. variable-top _ _ (laws A (u .frame .procedure)) y (H .variables y h) in
+      rw (R′ .functor)
+      (onward (ap (λ (b : Frame). state (program f) (withFrame u b) fs m)
+      (arm-taken (armsAt f cs) (H .cell) (cellIn (map cellOf (m .cells)) (u .frame .values x)) (H .arguments) (H .goals) (H .is) (H .picks)))
+      (arm-running j (H .arguments) (H .goals) (H .cell .contents) (valueOf w x) D (R′ .contents) (H .count) r)
+      (arm-stored j (H .arguments) (H .goals) (H .cell .contents) (valueOf w x) D (R′ .contents) (H .count) r))

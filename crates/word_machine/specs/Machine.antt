@@ -1,0 +1,297 @@
+-- The runner on lists of words: what the code does, one function for each of its steps. `word` and `set` past the end read 0 and store nothing.
+--
+-- A frame is 136 words at 136 * k, k counting from 0 at the entry: word 0 the record of the next goal while the frame waits, word x the value of
+-- variable x, word 64 + r the place of what region number r stands for, word 129 the record of the call that made the frame.
+use Prim.Native.Nat.{ℕ, zero, suc, _+_, _*_}
+use mathlib.Core.Bool.{Bool, true, false}
+use mathlib.Core.List.{List, [], _∷_}
+use lib.Dec.{eqb, ltb}
+use lib.IntN.{_+ℤ_, _-ℤ_}
+use lib.ListN.{length, getD, set}
+use mir.Syntax.{w32}
+use mir.Val.{toZ}
+use Rattle.sets.specs.Members.{consIf, members}
+use Rattle.language.specs.declared.Stop.{Stop}
+use Rattle.language.specs.declared.Stop.the-variants.{Steps, Cells, Places, Frames, Prints}
+use Rattle.language.specs.declared.Ending.{Ending}
+use Rattle.language.specs.declared.Ending.the-variants.{Finished, Stopped}
+use Rattle.language.specs.Lists.{choose}
+use Rattle.language.specs.File.{word}
+use Rattle.language.specs.Numbers.{literalNumber, residue, less}
+use Rattle.language.specs.Machine.{Lent, Room, holds, roomIn}
+use Rattle.records.specs.Records.{recordAt}
+use Rattle.records.specs.declared.Record.{Record}
+use Rattle.records.specs.declared.Record.the-variants.{Header, «Type» as TypeOf, Functor, Procedure, Variable, Region, Edge, Literal, Sum, Assign, Construct, Switch, Arm, If, Call, Argument, Print, Create, Remove, Other}
+use Rattle.chains.specs.Records.{chainRecords}
+use Rattle.memory.specs.declared.Contents.{Contents}
+use Rattle.memory.specs.declared.Heap.{Heap}
+use Rattle.memory.specs.declared.Made.{Made}
+use Rattle.memory.specs.declared.Made.the-variants.{At, NoRoom}
+use Rattle.memory.specs.Memory.{cellWord, emptyHeap, created, createdRegions, built, builtCells, builtRegions, removed, removedCells, removedRegions}
+use Rattle.word_machine.specs.Tables.{Tables, onto}
+
+-- the lent words and what a run keeps beside them: the newest frame's number, its next goal's record, and how many numbers are printed
+pub record Words : Type 0 where
+  pub heap : Heap
+  pub cells : List ℕ
+  pub regions : List ℕ
+  pub frames : List ℕ
+  pub prints : List ℕ
+  pub top : ℕ
+  pub goal : ℕ
+  pub printed : ℕ
+
+-- ---- words of frame k
+abbrev pub goalPlace : ℕ → ℕ
+goalPlace k = 136 * k
+
+abbrev pub valuePlace : ℕ → ℕ → ℕ
+valuePlace k x = 136 * k + x
+
+abbrev pub regionPlace : ℕ → ℕ → ℕ
+regionPlace k r = 136 * k + 64 + r
+
+abbrev pub callPlace : ℕ → ℕ
+callPlace k = 136 * k + 129
+
+-- ---- numbers as words: "read as two's complement", "wrap modulo 2^32"
+unfoldable pub literalWord : ℕ → ℕ
+literalWord v = residue (literalNumber v)
+
+unfoldable pub sumWord : ℕ → ℕ → ℕ → ℕ
+sumWord zero a b = residue (toZ w32 a +ℤ toZ w32 b)
+sumWord (suc o) a b = residue (toZ w32 a -ℤ toZ w32 b)
+
+-- ---- words of a frame copied to another: for each of a list, from its source to its target
+unfoldable pub copied : (ℕ → ℕ) → (ℕ → ℕ) → List ℕ → List ℕ → List ℕ
+copied to from [] fw = fw
+copied to from (a ∷ as′) fw = copied to from as′ (set fw (to a) (getD fw (from a) 0))
+
+-- zero in the n words from place p on
+unfoldable pub cleared : ℕ → ℕ → List ℕ → List ℕ
+cleared p zero fw = fw
+cleared p (suc n) fw = cleared (suc p) n (set fw p 0)
+
+-- the first record of a list whose word 3 is k
+unfoldable pub armOf : List ℕ → ℕ → List ℕ → ℕ
+armOf f k [] = 0
+armOf f k (j ∷ js) = choose (eqb (word f j 3) k) j (armOf f k js)
+
+-- the records of a mode among those of a call's arguments
+unfoldable pub ofMode : (ℕ → ℕ) → ℕ → List ℕ → List ℕ
+ofMode mode m [] = []
+ofMode mode m (a ∷ as′) = consIf (eqb (mode a) m) a (ofMode mode m as′)
+
+-- ---- changes of a part
+unfoldable pub withFrames : Words → List ℕ → ℕ → Words
+withFrames w fw i = record { heap = w .heap; cells = w .cells; regions = w .regions; frames = fw; prints = w .prints; top = w .top; goal = i; printed = w .printed }
+
+-- variable x gets a word, and record i is next
+unfoldable pub given : Words → ℕ → ℕ → ℕ → Words
+given w x v i = withFrames w (set (w .frames) (valuePlace (w .top) x) v) i
+
+unfoldable pub valueOf : Words → ℕ → ℕ
+valueOf w x = getD (w .frames) (valuePlace (w .top) x) 0
+
+unfoldable pub regionFor : Words → ℕ → ℕ
+regionFor w r = getD (w .frames) (regionPlace (w .top) r) 0
+
+-- what a step comes to
+pub data Went : Type 0 where
+  went : Words → Went
+  stops : Stop → Went
+
+unfoldable pub ifRoom : Bool → Stop → Words → Went
+ifRoom true c w = went w
+ifRoom false c w = stops c
+
+-- ---- constructs and creates
+unfoldable pub contentsOf : Words → ℕ → ℕ → ℕ → ℕ → ℕ → Contents
+contentsOf w k a b c d = record { functor = k; a = valueOf w a; b = valueOf w b; c = valueOf w c; d = valueOf w d }
+
+unfoldable pub constructedBy : Words → ℕ → ℕ → List ℕ → List ℕ → Made → Went
+constructedBy w x i m rs (At y h) =
+    went (record { heap = h; cells = m; regions = rs; frames = set (w .frames) (valuePlace (w .top) x) y; prints = w .prints; top = w .top; goal = i; printed = w .printed })
+constructedBy w x i m rs NoRoom = stops Cells
+
+-- X gets a new cell in the region at place r, and record i is next
+unfoldable pub constructed : Words → ℕ → ℕ → ℕ → Contents → Went
+constructed w x i r c =
+    constructedBy w x i (builtCells (w .heap) (w .cells) (w .regions) r c) (builtRegions (w .heap) (w .cells) (w .regions) r) (built (w .heap) (w .cells))
+
+unfoldable pub createdBy : Words → ℕ → ℕ → List ℕ → Made → Went
+createdBy w r i rs (At p h) =
+    went (record { heap = h; cells = w .cells; regions = rs; frames = set (w .frames) (regionPlace (w .top) r) p; prints = w .prints; top = w .top; goal = i; printed = w .printed })
+createdBy w r i rs NoRoom = stops Places
+
+unfoldable pub makesRegion : Words → ℕ → ℕ → Went
+makesRegion w r i = createdBy w r i (createdRegions (w .heap) (w .regions)) (created (w .heap) (w .regions))
+
+-- the region at place p goes
+unfoldable pub dropsRegion : Words → ℕ → ℕ → Words
+dropsRegion w p i =
+    record {
+      heap = removed (w .heap) (w .regions) p;
+      cells = removedCells (w .heap) (w .cells) (w .regions) p;
+      regions = removedRegions (w .heap) (w .regions) p;
+      frames = w .frames;
+      prints = w .prints;
+      top = w .top;
+      goal = i;
+      printed = w .printed;
+    }
+
+unfoldable pub printsWord : Words → ℕ → ℕ → Words
+printsWord w v i =
+    record { heap = w .heap; cells = w .cells; regions = w .regions; frames = w .frames; prints = set (w .prints) (w .printed) v; top = w .top; goal = i; printed = suc (w .printed) }
+
+-- how a run ends: after how many steps, with what words
+pub record Outcome : Type 0 where
+  pub ending : Ending
+  pub done : ℕ
+  pub words : Words
+
+unfoldable pub endedWith : Ending → ℕ → Words → Outcome
+endedWith e n w = record { ending = e; done = n; words = w }
+
+unfoldable pub afterStep : Went → (Words → Outcome) → (Stop → Outcome) → Outcome
+afterStep (went w) onward halt = onward w
+afterStep (stops c) onward halt = halt c
+
+module _ (f : List ℕ) (T : Tables) where
+  -- ---- a switch: the arm of X's cell at record j; the cell at place p
+  unfoldable pub armWords : Words → ℕ → ℕ → List ℕ
+  armWords w p j =
+      set (set (set (set (w .frames) (valuePlace (w .top) (word f j 4)) (cellWord (w .cells) p 1)) (valuePlace (w .top) (word f j 5)) (cellWord (w .cells) p 2))
+      (valuePlace (w .top) (word f j 6)) (cellWord (w .cells) p 3)) (valuePlace (w .top) (word f j 7)) (cellWord (w .cells) p 4)
+
+  unfoldable pub entersArm : Words → ℕ → ℕ → ℕ → Words
+  entersArm w p j i = withFrames w (armWords w p j) (onto (word f j 2) i)
+
+  unfoldable pub switches : Words → ℕ → ℕ → ℕ → Words
+  switches w p cs i = entersArm w p (armOf f (cellWord (w .cells) p 0) (chainRecords f cs)) i
+
+  -- ---- a call at record i: the callee's frame k over the caller's, with its in values and what its dead and kept regions stand for
+  unfoldable pub valuesIn : ℕ → List ℕ → List ℕ → List ℕ
+  valuesIn k as′ fw = copied (λ a. valuePlace (suc k) (T .slot a)) (λ a. valuePlace k (word f a 2)) (ofMode (T .mode) 1 as′) fw
+
+  unfoldable pub regionsIn : ℕ → ℕ → List ℕ → List ℕ → List ℕ
+  regionsIn k i rs fw = copied (λ r. regionPlace (suc k) r) (λ r. regionPlace k (T .image i r)) rs fw
+
+  unfoldable pub calleeWords : ℕ → ℕ → ℕ → ℕ → List ℕ → List ℕ
+  calleeWords k i q ys fw =
+      regionsIn k i (members (T .held q)) (valuesIn k (chainRecords f ys) (cleared (suc (goalPlace (suc k))) (T .size q) (set (set fw (goalPlace k) (T .successor i)) (callPlace (suc k)) i)))
+
+  unfoldable pub calls : Words → ℕ → ℕ → ℕ → Words
+  calls w i q ys =
+      record {
+        heap = w .heap;
+        cells = w .cells;
+        regions = w .regions;
+        frames = calleeWords (w .top) i q ys (w .frames);
+        prints = w .prints;
+        top = suc (w .top);
+        goal = T .body q;
+        printed = w .printed;
+      }
+
+  -- ---- a return to frame k: out values and born regions pass back to it
+  unfoldable pub valuesOut : ℕ → List ℕ → List ℕ → List ℕ
+  valuesOut k as′ fw = copied (λ a. valuePlace k (word f a 2)) (λ a. valuePlace (suc k) (T .slot a)) (ofMode (T .mode) 2 as′) fw
+
+  unfoldable pub regionsOut : ℕ → ℕ → List ℕ → List ℕ → List ℕ
+  regionsOut k i rs fw = copied (λ r. regionPlace k (T .image i r)) (λ r. regionPlace (suc k) r) rs fw
+
+  unfoldable pub returnWords : ℕ → ℕ → List ℕ → List ℕ
+  returnWords k i fw = regionsOut k i (members (T .bears (word f i 2))) (valuesOut k (chainRecords f (word f i 3)) fw)
+
+  unfoldable pub returned : ℕ → Words → Words
+  returned k w =
+      record {
+        heap = w .heap;
+        cells = w .cells;
+        regions = w .regions;
+        frames = returnWords k (getD (w .frames) (callPlace (suc k)) 0) (w .frames);
+        prints = w .prints;
+        top = k;
+        goal = getD (w .frames) (goalPlace k) 0;
+        printed = w .printed;
+      }
+
+  -- "Whenever the newest frame has no goals left, it goes at once": k is the newest frame, i its next goal. Below the entry's there is none
+  unfoldable pub settledFrom : ℕ → ℕ → Words → Words
+  settledFrom zero i w = w
+  settledFrom (suc k) zero w = settledFrom k (returned k w .goal) (returned k w)
+  settledFrom (suc k) (suc i) w = w
+
+  unfoldable pub settled : Words → Words
+  settled w = settledFrom (w .top) (w .goal) w
+
+  unfoldable pub settledIf : Went → Went
+  settledIf (went w) = went (settled w)
+  settledIf (stops c) = stops c
+
+  -- ---- the goal at record i, in room k
+  unfoldable pub steps : Room → ℕ → Record → Words → Went
+  steps k i (Literal n x v) w = went (given w x (literalWord v) (T .successor i))
+  steps k i (Sum n x o y z) w = went (given w x (sumWord o (valueOf w y) (valueOf w z)) (T .successor i))
+  steps k i (Assign n x y) w = went (given w x (valueOf w y) (T .successor i))
+  steps k i (Construct n x t a b c d) w = constructed w x (T .successor i) (regionFor w (T .region i)) (contentsOf w t a b c d)
+  steps k i (Switch n x cs) w = went (switches w (valueOf w x) cs (T .successor i))
+  steps k i (If n y z a b) w =
+      went (withFrames w (w .frames) (onto (choose (less (toZ w32 (valueOf w y)) (toZ w32 (valueOf w z))) a b) (T .successor i)))
+  steps k i (Call n q ys) w = ifRoom (ltb (suc (w .top)) (k .frames)) Frames (calls w i q ys)
+  steps k i (Print n y) w = ifRoom (ltb (w .printed) (k .prints)) Prints (printsWord w (valueOf w y) (T .successor i))
+  steps k i (Create n r) w = makesRegion w r (T .successor i)
+  steps k i (Remove n r) w = went (dropsRegion w (regionFor w r) (T .successor i))
+  steps k i (Header a b c) w = went w
+  steps k i (TypeOf n fs) w = went w
+  steps k i (Functor n a b c d e) w = went w
+  steps k i (Procedure n a b c) w = went w
+  steps k i (Variable n a b c) w = went w
+  steps k i (Region n a b c) w = went w
+  steps k i (Edge n a b c) w = went w
+  steps k i (Arm n g t a b c d) w = went w
+  steps k i (Argument n y) w = went w
+  steps k i Other w = went w
+
+  unfoldable pub stepped : Room → ℕ → Words → Went
+  stepped k i w = settledIf (steps k i (recordAt f i) w)
+
+  -- ---- the run: l steps are left, record i is next, n steps are done. "An ended run is finished before 10 is looked at"
+  unfoldable pub runOn : Room → ℕ → ℕ → ℕ → Words → Outcome
+  runOn k zero zero n w = endedWith Finished n w
+  runOn k zero (suc i) n w = endedWith (Stopped Steps) n w
+  runOn k (suc l) zero n w = endedWith Finished n w
+  runOn k (suc l) (suc i) n w = afterStep (stepped k (suc i) w) (λ v. runOn k l (v .goal) (suc n) v) (λ c. endedWith (Stopped c) n w)
+
+  -- nothing made, the entry's frame alone
+  unfoldable pub startWords : List ℕ → List ℕ → List ℕ → List ℕ → Words
+  startWords m rs fw ps =
+      record {
+        heap = emptyHeap (holds (length m) 8) (holds (length rs) 2);
+        cells = m;
+        regions = rs;
+        frames = cleared 1 (T .size 0) fw;
+        prints = ps;
+        top = 0;
+        goal = T .body 0;
+        printed = 0;
+      }
+
+  -- nothing made and no frame
+  unfoldable pub noFrame : List ℕ → List ℕ → List ℕ → List ℕ → Words
+  noFrame m rs fw ps =
+      record { heap = emptyHeap (holds (length m) 8) (holds (length rs) 2); cells = m; regions = rs; frames = fw; prints = ps; top = 0; goal = 0; printed = 0 }
+
+  unfoldable pub runFrom : Bool → Room → ℕ → List ℕ → List ℕ → List ℕ → List ℕ → Outcome
+  runFrom true k l m rs fw ps = runOn k l (startWords m rs fw ps .goal) 0 (startWords m rs fw ps)
+  runFrom false k l m rs fw ps = endedWith (Stopped Frames) 0 (noFrame m rs fw ps)
+
+-- what is lent, by its length
+unfoldable pub lentWords : List ℕ → List ℕ → List ℕ → List ℕ → ℕ → Lent
+lentWords m rs fw ps l = record { cellWords = length m; regionWords = length rs; frameWords = length fw; printWords = length ps; steps = l }
+
+-- a run in lent words for cells, regions, frames and printed numbers
+unfoldable pub wordRun : List ℕ → Tables → List ℕ → List ℕ → List ℕ → List ℕ → ℕ → Outcome
+wordRun f T m rs fw ps l = runFrom f T (ltb 0 (roomIn (lentWords m rs fw ps l) .frames)) (roomIn (lentWords m rs fw ps l)) l m rs fw ps

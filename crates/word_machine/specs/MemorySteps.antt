@@ -1,0 +1,185 @@
+-- Prints, creates, removes and constructs: the goals that change the memory.
+use Prim.Native.Nat.{ℕ, suc, _+_, _<_}
+use native.Mathlib.Omega.{arith}
+use native.Mathlib.Numerals.{add-one}
+use mathlib.Core.Path.{_≡_, refl, sym, ap, _∙_}
+use mathlib.Core.Bool.{Bool, true, false}
+use mathlib.Core.List.{List, [], _∷_, _++_, map}
+use borrow.Author.Tests.{ltb-true}
+use lib.Dec.{ltb}
+use lib.IntN.{ℤ}
+use lib.ListN.{length, set, take, drop, length-set, length-append}
+use lib.Seq.{take-suc-set, drop-set-lt, drop-drop}
+use mir.Syntax.{w32}
+use mir.Val.{toZ}
+use Rattle.sets.specs.Members.{inList}
+use Rattle.language.specs.declared.Stop.the-variants.{Cells, Places, Prints}
+use Rattle.language.specs.Lists.{put}
+use Rattle.language.specs.Program.{four, fourWords, argumentsOf, construct, print, create, remove, step, regionOf}
+use Rattle.language.specs.Typing.{isVariable, isRegion}
+use Rattle.language.specs.Frames.{cellAt, numberIn, giving, cellFor}
+use Rattle.language.specs.AcceptedRun.{RegionFrame, RegionCell, Memory, withCell, withPrinted, withRegion, withoutRegion, withFrame, regionFor}
+use Rattle.language.specs.AcceptedRun as Run
+use Rattle.language.specs.Machine.{Room, goes, roomOr, cellsHeld, regionsHeld}
+use Rattle.language.specs.Answers.{program}
+use Rattle.laws.specs.Choices.{put-same, put-other}
+use Rattle.chains.specs.Formed.{Formed}
+use Rattle.safety.specs.Premises.{Accepted, laws}
+use Rattle.region_graph.specs.Shared.{region-top}
+use Rattle.memory.specs.declared.Made.{Made}
+use Rattle.memory.specs.declared.Made.the-variants.{At, NoRoom}
+use Rattle.memory.specs.Memory.{built, created, createdRegions}
+use Rattle.heap.specs.Standing.{StandEach, stands-new, each-argument}
+use Rattle.heap.specs.Represents.{Creates, stops-12, creates, Builds, stops-11, builds}
+use Rattle.heap.specs.Reading.{alive-made, prints}
+use Rattle.heap.specs.Creating.{create-ok}
+use Rattle.heap.specs.Building.{build-ok}
+use Rattle.heap.specs.Removing.{remove-ok}
+use Rattle.word_machine.specs.Tables.{Tables, Tabled}
+use Rattle.word_machine.specs.Machine.{Words, valuePlace, regionPlace, valueOf, went, ifRoom, contentsOf, constructedBy, constructed, createdBy, makesRegion, dropsRegion, printsWord}
+use Rattle.word_machine.specs.Machine as M
+use Rattle.word_machine.specs.Statement.{Printed}
+use Rattle.word_machine.specs.Premises.{Number}
+use Rattle.word_machine.specs.Relation.{whereIn, Later, Names, sig, FrameOk, Waiting, Stored}
+use Rattle.word_machine.specs.Stepping.{frame-more, waiting-more, set-frame, set-waiting, name-frame, name-waiting}
+use Rattle.word_machine.specs.Steps.{After, onward, halts, value-means, value-number}
+
+-- ---- one number more is printed
+map-one : (g : ℕ → ℤ) (xs : List ℕ) (x : ℕ) → map g (xs ++ (x ∷ [])) ≡ map g xs ++ (g x ∷ [])
+map-one g [] x = refl
+map-one g (y ∷ xs) x = ap (λ l. g y ∷ l) (map-one g xs x)
+
+pub printed-more : {qs ps : List ℕ} {n : ℕ} {zs : List ℤ} → Printed qs ps n zs → n < length ps → (v : ℕ) (z : ℤ) → toZ w32 v ≡ z
+    → Printed qs (set ps n v) (suc n) (zs ++ (z ∷ []))
+printed-more {qs} {ps} {n} {zs} P l v z e = record {
+  count = length-append zs (z ∷ []) ∙ add-one (length zs) ∙ ap suc (P .count);
+  long = length-set ps n v ∙ P .long;
+  room = omega (arith, length-set ps n v);
+  front = ap (map (toZ w32)) (take-suc-set ps n v l) ∙ map-one (toZ w32) (take n ps) v ∙ (rw (P .front, e));
+  behind = drop-set-lt (suc n) ps n v (omega arith) ∙ one ps ∙ ap (drop 1) (P .behind) ∙ sym (one qs);
+}
+  where
+    one : (xs : List ℕ) → drop (suc n) xs ≡ drop 1 (drop n xs)
+    one xs = rw (← add-one n) (sym (drop-drop 1 n xs))
+
+module _ {f : List ℕ} {T : Tables} (B : Tabled f T) (A : Accepted (program f)) (F : Formed f) (K : Room) (qs : List ℕ) (w : Words) (u : RegionFrame)
+    (fs : List RegionFrame) (m : Memory) (ρ χ : ℕ → ℕ) (i : ℕ) (G : FrameOk B (w .frames) (w .top) (whereIn m ρ χ) (T .successor i) u)
+    (W : Waiting B (w .frames) (whereIn m ρ χ) (u .frame .procedure) (u .frame .arguments) (w .top) fs) (Q : Stored K qs w m ρ χ) where
+  -- ---- a print
+  print-by : (y : ℕ) → isVariable (sig f (u .frame .procedure)) y ≡ true → Number (u .frame .values y) → (b : Bool) → ltb (w .printed) (K .prints) ≡ b
+      → After B A F K qs (step (print y)) u fs m (roomOr b Prints) (ifRoom b Prints (printsWord w (valueOf w y) (T .successor i)))
+  unfolding roomOr ifRoom printsWord Run.take withPrinted
+  print-by y o n false e = halts
+  print-by y o n true e =
+      onward refl (record { newest = G; waiting = W })
+      (record {
+        represents = prints (Q .represents) (numberIn (u .frame .values y));
+        printed =
+            printed-more (Q .printed) (omega (arith, ltb-true (w .printed) (K .prints) e, Q .print-room)) (valueOf w y) (numberIn (u .frame .values y))
+            (value-number B A F K qs w u fs m ρ χ i G W Q y o n);
+        frame-room = Q .frame-room;
+        print-room = omega (arith, Q .print-room, length-set (w .prints) (w .printed) (valueOf w y));
+      })
+
+  pub print-after : (y : ℕ) → isVariable (sig f (u .frame .procedure)) y ≡ true → Number (u .frame .values y)
+      → After B A F K qs (step (print y)) u fs m (roomOr (ltb (length (m .printed)) (K .prints)) Prints)
+      (ifRoom (ltb (w .printed) (K .prints)) Prints (printsWord w (valueOf w y) (T .successor i)))
+  print-after y o n = rw (Q .printed .count) (print-by y o n (ltb (w .printed) (K .prints)) refl)
+
+  -- ---- regions
+  later-region : (p : ℕ) → Later (whereIn m ρ χ) (whereIn (withRegion m) (put ρ (suc (m .made)) p) χ)
+  unfolding withRegion
+  later-region p = record {
+    same-cells = λ j l. refl;
+    more-cells = omega arith;
+    same-regions = λ s l. put-other ρ (suc (m .made)) p s (λ z. omega arith);
+    more-regions = omega arith;
+  }
+
+  create-by : (r : ℕ) → isRegion (sig f (u .frame .procedure)) r ≡ true → (o : Made) (rs : List ℕ) → Creates K (w .cells) (w .regions) m ρ χ o rs
+      → After B A F K qs (step (create r)) u fs m (roomOr (ltb (regionsHeld m) (K .regions)) Places) (createdBy w r (T .successor i) rs o)
+  unfolding roomOr createdBy Run.take withRegion
+  create-by r v NoRoom rs (stops-12 e) = rw e halts
+  create-by r v (At p h) rs (creates e R) =
+      let t = later-region p in
+      let G′ = frame-more B A t G in
+      rw e (onward refl (record { newest = name-frame B A G′ r v p (suc (m .made)) named; waiting = name-waiting B A G′ r v p (waiting-more B A t W) })
+      (record {
+        represents = R;
+        printed = same-printed;
+        frame-room = omega (arith, Q .frame-room, length-set (w .frames) (regionPlace (w .top) r) p);
+        print-room = Q .print-room;
+      }))
+    where
+      named : Names (whereIn (withRegion m) (put ρ (suc (m .made)) p) χ) p (suc (m .made))
+      named z = (omega arith, sym (put-same ρ (suc (m .made)) p))
+
+      same-printed : Printed qs (w .prints) (w .printed) (withRegion m .printed)
+      same-printed = Q .printed
+
+  pub create-after : (r : ℕ) → isRegion (sig f (u .frame .procedure)) r ≡ true
+      → After B A F K qs (step (create r)) u fs m (roomOr (ltb (regionsHeld m) (K .regions)) Places) (makesRegion w r (T .successor i))
+  unfolding makesRegion
+  create-after r v = create-by r v (created (w .heap) (w .regions)) (createdRegions (w .heap) (w .regions)) (create-ok (Q .represents))
+
+  -- the place of a region that is alive
+  region-word : (r : ℕ) → isRegion (sig f (u .frame .procedure)) r ≡ true → m .alive (u .stands r) ≡ true → M.regionFor w r ≡ ρ (u .stands r)
+  unfolding M.regionFor
+  region-word r v l =
+      let t = region-top _ _ (laws A (u .frame .procedure)) r v in
+      G .regions r (t .0) (t .1) (alive-made (Q .represents) (u .stands r) l) .1
+
+  pub remove-after : (r : ℕ) → isRegion (sig f (u .frame .procedure)) r ≡ true → m .alive (u .stands r) ≡ true
+      → After B A F K qs (step (remove r)) u fs m goes (went (dropsRegion w (M.regionFor w r) (T .successor i)))
+  unfolding dropsRegion Run.take withoutRegion
+  remove-after r v l =
+      rw (region-word r v l)
+      (onward refl (record { newest = G; waiting = W })
+      (record { represents = remove-ok (Q .represents) (u .stands r) l; printed = Q .printed; frame-room = Q .frame-room; print-room = Q .print-room }))
+
+  -- ---- a construct of X, whose region is r
+  module _ (x k a b c d r : ℕ) (v : isVariable (sig f (u .frame .procedure)) x ≡ true)
+      (vs : (y : ℕ) → inList y (argumentsOf (four a b c d)) ≡ true → isVariable (sig f (u .frame .procedure)) y ≡ true) (is : r ≡ regionOf (sig f (u .frame .procedure)) x)
+      (o : isRegion (sig f (u .frame .procedure)) (regionOf (sig f (u .frame .procedure)) x) ≡ true) (l : m .alive (regionFor (program f) u x) ≡ true) where
+    abbrev new : RegionCell
+    new = record { cell = cellFor (u .frame) k (argumentsOf (four a b c d)); region = regionFor (program f) u x }
+
+    later-cell : (p : ℕ) → Later (whereIn m ρ χ) (whereIn (withCell m new) ρ (put χ (length (m .cells)) p))
+    unfolding withCell
+    later-cell p = record {
+      same-cells = λ j h. put-other χ (length (m .cells)) p j (λ z. omega arith);
+      more-cells = omega (arith, length-append (m .cells) (new ∷ []));
+      same-regions = λ s h. refl;
+      more-regions = omega arith;
+    }
+
+    construct-by : (h : Made) (ms rs : List ℕ) → Builds K (w .cells) (w .regions) m ρ χ (regionFor (program f) u x) (cellFor (u .frame) k (argumentsOf (four a b c d))) h ms rs
+        → After B A F K qs (step (construct x k (four a b c d))) u fs m (roomOr (ltb (cellsHeld (m .alive) (m .cells)) (K .cells)) Cells)
+        (constructedBy w x (T .successor i) ms rs h)
+    unfolding roomOr constructedBy Run.take withFrame giving withCell
+    construct-by NoRoom ms rs (stops-11 e) = rw e halts
+    construct-by (At p h) ms rs (builds e R) =
+        let t = later-cell p in
+        let G′ = frame-more B A t G in
+        rw e (onward refl
+        (record { newest = set-frame B A G′ x v p (cellAt (length (m .cells))) (stands-new m new χ p); waiting = set-waiting B A G′ x v p (waiting-more B A t W) })
+        (record {
+          represents = R;
+          printed = same-printed;
+          frame-room = omega (arith, Q .frame-room, length-set (w .frames) (valuePlace (w .top) x) p);
+          print-room = Q .print-room;
+        }))
+      where
+        same-printed : Printed qs (w .prints) (w .printed) (withCell m new .printed)
+        same-printed = Q .printed
+
+    argument-words : StandEach χ (length (m .cells)) (map (valueOf w) (fourWords (four a b c d))) (map (u .frame .values) (argumentsOf (four a b c d)))
+    argument-words = each-argument χ (length (m .cells)) (valueOf w) (u .frame .values) (four a b c d) (λ y h. value-means B A F K qs w u fs m ρ χ i G W Q y (vs y h))
+
+    pub construct-after : After B A F K qs (step (construct x k (four a b c d))) u fs m (roomOr (ltb (cellsHeld (m .alive) (m .cells)) (K .cells)) Cells)
+        (constructed w x (T .successor i) (M.regionFor w r) (contentsOf w k a b c d))
+    unfolding constructed contentsOf cellFor fourWords regionFor
+    construct-after =
+        rw (is, region-word (regionOf (sig f (u .frame .procedure)) x) o l)
+        (construct-by (built (w .heap) (w .cells)) _ _
+        (build-ok (Q .represents) (regionFor (program f) u x) l (contentsOf w k a b c d) (map (u .frame .values) (argumentsOf (four a b c d))) argument-words))

@@ -1,0 +1,166 @@
+-- What the invariant of the accepted file's run says of the newest frame's next goal: it is allowed, sums, ifs and prints read numbers, and a
+-- switch finds a cell and its arm.
+use Prim.Native.Nat.{ℕ, suc, _≤_}
+use native.Mathlib.Omega.{arith}
+use mathlib.Core.Path.{_≡_, refl, ap, _∙_}
+use mathlib.Core.Bool.{true}
+use mathlib.Core.List.{List, [], _∷_, map}
+use mathlib.Core.Logic.{inl, inr}
+use borrow.Author.Tests.{leb-true}
+use lib.IntN.{ℤ}
+use lib.ListN.{length}
+use Rattle.sets.specs.Tests.{and-true}
+use Rattle.sets.specs.Sets.{member, subset-in}
+use Rattle.sets.specs.Members.{inList, setOf, nil-in, cons-in, cons-here, cons-later}
+use Rattle.sets.specs.declared.Set.{Set}
+use Rattle.language.specs.Program.{Functor, Step, sum, print, Goals, _then_, Goal, step, switch, ifLess, Arms, Signature, Program, typeOf, regionOf, signatureOf, functorsOf, functorAt}
+use Rattle.language.specs.Typing.{isVariable, hasType, functorsFor, goalOk, stepOk}
+use Rattle.language.specs.Values.{reads, access, accessing}
+use Rattle.language.specs.Regions.{regionsOf, goalRegions}
+use Rattle.language.specs.Checking.{checkGoal}
+use Rattle.language.specs.Frames.{Value, numeral, Cell, picked, pick, cellIn}
+use Rattle.language.specs.AcceptedRun.{RegionFrame, RegionCell, Memory, cellOf, allowed}
+use Rattle.laws.specs.Lists.{nth-map}
+use Rattle.region_graph.specs.Procedure.{number-region}
+use Rattle.region_graph.specs.Alike.{region-some}
+use Rattle.safety.specs.Walks.{require-in}
+use Rattle.safety.specs.Doing.{Next, next-in, Taken, arms-in}
+use Rattle.safety.specs.Signatures.{laws-of}
+use Rattle.safety.specs.Premises.{Accepted, fit}
+use Rattle.safety.specs.Places.{Placed, is-number, is-cell, PlacedAll, placed-none, placed-more, Lies}
+use Rattle.safety.specs.Variables.{AllVariables, type-in, types-variables, read-sound}
+use Rattle.safety.specs.Owners.{Owner}
+use Rattle.safety.specs.Invariant.{Now, Inv, inv}
+use Rattle.safety.specs.Quiet.{obeyed}
+use Rattle.safety.specs.Allowed.{allowed-ok, cell-of, fits-along, choices-typed}
+
+abbrev pub Number : Value → Type 0
+Number v = (z : ℤ) × (v ≡ numeral z)
+
+-- a switch on X finds a cell, and the arm of its functor has as many arguments as the cell
+pub record Found (S : Signature) (cells : List RegionCell) (v : Value) (cs : Arms) : Type 0 where
+  pub cell : Cell
+  pub arguments : List ℕ
+  pub goals : Goals
+  pub is : cellIn (map cellOf cells) v ≡ cell
+  pub picks : pick cs (cell .functor) ≡ picked arguments goals
+  pub count : length (cell .contents) ≡ length arguments
+  pub variables : AllVariables S arguments
+
+module _ {T : List (List Functor)} {S : Signature} {ρ : ℕ → ℕ} {H : List RegionCell} where
+  placed-number : {r : ℕ} {v : Value} → Placed T S ρ H r v → r ≡ 0 → Number v
+  placed-number (is-number {z = z}) e = (z, refl)
+  placed-number (is-cell f i l c s p) e = absurd (region-some S _ i e)
+
+  placed-length : {rs : List ℕ} {vs : List Value} → PlacedAll T S ρ H rs vs → length vs ≡ length rs
+  placed-length placed-none = refl
+  placed-length (placed-more p q) = ap suc (placed-length q)
+
+regions-length : (S : Signature) (ys : List ℕ) → length (regionsOf S ys) ≡ length ys
+unfolding regionsOf
+regions-length S [] = refl
+regions-length S (y ∷ ys) = ap suc (regions-length S ys)
+
+module _ {P : Program} (A : Accepted P) (e : RegionFrame) (fs : List RegionFrame) (m : Memory) where
+  abbrev S : Signature
+  S = signatureOf P (e .frame .procedure)
+
+  module _ {h s : Set} {os : List Owner}
+      (N : Now P (e .frame .procedure) (e .frame .arguments) (e .stands) (e .frame .values) fs (m .cells) (m .made) (m .alive) h s os) where
+    -- a sound variable of type 0
+    number-of : (y : ℕ) → hasType S 0 y ≡ true → member s y ≡ true → Number (e .frame .values y)
+    number-of y t i = placed-number (N .vars .placed y i) (number-region _ _ (fit A (e .frame .procedure) .typed) y (type-in S 0 y t .1))
+
+    -- the variables that a step reads are sound
+    read-in : (g : Step) (ys : List ℕ) (rest : Goals) → Next P S (step g) rest h s → reads P g ≡ setOf ys → AllVariables S ys → (y : ℕ) → inList y ys ≡ true
+        → member s y ≡ true
+    unfolding checkGoal
+    read-in g ys rest X q a y i =
+        subset-in (X .counted) s (X .fewer) y
+        (read-sound (laws-of (fit A (e .frame .procedure))) (X .counted) ys a (rw q at (obeyed P S g (X .goes) .reads-sound)) y i)
+
+    -- the cell c that X has, and the arm t of its functor
+    found-in : (x : ℕ) (cs : Arms) {h₁ s₁ t₁ : Set} → 1 ≤ typeOf S x → (c : Lies (P .types) S (e .stands) (m .cells) (regionOf S x) (e .frame .values x))
+        → Taken P S cs (regionOf S x) (functorAt (functorsOf (P .types) (typeOf S x)) (c .functor)) (c .functor) h t₁ h₁ s₁
+        → Found S (m .cells) (e .frame .values x) cs
+    unfolding cellIn cellOf
+    found-in x cs l c t = record {
+      cell = record { functor = c .functor; contents = c .contents };
+      arguments = t .arguments;
+      goals = t .goals;
+      is = ap (cellIn (map cellOf (m .cells))) (c .is) ∙ nth-map cellOf _ (m .cells) (c .number) ∙ ap cellOf (c .there);
+      picks = t .picks;
+      count =
+          placed-length (rw (← fits-along P (fit A (e .frame .procedure)) x (c .functor) (t .arguments) l (t .have) (t .targets)) at (c .inside))
+          ∙ regions-length S (t .arguments);
+      variables = types-variables S _ (t .arguments) (t .have);
+    }
+
+    found : (x : ℕ) (cs : Arms) (rest : Goals) → Next P S (switch x cs) rest h s → Found S (m .cells) (e .frame .values x) cs
+    unfolding goalOk goalRegions checkGoal functorsFor
+    found x cs rest X =
+        let o = and-true (and-true (X .typed) .1) in
+        let l = leb-true 1 (typeOf S x) (o .0) in
+        let r = require-in (X .goes) in
+        let c = cell-of A e fs m N x l (subset-in (X .counted) s (X .fewer) x (r .0)) in
+        found-in x cs l c
+        (arms-in P S cs (functorsOf (P .types) (typeOf S x)) (regionOf S x) 0 (c .functor) (c .functor) (omega arith)
+        (rw (choices-typed P (fit A (e .frame .procedure)) x l) at (c .small)) (o .1) (X .regioned) (r .1))
+
+  -- ---- of the frame's next goal g
+  module _ (I : Inv P e fs m) (g : Goal) (rest : Goals) (q : e .frame .goals ≡ g then rest) where
+    pub next-typed : goalOk P S g ≡ true
+    next-typed = go I
+      where
+        go : Inv P e fs m → goalOk P S g ≡ true
+        go (inv d N) = next-in P _ d g rest q .typed
+
+    pub next-regioned : goalRegions P S g ≡ true
+    next-regioned = go I
+      where
+        go : Inv P e fs m → goalRegions P S g ≡ true
+        go (inv d N) = next-in P _ d g rest q .regioned
+
+    pub next-allowed : allowed P g e m ≡ true
+    next-allowed = go I
+      where
+        go : Inv P e fs m → allowed P g e m ≡ true
+        go (inv d N) = allowed-ok A e fs m N g rest (next-in P _ d g rest q)
+
+  pub sum-numbers : Inv P e fs m → (x o y z : ℕ) (rest : Goals) → e .frame .goals ≡ step (sum x o y z) then rest
+      → Number (e .frame .values y) × Number (e .frame .values z)
+  unfolding goalOk stepOk reads access accessing
+  sum-numbers (inv d N) x o y z rest q =
+      let X = next-in P _ d _ rest q in
+      let t = and-true (and-true (and-true (X .typed) .1) .1) in
+      let a = both (type-in S 0 y (t .0) .0) (type-in S 0 z (t .1) .0) in
+      let r = read-in N (sum x o y z) (y ∷ z ∷ []) rest X refl a in
+      (number-of N y (t .0) (r y (cons-here y y (z ∷ []) refl)), number-of N z (t .1) (r z (cons-later z y (z ∷ []) (cons-here z z [] refl))))
+    where
+      one : (k : ℕ) → isVariable S k ≡ true → AllVariables S (k ∷ [])
+      one k a n i = elim (cons-in n k [] i) [ inl c ↦ rw (← c) a | inr c ↦ absurd (nil-in n c) ]
+
+      both : isVariable S y ≡ true → isVariable S z ≡ true → AllVariables S (y ∷ z ∷ [])
+      both a b n i = elim (cons-in n y (z ∷ []) i) [ inl c ↦ rw (← c) a | inr c ↦ one z b n c ]
+
+  pub print-number : Inv P e fs m → (y : ℕ) (rest : Goals) → e .frame .goals ≡ step (print y) then rest → Number (e .frame .values y)
+  unfolding goalOk stepOk reads access accessing
+  print-number (inv d N) y rest q =
+      let X = next-in P _ d _ rest q in
+      number-of N y (X .typed) (read-in N (print y) (y ∷ []) rest X refl (one (type-in S 0 y (X .typed) .0)) y (cons-here y y [] refl))
+    where
+      one : isVariable S y ≡ true → AllVariables S (y ∷ [])
+      one a n i = elim (cons-in n y [] i) [ inl c ↦ rw (← c) a | inr c ↦ absurd (nil-in n c) ]
+
+  pub if-numbers : Inv P e fs m → (y z : ℕ) (a b : Goals) (rest : Goals) → e .frame .goals ≡ ifLess y z a b then rest
+      → Number (e .frame .values y) × Number (e .frame .values z)
+  unfolding goalOk checkGoal
+  if-numbers (inv {s = s} d N) y z a b rest q =
+      let X = next-in P _ d _ rest q in
+      let t = and-true (X .typed) in
+      let u = and-true (t .1) in
+      let r = and-true (require-in (X .goes) .0) in
+      (number-of N y (t .0) (subset-in (X .counted) s (X .fewer) y (r .0)), number-of N z (u .0) (subset-in (X .counted) s (X .fewer) z (r .1)))
+
+  pub switch-found : Inv P e fs m → (x : ℕ) (cs : Arms) (rest : Goals) → e .frame .goals ≡ switch x cs then rest → Found S (m .cells) (e .frame .values x) cs
+  switch-found (inv d N) x cs rest q = found N x cs rest (next-in P _ d _ rest q)

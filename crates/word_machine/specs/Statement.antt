@@ -1,0 +1,34 @@
+-- The joining theorem, to be read without a proof: for every file that the checker accepts, with any tables of it and any lent words, the run in
+-- words ends as the definition's does, after as many steps, with the same numbers printed; the words behind those are as they were.
+use Prim.Native.Nat.{ℕ, _≤_}
+use mathlib.Core.Path.{_≡_}
+use mathlib.Core.List.{List, map}
+use lib.IntN.{ℤ}
+use lib.ListN.{length, take, drop}
+use mir.Syntax.{w32}
+use mir.Val.{toZ}
+use Rattle.language.specs.declared.Verdict.the-variants.{Accepted}
+use Rattle.language.specs.Machine.{Run}
+use Rattle.language.specs.Answers.{checked, ran}
+use Rattle.word_machine.specs.Tables.{Tables, Tabled}
+use Rattle.word_machine.specs.Machine.{Outcome, lentWords, wordRun}
+
+-- the numbers zs are printed: the n first words of ps, which is qs behind them
+pub record Printed (qs ps : List ℕ) (n : ℕ) (zs : List ℤ) : Type 0 where
+  pub count : length zs ≡ n
+  pub long : length ps ≡ length qs
+  pub room : n ≤ length ps
+  pub front : map (toZ w32) (take n ps) ≡ zs
+  pub behind : drop n ps ≡ drop n qs
+
+-- a run in words gives what a run of the definition does; qs are the words lent for printed numbers
+pub record Gives (qs : List ℕ) (o : Outcome) (r : Run) : Type 0 where
+  pub ending : o .ending ≡ r .ending
+  pub steps : o .done ≡ r .steps
+  pub printed : Printed qs (o .words .prints) (o .words .printed) (r .printed)
+
+-- m, rs, fw and ps are the words lent for cells, regions, frames and printed numbers, l the steps
+abbrev pub Joined : Type 0
+Joined =
+    (f : List ℕ) → checked f ≡ Accepted → (T : Tables) → Tabled f T → (m rs fw ps : List ℕ) (l : ℕ)
+    → Gives ps (wordRun f T m rs fw ps l) (ran f (lentWords m rs fw ps l))

@@ -1,0 +1,74 @@
+-- The tables that a run reads beside the file: worked out once, before the first step. How the code keeps them is its own affair.
+use Prim.Native.Nat.{ℕ, zero, suc, _<_}
+use mathlib.Core.Path.{_≡_}
+use mathlib.Core.Bool.{true}
+use mathlib.Core.List.{List, [], _∷_}
+use mathlib.Core.Logic.{_⊎_}
+use lib.ListN.{length}
+use Rattle.sets.specs.Sets.{member}
+use Rattle.sets.specs.declared.Set.{Set}
+use Rattle.language.specs.Lists.{nth}
+use Rattle.language.specs.File.{goals, arms, word}
+use Rattle.language.specs.Program.{Parameter, regionOf, signatureOf, parametersOf}
+use Rattle.language.specs.Regions.{mapping, imageIn}
+use Rattle.language.specs.Lifetimes.{born, startHeld}
+use Rattle.language.specs.Answers.{program}
+use Rattle.records.specs.Records.{recordAt}
+use Rattle.records.specs.declared.Record.the-variants.{Construct, Switch, If, Call}
+use Rattle.chains.specs.Formed.{Stands, argumentsAt}
+use Rattle.chains.specs.Fields.{fieldOf}
+use Rattle.chains.specs.Records.{chainRecords}
+
+pub record Tables : Type 0 where
+  pub successor : ℕ → ℕ  -- of a goal's record: the record of the goal that comes next, 0 at the procedure's end
+  pub region : ℕ → ℕ  -- of a construct's record: the region number of X
+  pub slot : ℕ → ℕ  -- of a record of a call's argument: the callee's variable that it matches
+  pub mode : ℕ → ℕ  -- .. and that variable's mode
+  pub image : ℕ → ℕ → ℕ  -- of a call's record and a region of the callee: the caller's region
+  pub body : ℕ → ℕ  -- of a procedure's number: the record of its first goal
+  pub size : ℕ → ℕ  -- .. how many variables it has
+  pub held : ℕ → Set  -- .. its dead and kept regions
+  pub bears : ℕ → Set  -- .. its born regions
+
+-- the first record of a chain, or where to go on if the chain is empty
+unfoldable pub onto : ℕ → ℕ → ℕ
+onto zero c = c
+onto (suc i) c = suc i
+
+-- a chain that starts at record w goes on at record c after its end, and is procedure p's
+abbrev pub Starts : (ℕ → ℕ) → (ℕ → ℕ) → ℕ → ℕ → ℕ → Type 0
+Starts onward owner w c p = (w ≡ 0 → ⊥) → (onward w ≡ c) × (owner w ≡ p)
+
+-- the records of a call's arguments beside the callee's in and out variables
+abbrev pub Matches : Tables → List Parameter → List ℕ → Type 0
+Matches T [] as′ = Unit {0}
+Matches T (a ∷ ps) [] = Unit {0}
+Matches T (a ∷ ps) (j ∷ as′) = (T .slot j ≡ a .variable) × (T .mode j ≡ a .mode) × Matches T ps as′
+
+-- the record of a procedure's first goal
+abbrev pub bodyRecord : List ℕ → ℕ → ℕ
+bodyRecord f p = fieldOf f (nth 0 (chainRecords f (word f 0 1)) p) 4
+
+-- The tables of an accepted file. "After a goal chain ends, the next goal is the enclosing goal's next" is an equation for each reference of
+-- each record, so that one pass over the records in rising order can fill the table: `onward` is where the chain of a record goes on after its
+-- end, `owner` the procedure that has the record.
+pub record Tabled (f : List ℕ) (T : Tables) : Type 0 where
+  pub onward : ℕ → ℕ
+  pub owner : ℕ → ℕ
+  pub next : (i : ℕ) → Stands f goals i → (i ≡ 0 → ⊥) → T .successor i ≡ onto (word f i 1) (onward i)
+  pub goal-next : (i : ℕ) → Stands f goals i → (i ≡ 0 → ⊥) → Starts onward owner (word f i 1) (onward i) (owner i)
+  pub arm-next : (i : ℕ) → Stands f arms i → (i ≡ 0 → ⊥) → Starts onward owner (word f i 1) (onward i) (owner i)
+  pub arm-goals : (i : ℕ) → Stands f arms i → (i ≡ 0 → ⊥) → Starts onward owner (word f i 2) (onward i) (owner i)
+  pub switch-arms : (i n x cs : ℕ) → recordAt f i ≡ Switch n x cs → Starts onward owner cs (T .successor i) (owner i)
+  pub if-then : (i n y z a b : ℕ) → recordAt f i ≡ If n y z a b → Starts onward owner a (T .successor i) (owner i)
+  pub if-else : (i n y z a b : ℕ) → recordAt f i ≡ If n y z a b → Starts onward owner b (T .successor i) (owner i)
+  pub bodies : (p : ℕ) → p < length (program f .procedures) → Starts onward owner (T .body p) 0 p
+  pub region : (i n x k a b c d : ℕ) → recordAt f i ≡ Construct n x k a b c d → T .region i ≡ regionOf (signatureOf (program f) (owner i)) x
+  pub arguments : (i n q ys : ℕ) → recordAt f i ≡ Call n q ys → Matches T (parametersOf (signatureOf (program f) q)) (chainRecords f ys)
+  pub image : (i n q ys r : ℕ) → recordAt f i ≡ Call n q ys
+      → (member (startHeld (signatureOf (program f) q)) r ≡ true) ⊎ (member (born (signatureOf (program f) q)) r ≡ true)
+      → T .image i r ≡ imageIn (mapping (signatureOf (program f) (owner i)) (signatureOf (program f) q) (argumentsAt f ys)) r
+  pub body : (p : ℕ) → p < length (program f .procedures) → T .body p ≡ bodyRecord f p
+  pub size : (p : ℕ) → p < length (program f .procedures) → T .size p ≡ length (signatureOf (program f) p .variables)
+  pub held : (p : ℕ) → p < length (program f .procedures) → T .held p ≡ startHeld (signatureOf (program f) p)
+  pub bears : (p : ℕ) → p < length (program f .procedures) → T .bears p ≡ born (signatureOf (program f) p)

@@ -1,0 +1,1 @@
+// The runner on lists of words, and what it gives: see specs/.
