@@ -5,6 +5,7 @@ use crate::carried::join;
 use crate::carried::sound_in;
 use crate::step::enter;
 use crate::step::step;
+use language::format::ARM;
 use language::format::ARM_GOALS;
 use language::format::GOAL_X;
 use language::format::IF;
@@ -18,6 +19,7 @@ use language::format::SWITCH;
 use language::format::SWITCH_ARMS;
 use records::word;
 use tables::ROWS;
+use values::is_step;
 ghost use mathlib.Core.Path.{_≡_};
 ghost use Rattle.language.specs.File;
 ghost use Rattle.chains.specs.Formed.{Formed, Stands};
@@ -52,10 +54,16 @@ fn goal(file: &[u8], rows: &[u64; ROWS], own: &[u64], carried: &mut [u64; 2], i:
     requires { ⌜ Stands (now file) File.goals i × (i ≡ 0 → ⊥) ⌝ }
     ensures { λ b. ⌜ GoalChecked (now (file .entry)) (now (rows .entry)) (now (own .entry)) i (now (carried .entry)) b (now (carried .exit)) ⌝ }
 {
-    match word(file, i, KIND) {
+    let kind = word(file, i, KIND);
+    match kind {
         SWITCH => switch(file, rows, own, carried, i),
         IF => branches(file, rows, own, carried, i),
-        _ => step(rows, own, carried, i),
+        _ => {
+            if !is_step(kind) {
+                return false;
+            }
+            step(rows, own, carried, i)
+        }
     }
 }
 
@@ -108,6 +116,9 @@ fn arms(file: &[u8], rows: &[u64; ROWS], own: &[u64], carried: &mut [u64; 2], i:
 {
     if i == 0 {
         return true;
+    }
+    if word(file, i, KIND) != ARM {
+        return false;
     }
     let held = held_in(carried);
     let sound = sound_in(carried);

@@ -13,7 +13,7 @@ use Rattle.language.specs.Answers.{program}
 use Rattle.chains.specs.Formed.{Formed, Stands, Onward, goalsAt, goalAt, firstGoal, armsAt, goals-none, arms-none}
 use Rattle.chains.specs.Parts.{SwitchAt, IfAt, ArmAt, arm-at}
 use Rattle.chains.specs.Is.{chain-next, goals-step, arm-is}
-use Rattle.values.specs.Shapes.{StepAt as Stepped, step-here, switch-here, if-here}
+use Rattle.chains.specs.Shapes.{StepAt as Stepped, step-here, switch-here, if-here}
 use Rattle.tables.specs.Rows.{readsIn, givesIn}
 use Rattle.tables.specs.Filled.{StepAt, Accessed}
 use Rattle.liveness.specs.Points.{Point, point, points, partPoints, goalPoints, armsPoints}

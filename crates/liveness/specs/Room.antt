@@ -14,11 +14,12 @@ use Rattle.language.specs.File.{Chain, Use, number, unused, first, row, kindOf,
 use Rattle.language.specs.Tree.{Tree, readWords, readRecord, readChain, readTree, treeOf}
 use Rattle.language.specs.Layout.{size, sizeWords}
 use Rattle.language.specs.Answers.{program}
-use Rattle.layout.specs.Lists.{hit-other, count-cons, hits, hits-suc, hits-zero}
-use Rattle.layout.specs.Standing.{chain-end}
-use Rattle.layout.specs.Passing.{Leads, Used, once, next-leads, record-used, chain-step}
-use Rattle.layout.specs.Files.{tree-size}
-use Rattle.layout.specs.Steps
+use Rattle.laws.specs.Counts.{hit-other, count-cons}
+use Rattle.chains.specs.Layout.{hits, hits-suc, hits-zero}
+use Rattle.chains.specs.Layout.{chain-end}
+use Rattle.chains.specs.Layout.{Leads, Used, once, next-leads, record-used, chain-step}
+use Rattle.chains.specs.Layout.{tree-size}
+use Rattle.chains.specs.Layout.Steps
 use Rattle.chains.specs.Formed.{Formed, counted, goalsAt}
 use Rattle.liveness.specs.Points.{points}
 use Rattle.liveness.specs.Counts.{points-count, tree-count}

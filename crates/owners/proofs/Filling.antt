@@ -8,7 +8,7 @@ use lib.ListN.{length, getD, set, drop, replicate, length-set, length-append, le
 use lib.Seq.{getD-set-same, getD-set-other, set-append-left, drop-append-seam}
 use Rattle.language.specs.Lists.{count}
 use Rattle.language.specs.File.{Kind, kNone, kHeader, kType, kFunctor, kProcedure, kVariable, kRegion, kEdge, kArm, kArgument, kGoal, word, recordCount}
-use Rattle.layout.specs.Lists.{hit, hit-same}
+use Rattle.laws.specs.Counts.{hit, hit-same}
 use Rattle.chains.specs.Formed.{Formed, counted}
 use Rattle.owners.specs.Referred.{refers-up, times-refers}
 use Rattle.owners.specs.Owner.{nextMore, hand, handEach, kindHere, partsHere, handOn, ownersUpTo, ownersOf}

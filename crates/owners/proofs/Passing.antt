@@ -7,7 +7,7 @@ use lib.ListN.{length, getD, set}
 use lib.Seq.{set-out}
 use Rattle.language.specs.File.{kLiteral, kSum, kAssign, kConstruct, kSwitch, kIf, kCall, kPrint, kCreate, kRemove, Kind, kNone, kHeader, kType, kFunctor, kProcedure, kVariable, kRegion, kEdge, kArm, kArgument, kGoal, row, kindOf, word}
 use Rattle.language.specs.Format.{procedureKind, regionKind, switchKind, armKind, ifKind, callKind}
-use Rattle.layout.specs.Table.{all-rows, number-is, number-kind}
+use Rattle.chains.specs.Layout.{all-rows, number-is, number-kind}
 use mathlib.Core.Logic.{_⊎_, inl, inr}
 use Rattle.owners.specs.Owner.{partWords, nextMore, hand, handEach, kindHere, partsHere, handOn}
 

@@ -11,7 +11,7 @@ use Rattle.language.specs.Format.{createKind, removeKind}
 use Rattle.language.specs.File.{kLiteral, kSum, kAssign, kConstruct, kSwitch, kIf, kCall, kPrint, kCreate, kRemove, Kind, kNone, kHeader, kType, kFunctor, kProcedure, kVariable, kRegion, kEdge, kArm, kArgument, kGoal, row, kindOf, word, recordCount}
 use Rattle.language.specs.Annotation.{unannotated}
 use Rattle.language.specs.Answers.{program}
-use Rattle.layout.specs.Table.{all-rows, number-is, number-kind}
+use Rattle.chains.specs.Layout.{all-rows, number-is, number-kind}
 use Rattle.records.specs.Lists.{from-here, from-end}
 use Rattle.chains.specs.Formed.{Formed, counted}
 use Rattle.owners.specs.Plain.{plainKind, plain-records}

@@ -8,10 +8,10 @@ use mathlib.Core.Path.{_≡_, refl, ap}
 use lib.ListN.{length}
 use Rattle.language.specs.File.{kLiteral, kSum, kAssign, kConstruct, kSwitch, kIf, kCall, kPrint, kCreate, kRemove, Kind, kNone, kHeader, kType, kFunctor, kProcedure, kVariable, kRegion, kEdge, kArm, kArgument, kGoal, Chain, nowhere, types, functors, procedures, variables, regions, edges, goals, arms, arguments, row, kindOf, word, recordCount}
 use Rattle.language.specs.Answers.{program}
-use Rattle.layout.specs.Table.{all-rows}
-use Rattle.layout.specs.Chains.{real}
-use Rattle.layout.specs.Known.{known-chain}
-use Rattle.layout.specs.Files.{header-kind}
+use Rattle.chains.specs.Layout.{all-rows}
+use Rattle.chains.specs.Layout.{real}
+use Rattle.chains.specs.Layout.{known-chain}
+use Rattle.chains.specs.Layout.{header-kind}
 use Rattle.records.specs.Table.{uses}
 use Rattle.chains.specs.Formed.{Formed, Stands, proceduresAt, program-procedures}
 use Rattle.chains.specs.Kinds.{same-read}

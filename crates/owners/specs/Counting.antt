@@ -7,7 +7,8 @@ use mathlib.Core.List.{List, [], _∷_}
 use mathlib.Core.Bool.{false≢true}
 use Rattle.language.specs.Lists.{nth, count}
 use Rattle.language.specs.File.{Chain, Use, number, unused, first, leading, references}
-use Rattle.layout.specs.Lists.{hit, hit-same, hit-other, count-none, count-cons, hits, hits-suc, hits-zero}
+use Rattle.laws.specs.Counts.{hit, hit-same, hit-other, count-none, count-cons}
+use Rattle.chains.specs.Layout.{hits, hits-suc, hits-zero}
 
 hit-is : (r i : ℕ) → 0 < hit r i → r ≡ i
 hit-is r i h = elim (ℕ-discrete r i) [ yes e ↦ e | no e ↦ absurd (omega (arith, hit-other r i e)) ]

@@ -8,8 +8,8 @@ use lib.ListN.{length, getD, length-set, length-replicate}
 use lib.Seq.{getD-set-same, getD-set-other}
 use Rattle.language.specs.Lists.{count}
 use Rattle.language.specs.File.{kLiteral, kSum, kAssign, kConstruct, kSwitch, kIf, kCall, kPrint, kCreate, kRemove, Kind, kNone, kHeader, kType, kFunctor, kProcedure, kVariable, kRegion, kEdge, kArm, kArgument, kGoal, row, kindOf, kindAt, word, recordCount, leading, references}
-use Rattle.layout.specs.Table.{all-rows}
-use Rattle.layout.specs.Lists.{hit, hit-same, hit-other, count-none, count-cons}
+use Rattle.chains.specs.Layout.{all-rows}
+use Rattle.laws.specs.Counts.{hit, hit-same, hit-other, count-none, count-cons}
 use Rattle.owners.specs.Referred.{times}
 use Rattle.owners.specs.Owner.{partWords, nextMore, hand, handEach, kindHere, partsHere, handOn, ownersUpTo, ownersOf, ownerOf}
 

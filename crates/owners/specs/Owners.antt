@@ -11,9 +11,9 @@ use Rattle.language.specs.Lists.{nth, count}
 use Rattle.language.specs.Format.{kindWord, nextWord, headerProcedures, procedureVariables, procedureRegions, procedureGoals, regionEdges, armGoals, switchArms, ifThen, ifElse, callArguments}
 use Rattle.language.specs.File.{GoalKind, kSwitch, kIf, kCall, Kind, kHeader, kProcedure, kVariable, kRegion, kEdge, kArm, kArgument, kGoal, procedures, goals, kindOf, word, recordCount}
 use Rattle.language.specs.Answers.{program}
-use Rattle.layout.specs.Lists.{hit-same, count-cons}
-use Rattle.layout.specs.Files.{header-kind}
-use Rattle.layout.specs.Chains.{real, chain-kind, goals-kind}
+use Rattle.laws.specs.Counts.{hit-same, count-cons}
+use Rattle.chains.specs.Layout.{header-kind}
+use Rattle.chains.specs.Layout.{real, chain-kind, goals-kind}
 use Rattle.records.specs.Records.{recordAt}
 use Rattle.records.specs.declared.Record.{Record}
 use Rattle.records.specs.declared.Record.the-variants.{Procedure, Switch, Arm, If}

@@ -9,8 +9,8 @@ use mathlib.Core.Bool.{false≢true}
 use mathlib.Core.Logic.{inl, inr}
 use Rattle.language.specs.Lists.{nth, nth1, count}
 use Rattle.language.specs.File.{kHeader, Chain, Use, number, unused, first, row, kindOf, kindAt, word, recordCount, references}
-use Rattle.layout.specs.Passing.{Leads, Used, once, next-leads, record-used}
-use Rattle.layout.specs.Files.{header-kind}
+use Rattle.chains.specs.Layout.{Leads, Used, once, next-leads, record-used}
+use Rattle.chains.specs.Layout.{header-kind}
 use Rattle.records.specs.Table.{uses}
 use Rattle.records.specs.Form.{references-by-uses}
 use Rattle.chains.specs.Formed.{Formed}

@@ -12,10 +12,10 @@ use Rattle.language.specs.Format.{headerProcedures}
 use Rattle.language.specs.File.{kLiteral, kSum, kAssign, kConstruct, kSwitch, kIf, kCall, kPrint, kCreate, kRemove, Kind, kNone, kHeader, kType, kFunctor, kProcedure, kVariable, kRegion, kEdge, kArm, kArgument, kGoal, Chain, nowhere, types, functors, procedures, variables, regions, edges, goals, arms, arguments, Use, number, unused, first, row, kindOf, word, recordCount}
 use Rattle.language.specs.Program.{Step, _then_, Goal, step, switch, ifLess}
 use Rattle.language.specs.Answers.{program}
-use Rattle.layout.specs.Table.{all-rows}
-use Rattle.layout.specs.Chains.{real}
-use Rattle.layout.specs.Known.{known-chain}
-use Rattle.layout.specs.Files.{header-kind}
+use Rattle.chains.specs.Layout.{all-rows}
+use Rattle.chains.specs.Layout.{real}
+use Rattle.chains.specs.Layout.{known-chain}
+use Rattle.chains.specs.Layout.{header-kind}
 use Rattle.records.specs.Table.{uses}
 use Rattle.chains.specs.Formed.{Formed, Stands, counted, goalsAt, goalAt, armsAt, proceduresAt, goals-none, arms-none, procedures-none, program-procedures}
 use Rattle.chains.specs.Kinds.{same-read}

@@ -12,7 +12,7 @@ use Rattle.language.specs.File.{kSwitch, kIf, kGoal, recordCount}
 use Rattle.language.specs.Lists.{among}
 use Rattle.language.specs.Typing.{typingOk}
 use Rattle.language.specs.Answers.{program}
-use Rattle.layout.specs.Table.{all-rows}
+use Rattle.chains.specs.Layout.{all-rows}
 use Rattle.chains.specs.Formed.{Formed, counted}
 use Rattle.chains.specs.Is.{arm-is}
 use Rattle.chains.specs.Shapes.{by-number}

@@ -21,7 +21,7 @@ use Rattle.tables.specs.declared.Access.{Access}
 use Rattle.values.specs.Gathering.{noAccess, readIn, givenIn, fourRead}
 use Rattle.values.specs.Accesses.{Accesses, literal-access, sum-access, assign-access, construct-access, print-access, create-access, remove-access, at-step, no-switch, no-if}
 use Rattle.values.specs.Fitting.{Stepped, Fits}
-use Rattle.values.specs.Shapes.{goal-kind}
+use Rattle.chains.specs.Shapes.{goal-kind}
 
 module _ (f : List ℕ) (i : ℕ) (F : Formed f) {r : Record} (e : r ≡ recordAt f i) where
   pub literal-done : {n x v : ℕ} {a b : Access} → r ≡ Literal n x v → a ≡ noAccess → b ≡ givenIn a x → Stepped f i b
@@ -55,7 +55,7 @@ module _ (f : List ℕ) (i : ℕ) (F : Formed f) {r : Record} (e : r ≡ recordA
   pub fits-other : {a : Access} → a ≡ noAccess → OneOf rest (tagOf the-type r) → Fits f i a
   fits-other {a} p h =
       record {
-        step = λ s z. let k = goal-kind F s z in go (k .0) (k .1);
+        step = λ s z. let k = goal-kind s z in go (k .0) (k .1);
         arm = λ s z. absurd (miss rest 12 tt (rw (ap (tagOf the-type) (e ∙ arm-is s z)) at h));
       }
     where

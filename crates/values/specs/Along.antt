@@ -11,7 +11,7 @@ use Rattle.language.specs.Program.{four}
 use Rattle.chains.specs.Formed.{Formed, Stands, Onward, ahead, goalsAt, goalAt, armsAt, goals-none, arms-none}
 use Rattle.chains.specs.Parts.{SwitchAt, IfAt, ArmAt, arm-at}
 use Rattle.chains.specs.Is.{arm-is, goals-step, chain-next}
-use Rattle.values.specs.Shapes.{switch-here, if-here}
+use Rattle.chains.specs.Shapes.{switch-here, if-here}
 use Rattle.values.specs.Walk
 
 -- ---- where the records of a switch, an if and an arm lead

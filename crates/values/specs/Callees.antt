@@ -7,8 +7,8 @@ use Rattle.language.specs.File.{procedures, variables, word, recordCount}
 use Rattle.language.specs.Lists.{nth}
 use Rattle.language.specs.Program.{Procedure, Program, done, procedureAt, signatureOf}
 use Rattle.language.specs.Answers.{program}
-use Rattle.layout.specs.Chains.{real}
-use Rattle.layout.specs.Steps.{procedureOf}
+use Rattle.chains.specs.Layout.{real}
+use Rattle.chains.specs.Layout.{procedureOf}
 use Rattle.chains.specs.Formed.{Formed, Stands, stands-none, variablesAt, regionsAt, goalsAt, proceduresAt, variables-none, procedures-none, procedures-stand, program-procedures}
 use Rattle.chains.specs.Declared.{procedure-at}
 use Rattle.chains.specs.Is.{procedure-is}

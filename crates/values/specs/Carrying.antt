@@ -6,22 +6,20 @@ use mathlib.Core.Bool.{Bool, true, false}
 use mathlib.Core.List.{List, []}
 use lib.ListN.{length, getD, set, length-set}
 use lib.Seq.{getD-set-same, getD-set-other}
-use Rattle.sets.specs.Tests.{clash}
 use Rattle.sets.specs.Sets.{member, _∪_, _∩_, stored, loaded, loaded-stored}
 use Rattle.sets.specs.Members.{setOf}
 use Rattle.sets.specs.declared.Set.{Set}
-use Rattle.language.specs.File.{kArm, goals, arms, word}
-use Rattle.language.specs.Format.{kindWord, switchKind, ifKind, armKind}
-use Rattle.language.specs.Program.{four, Step, step}
+use Rattle.language.specs.File.{goals, arms, word}
+use Rattle.language.specs.Format.{kindWord, switchKind, ifKind}
+use Rattle.language.specs.Program.{four, Step}
 use Rattle.language.specs.Values.{access, reads, gives}
 use Rattle.language.specs.Answers.{program}
-use Rattle.layout.specs.Table.{all-rows}
-use Rattle.chains.specs.Formed.{Formed, Stands, goalsAt, firstGoal, goalAt}
+use Rattle.chains.specs.Formed.{Formed, Stands}
 use Rattle.tables.specs.Rows.{readsIn, givesIn, markIn}
 use Rattle.tables.specs.Filled.{StepAt}
-use Rattle.values.specs.Fitting.{armArguments, arm-kind}
-use Rattle.values.specs.Noting.{isStep, Noted, step-kind, arm-some}
-use Rattle.values.specs.Shapes.{step-here, kind-number}
+use Rattle.values.specs.Fitting.{armArguments}
+use Rattle.values.specs.Noting.{Noted}
+use Rattle.values.specs.Closed.{one-at}
 use Rattle.values.specs.Walk.{outcome, goesOn, step-goes}
 use Rattle.values.specs.Along.{GoalsWalked, GoalWalked, ArmsWalked}
 use Rattle.values.specs.Valuing.{Valuation, everyIn, someIn, both, valuation, giving, valuer}
@@ -54,20 +52,11 @@ module _ (f : List ℕ) {rows : List ℕ} (N : Noted f rows) where
   unfolding valuer reads gives
   row-step i {g} c d r s m = let h = N .at i .step g s in m ∙ rw (h .read, h .given, h .none-twice) refl
 
-  module _ (F : Formed f) (i : ℕ) (S : Stands f goals i) (z : i ≡ 0 → ⊥) {w : ℕ} (e : w ≡ word f i kindWord) (p : w ≡ switchKind → ⊥) (q : w ≡ ifKind → ⊥) where
-    one : Step
-    one = step-here F S z e p q .one
-
-    one-at : StepAt f i one
-    unfolding goalAt firstGoal one
-    one-at = record { stands = S; some = z; view = ap firstGoal (step-here F S z e p q .view) }
-
-    pub goal-step : (c d : List ℕ) (r : Bool) → RowValued rows i c r d → GoalValued f i c r d
-    goal-step c d r m = step-goes (valuer (program f)) (valuation c) (valuation d) r (one-at .view) (row-step i c d r one-at m)
-
-    -- nothing else stands there
-    pub goal-closed : {A : Type 0} {b : Bool} → b ≡ isStep w → b ≡ false → A
-    goal-closed h k = absurd (clash (ap isStep e ∙ step-kind i F one one-at) (sym h ∙ k))
+  pub goal-step : (F : Formed f) (i : ℕ) (S : Stands f goals i) (z : i ≡ 0 → ⊥) {w : ℕ} (e : w ≡ word f i kindWord) (p : w ≡ switchKind → ⊥) (q : w ≡ ifKind → ⊥)
+      → (c d : List ℕ) (r : Bool) → RowValued rows i c r d → GoalValued f i c r d
+  goal-step F i S z e p q c d r m =
+      let s = one-at F i S z e p q in
+      step-goes (valuer (program f)) (valuation c) (valuation d) r (s .view) (row-step i c d r s m)
 
   -- ---- an arm's row
   module _ (i : ℕ) (S : Stands f arms i) (z : i ≡ 0 → ⊥) where
@@ -75,10 +64,6 @@ module _ (f : List ℕ) {rows : List ℕ} (N : Noted f rows) where
         → outcome r (valuation d) ≡ valuer (program f) .enter (four (word f i 4) (word f i 5) (word f i 6) (word f i 7)) (valuation c)
     unfolding valuer setOf armArguments
     row-arm c d r m = let h = N .at i .arm S z in m ∙ rw (h .read, h .given, h .none-twice) refl
-
-    pub arm-closed : {A : Type 0} {w : ℕ} → w ≡ word f i kindWord → (w ≡ armKind → ⊥) → A
-    unfolding all-rows
-    arm-closed e h = absurd (h (e ∙ kind-number (word f i 0) kArm (arm-kind f i S z) arm-some))
 
 -- ---- what may be read
 pub readable-is : (f c : List ℕ) {b : Bool} {e : Set} (x : ℕ) → b ≡ member e x → e ≡ everyIn c → b ≡ valuer (program f) .readable (valuation c) x

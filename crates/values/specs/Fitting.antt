@@ -9,7 +9,7 @@ use Rattle.language.specs.File.{GoalKind, Kind, kArm, kGoal, goals, variables, 
 use Rattle.language.specs.Lists.{nth}
 use Rattle.language.specs.Program.{four, argumentsOf, Step, Goals, _then_, step, call, Variable, Procedure, Program, done, procedureAt, signatureOf}
 use Rattle.language.specs.Answers.{program}
-use Rattle.layout.specs.Chains.{starts-kind, goals-kind, arms-kind}
+use Rattle.chains.specs.Layout.{starts-kind, goals-kind, arms-kind}
 use Rattle.language.specs.File.{recordCount}
 use Rattle.records.specs.Records.{recordAt}
 use Rattle.records.specs.declared.Record.{Record}

@@ -6,12 +6,12 @@ pub mod Callees
 pub mod Accesses
 pub mod Typed
 pub mod Listing
-pub mod Shapes
 pub mod Fitting
 pub mod Noting
 pub mod Walk
 pub mod Along
 pub mod Valuing
+pub mod Closed
 pub mod Carrying
 pub mod Turns
 pub mod Windows

@@ -20,7 +20,7 @@ use Rattle.language.specs.Lists.{choose}
 use Rattle.language.specs.Program.{Step, _then_, step}
 use Rattle.language.specs.Values.{access, reads, gives}
 use Rattle.language.specs.Answers.{program}
-use Rattle.layout.specs.Table.{all-rows}
+use Rattle.chains.specs.Layout.{all-rows}
 use Rattle.chains.specs.Formed.{Formed, Stands, counted, goalsAt, goalAt}
 use Rattle.chains.specs.Is.{goals-step}
 use Rattle.tables.specs.Rows.{rowSet, readsIn, givesIn, markIn, bitOf, putAccess}
@@ -29,7 +29,7 @@ use Rattle.tables.specs.declared.Access.{Access}
 use Rattle.values.specs.Ranged.{fresh}
 use Rattle.values.specs.Gathering.{Gathers}
 use Rattle.values.specs.Fitting.{armArguments, Fits, arm-kind}
-use Rattle.values.specs.Shapes.{goal-kind, kind-number, switch-here, if-here}
+use Rattle.chains.specs.Shapes.{goal-kind, kind-number, switch-here, if-here}
 
 -- words of the rows of 4,096 records
 abbrev pub rowWords : ℕ
@@ -116,7 +116,7 @@ module _ {f : List ℕ} (i : ℕ) (F : Formed f) where
   kind-step g kRemove v e = rw e refl
 
   pub step-kind : (g : Step) → StepAt f i g → isStep (word f i 0) ≡ true
-  step-kind g s = let k = goal-kind F (s .stands) (s .some) in kind-step g (k .0) (s .view) (kind-number (word f i 0) (kGoal (k .0)) (k .1) goal-some)
+  step-kind g s = let k = goal-kind (s .stands) (s .some) in kind-step g (k .0) (s .view) (kind-number (word f i 0) (kGoal (k .0)) (k .1) goal-some)
 
 -- ---- storing a row
 module _ (t : List ℕ) (i : ℕ) (a : Access) where

@@ -6,5 +6,6 @@ mod stage;
 mod steps;
 mod walk;
 
+pub use rows::is_step;
 pub use rows::list_accesses;
 pub use stage::values_ok;

@@ -11,8 +11,8 @@ use Rattle.language.specs.Program.{Region, Signature, Procedure}
 use Rattle.language.specs.Records.{chainOf, regionWords}
 use Rattle.language.specs.Typing.{typingOk}
 use Rattle.language.specs.Answers.{program}
-use Rattle.layout.specs.Same.{program-size}
-use Rattle.layout.specs.Sizes.{chain-size, signatureSize, goalsSize, proceduresSize, program-records}
+use Rattle.chains.specs.Layout.{program-size}
+use Rattle.chains.specs.Layout.{chain-size, signatureSize, goalsSize, proceduresSize, program-records}
 use Rattle.region_graph.specs.Typed.{procedures-count}
 use Rattle.chains.specs.Formed.{Formed, counted}
 

@@ -17,7 +17,7 @@ use Rattle.language.specs.File
 use Rattle.language.specs.Program.{Signature, regionOf, regionAt}
 use Rattle.language.specs.Typing.{isRegion}
 use Rattle.language.specs.Regions.{targets, targetsIn, reachFrom, reach}
-use Rattle.layout.specs.Chains.{real}
+use Rattle.chains.specs.Layout.{real}
 use Rattle.region_graph.specs.Laws.{Declared}
 use Rattle.region_graph.specs.Typed.{variables-few, regions-few, region-in}
 use Rattle.region_graph.specs.Procedure.{declared}

@@ -12,7 +12,7 @@ use Rattle.language.specs.File.{arms, goals, word}
 use Rattle.language.specs.Program.{four, argumentsOf, Goals}
 use Rattle.language.specs.Frames.{noArm, picked, pick}
 use Rattle.laws.specs.Choices.{choose-true, choose-false}
-use Rattle.layout.specs.Chains.{real}
+use Rattle.chains.specs.Layout.{real}
 use Rattle.chains.specs.Formed.{Formed, Stands, goalsAt, armsAt, arms-none}
 use Rattle.chains.specs.Is.{arm-is}
 use Rattle.chains.specs.Parts.{arm-at}

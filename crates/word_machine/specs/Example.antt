@@ -11,7 +11,7 @@ use Rattle.language.specs.declared.Stop.the-variants.{Steps, Cells, Frames}
 use Rattle.language.specs.Machine.{Run}
 use Rattle.language.specs.Computing.{computing}
 use Rattle.language.specs.Table.{eight, rows, file, five, with5, A}
-use Rattle.layout.specs.Steps
+use Rattle.chains.specs.Layout.Steps
 use Rattle.records.specs.Records.{recordAt}
 use Rattle.chains.specs.Formed.{argumentsAt}
 use Rattle.chains.specs.Fields.{fieldOf}

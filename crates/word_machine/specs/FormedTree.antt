@@ -8,9 +8,9 @@ use mathlib.Core.Logic.{_≢_, inl, inr}
 use Rattle.language.specs.Lists.{count}
 use Rattle.language.specs.File.{Use, number, unused, first, Chain, Kind, kNone, kHeader, kType, kFunctor, kProcedure, kVariable, kRegion, kEdge, kArm, kArgument, kGoal, kLiteral, kSum, kAssign, kConstruct, kSwitch, kIf, kCall, kPrint, kCreate, kRemove, row, kindOf, kindAt, leading, references, word, recordCount}
 use Rattle.laws.specs.Counts.{hit, hit-same, hit-other, count-cons, count-none}
-use Rattle.layout.specs.Table.{all-rows}
-use Rattle.layout.specs.Lists.{hits, hits-suc}
-use Rattle.layout.specs.Passing.{Leads, Used, once, next-leads, record-used}
+use Rattle.chains.specs.Layout.{all-rows}
+use Rattle.chains.specs.Layout.{hits, hits-suc}
+use Rattle.chains.specs.Layout.{Leads, Used, once, next-leads, record-used}
 use Rattle.records.specs.Records.{recordAs, recordAt}
 use Rattle.chains.specs.Formed.{Formed, counted}
 use Rattle.word_machine.specs.Filling.{referred}

@@ -18,7 +18,7 @@ use Rattle.language.specs.Regions.{mapping, imageIn, stepRegions}
 use Rattle.language.specs.Lifetimes.{born, startHeld}
 use Rattle.language.specs.Answers.{program}
 use Rattle.laws.specs.Goals.{before-done}
-use Rattle.layout.specs.Chains.{real}
+use Rattle.chains.specs.Layout.{real}
 use Rattle.records.specs.Records.{recordAt}
 use Rattle.records.specs.declared.Record.the-variants.{Call}
 use Rattle.chains.specs.Formed.{Formed, Stands, goalsAt, argumentsAt, procedures-stand, program-procedures}

@@ -12,7 +12,7 @@ use Rattle.language.specs.File.{arguments, word, recordCount}
 use Rattle.language.specs.Program.{Parameter, signatureOf, parametersOf}
 use Rattle.language.specs.Answers.{program}
 use Rattle.laws.specs.Counts.{hit, hit-same, hit-other, count-cons, count-none}
-use Rattle.layout.specs.Chains.{real}
+use Rattle.chains.specs.Layout.{real}
 use Rattle.records.specs.Records.{recordAt}
 use Rattle.records.specs.declared.Record.{Record}
 use Rattle.records.specs.declared.Record.the-variants.{Header, «Type» as TypeOf, Functor, Procedure, Variable, Region, Edge, Literal, Sum, Assign, Construct, Switch, Arm, If, Call, Argument, Print, Create, Remove, Other}

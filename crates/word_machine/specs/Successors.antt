@@ -5,7 +5,7 @@ use mathlib.Core.Path.{_≡_, refl, _∙_}
 use mathlib.Core.List.{List}
 use Rattle.language.specs.File.{goals, word}
 use Rattle.language.specs.Program.{Goals, done, _then_, Goal, _before_}
-use Rattle.layout.specs.Chains.{real}
+use Rattle.chains.specs.Layout.{real}
 use Rattle.chains.specs.Formed.{Formed, Stands, goalsAt, goalAt, goals-none}
 use Rattle.chains.specs.Is.{goals-step}
 use Rattle.chains.specs.Records.{along}

@@ -4,6 +4,7 @@ use native.Mathlib.Omega.{arith}
 use mathlib.Core.Path.{_≡_, refl, sym, _∙_}
 use Rattle.chains.specs.Formed.{ahead}
 use Rattle.chains.specs.Shapes.{to-arms, to-then, to-else, arm-goals, arm-next}
+use Rattle.values.specs.Closed.{goal-closed, arm-closed}
 use Rattle.checking.proofs.Walking.{Walking, walk-last, walk-onward, walk-stop, walk-next, step-checked, switch-broken, switch-done, if-broken, if-broken-2, then-broken, else-broken, if-done, arms-none-checked, arm-broken, arm-ended, rest-broken, arm-more}
 use borrow.Author.Needs.{needs}
 use Prim.Native.Nat.{ℕ, _<_, _+_, _*_}
@@ -32,6 +33,7 @@ use Rattle.checking.proofs.step.enter.Reads as enter-reads
 use Rattle.checking.proofs.step.step.Reads as step-reads
 use Rattle.records.proofs.word.Reads as word-reads
 use Rattle.sets.proofs.Set.has.Reads as has-reads
+use Rattle.values.proofs.is_step.Reads as is-step-reads
 use Rattle.checking.proofs.walk.+arms+branches+goal+goals+switch.{statement}
 use Rattle.checking.proofs.walk.+arms+branches+goal+goals+switch.Tie.{close}
 
@@ -84,7 +86,7 @@ switch-below t = and 4 switch-kinds.ps (falls 4 switch-kinds.ps _<_ μ-switch t)
 -- what each member's callees ask and give
 abbrev arms-calls : ℕ → arms-lts.Claims
 arms-calls t =
-    (held-in-reads.Asked, held-in-reads.Learnt, sound-in-reads.Asked, sound-in-reads.Learnt, enter-reads.Asked, enter-reads.Learnt, word-reads.Asked, word-reads.Learnt, goals-below t, goals.Post, carry-reads.Asked, carry-reads.Learnt, arms-below t, arms.Post, join-reads.Asked, join-reads.Learnt)
+    (word-reads.Asked, word-reads.Learnt, held-in-reads.Asked, held-in-reads.Learnt, sound-in-reads.Asked, sound-in-reads.Learnt, enter-reads.Asked, enter-reads.Learnt, goals-below t, goals.Post, carry-reads.Asked, carry-reads.Learnt, arms-below t, arms.Post, join-reads.Asked, join-reads.Learnt)
 
 abbrev branches-calls : ℕ → branches-lts.Claims
 branches-calls t =
@@ -92,7 +94,7 @@ branches-calls t =
 
 abbrev goal-calls : ℕ → goal-lts.Claims
 goal-calls t =
-    (word-reads.Asked, word-reads.Learnt, switch-below t, switch.Post, branches-below t, branches.Post, step-reads.Asked, step-reads.Learnt)
+    (word-reads.Asked, word-reads.Learnt, switch-below t, switch.Post, branches-below t, branches.Post, is-step-reads.Asked, is-step-reads.Learnt, step-reads.Asked, step-reads.Learnt)
 
 abbrev goals-calls : ℕ → goals-lts.Claims
 goals-calls t =
@@ -105,6 +107,12 @@ switch-calls t =
 arms-returns : (t : ℕ) → arms-lts.Need-returns (arms-calls t) (arms-at t) arms.Post
 arms-returns t c = arms-none-checked _ _ _ _ _ (c .if1 .taken)
 
+arms-word-requires : (t : ℕ) → arms-lts.Need-word-requires (arms-calls t) (arms-at t) arms.Post
+arms-word-requires t c κs = search needs
+
+arms-returns-2 : (t : ℕ) → arms-lts.Need-returns-2 (arms-calls t) (arms-at t) arms.Post
+arms-returns-2 t c = let p = c .before .before .before .before .before .pre .1 in arm-closed (p .1) (c .before .before .if1 .left) (c .before .word .ensures .0) (c .if2 .taken)
+
 arms-held-in-requires : (t : ℕ) → arms-lts.Need-held-in-requires (arms-calls t) (arms-at t) arms.Post
 arms-held-in-requires t c κs = search needs
 
@@ -114,20 +122,20 @@ arms-sound-in-requires t c κs = search needs
 arms-enter-requires : (t : ℕ) → arms-lts.Need-enter-requires (arms-calls t) (arms-at t) arms.Post
 arms-enter-requires t c κs = search needs
 
-arms-word-requires : (t : ℕ) → arms-lts.Need-word-requires (arms-calls t) (arms-at t) arms.Post
-arms-word-requires t c κs = search needs
-
-arms-goals-requires : (t : ℕ) → arms-lts.Need-goals-requires (arms-calls t) (arms-at t) arms.Post
-arms-goals-requires t c κs = let a = c .before .before .before .before .before .before .before .before .before .before .before .pre in let o = arm-goals (a .1 .0) (c .before .before .before .before .before .before .before .before .if1 .left) (a .1 .1) (c .before .word .ensures .0) in (omega (arith, o .falls, a .0), (a .1 .0, o .stands))
-
-arms-returns-2 : (t : ℕ) → arms-lts.Need-returns-2 (arms-calls t) (arms-at t) arms.Post
-arms-returns-2 t c = let p = c .before .before .before .before .before .before .before .before .before .before .before .before .before .pre .1 in arm-broken _ _ _ _ (p .0) (p .1) (c .before .before .before .before .before .before .before .before .before .before .if1 .left) _ (c .before .before .before .before .enter .ensures .0) (c .before .before .before .before .enter .ensures .1) (c .before .before .before .word .ensures .0) _ _ (c .before .goals .ensures) _ (not-true _ (c .if2 .taken))
-
 arms-word-requires-2 : (t : ℕ) → arms-lts.Need-word-requires-2 (arms-calls t) (arms-at t) arms.Post
 arms-word-requires-2 t c κs = search needs
 
+arms-goals-requires : (t : ℕ) → arms-lts.Need-goals-requires (arms-calls t) (arms-at t) arms.Post
+arms-goals-requires t c κs = let a = c .before .before .before .before .before .before .before .before .before .before .before .before .before .pre in let o = arm-goals (a .1 .0) (c .before .before .before .before .before .before .before .before .before .before .if1 .left) (a .1 .1) (c .before .word2 .ensures .0) in (omega (arith, o .falls, a .0), (a .1 .0, o .stands))
+
 arms-returns-3 : (t : ℕ) → arms-lts.Need-returns-3 (arms-calls t) (arms-at t) arms.Post
-arms-returns-3 t c = let p = c .before .before .before .before .before .before .before .before .before .before .before .before .before .before .before .pre .1 in arm-ended _ _ _ _ (p .0) (p .1) (c .before .before .before .before .before .before .before .before .before .before .before .before .if1 .left) _ (c .before .before .before .before .before .before .enter .ensures .0) (c .before .before .before .before .before .before .enter .ensures .1) (c .before .before .before .before .before .word .ensures .0) _ _ (c .before .before .before .goals .ensures) (not-false _ (c .before .before .if2 .left)) (c .before .word2 .ensures .0) (c .if3 .taken)
+arms-returns-3 t c = let p = c .before .before .before .before .before .before .before .before .before .before .before .before .before .before .before .pre .1 in arm-broken _ _ _ _ (p .0) (p .1) (c .before .before .before .before .before .before .before .before .before .before .before .before .if1 .left) _ (c .before .before .before .before .enter .ensures .0) (c .before .before .before .before .enter .ensures .1) (c .before .before .before .word2 .ensures .0) _ _ (c .before .goals .ensures) _ (not-true _ (c .if3 .taken))
+
+arms-word-requires-3 : (t : ℕ) → arms-lts.Need-word-requires-3 (arms-calls t) (arms-at t) arms.Post
+arms-word-requires-3 t c κs = search needs
+
+arms-returns-4 : (t : ℕ) → arms-lts.Need-returns-4 (arms-calls t) (arms-at t) arms.Post
+arms-returns-4 t c = let p = c .before .before .before .before .before .before .before .before .before .before .before .before .before .before .before .before .before .pre .1 in arm-ended _ _ _ _ (p .0) (p .1) (c .before .before .before .before .before .before .before .before .before .before .before .before .before .before .if1 .left) _ (c .before .before .before .before .before .before .enter .ensures .0) (c .before .before .before .before .before .before .enter .ensures .1) (c .before .before .before .before .before .word2 .ensures .0) _ _ (c .before .before .before .goals .ensures) (not-false _ (c .before .before .if3 .left)) (c .before .word3 .ensures .0) (c .if4 .taken)
 
 arms-held-in-requires-2 : (t : ℕ) → arms-lts.Need-held-in-requires-2 (arms-calls t) (arms-at t) arms.Post
 arms-held-in-requires-2 t c κs = search needs
@@ -139,16 +147,16 @@ arms-carry-requires : (t : ℕ) → arms-lts.Need-carry-requires (arms-calls t) 
 arms-carry-requires t c κs = search needs
 
 arms-arms-requires : (t : ℕ) → arms-lts.Need-arms-requires (arms-calls t) (arms-at t) arms.Post
-arms-arms-requires t c κs = let a = c .before .before .before .before .before .before .before .before .before .before .before .before .before .before .before .before .before .before .before .before .before .before .pre in let o = arm-next (a .1 .0) (c .before .before .before .before .before .before .before .before .before .before .before .before .before .before .before .before .before .before .before .if1 .left) (a .1 .1) (c .before .before .before .before .before .before .before .before .word2 .ensures .0) in (omega (arith, o .falls, a .0), (a .1 .0, o .stands))
+arms-arms-requires t c κs = let a = c .before .before .before .before .before .before .before .before .before .before .before .before .before .before .before .before .before .before .before .before .before .before .before .before .pre in let o = arm-next (a .1 .0) (c .before .before .before .before .before .before .before .before .before .before .before .before .before .before .before .before .before .before .before .before .before .if1 .left) (a .1 .1) (c .before .before .before .before .before .before .before .before .word3 .ensures .0) in (omega (arith, o .falls, a .0), (a .1 .0, o .stands))
 
-arms-returns-4 : (t : ℕ) → arms-lts.Need-returns-4 (arms-calls t) (arms-at t) arms.Post
-arms-returns-4 t c = let p = c .before .before .before .before .before .before .before .before .before .before .before .before .before .before .before .before .before .before .before .before .before .before .before .before .pre .1 in rest-broken _ _ _ _ (p .0) (p .1) (c .before .before .before .before .before .before .before .before .before .before .before .before .before .before .before .before .before .before .before .before .before .if1 .left) _ (c .before .before .before .before .before .before .before .before .before .before .before .before .before .before .before .enter .ensures .0) (c .before .before .before .before .before .before .before .before .before .before .before .before .before .before .before .enter .ensures .1) (c .before .before .before .before .before .before .before .before .before .before .before .before .before .before .word .ensures .0) _ _ (c .before .before .before .before .before .before .before .before .before .before .before .before .goals .ensures) (not-false _ (c .before .before .before .before .before .before .before .before .before .before .before .if2 .left)) (c .before .before .before .before .before .before .before .before .before .before .word2 .ensures .0) (c .before .before .before .before .before .before .before .before .before .if3 .left) _ ((c .before .before .before .carry .ensures .0) ∙ c .before .before .before .before .before .before .before .before .before .before .before .before .before .before .before .before .before .before .before .held-in .ensures) ((c .before .before .before .carry .ensures .1) ∙ c .before .before .before .before .before .before .before .before .before .before .before .before .before .before .before .before .before .sound-in .ensures) _ _ (c .before .arms .ensures) _ (not-true _ (c .if4 .taken))
+arms-returns-5 : (t : ℕ) → arms-lts.Need-returns-5 (arms-calls t) (arms-at t) arms.Post
+arms-returns-5 t c = let p = c .before .before .before .before .before .before .before .before .before .before .before .before .before .before .before .before .before .before .before .before .before .before .before .before .before .before .pre .1 in rest-broken _ _ _ _ (p .0) (p .1) (c .before .before .before .before .before .before .before .before .before .before .before .before .before .before .before .before .before .before .before .before .before .before .before .if1 .left) _ (c .before .before .before .before .before .before .before .before .before .before .before .before .before .before .before .enter .ensures .0) (c .before .before .before .before .before .before .before .before .before .before .before .before .before .before .before .enter .ensures .1) (c .before .before .before .before .before .before .before .before .before .before .before .before .before .before .word2 .ensures .0) _ _ (c .before .before .before .before .before .before .before .before .before .before .before .before .goals .ensures) (not-false _ (c .before .before .before .before .before .before .before .before .before .before .before .if3 .left)) (c .before .before .before .before .before .before .before .before .before .before .word3 .ensures .0) (c .before .before .before .before .before .before .before .before .before .if4 .left) _ ((c .before .before .before .carry .ensures .0) ∙ c .before .before .before .before .before .before .before .before .before .before .before .before .before .before .before .before .before .before .before .held-in .ensures) ((c .before .before .before .carry .ensures .1) ∙ c .before .before .before .before .before .before .before .before .before .before .before .before .before .before .before .before .before .sound-in .ensures) _ _ (c .before .arms .ensures) _ (not-true _ (c .if5 .taken))
 
 arms-join-requires : (t : ℕ) → arms-lts.Need-join-requires (arms-calls t) (arms-at t) arms.Post
 arms-join-requires t c κs = search needs
 
-arms-returns-5 : (t : ℕ) → arms-lts.Need-returns-5 (arms-calls t) (arms-at t) arms.Post
-arms-returns-5 t c = let p = c .before .before .before .before .before .before .before .before .before .before .before .before .before .before .before .before .before .before .before .before .before .before .before .before .before .before .pre .1 in arm-more _ _ _ _ (p .0) (p .1) (c .before .before .before .before .before .before .before .before .before .before .before .before .before .before .before .before .before .before .before .before .before .before .before .if1 .left) _ (c .before .before .before .before .before .before .before .before .before .before .before .before .before .before .before .before .before .enter .ensures .0) (c .before .before .before .before .before .before .before .before .before .before .before .before .before .before .before .before .before .enter .ensures .1) (c .before .before .before .before .before .before .before .before .before .before .before .before .before .before .before .before .word .ensures .0) _ _ (c .before .before .before .before .before .before .before .before .before .before .before .before .before .before .goals .ensures) (not-false _ (c .before .before .before .before .before .before .before .before .before .before .before .before .before .if2 .left)) (c .before .before .before .before .before .before .before .before .before .before .before .before .word2 .ensures .0) (c .before .before .before .before .before .before .before .before .before .before .before .if3 .left) _ ((c .before .before .before .before .before .carry .ensures .0) ∙ c .before .before .before .before .before .before .before .before .before .before .before .before .before .before .before .before .before .before .before .before .before .held-in .ensures) ((c .before .before .before .before .before .carry .ensures .1) ∙ c .before .before .before .before .before .before .before .before .before .before .before .before .before .before .before .before .before .before .before .sound-in .ensures) _ _ (c .before .before .before .arms .ensures) _ _ (not-false _ (c .before .before .if4 .left)) (c .before .before .before .before .before .before .before .before .before .held-in2 .ensures) (c .before .before .before .before .before .before .before .sound-in2 .ensures) (c .join .ensures)
+arms-returns-6 : (t : ℕ) → arms-lts.Need-returns-6 (arms-calls t) (arms-at t) arms.Post
+arms-returns-6 t c = let p = c .before .before .before .before .before .before .before .before .before .before .before .before .before .before .before .before .before .before .before .before .before .before .before .before .before .before .before .before .pre .1 in arm-more _ _ _ _ (p .0) (p .1) (c .before .before .before .before .before .before .before .before .before .before .before .before .before .before .before .before .before .before .before .before .before .before .before .before .before .if1 .left) _ (c .before .before .before .before .before .before .before .before .before .before .before .before .before .before .before .before .before .enter .ensures .0) (c .before .before .before .before .before .before .before .before .before .before .before .before .before .before .before .before .before .enter .ensures .1) (c .before .before .before .before .before .before .before .before .before .before .before .before .before .before .before .before .word2 .ensures .0) _ _ (c .before .before .before .before .before .before .before .before .before .before .before .before .before .before .goals .ensures) (not-false _ (c .before .before .before .before .before .before .before .before .before .before .before .before .before .if3 .left)) (c .before .before .before .before .before .before .before .before .before .before .before .before .word3 .ensures .0) (c .before .before .before .before .before .before .before .before .before .before .before .if4 .left) _ ((c .before .before .before .before .before .carry .ensures .0) ∙ c .before .before .before .before .before .before .before .before .before .before .before .before .before .before .before .before .before .before .before .before .before .held-in .ensures) ((c .before .before .before .before .before .carry .ensures .1) ∙ c .before .before .before .before .before .before .before .before .before .before .before .before .before .before .before .before .before .before .before .sound-in .ensures) _ _ (c .before .before .before .arms .ensures) _ _ (not-false _ (c .before .before .if5 .left)) (c .before .before .before .before .before .before .before .before .before .held-in2 .ensures) (c .before .before .before .before .before .before .before .sound-in2 .ensures) (c .join .ensures)
 
 branches-held-in-requires : (t : ℕ) → branches-lts.Need-held-in-requires (branches-calls t) (branches-at t) branches.Post
 branches-held-in-requires t c κs = search needs
@@ -216,17 +224,23 @@ goal-switch-requires t c κs = let a = c .before .before .before .before .before
 goal-branches-requires : (t : ℕ) → goal-lts.Need-branches-requires (goal-calls t) (goal-at t) goal.Post
 goal-branches-requires t c κs = let a = c .before .before .before .before .before .pre in (omega (arith, a .0), (a .1 .0, sym (c .before .before .word .ensures .0) ∙ c .before .match .keys2))
 
+goal-is-step-requires : (t : ℕ) → goal-lts.Need-is-step-requires (goal-calls t) (goal-at t) goal.Post
+goal-is-step-requires t c κs = search needs
+
+goal-returns : (t : ℕ) → goal-lts.Need-returns (goal-calls t) (goal-at t) goal.Post
+goal-returns t c = let p = c .before .before .before .before .before .before .pre .1 in goal-closed (p .0) _ (p .1 .0) (p .1 .1) (c .before .before .before .word .ensures .0) (c .before .before .match .rest .0 .1) (c .before .before .match .rest .1) (c .before .is-step .ensures) (not-true _ (c .if1 .taken))
+
 goal-step-requires : (t : ℕ) → goal-lts.Need-step-requires (goal-calls t) (goal-at t) goal.Post
 goal-step-requires t c κs = search needs
 
-goal-returns : (t : ℕ) → goal-lts.Need-returns (goal-calls t) (goal-at t) goal.Post
-goal-returns t c = c .switch .ensures
-
 goal-returns-2 : (t : ℕ) → goal-lts.Need-returns-2 (goal-calls t) (goal-at t) goal.Post
-goal-returns-2 t c = c .branches .ensures
+goal-returns-2 t c = c .switch .ensures
 
 goal-returns-3 : (t : ℕ) → goal-lts.Need-returns-3 (goal-calls t) (goal-at t) goal.Post
-goal-returns-3 t c = let p = c .before .before .before .before .before .before .pre .1 in step-checked _ _ _ _ _ _ (p .0) (p .1 .0) (p .1 .1) (c .before .before .before .word .ensures .0) (c .before .before .match .rest .0 .1) (c .before .before .match .rest .1) (c .step .ensures)
+goal-returns-3 t c = c .branches .ensures
+
+goal-returns-4 : (t : ℕ) → goal-lts.Need-returns-4 (goal-calls t) (goal-at t) goal.Post
+goal-returns-4 t c = let p = c .before .before .before .before .before .before .before .before .pre .1 in step-checked _ _ _ _ _ _ (p .0) (p .1 .0) (p .1 .1) (c .before .before .before .before .before .word .ensures .0) (c .before .before .before .before .match .rest .0 .1) (c .before .before .before .before .match .rest .1) (c .step .ensures)
 
 abbrev goals-Inv-loop : goals-lts.InvT-loop
 goals-Inv-loop file rows own carried₀ start i₀ carried i = Walking file rows own start carried₀ carried i
@@ -282,21 +296,23 @@ pub +arms+branches+goal+goals+switch-spec : {M : Type 1} → statement M
     (arms-at t)
     arms.Post
     (arms-returns t)
+    (arms-word-requires t)
+    (arms-returns-2 t)
     (arms-held-in-requires t)
     (arms-sound-in-requires t)
     (arms-enter-requires t)
-    (arms-word-requires t)
-    (arms-goals-requires t)
-    (arms-returns-2 t)
     (arms-word-requires-2 t)
+    (arms-goals-requires t)
     (arms-returns-3 t)
+    (arms-word-requires-3 t)
+    (arms-returns-4 t)
     (arms-held-in-requires-2 t)
     (arms-sound-in-requires-2 t)
     (arms-carry-requires t)
     (arms-arms-requires t)
-    (arms-returns-4 t)
+    (arms-returns-5 t)
     (arms-join-requires t)
-    (arms-returns-5 t))
+    (arms-returns-6 t))
     (λ t. branches-lts.spec (branches-calls t)
     (branches-at t)
     branches.Post
@@ -325,10 +341,12 @@ pub +arms+branches+goal+goals+switch-spec : {M : Type 1} → statement M
     (goal-word-requires t)
     (goal-switch-requires t)
     (goal-branches-requires t)
-    (goal-step-requires t)
+    (goal-is-step-requires t)
     (goal-returns t)
+    (goal-step-requires t)
     (goal-returns-2 t)
-    (goal-returns-3 t))
+    (goal-returns-3 t)
+    (goal-returns-4 t))
     (λ t. goals-lts.spec
     (goal-below t, goal.Post, word-reads.Asked, word-reads.Learnt)
     (goals-at t)

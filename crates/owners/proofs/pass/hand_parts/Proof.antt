@@ -2,7 +2,7 @@
 use mathlib.Core.Path.{refl}
 use Rattle.language.specs.Format.{procedureVariables, procedureRegions, procedureGoals, regionEdges, switchArms, armGoals, ifThen, ifElse, callArguments}
 use Rattle.language.specs.File.{kSwitch, kIf, kCall, kProcedure, kRegion, kArm, kGoal}
-use Rattle.layout.specs.Table.{all-rows}
+use Rattle.chains.specs.Layout.{all-rows}
 use Rattle.owners.specs.Owner.{partWords}
 use Rattle.owners.proofs.Passing.{one-part, two-parts, three-parts, no-parts}
 use borrow.Author.Needs.{needs}

@@ -9,7 +9,8 @@ use Rattle.chains.specs.Formed.{ahead}
 use Rattle.chains.specs.Is.{chain-next}
 use Rattle.values.specs.Along.{Along, along-first, along-last, along-stop, along-next, to-arms, switch-stops, switch-walked, to-then, to-else, if-unread, if-unread-2, if-then-stops, if-else-stops, if-walked, arms-none-walked, arm-goals, arm-next, arm-refused, arm-stops, arm-last, arm-rest-stops, arms-walked}
 use Rattle.values.specs.Valuing.{both, valuation, valuer}
-use Rattle.values.specs.Carrying.{goal-step, goal-closed, row-arm, arm-closed, readable-is, joined}
+use Rattle.values.specs.Closed.{goal-closed, arm-closed}
+use Rattle.values.specs.Carrying.{goal-step, row-arm, readable-is, joined}
 use borrow.Fn.Kinds.{In}
 use borrow.Fn.PlainCycle.{Measures, is, falls, and}
 use Rattle.values.proofs.walk.arms.Reads as arms
@@ -112,7 +113,7 @@ arms-word-requires : (t : ℕ) → arms-lts.Need-word-requires (arms-calls t) (a
 arms-word-requires t c κs = search needs
 
 arms-returns-2 : (t : ℕ) → arms-lts.Need-returns-2 (arms-calls t) (arms-at t) arms.Post
-arms-returns-2 t c = arm-closed _ (c .before .before .before .before .pre .1 .1 .0) _ (c .before .before .before .before .pre .1 .1 .1) (c .before .before .if1 .left) (c .before .word .ensures .0) (c .if2 .taken)
+arms-returns-2 t c = arm-closed (c .before .before .before .before .pre .1 .1 .1) (c .before .before .if1 .left) (c .before .word .ensures .0) (c .if2 .taken)
 
 arms-every-in-requires : (t : ℕ) → arms-lts.Need-every-in-requires (arms-calls t) (arms-at t) arms.Post
 arms-every-in-requires t c κs = search needs
@@ -232,7 +233,7 @@ goal-is-step-requires : (t : ℕ) → goal-lts.Need-is-step-requires (goal-calls
 goal-is-step-requires t c κs = search needs
 
 goal-returns : (t : ℕ) → goal-lts.Need-returns (goal-calls t) (goal-at t) goal.Post
-goal-returns t c = goal-closed _ (c .before .before .before .before .before .pre .1 .1 .0) (c .before .before .before .before .before .pre .1 .0) _ (c .before .before .before .before .before .pre .1 .1 .1 .0) (c .before .before .before .before .before .pre .1 .1 .1 .1) (c .before .before .before .word .ensures .0) (c .before .before .match .rest .0 .1) (c .before .before .match .rest .1) (c .before .is-step .ensures) (not-true _ (c .if1 .taken))
+goal-returns t c = goal-closed (c .before .before .before .before .before .pre .1 .0) _ (c .before .before .before .before .before .pre .1 .1 .1 .0) (c .before .before .before .before .before .pre .1 .1 .1 .1) (c .before .before .before .word .ensures .0) (c .before .before .match .rest .0 .1) (c .before .before .match .rest .1) (c .before .is-step .ensures) (not-true _ (c .if1 .taken))
 
 goal-apply-requires : (t : ℕ) → goal-lts.Need-apply-requires (goal-calls t) (goal-at t) goal.Post
 goal-apply-requires t c κs = search needs
