@@ -108,7 +108,11 @@ module _ (rows own : List ℕ) (i : ℕ) (c : List ℕ) {held sound : Set} (eh :
       ∙ ap asOutcome (step-carries A E W at h (heldIn c) (soundIn c) rule p ee (er ∙ ap (λ (y : Set). y ∖ e) eh) eu ea
       (ew S (W .reached) ∙ ap (λ (y : Set). soundWithout S e y) es) eg (ex S (W .reached)))
 
--- ---- where an arm's goals start
+-- ---- where an arm's goals start: its arguments have been given their values
+abbrev pub Entered : List ℕ → List ℕ → ℕ → List ℕ → List ℕ → Type 0
+Entered rows own i c c′ =
+    (heldIn c′ ≡ heldIn c) × ((S : Signature) → Reached S own → soundIn c′ ≡ soundGiven S (givesIn rows i) (heldIn c) (soundIn c))
+
 pub entered : (S : Signature) (rows own : List ℕ) (i : ℕ) (c : List ℕ) {given held sound r : Set} → Reached S own
     → ((S : Signature) → Reached S own → r ≡ soundGiven S given held sound) → given ≡ givesIn rows i → held ≡ heldIn c → sound ≡ soundIn c
     → r ≡ soundGiven S (givesIn rows i) (heldIn c) (soundIn c)

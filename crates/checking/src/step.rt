@@ -15,12 +15,7 @@ use tables::needs_at;
 use tables::reads_at;
 use tables::set_at;
 ghost use mathlib.Core.Path.{_≡_};
-ghost use Rattle.language.specs.Program.{Signature};
-ghost use Rattle.language.specs.Checking.{soundGiven};
-ghost use Rattle.tables.specs.Rows.{givesIn};
-ghost use Rattle.checking.specs.Carried.{heldIn, soundIn};
-ghost use Rattle.checking.specs.Sound.{Reached};
-ghost use Rattle.checking.specs.Rules.{rulesAt, StepChecked};
+ghost use Rattle.checking.specs.Rules.{rulesAt, StepChecked, Entered};
 
 // "Create: not held before. Remove: held, not kept." "Each variable read is sound. A construct's region is held." "Call: images of dead and kept
 // regions are held. Images of dead ones are not kept by the caller. Images of born ones are not held. An image of a dead or born one is no other
@@ -64,8 +59,7 @@ pub fn step(rows: &[u64; ROWS], own: &[u64], carried: &mut [u64; 2], i: usize) -
 
 // Where the goals of the arm at record i start: its arguments have been given their values.
 pub fn enter(rows: &[u64; ROWS], own: &[u64], carried: &mut [u64; 2], i: usize)
-    ensures { λ _. ⌜ heldIn (now (carried .exit)) ≡ heldIn (now (carried .entry)) ⌝ }
-    ensures { λ _. ⌜ ((S : Signature) → Reached S (now (own .entry)) → soundIn (now (carried .exit)) ≡ soundGiven S (givesIn (now (rows .entry)) i) (heldIn (now (carried .entry))) (soundIn (now (carried .entry)))) ⌝ }
+    ensures { λ _. ⌜ Entered (now (rows .entry)) (now (own .entry)) i (now (carried .entry)) (now (carried .exit)) ⌝ }
 {
     let held = held_in(carried);
     let sound = sound_in(carried);

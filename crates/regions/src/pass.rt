@@ -112,7 +112,7 @@ fn next_ok(
     row_ok(file, table, &table[start..], i, rows)
 }
 
-// Number 5.
+// Number 5. Puts what each step does to regions into its row; where the answer is false, those words of the rows are free.
 pub fn regions_agree(file: &[u8], table: &[u64], owners: &[u16], rows: &mut [u64; ROWS]) -> bool
     requires { ⌜ Given (now file) (now table) (now owners) ⌝ }
     requires { ⌜ rowsLength ≤ length (now rows) ⌝ }

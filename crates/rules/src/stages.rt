@@ -55,7 +55,8 @@ fn regions_ok(file: &[u8], table: &[u64; TABLE], rows: &mut [u64; ROWS]) -> bool
     regions_agree(file, table, &owners, rows)
 }
 
-// Numbers 4 and 5, and 7's part for every program, of a file that passed number 3. Fills the file's table and the rows.
+// Numbers 4 and 5, and 7's part for every program, of a file that passed number 3. Fills the file's table and the rows; after a refusal both are
+// free.
 pub fn check_classes(file: &[u8], table: &mut [u64; TABLE], rows: &mut [u64; ROWS]) -> Verdict
     requires { ⌜ Formed (now file) ⌝ }
     requires { ⌜ typingOk (program (now file)) ≡ true ⌝ }
