@@ -1,10 +1,10 @@
 -- Numbers that name a record of a table, and what the records of the table of types are.
 use Prim.Native.Nat.{ℕ}
-use mathlib.Core.Path.{_≡_, ap, _∙_}
+use mathlib.Core.Path.{_≡_, sym, ap, _∙_}
 use mathlib.Core.Bool.{Bool, true, false}
 use mathlib.Core.List.{List}
 use lib.Dec.{eqb, ltb}
-use lib.ListN.{getD}
+use lib.ListN.{length, getD, replicate, length-replicate}
 use Rattle.sets.specs.Tests.{_&_}
 use Rattle.language.specs.Format.{typeFunctors}
 use Rattle.language.specs.File.{Chain, functors}
@@ -13,6 +13,10 @@ use Rattle.language.specs.Answers.{program}
 use Rattle.chains.specs.Fields.{fieldOf}
 use Rattle.chains.specs.Formed.{Stands, functorsAt}
 use Rattle.laws.specs.Tests.{refuse, pass}
+
+-- a table of zeros is as long as it was made
+pub blank-length : (n : ℕ) {t : List ℕ} → t ≡ replicate n 0 → n ≡ length t
+blank-length n e = sym (length-replicate n 0) ∙ ap length (sym e)
 
 -- there is a record numbered n
 unfoldable pub listedIn : List ℕ → ℕ → Bool

@@ -7,7 +7,6 @@ mod types;
 
 pub use names::has_type;
 pub use names::listed;
-pub use names::no_numbers;
 pub use names::type_of;
 pub use names::word_of;
 pub use signatures::signature_ok;

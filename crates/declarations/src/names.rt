@@ -10,13 +10,6 @@ ghost use lib.ListN.{length};
 ghost use Rattle.language.specs.Format.{variableType, regionType, places};
 ghost use Rattle.declarations.specs.Names.{listedIn, wordIn, typedIn};
 
-// A table for the numbers 1 to 64, empty.
-pub fn no_numbers() -> [usize; PLACES]
-    ensures { λ r. ⌜ places ≡ length r ⌝ }
-{
-    [0; PLACES]
-}
-
 pub fn listed(table: &[usize], n: usize) -> bool
     ensures { λ r. ⌜ r ≡ listedIn (now (table .entry)) n ⌝ }
 {

@@ -1,7 +1,6 @@
 // What a procedure declares: its variables and its regions. There are n types.
 use crate::edges::edges_ok;
 use crate::names::is_region_of;
-use crate::names::no_numbers;
 use crate::names::word_of;
 use chains::chain_length;
 use chains::list_chain;
@@ -13,6 +12,7 @@ use language::format::NEXT;
 use language::format::PLACES;
 use language::format::TYPE_FUNCTORS;
 use records::Record;
+use records::blank::blank_places;
 use records::record_at;
 use records::word;
 ghost use mathlib.Core.Path.{_≡_};
@@ -125,7 +125,7 @@ pub fn signature_ok(file: &[u8], types: &[usize; PLACES], n: usize, vs: usize, r
     if MAX_VARIABLES < chain_length(file, vs) {
         return false;
     }
-    let mut table = no_numbers();
+    let mut table = blank_places();
     if MAX_REGIONS < list_chain(file, rs, 1, &mut table) {
         return false;
     }

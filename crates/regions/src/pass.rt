@@ -6,7 +6,7 @@ use crate::repeats::owner_of;
 use crate::repeats::repeats;
 use crate::single::record_ok;
 use language::format;
-use language::format::PLACES;
+use records::blank::blank_places;
 use records::word;
 use tables::Effect;
 use tables::ROWS;
@@ -19,7 +19,7 @@ use tables::start_of;
 ghost use mathlib.Core.Path.{_≡_};
 ghost use mathlib.Core.Bool.{true};
 ghost use Prim.Native.Nat.{_≤_, _<_};
-ghost use lib.ListN.{length, replicate};
+ghost use lib.ListN.{length};
 ghost use Rattle.language.specs.File.{recordCount};
 ghost use Rattle.language.specs.Regions.{regionsOk};
 ghost use Rattle.language.specs.Answers.{program};
@@ -33,13 +33,6 @@ ghost use Rattle.regions.specs.Here.{Given, Here};
 ghost use Rattle.regions.specs.CallEffect.{CallHere};
 ghost use Rattle.regions.specs.Rowed.{Before, Rowed, Unread};
 
-// Places for the images of 64 regions, numbered from 1; none yet.
-fn no_images() -> [usize; PLACES]
-    ensures { λ r. ⌜ r ≡ replicate 65 0 ⌝ }
-{
-    [0; PLACES]
-}
-
 // The call at record i of the procedure with the window callee: it maps no region two ways.
 fn call_ok(file: &[u8], own: &[u64], callee: &[u64], i: usize, rows: &mut [u64; ROWS]) -> bool
     requires { ⌜ CallHere (now file) (now own) (now callee) i ⌝ }
@@ -47,7 +40,7 @@ fn call_ok(file: &[u8], own: &[u64], callee: &[u64], i: usize, rows: &mut [u64; 
     ensures { λ b. ⌜ b ≡ recordTest (agrees (now (file .entry))) (now (file .entry)) i ⌝ }
     ensures { λ b. ⌜ Rowed (now (file .entry)) i (now (rows .entry)) b (now (rows .exit)) ⌝ }
 {
-    let mut images = no_images();
+    let mut images = blank_places();
     let arguments = word(file, i, format::CALL_ARGUMENTS);
     if !map_call(file, own, callee, arguments, &mut images) {
         return false;

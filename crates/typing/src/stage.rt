@@ -4,7 +4,6 @@ use crate::functors::list_functors;
 use crate::parameters::list_parameters;
 use crate::walk::goals;
 use chains::list_chain;
-use declarations::no_numbers;
 use declarations::signature_ok;
 use declarations::types_ok;
 use language::format::HEADER_PROCEDURES;
@@ -14,6 +13,10 @@ use language::format::MAX_RECORDS;
 use language::format::NEXT;
 use language::format::PLACES;
 use records::Record;
+use records::blank::blank_functors;
+use records::blank::blank_links;
+use records::blank::blank_places;
+use records::blank::blank_procedures;
 use records::record_at;
 use records::word;
 ghost use mathlib.Core.Path.{_≡_};
@@ -31,24 +34,6 @@ ghost use Rattle.language.specs.File.{procedures, variables, regions, goals};
 ghost use Rattle.declarations.specs.Signatures.{signatureFrom};
 ghost use Rattle.typing.specs.Settings.{FileTables};
 
-fn no_procedures() -> [usize; MAX_PROCEDURES]
-    ensures { λ r. ⌜ maxProcedures ≡ length r ⌝ }
-{
-    [0; MAX_PROCEDURES]
-}
-
-fn no_parameters() -> [usize; MAX_RECORDS]
-    ensures { λ r. ⌜ maxRecords ≡ length r ⌝ }
-{
-    [0; MAX_RECORDS]
-}
-
-fn no_functors() -> [usize; FUNCTOR_PLACES]
-    ensures { λ r. ⌜ functorPlaces ≡ length r ⌝ }
-{
-    [0; FUNCTOR_PLACES]
-}
-
 // The goals from record gs on, of a procedure whose variables and regions are in order.
 fn body_ok(
     file: &[u8],
@@ -64,8 +49,8 @@ fn body_ok(
     requires { ⌜ signatureOk (program (now file) .types) (signatureFrom (now file) vs rs) ≡ true ⌝ }
     ensures { λ r. ⌜ r ≡ goalsOk (program (now (file .entry))) (signatureFrom (now (file .entry)) vs rs) (goalsAt (now (file .entry)) gs) ⌝ }
 {
-    let mut variables = no_numbers();
-    let mut regions = no_numbers();
+    let mut variables = blank_places();
+    let mut regions = blank_places();
     list_chain(file, vs, 1, &mut variables);
     list_chain(file, rs, 1, &mut regions);
     goals(file, places, called, parameters, &variables, &regions, gs)
@@ -135,7 +120,7 @@ fn procedures_ok(file: &[u8], types: &[usize; PLACES], n: usize) -> bool
     ensures { λ r. ⌜ r ≡ proceduresOk (program (now (file .entry))) ⌝ }
 {
     let first = word(file, 0, HEADER_PROCEDURES);
-    let mut procedures = no_procedures();
+    let mut procedures = blank_procedures();
     let count = list_chain(file, first, 0, &mut procedures);
     if count == 0 {
         return false;
@@ -143,9 +128,9 @@ fn procedures_ok(file: &[u8], types: &[usize; PLACES], n: usize) -> bool
     if MAX_PROCEDURES < count {
         return false;
     }
-    let mut parameters = no_parameters();
+    let mut parameters = blank_links();
     list_parameters(file, &mut parameters);
-    let mut places = no_functors();
+    let mut places = blank_functors();
     list_functors(file, types, &mut places);
     each_procedure_ok(file, types, &places, &procedures, &parameters, n, first)
 }
@@ -156,7 +141,7 @@ pub fn typing_ok(file: &[u8]) -> bool
     ensures { λ r. ⌜ r ≡ typingOk (program (now (file .entry))) ⌝ }
 {
     let first = word(file, 0, HEADER_TYPES);
-    let mut types = no_numbers();
+    let mut types = blank_places();
     let n = list_chain(file, first, 1, &mut types);
     if !types_ok(file, n) {
         return false;

@@ -11,10 +11,10 @@ use chains::chain_length;
 use language::format::HEADER_PROCEDURES;
 use language::format::MAX_PROCEDURES;
 use language::format::NEXT;
-use language::format::PLACES;
 use language::format::PROCEDURE_GOALS;
 use language::format::PROCEDURE_REGIONS;
 use language::format::PROCEDURE_VARIABLES;
+use records::blank::blank_sets;
 use records::word;
 ghost use mathlib.Core.Path.{_≡_};
 ghost use mathlib.Core.Bool.{true};
@@ -92,12 +92,6 @@ fn list_procedure(
     }
 }
 
-fn target_table() -> [u64; PLACES]
-    ensures { λ r. ⌜ 65 ≡ length r ⌝ }
-{
-    [0; PLACES]
-}
-
 // Fills the file's table, and tells whether every procedure's classes are right: number 7 for every program. What stands
 // behind the last window is not said.
 pub fn list_procedures(file: &[u8], table: &mut [u64]) -> bool
@@ -107,7 +101,7 @@ pub fn list_procedures(file: &[u8], table: &mut [u64]) -> bool
     ensures { λ b. ⌜ b ≡ declaredClassesOk (program (now (file .entry))) ⌝ }
     ensures { λ _. ⌜ FileTable (now (file .entry)) (now (table .exit)) ⌝ }
 {
-    let mut targets = target_table();
+    let mut targets = blank_sets();
     let mut right = true;
     let mut i = word(file, 0, HEADER_PROCEDURES);
     let mut q = 0;

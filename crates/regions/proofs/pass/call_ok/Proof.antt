@@ -14,8 +14,8 @@ use borrow.Author.Needs.{needs}
 use Rattle.regions.proofs.pass.call_ok.Statement.{statement}
 use Rattle.regions.proofs.pass.call_ok.Tie as tie
 
-no-images-requires : tie.Need-no-images-requires
-no-images-requires c κs = search needs
+blank-places-requires : tie.Need-blank-places-requires
+blank-places-requires c κs = search needs
 
 word-requires : tie.Need-word-requires
 word-requires c κs = search needs
@@ -35,7 +35,7 @@ returns c =
     let a = m .before .before .before .before .before .before .before in
     let K = a .pre .0 in
     let z = not-true _ (c .if1 .taken) in
-    (sym z ∙ call-agrees K (m .before .before .word .ensures .0) (blank (m .before .before .before .no-images .ensures)) _ _ (m .map-call .ensures), rowed-not (a .args .file .now) (a .args .i) _ refl)
+    (sym z ∙ call-agrees K (m .before .before .word .ensures .0) (blank (m .before .before .before .blank-places .ensures)) _ _ (m .map-call .ensures), rowed-not (a .args .file .now) (a .args .i) _ refl)
 
 slice-aggregate-image-effect : tie.Need-slice-aggregate-image-effect
 slice-aggregate-image-effect c = search needs
@@ -55,7 +55,7 @@ returns-2 c =
     let a = m .before .before .before .before .before .before .before in
     let K = a .pre .0 in
     let y = not-false _ (c .before .before .before .before .if1 .left) in
-    let B = blank (m .before .before .before .no-images .ensures) in
+    let B = blank (m .before .before .before .blank-places .ensures) in
     let e = m .before .before .word .ensures .0 in
     let below = K .here .below in
     let few : a .args .i < maxRecords = omega (arith, counted (K .here .formed) .most, below) in
@@ -68,7 +68,7 @@ pub call-ok-spec : {M : Type 1} → statement M
 call-ok-spec =
     tie.close
     (tie.spec
-    no-images-requires
+    blank-places-requires
     word-requires
     slice-aggregate-map-call
     map-call-requires

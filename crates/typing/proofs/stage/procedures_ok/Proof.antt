@@ -1,6 +1,9 @@
 -- `procedures_ok` meets its contract.
 use native.Mathlib.Omega.{arith}
 use borrow.Author.Needs.{needs}
+use Rattle.language.specs.Format
+use Rattle.records.specs.Blank
+use Rattle.declarations.specs.Names.{blank-length}
 use Rattle.chains.specs.Formed.{procedures-stand}
 use Rattle.declarations.specs.Names.{stands-same}
 use Rattle.typing.specs.Tables.{called-table}
@@ -11,8 +14,8 @@ use Rattle.typing.proofs.stage.procedures_ok.Tie as tie
 word-requires : tie.Need-word-requires
 word-requires c κs = search needs
 
-no-procedures-requires : tie.Need-no-procedures-requires
-no-procedures-requires c κs = search needs
+blank-procedures-requires : tie.Need-blank-procedures-requires
+blank-procedures-requires c κs = search needs
 
 slice-aggregate-list-chain : tie.Need-slice-aggregate-list-chain
 slice-aggregate-list-chain c = search needs
@@ -26,26 +29,26 @@ returns c = no-procedure _ _ (c .before .before .before .before .before .before 
 returns-2 : tie.Need-returns-2
 returns-2 c = many-procedures _ _ (c .before .before .before .before .before .before .before .before .pre .0) (c .before .before .before .before .before .before .word .ensures .0) (c .before .before .before .list-chain .ensures .0) (c .before .if1 .left) (c .if2 .taken)
 
-no-parameters-requires : tie.Need-no-parameters-requires
-no-parameters-requires c κs = search needs
+blank-links-requires : tie.Need-blank-links-requires
+blank-links-requires c κs = search needs
 
 slice-aggregate-list-parameters : tie.Need-slice-aggregate-list-parameters
 slice-aggregate-list-parameters c = search needs
 
 list-parameters-requires : tie.Need-list-parameters-requires
-list-parameters-requires c κs = (c .before .before .before .before .before .before .before .before .before .before .pre .0, omega (arith, c .before .no-parameters .ensures))
+list-parameters-requires c κs = (c .before .before .before .before .before .before .before .before .before .before .pre .0, omega (arith, blank-length Format.maxRecords (c .before .blank-links .ensures)))
 
-no-functors-requires : tie.Need-no-functors-requires
-no-functors-requires c κs = search needs
+blank-functors-requires : tie.Need-blank-functors-requires
+blank-functors-requires c κs = search needs
 
 slice-aggregate-list-functors : tie.Need-slice-aggregate-list-functors
 slice-aggregate-list-functors c = search needs
 
 list-functors-requires : tie.Need-list-functors-requires
-list-functors-requires c κs = let s = c .before .before .before .before .before .before .before .before .before .before .before .before .before .before .before .pre in (s .0, (s .1 .0, (s .1 .1 .1, omega (arith, c .before .before .no-functors .ensures))))
+list-functors-requires c κs = let s = c .before .before .before .before .before .before .before .before .before .before .before .before .before .before .before .pre in (s .0, (s .1 .0, (s .1 .1 .1, omega (arith, blank-length Blank.functorPlaces (c .before .before .blank-functors .ensures)))))
 
 each-procedure-ok-requires : tie.Need-each-procedure-ok-requires
-each-procedure-ok-requires c κs = let s = c .before .before .before .before .before .before .before .before .before .before .before .before .before .before .before .before .before .before .before .before .pre in let l = c .before .before .before .before .before .before .before .before .before .before .before .before .before .before .before .list-chain in let e = c .before .before .before .before .before .before .before .before .before .before .before .before .before .before .before .before .before .before .word .ensures .0 in (record { formed = s .0; functor-table = c .before .before .before .before .list-functors .ensures; procedure-table = called-table (s .0) e (c .before .before .before .before .before .before .before .before .before .before .before .before .before .before .before .before .before .no-procedures .ensures) (l .ensures .1) (l .ensures .0) (c .before .before .before .before .before .before .before .before .before .before .before .before .if2 .left); parameter-table = c .before .before .before .before .before .before .before .before .before .list-parameters .ensures }, ((s .1 .0, s .1 .1 .0), stands-same e (procedures-stand (s .0))))
+each-procedure-ok-requires c κs = let s = c .before .before .before .before .before .before .before .before .before .before .before .before .before .before .before .before .before .before .before .before .pre in let l = c .before .before .before .before .before .before .before .before .before .before .before .before .before .before .before .list-chain in let e = c .before .before .before .before .before .before .before .before .before .before .before .before .before .before .before .before .before .before .word .ensures .0 in (record { formed = s .0; functor-table = c .before .before .before .before .list-functors .ensures; procedure-table = called-table (s .0) e (blank-length Format.maxProcedures (c .before .before .before .before .before .before .before .before .before .before .before .before .before .before .before .before .before .blank-procedures .ensures)) (l .ensures .1) (l .ensures .0) (c .before .before .before .before .before .before .before .before .before .before .before .before .if2 .left); parameter-table = c .before .before .before .before .before .before .before .before .before .list-parameters .ensures }, ((s .1 .0, s .1 .1 .0), stands-same e (procedures-stand (s .0))))
 
 returns-3 : tie.Need-returns-3
 returns-3 c = procedures-all _ _ (c .before .before .before .before .before .before .before .before .before .before .before .before .before .before .before .before .before .before .before .before .before .pre .0) (c .before .before .before .before .before .before .before .before .before .before .before .before .before .before .before .before .before .before .before .word .ensures .0) (c .before .before .before .before .before .before .before .before .before .before .before .before .before .before .before .before .list-chain .ensures .0) (c .before .before .before .before .before .before .before .before .before .before .before .before .before .before .if1 .left) (c .before .before .before .before .before .before .before .before .before .before .before .before .before .if2 .left) (c .each-procedure-ok .ensures)
@@ -55,15 +58,15 @@ procedures-ok-spec =
     tie.close
     (tie.spec
     word-requires
-    no-procedures-requires
+    blank-procedures-requires
     slice-aggregate-list-chain
     list-chain-requires
     returns
     returns-2
-    no-parameters-requires
+    blank-links-requires
     slice-aggregate-list-parameters
     list-parameters-requires
-    no-functors-requires
+    blank-functors-requires
     slice-aggregate-list-functors
     list-functors-requires
     each-procedure-ok-requires

@@ -3,6 +3,8 @@ use mathlib.Core.Path.{sym, _∙_}
 use native.Mathlib.Omega.{arith}
 use borrow.Author.Tests.{not-true, not-false}
 use borrow.Author.Needs.{needs}
+use Rattle.language.specs.Format
+use Rattle.declarations.specs.Names.{blank-length}
 use Rattle.chains.specs.Formed.{types-stand}
 use Rattle.declarations.specs.Names.{stands-same}
 use Rattle.declarations.specs.Tabled.{type-table, sized}
@@ -14,8 +16,8 @@ use Rattle.typing.proofs.stage.typing_ok.Tie as tie
 word-requires : tie.Need-word-requires
 word-requires c κs = search needs
 
-no-numbers-requires : tie.Need-no-numbers-requires
-no-numbers-requires c κs = search needs
+blank-places-requires : tie.Need-blank-places-requires
+blank-places-requires c κs = search needs
 
 slice-aggregate-list-chain : tie.Need-slice-aggregate-list-chain
 slice-aggregate-list-chain c = search needs
@@ -30,7 +32,7 @@ returns : tie.Need-returns
 returns c = wrong-types _ (c .before .types-ok .ensures) (not-true _ (c .if1 .taken))
 
 procedures-ok-requires : tie.Need-procedures-ok-requires
-procedures-ok-requires c κs = let l = c .before .before .before .before .list-chain in let e = c .before .before .before .before .before .before .before .word .ensures .0 in let s = c .before .before .before .before .before .before .before .before .before .pre in let n = type-count _ _ s e (l .ensures .0) in let ok = sym (c .before .before .types-ok .ensures) ∙ not-false _ (c .before .if1 .left) in (s, (rw (sized 1 _ (c .before .before .before .before .before .before .no-numbers .ensures) (l .ensures .1)) (type-table s e (omega (arith, n, few-types _ ok, l .ensures .0))), (n, ok)))
+procedures-ok-requires c κs = let l = c .before .before .before .before .list-chain in let e = c .before .before .before .before .before .before .before .word .ensures .0 in let s = c .before .before .before .before .before .before .before .before .before .pre in let n = type-count _ _ s e (l .ensures .0) in let ok = sym (c .before .before .types-ok .ensures) ∙ not-false _ (c .before .if1 .left) in (s, (rw (sized 1 _ (blank-length Format.places (c .before .before .before .before .before .before .blank-places .ensures)) (l .ensures .1)) (type-table s e (omega (arith, n, few-types _ ok, l .ensures .0))), (n, ok)))
 
 returns-2 : tie.Need-returns-2
 returns-2 c = typing-all _ (c .before .before .before .types-ok .ensures) (not-false _ (c .before .before .if1 .left)) (c .procedures-ok .ensures)
@@ -40,7 +42,7 @@ typing-ok-spec =
     tie.close
     (tie.spec
     word-requires
-    no-numbers-requires
+    blank-places-requires
     slice-aggregate-list-chain
     list-chain-requires
     types-ok-requires

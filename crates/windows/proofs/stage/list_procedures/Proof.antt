@@ -1,8 +1,9 @@
 -- `list_procedures` meets its contract.
+use Prim.Native.Nat.{ℕ}
 use borrow.Author.Needs.{needs}
-use mathlib.Core.Path.{_≡_, refl, sym, _∙_}
+use mathlib.Core.Path.{_≡_, refl, sym, ap, _∙_}
 use native.Mathlib.Omega.{arith}
-use lib.ListN.{length, length-set}
+use lib.ListN.{length, length-set, length-replicate}
 use Rattle.chains.specs.Formed.{ahead}
 use Rattle.chains.specs.Is.{chain-next}
 use Rattle.windows.specs.Listing.{Listing, listing-first, signature-here, place-here, place-low, room-here, fits-here, listing-next, listing-right, listing-table}
@@ -15,14 +16,14 @@ Inv-loop file table₀ targets₀ right₀ i₀ q₀ at₀ table targets right i
 abbrev μ-loop : tie.MeasureT-loop
 μ-loop file table₀ targets₀ right₀ i₀ q₀ at₀ table targets right i q at = ahead file i
 
-target-table-requires : tie.Need-target-table-requires Inv-loop μ-loop
-target-table-requires c κs = search needs
+blank-sets-requires : tie.Need-blank-sets-requires Inv-loop μ-loop
+blank-sets-requires c κs = search needs
 
 word-requires : tie.Need-word-requires Inv-loop μ-loop
 word-requires c κs = search needs
 
 loop-holds : tie.Need-loop-holds Inv-loop μ-loop
-loop-holds c = let s = c .before .before .before .before in (listing-first (s .args .table .now) (s .pre .0) (s .pre .1 .0) (s .pre .1 .1) (c .word .ensures .0), refl, c .before .target-table .ensures)
+loop-holds c = let s = c .before .before .before .before in (listing-first (s .args .table .now) (s .pre .0) (s .pre .1 .0) (s .pre .1 .1) (c .word .ensures .0), refl, sym (length-replicate {A = ℕ} 65 0) ∙ ap length (sym (c .before .blank-sets .ensures)))
 
 mul-table : tie.Need-mul-table Inv-loop μ-loop
 mul-table c =
@@ -101,7 +102,7 @@ list-procedures-spec =
     (tie.spec
     Inv-loop
     μ-loop
-    target-table-requires
+    blank-sets-requires
     word-requires
     loop-holds
     mul-table
