@@ -58,8 +58,17 @@ filled-kept f p at to t u h l e same = record {
     agree k m =
         getD-drop (h .start) u k 0 ∙ same (h .start + k) (omega (arith, h .low)) (omega (arith, h .ends)) ∙ sym (getD-drop (h .start) t k 0)
 
--- ---- q procedures are written in t, and `right` tells whether they are right
-pub record Listing (f t : List ℕ) (right : Bool) (i q at : ℕ) : Type 0 where
+-- ---- table t is t₀ but for the first n starts and the windows of m words behind the 256 starts
+pub record KeptElse (n m : ℕ) (t₀ t : List ℕ) : Type 0 where
+  pub starts : (k : ℕ) → n ≤ k → k < 256 → getD t k 0 ≡ getD t₀ k 0
+  pub behind : (k : ℕ) → 256 + m ≤ k → getD t k 0 ≡ getD t₀ k 0
+
+-- .. those of the program's procedures
+unfoldable pub OnlyWindows : List ℕ → List ℕ → List ℕ → Type 0
+OnlyWindows f t₀ t = KeptElse (length (program f .procedures)) (windowsSize (program f .procedures)) t₀ t
+
+-- ---- q procedures are written in t, where t₀ stood, and `right` tells whether they are right
+pub record Listing (f t₀ t : List ℕ) (right : Bool) (i q at : ℕ) : Type 0 where
   pub along : Along f procedures (word f 0 1) i q
   pub rest : (n : ℕ) → procedureAt (program f) (q + n) ≡ nth noProcedure (proceduresAt f i) n
   pub count : q + length (proceduresAt f i) ≡ length (program f .procedures)
@@ -68,13 +77,16 @@ pub record Listing (f t : List ℕ) (right : Bool) (i q at : ℕ) : Type 0 where
   pub room : at + windowsSize (proceduresAt f i) ≤ 11008
   pub filled : (p : ℕ) → p < q → Filled f p at t
   pub same : (right & rightAll (proceduresAt f i)) ≡ declaredClassesOk (program f)
+  pub placed : at + windowsSize (proceduresAt f i) ≡ 256 + windowsSize (program f .procedures)
+  pub starts : (k : ℕ) → q ≤ k → k < 256 → getD t k 0 ≡ getD t₀ k 0
+  pub behind : (k : ℕ) → at ≤ k → getD t k 0 ≡ getD t₀ k 0
 
 and-same : (a b : Bool) → (a && b) ≡ (a & b)
 unfolding _&_
 and-same true b = refl
 and-same false b = refl
 
-pub listing-first : {f : List ℕ} (t : List ℕ) {i : ℕ} → Formed f → typingOk (program f) ≡ true → 11008 ≤ length t → i ≡ word f 0 1 → Listing f t true i 0 256
+pub listing-first : {f : List ℕ} (t : List ℕ) {i : ℕ} → Formed f → typingOk (program f) ≡ true → 11008 ≤ length t → i ≡ word f 0 1 → Listing f t t true i 0 256
 unfolding procedureAt declaredClassesOk _&_
 listing-first {f} t F T l e =
     rw e (record {
@@ -86,9 +98,12 @@ listing-first {f} t F T l e =
       room = let g = ap windowsSize (program-procedures F) in omega (arith, windows-fit F T);
       filled = λ p l. absurd (omega arith);
       same = ap rightAll (sym (program-procedures F));
+      placed = let g = ap windowsSize (program-procedures F) in omega arith;
+      starts = λ k a b. refl;
+      behind = λ k a. refl;
     })
 
-module _ {f t : List ℕ} {right : Bool} {i q at : ℕ} (F : Formed f) (T : typingOk (program f) ≡ true) (h : Listing f t right i q at) (z : i ≡ 0 → ⊥) where
+module _ {f t₀ t : List ℕ} {right : Bool} {i q at : ℕ} (F : Formed f) (T : typingOk (program f) ≡ true) (h : Listing f t₀ t right i q at) (z : i ≡ 0 → ⊥) where
   view : ProcedureAt f i (word f i 1) (word f i 2) (word f i 3) (word f i 4)
   view = procedure-at F refl (procedure-is (h .along .stands) z)
 
@@ -158,7 +173,7 @@ module _ {f t : List ℕ} {right : Bool} {i q at : ℕ} (F : Formed f) (T : typi
         (P .before p (omega (arith, place-here, h .low)) ∙ set-else t q at e₁ p (λ o. omega arith))
         (λ k a b. P .before k b ∙ set-else t q at e₁ k (λ o. omega (arith, place-here)))
 
-    pub listing-next : {right′ : Bool} {w : ℕ} → length t₂ ≡ length t → right′ ≡ (right && l .right) → w ≡ word f i 1 → Listing f t₂ right′ w (q + 1) (at + l .size)
+    pub listing-next : {right′ : Bool} {w : ℕ} → length t₂ ≡ length t → right′ ≡ (right && l .right) → w ≡ word f i 1 → Listing f t₀ t₂ right′ w (q + 1) (at + l .size)
     unfolding all signatureOf nth
     listing-next {right′} {w} k e o =
         let p = is-here ∙ ap (λ (ps : List Procedure). nth noProcedure ps 0) (view .view) in
@@ -178,6 +193,9 @@ module _ {f t : List ℕ} {right : Bool} {i q at : ℕ} (F : Formed f) (T : typi
               ∙ and-assoc right (l .right) (rightAll (proceduresAt f (word f i 1)))
               ∙ ap (λ (a : Bool). right & (a & rightAll (proceduresAt f (word f i 1)))) (P .right ∙ ap (λ (x : Procedure). classesOk (x .signature)) p)
               ∙ ap (λ (ps : List Procedure). right & rightAll ps) (sym g) ∙ h .same;
+          placed = omega (arith, h .placed, size-here, P .size);
+          starts = λ n a b. P .before n (omega (arith, h .low)) ∙ set-else t q at e₁ n (λ y. omega arith) ∙ h .starts n (omega arith) b;
+          behind = λ n a. P .behind n a ∙ set-else t q at e₁ n (λ y. omega (arith, place-here, h .low)) ∙ h .behind n (omega arith);
         })
       where
         go : (n : ℕ) → n < q + 1 → Dec (n ≡ q) → Filled f n (at + l .size) t₂
@@ -185,7 +203,7 @@ module _ {f t : List ℕ} {right : Bool} {i q at : ℕ} (F : Formed f) (T : typi
         go n b (no y) = filled-else n (omega (arith, y))
 
 -- ---- all are
-module _ {f t : List ℕ} {right : Bool} {i q at : ℕ} (h : Listing f t right i q at) (z : i ≡ 0) where
+module _ {f t₀ t : List ℕ} {right : Bool} {i q at : ℕ} (h : Listing f t₀ t right i q at) (z : i ≡ 0) where
   pub listing-right : right ≡ declaredClassesOk (program f)
   unfolding all
   listing-right = sym (and-yes right) ∙ ap (λ (ps : List Procedure). right & rightAll ps) (sym (procedures-none f z)) ∙ h .same
@@ -199,3 +217,10 @@ module _ {f t : List ℕ} {right : Bool} {i q at : ℕ} (h : Listing f t right i
     at = λ p l. let w = all-filled p l in rw (w .here) (w .window);
     body = λ p l. let w = all-filled p l in rw (w .here) (w .body);
   }
+
+  pub listing-only : OnlyWindows f t₀ t
+  unfolding OnlyWindows windowsSize
+  listing-only =
+      let k = ap length (procedures-none f z) in
+      let m = ap windowsSize (procedures-none f z) in
+      record { starts = λ n a. h .starts n (omega (arith, h .count)); behind = λ n a. h .behind n (omega (arith, h .placed)) }

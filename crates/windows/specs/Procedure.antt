@@ -49,6 +49,7 @@ pub record ProcedureListed (f : List ℕ) (S : Signature) (i at : ℕ) (t₀ : L
   pub size : l .size ≡ windowSize S
   pub right : l .right ≡ classesOk S
   pub before : (p : ℕ) → p < at → getD t p 0 ≡ getD t₀ p 0
+  pub behind : (p : ℕ) → at + l .size ≤ p → getD t p 0 ≡ getD t₀ p 0
 
 -- .. whatever signature the procedure at record i declares
 abbrev pub ListedAt : List ℕ → ℕ → ℕ → List ℕ → Listed → List ℕ → Type 0
@@ -136,6 +137,9 @@ module _ {f : List ℕ} {v r : ℕ} (F : Formed f) (S : Signature) (h : Signatur
       size = s ∙ omega (arith, em, en, ap length (h .variables), variables-count F v sv, ap length (h .regions), regions-count F r sr);
       right = b S C;
       before = λ p k. H .before p k ∙ V′ .before p (omega arith) ∙ set-else t₁ at m e₂ p (λ q. omega arith) ∙ R .before p (omega arith);
+      behind = λ p k.
+          H .behind p (omega (arith, s)) ∙ V′ .behind p (omega (arith, s, em)) ∙ set-else t₁ at m e₂ p (λ q. omega (arith, s))
+          ∙ R .behind p (omega (arith, s));
     }
 
 -- ---- what the code asks before it writes

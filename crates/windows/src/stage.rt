@@ -28,6 +28,7 @@ ghost use Rattle.chains.specs.Formed.{Formed, Stands};
 ghost use Rattle.tables.specs.Window.{FileTable};
 ghost use Rattle.windows.specs.Storing.{Stored};
 ghost use Rattle.windows.specs.Procedure.{headerWords, Room, ListedAt};
+ghost use Rattle.windows.specs.Listing.{OnlyWindows};
 
 // Stores the first words of a window.
 fn put_header(table: &mut [u64], at: usize, n: Counts, c: Classes)
@@ -92,14 +93,15 @@ fn list_procedure(
     }
 }
 
-// Fills the file's table, and tells whether every procedure's classes are right: number 7 for every program. What stands
-// behind the last window is not said.
+// Fills the file's table, and tells whether every procedure's classes are right: number 7 for every program. The starts of
+// procedures that the file has not, and what stands behind the last window, are as they were.
 pub fn list_procedures(file: &[u8], table: &mut [u64]) -> bool
     requires { ⌜ Formed (now file) ⌝ }
     requires { ⌜ typingOk (program (now file)) ≡ true ⌝ }
     requires { ⌜ 11008 ≤ length (now table) ⌝ }
     ensures { λ b. ⌜ b ≡ declaredClassesOk (program (now (file .entry))) ⌝ }
     ensures { λ _. ⌜ FileTable (now (file .entry)) (now (table .exit)) ⌝ }
+    ensures { λ _. ⌜ OnlyWindows (now (file .entry)) (now (table .entry)) (now (table .exit)) ⌝ }
 {
     let mut targets = blank_sets();
     let mut right = true;

@@ -6,12 +6,12 @@ use native.Mathlib.Omega.{arith}
 use lib.ListN.{length, length-set, length-replicate}
 use Rattle.chains.specs.Formed.{ahead}
 use Rattle.chains.specs.Is.{chain-next}
-use Rattle.windows.specs.Listing.{Listing, listing-first, signature-here, place-here, place-low, room-here, fits-here, listing-next, listing-right, listing-table}
+use Rattle.windows.specs.Listing.{Listing, listing-first, signature-here, place-here, place-low, room-here, fits-here, listing-next, listing-right, listing-table, listing-only}
 use Rattle.windows.proofs.stage.list_procedures.Statement.{statement}
 use Rattle.windows.proofs.stage.list_procedures.Tie as tie
 
 abbrev Inv-loop : tie.InvT-loop
-Inv-loop file table₀ targets₀ right₀ i₀ q₀ at₀ table targets right i q at = Listing file table right i q at × (length table ≡ length table₀) × (65 ≡ length targets)
+Inv-loop file table₀ targets₀ right₀ i₀ q₀ at₀ table targets right i q at = Listing file table₀ table right i q at × (length table ≡ length table₀) × (65 ≡ length targets)
 
 abbrev μ-loop : tie.MeasureT-loop
 μ-loop file table₀ targets₀ right₀ i₀ q₀ at₀ table targets right i q at = ahead file i
@@ -94,7 +94,7 @@ same-length : tie.Need-same-length Inv-loop μ-loop
 same-length c = c .before .loop .inv .1
 
 returns : tie.Need-returns Inv-loop μ-loop
-returns c = let l = c .before .loop .inv .0 in (listing-right l (c .loop-test .left), listing-table l (c .loop-test .left))
+returns c = let l = c .before .loop .inv .0 in (listing-right l (c .loop-test .left), (listing-table l (c .loop-test .left), listing-only l (c .loop-test .left)))
 
 pub list-procedures-spec : {M : Type 1} → statement M
 list-procedures-spec =
