@@ -1,0 +1,2 @@
+-- What a run reads beside the file.
+pub mod Plan

@@ -1,0 +1,13 @@
+// What a run reads beside the file, worked out once before the first step.
+
+// The plan: four words for each of 4,096 records, sort by sort (specs/Plan.antt). These are the places where the sorts after the first start.
+pub const SLOTS: usize = 4096;
+
+pub const MODES: usize = 8192;
+
+pub const SIDES: usize = 12288;
+
+pub const PLAN: usize = 16384;
+
+// A byte for each call and region of its callee: calls and regions are records, so there are at most 4,032 × 64. Place 0 has none.
+pub const IMAGES: usize = 258049;
