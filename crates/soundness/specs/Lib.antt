@@ -1,3 +1,4 @@
 pub mod Statement
 pub mod Demand3
 pub mod Example
+pub mod Lent

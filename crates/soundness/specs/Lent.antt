@@ -1,0 +1,184 @@
+-- A run in lent memory is a front part of the accepted file's run: what it printed, demand 3 says of it too.
+use Prim.Native.Nat.{ℕ, zero, suc, _+_, _-_, _≤_}
+use native.Mathlib.Omega.{arith}
+use mathlib.Core.Bool.{Bool, true, false, false≢true}
+use mathlib.Core.List.{List, [], _∷_}
+use mathlib.Core.Path.{_≡_, refl, sym, ap, _∙_}
+use Rattle.language.specs.declared.Verdict.the-variants.{Accepted}
+use Rattle.language.specs.declared.Stop.{Stop}
+use Rattle.language.specs.declared.Stop.the-variants.{Steps, Cells, Places, Frames, Prints}
+use Rattle.language.specs.declared.Ending.{Ending}
+use Rattle.language.specs.declared.Ending.the-variants.{Refused, Finished, Stopped}
+use Rattle.language.specs.Program.{Step, literal, sum, assign, construct, call, print, create, remove, Goals, done, _then_, Goal, step, switch, ifLess, Program}
+use Rattle.language.specs.PlainRun.{stripped, plainSteps}
+use Rattle.language.specs.AcceptedRun.{RegionFrame, State, start, stepOf, steps}
+use Rattle.language.specs.Machine.{Lent, Room, Outlook, ended, goes, lacks, roomOr, outlookFor, outlookIn, outlookAt, outlook, Run, endedWith, runOn, runFrom, run}
+use Rattle.language.specs.Answers.{program, checked, runFor, ran}
+use Rattle.lockstep.specs.Counted.{spent}
+use Rattle.soundness.specs.Demand3.{demand-3}
+
+-- What holds of the run of an accepted file in any lent memory. After n steps, whatever stopped it:
+pub record LentRun (f : List ℕ) (l : Lent) : Type 0 where
+  -- no more steps than are lent, and all of them where they are spent
+  pub within : ran f l .steps ≤ l .steps
+  pub all : ran f l .ending ≡ Stopped Steps → ran f l .steps ≡ l .steps
+  -- the numbers printed are those of the accepted file's run after n steps, and so those of the plain run after n less those spent
+  pub prints : ran f l .printed ≡ steps (program f) (ran f l .steps) .memory .printed
+  pub plainPrints : ran f l .printed ≡ plainSteps (stripped (program f)) (ran f l .steps - spent (program f) (ran f l .steps)) .printed
+  -- finished: both runs have ended there, and no region is left
+  pub over : ran f l .ending ≡ Finished → steps (program f) (ran f l .steps) .frames ≡ []
+  pub plainOver : ran f l .ending ≡ Finished → plainSteps (stripped (program f)) (ran f l .steps - spent (program f) (ran f l .steps)) .frames ≡ []
+  pub clean : ran f l .ending ≡ Finished → (k : ℕ) → steps (program f) (ran f l .steps) .memory .alive k ≡ false
+  -- steps spent: the run has not ended there. So with memory for all that it makes, it finishes exactly if the accepted file's run ends in time
+  pub still : ran f l .ending ≡ Stopped Steps → steps (program f) (l .steps) .frames ≡ [] → ⊥
+
+-- ---- what an outlook is
+unfoldable isEnded : Outlook → Bool
+isEnded ended = true
+isEnded goes = false
+isEnded (lacks c) = false
+
+-- 10 is looked at before the outlook: no outlook lacks steps
+unfoldable lacksSteps : Outlook → Bool
+lacksSteps ended = false
+lacksSteps goes = false
+lacksSteps (lacks Steps) = true
+lacksSteps (lacks Cells) = false
+lacksSteps (lacks Places) = false
+lacksSteps (lacks Frames) = false
+lacksSteps (lacks Prints) = false
+
+-- a goal can be done, or lacks room
+unfoldable Onward : Outlook → Type 0
+Onward o = (isEnded o ≡ false) × (lacksSteps o ≡ false)
+
+room-onward : (b : Bool) (c : Stop) → lacksSteps (lacks c) ≡ false → Onward (roomOr b c)
+unfolding Onward roomOr isEnded lacksSteps
+room-onward true c e = (refl, refl)
+room-onward false c e = (refl, e)
+
+module _ (k : Room) (s : State) where
+  goal-onward : (g : Goal) → Onward (outlookFor k g s)
+  unfolding Onward outlookFor isEnded lacksSteps
+  goal-onward (step (literal x v)) = (refl, refl)
+  goal-onward (step (sum x o y z)) = (refl, refl)
+  goal-onward (step (assign x y)) = (refl, refl)
+  goal-onward (step (construct x f ys)) = room-onward _ _ refl
+  goal-onward (step (call q ys)) = room-onward _ _ refl
+  goal-onward (step (print y)) = room-onward _ _ refl
+  goal-onward (step (create r)) = room-onward _ _ refl
+  goal-onward (step (remove r)) = (refl, refl)
+  goal-onward (switch x cs) = (refl, refl)
+  goal-onward (ifLess y z a b) = (refl, refl)
+
+  goals-onward : (gs : Goals) → Onward (outlookIn k gs s)
+  unfolding Onward outlookIn isEnded lacksSteps
+  goals-onward done = (refl, refl)
+  goals-onward (g then gs) = goal-onward g
+
+  -- "an ended run" has no frame, and one without a frame has ended
+  frames-none : (fs : List RegionFrame) → isEnded (outlookAt k fs s) ≡ true → fs ≡ []
+  unfolding Onward outlookAt
+  frames-none [] e = refl
+  frames-none (f ∷ fs) e = absurd (false≢true (sym (goals-onward (f .frame .goals) .0) ∙ e))
+
+  frames-some : (fs : List RegionFrame) → isEnded (outlookAt k fs s) ≡ false → fs ≡ [] → ⊥
+  unfolding outlookAt isEnded
+  frames-some [] e z = false≢true (sym e)
+  frames-some (f ∷ fs) e z = false≢true cc
+
+  no-steps-lack : (fs : List RegionFrame) → lacksSteps (outlookAt k fs s) ≡ false
+  unfolding Onward outlookAt lacksSteps
+  no-steps-lack [] = refl
+  no-steps-lack (f ∷ fs) = goals-onward (f .frame .goals) .1
+
+-- ---- a run of P from state n on, with l steps left
+unfoldable stopOf : Ending → Outlook
+stopOf (Refused r) = goes
+stopOf Finished = ended
+stopOf (Stopped c) = lacks c
+
+record Front (P : Program) (l n : ℕ) (r : Run) : Type 0 where
+  low : n ≤ r .steps
+  high : r .steps ≤ n + l
+  all : r .ending ≡ Stopped Steps → r .steps ≡ n + l
+  printed : r .printed ≡ steps P (r .steps) .memory .printed
+  over : r .ending ≡ Finished → steps P (r .steps) .frames ≡ []
+  still : r .ending ≡ Stopped Steps → steps P (r .steps) .frames ≡ [] → ⊥
+
+module _ (P : Program) where
+  -- it ends here
+  ends : (l n : ℕ) (s : State) (e : Ending) → s ≡ steps P n → (e ≡ Stopped Steps → n ≡ n + l) → (e ≡ Finished → s .frames ≡ [])
+      → (e ≡ Stopped Steps → s .frames ≡ [] → ⊥) → Front P l n (endedWith e n s)
+  unfolding endedWith
+  ends l n s e q a o t =
+      record {
+        low = omega arith;
+        high = omega arith;
+        all = a;
+        printed = ap (λ s. s .memory .printed) q;
+        over = λ z. sym (ap (λ s. s .frames) q) ∙ o z;
+        still = λ z y. t z (ap (λ s. s .frames) q ∙ y);
+      }
+
+  -- it goes on for a step
+  further : (l n : ℕ) (r : Run) → Front P l (suc n) r → Front P (suc l) n r
+  further l n r h = record {
+    low = omega (arith, h .low);
+    high = omega (arith, h .high);
+    all = λ z. omega (arith, h .all z);
+    printed = h .printed;
+    over = h .over;
+    still = h .still;
+  }
+
+  not-finished : {c : Stop} → Stopped c ≡ Finished → ⊥
+  unfolding stopOf isEnded
+  not-finished e = false≢true (ap (λ x. isEnded (stopOf x)) e)
+
+  not-stopped : Finished ≡ Stopped Steps → ⊥
+  unfolding stopOf isEnded
+  not-stopped e = false≢true (ap (λ x. isEnded (stopOf x)) (sym e))
+
+  run-front : (k : Room) (l n : ℕ) (s : State) → s ≡ steps P n → (o : Outlook) → outlook k s ≡ o → Front P l n (runOn P k l o n s)
+  unfolding runOn outlook steps isEnded lacksSteps stopOf
+  run-front k zero n s q ended w =
+      ends zero n s Finished q (λ z. absurd (not-stopped z)) (λ z. frames-none k s (s .frames) (ap isEnded w)) (λ z. absurd (not-stopped z))
+  run-front k zero n s q goes w =
+      ends zero n s (Stopped Steps) q (λ z. omega arith) (λ z. absurd (not-finished z)) (λ z. frames-some k s (s .frames) (ap isEnded w))
+  run-front k zero n s q (lacks c) w =
+      ends zero n s (Stopped Steps) q (λ z. omega arith) (λ z. absurd (not-finished z)) (λ z. frames-some k s (s .frames) (ap isEnded w))
+  run-front k (suc l) n s q ended w =
+      ends (suc l) n s Finished q (λ z. absurd (not-stopped z)) (λ z. frames-none k s (s .frames) (ap isEnded w)) (λ z. absurd (not-stopped z))
+  run-front k (suc l) n s q goes w =
+      further l n _ (run-front k l (suc n) (stepOf P s) (ap (stepOf P) q) (outlook k (stepOf P s)) refl)
+  run-front k (suc l) n s q (lacks c) w =
+      let no : (Stopped c ≡ Stopped Steps) → ⊥ = λ z. false≢true (sym (no-steps-lack k s (s .frames)) ∙ ap lacksSteps w ∙ ap (λ x. lacksSteps (stopOf x)) z) in
+      ends (suc l) n s (Stopped c) q (λ z. absurd (no z)) (λ z. absurd (not-finished z)) (λ z. absurd (no z))
+
+  -- the entry's frame first: "where there is none for it, the run stops at once"
+  from-front : (b : Bool) (k : Room) (l : ℕ) → Front P l 0 (runFrom b P k l)
+  unfolding runFrom steps stopOf lacksSteps
+  from-front true k l = run-front k l 0 (start P) refl (outlook k (start P)) refl
+  from-front false k l =
+      let no : Stopped Frames ≡ Stopped Steps → ⊥ = λ z. false≢true (ap (λ x. lacksSteps (stopOf x)) z) in
+      ends l 0 (start P) (Stopped Frames) refl (λ z. absurd (no z)) (λ z. absurd (not-finished z)) (λ z. absurd (no z))
+
+ran-front : (f : List ℕ) → checked f ≡ Accepted → (l : Lent) → Front (program f) (l .steps) 0 (ran f l)
+unfolding ran runFor run
+ran-front f e l = rw e (from-front (program f) _ _ (l .steps))
+
+pub lent-run : (f : List ℕ) → checked f ≡ Accepted → (l : Lent) → LentRun f l
+lent-run f e l =
+    let h = ran-front f e l in
+    let S = demand-3 f e in
+    record {
+      within = omega (arith, h .high);
+      all = λ z. omega (arith, h .all z);
+      prints = h .printed;
+      plainPrints = h .printed ∙ S .prints (ran f l .steps);
+      over = h .over;
+      plainOver = λ z. S .ended (ran f l .steps) (h .over z);
+      clean = λ z. S .clean (ran f l .steps) (h .over z);
+      still = λ z y. h .still z (ap (λ n. steps (program f) n .frames) (omega (arith, h .all z)) ∙ y);
+    }
