@@ -90,3 +90,23 @@ end-finished a n e p = rw e p
 pub end-stopped : {b m : List ℕ} {at k : ℕ} (a : Ending) (c : Stop) (n : ℕ) → a ≡ Stopped c → Put b at (endingLine (Stopped c) n) m k
     → Put b at (endingLine a n) m k
 end-stopped a c n e p = rw e p
+
+-- at most 32 bytes
+pub ending-length : (a : Ending) (n : ℕ) → n < 2 ^ 64 → length (endingLine a n) ≤ 32
+unfolding endingLine line
+ending-length (RunRefused r) n l = omega (arith, refusal-length r)
+ending-length Finished n l = omega (arith, word-digits n l, length-append (decimal n) (10 ∷ []))
+ending-length (Stopped c) n l =
+    omega (
+      arith,
+      stop-digits c,
+      word-digits n l,
+      length-append (decimal (stopNumber c) ++ (32 ∷ decimal n)) (10 ∷ []),
+      length-append (decimal (stopNumber c)) (32 ∷ decimal n),
+    )
+
+-- numbers, then the ending
+pub front-run : {b m e s : List ℕ} {k r : ℕ} (a : Ending) (n w : ℕ) → n < 2 ^ 64 → w + 32 ≤ length b → k ≤ w → Put b 0 s m k → Put m k (endingLine a n) e r
+    → Front (s ++ endingLine a n) b e r
+front-run {s = s} a n w l h t p q =
+    put-front (put-then p q) (omega (arith, length-append s (endingLine a n), ending-length a n l, p .behind))

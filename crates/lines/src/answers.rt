@@ -98,6 +98,7 @@ fn put_stop(out: &mut [u8], at: usize, c: Stop, steps: u64) -> usize
 pub fn put_numbers(out: &mut [u8], at: usize, words: &[u32]) -> usize
     requires { ⌜ at + 12 * length (now words) ≤ length (now out) ⌝ }
     ensures { λ k. ⌜ Put (now (out .entry)) at (numberLines (map (toZ w32) (now (words .entry)))) (now (out .exit)) k ⌝ }
+    ensures { λ k. ⌜ k ≤ at + 12 * length (now (words .entry)) ⌝ }
 {
     let mut end = at;
     let mut i = 0;
@@ -115,4 +116,13 @@ fn put_number(out: &mut [u8], at: usize, word: u32) -> usize
 {
     let end = put_signed(out, at, word);
     put_text(out, end, b"\n")
+}
+
+// All that the runner prints, at the front of `out`: the numbers printed, then how the run ended. Answers how many bytes that are.
+pub fn runner_output(words: &[u32], ending: Ending, steps: u64, out: &mut [u8]) -> usize
+    requires { ⌜ 12 * length (now words) + 32 ≤ length (now out) ⌝ }
+    ensures { λ n. ⌜ Front (numberLines (map (toZ w32) (now (words .entry))) ++ endingLine ending steps) (now (out .entry)) (now (out .exit)) n ⌝ }
+{
+    let end = put_numbers(out, 0, words);
+    put_ending(out, end, ending, steps)
 }

@@ -7,6 +7,7 @@ pub use answers::checker_output;
 pub use answers::put_ending;
 pub use answers::put_numbers;
 pub use answers::put_refusal;
+pub use answers::runner_output;
 pub use numbers::put_decimal;
 pub use numbers::put_signed;
 pub use text::put_text;

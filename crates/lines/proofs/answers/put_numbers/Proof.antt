@@ -43,7 +43,10 @@ same-length : tie.Need-same-length Inv-loop μ-loop
 same-length c = put-length (c .before .loop .inv .2)
 
 returns : tie.Need-returns Inv-loop μ-loop
-returns c = all-numbers (c .before .before .before .before .args .words .now) _ _ _ _ (c .before .loop .i) (omega arith) (c .before .loop .inv .2)
+returns c = (
+  all-numbers (c .before .before .before .before .args .words .now) _ _ _ _ (c .before .loop .i) (omega arith) (c .before .loop .inv .2),
+  omega arith,
+)
 
 pub put-numbers-spec : {M : Type 1} → statement M
 put-numbers-spec =
