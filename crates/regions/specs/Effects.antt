@@ -3,9 +3,10 @@ use Prim.Native.Nat.{ℕ, _≤_, _<_}
 use native.Mathlib.Omega.{arith}
 use mathlib.Core.Bool.{Bool, true, false, false≢true}
 use mathlib.Core.List.{List}
+use mathlib.Core.Logic.{inr}
 use mathlib.Core.Path.{_≡_, refl, sym, ap, _∙_}
 use Rattle.sets.specs.Sets.{single, single-zero}
-use Rattle.language.specs.File.{GoalKind, kLiteral, kSum, kAssign, kConstruct, kSwitch, kIf, kCall, kPrint, kCreate, kRemove, kGoal, kindOf, word}
+use Rattle.language.specs.File.{GoalKind, kLiteral, kSum, kAssign, kConstruct, kSwitch, kIf, kCall, kPrint, kCreate, kRemove, Kind, kGoal, goals, row, kindOf, word, recordCount}
 use Rattle.language.specs.Format.{kindWord, constructKind, createKind, removeKind, goalX, lifetimeRegion}
 use Rattle.language.specs.Program.{Four, Step, literal, sum, assign, construct, print, create, remove, Goal, step, switch, ifLess, Signature, Program, regionOf}
 use Rattle.language.specs.Lifetimes
@@ -20,7 +21,7 @@ use Rattle.chains.specs.Shapes.{IsCall, goal-number, goal-kind, construct-here,
 use Rattle.tables.specs.Window.{homeIn}
 use Rattle.tables.specs.Filled.{StepAt}
 use Rattle.tables.specs.declared.Effect.{Effect}
-use Rattle.regions.specs.Here.{signatureAt, Here, construct-kind}
+use Rattle.regions.specs.Here.{signatureAt, Here, construct-kind, create-kind, remove-kind}
 
 -- e is the effect of g
 pub record Effects (P : Program) (S : Signature) (g : Step) (e : Effect) : Type 0 where
@@ -29,13 +30,14 @@ pub record Effects (P : Program) (S : Signature) (g : Step) (e : Effect) : Type 
   pub ends : e .ends ≡ effect P S g .ends
   pub unshared : e .unshared ≡ effect P S g .unshared
 
--- .. of the step at record i
-abbrev pub EffectAt : List ℕ → ℕ → Effect → Type 0
-EffectAt f i e = (g : Step) → StepAt f i g → Effects (program f) (signatureAt f i) g e
-
--- ---- a step that needs, bears and ends a region each, 0 for none
+-- a step that needs, bears and ends a region each, 0 for none
 unfoldable pub regionEffect : ℕ → ℕ → ℕ → Effect
 regionEffect n b e = record { needs = single n; bears = single b; ends = single e; unshared = true }
+
+-- e is the effect of the step at record i; a record without a step has none
+pub record EffectAt (f : List ℕ) (i : ℕ) (e : Effect) : Type 0 where
+  pub made : (g : Step) → StepAt f i g → Effects (program f) (signatureAt f i) g e
+  pub none : ((g : Step) → StepAt f i g → ⊥) → e ≡ regionEffect 0 0 0
 
 module _ (P : Program) (S : Signature) where
   construct-effect : (x f : ℕ) (ws : Four) {r : ℕ} → r ≡ regionOf S x → Effects P S (construct x f ws) (regionEffect r 0 0)
@@ -70,14 +72,39 @@ isStep (step s) = true
 isStep (switch x cs) = false
 isStep (ifLess y z a b) = false
 
--- where the goal at record i is the step h, its effect is that of the step at record i
-pub effect-made : (f : List ℕ) (i : ℕ) {h : Step} {e : Effect} → goalAt f i ≡ step h → Effects (program f) (signatureAt f i) h e → EffectAt f i e
-unfolding stepIn
-effect-made f i {h} v m g s = let same : g ≡ h = ap stepIn (sym (s .view) ∙ v) in rw same m
+goals-chain : (k : GoalKind) → row (kGoal k) .chain ≡ goals
+unfolding all-rows
+goals-chain kLiteral = refl
+goals-chain kSum = refl
+goals-chain kAssign = refl
+goals-chain kConstruct = refl
+goals-chain kSwitch = refl
+goals-chain kIf = refl
+goals-chain kCall = refl
+goals-chain kPrint = refl
+goals-chain kCreate = refl
+goals-chain kRemove = refl
 
-no-step : (f : List ℕ) (i : ℕ) {h : Goal} {e : Effect} → goalAt f i ≡ h → isStep h ≡ false → EffectAt f i e
+module _ (f : List ℕ) (i : ℕ) {h : Step} (v : goalAt f i ≡ step h) where
+  same-step : {e : Effect} → Effects (program f) (signatureAt f i) h e → (g : Step) → StepAt f i g → Effects (program f) (signatureAt f i) g e
+  unfolding stepIn
+  same-step m g s = let same : g ≡ h = ap stepIn (sym (s .view) ∙ v) in rw same m
+
+  pub step-at : (k : GoalKind) → kindOf (word f i kindWord) ≡ kGoal k → 0 < i → i < recordCount f → StepAt f i h
+  step-at k n p q = record {
+    stands = record { below = q; sort = inr (ap (λ (c : Kind). row c .chain) n ∙ goals-chain k) };
+    some = λ z. omega arith;
+    view = v;
+  }
+
+no-step : (f : List ℕ) (i : ℕ) {h : Goal} {e : Effect} → goalAt f i ≡ h → isStep h ≡ false → (g : Step) → StepAt f i g → Effects (program f) (signatureAt f i) g e
 unfolding isStep
 no-step f i v z g s = absurd (false≢true (sym z ∙ ap isStep (sym v ∙ s .view)))
+
+-- where the goal at record i is the step h, its effect is that of the step at record i
+pub effect-made : {f own : List ℕ} {i : ℕ} → Here f own i → (k : GoalKind) → kindOf (word f i kindWord) ≡ kGoal k → {h : Step} {e : Effect}
+    → goalAt f i ≡ step h → Effects (program f) (signatureAt f i) h e → EffectAt f i e
+effect-made {f} {own} {i} H k n v m = record { made = same-step f i v m; none = λ z. absurd (z _ (step-at f i v k n (H .some) (H .below))) }
 
 -- ---- any goal but a call, by its kind
 module _ {f own : List ℕ} {i : ℕ} (H : Here f own i) where
@@ -85,28 +112,33 @@ module _ {f own : List ℕ} {i : ℕ} (H : Here f own i) where
       → EffectAt f i e
   construct-made wk k j l d =
       let n = construct-kind f i (sym wk ∙ k) in
-      rw d (effect-made f i (construct-here (H .formed) wk k .goal)
+      rw d (effect-made H kConstruct n (construct-here (H .formed) wk k .goal)
       (construct-effect (program f) (signatureAt f i) _ _ _ (l ∙ ap (homeIn own) j ∙ H .window kConstruct n .home _)))
 
   pub create-made : {w r : ℕ} {e : Effect} → w ≡ word f i kindWord → w ≡ createKind → r ≡ word f i lifetimeRegion → e ≡ regionEffect 0 r 0 → EffectAt f i e
-  create-made wk k j d = rw (d, j) (effect-made f i (create-here (H .formed) wk k .goal) (create-effect (program f) (signatureAt f i) _))
+  create-made wk k j d =
+      rw (d, j) (effect-made H kCreate (create-kind f i (sym wk ∙ k)) (create-here (H .formed) wk k .goal) (create-effect (program f) (signatureAt f i) _))
 
   pub remove-made : {w r : ℕ} {e : Effect} → w ≡ word f i kindWord → w ≡ removeKind → r ≡ word f i lifetimeRegion → e ≡ regionEffect r 0 r → EffectAt f i e
-  remove-made wk k j d = rw (d, j) (effect-made f i (remove-here (H .formed) wk k .goal) (remove-effect (program f) (signatureAt f i) _))
+  remove-made wk k j d =
+      rw (d, j) (effect-made H kRemove (remove-kind f i (sym wk ∙ k)) (remove-here (H .formed) wk k .goal) (remove-effect (program f) (signatureAt f i) _))
 
   module _ {w : ℕ} (e : w ≡ word f i kindWord) (n11 : w ≡ constructKind → ⊥) (n18 : w ≡ createKind → ⊥) (n19 : w ≡ removeKind → ⊥) (n15 : IsCall f i → ⊥) where
-    none-at : (k : GoalKind) → kindOf (word f i kindWord) ≡ kGoal k → EffectAt f i (regionEffect 0 0 0)
+    none-at : (k : GoalKind) → kindOf (word f i kindWord) ≡ kGoal k → (g : Step) → StepAt f i g → Effects (program f) (signatureAt f i) g (regionEffect 0 0 0)
     unfolding effect all-rows isStep
-    none-at kLiteral k = effect-made f i (literal-at (H .formed) refl (same-read f i refl k) .goal) (none-effect (program f) (signatureAt f i) refl)
-    none-at kSum k = effect-made f i (sum-at (H .formed) refl (same-read f i refl k) .goal) (none-effect (program f) (signatureAt f i) refl)
-    none-at kAssign k = effect-made f i (assign-at (H .formed) refl (same-read f i refl k) .goal) (none-effect (program f) (signatureAt f i) refl)
+    none-at kLiteral k = same-step f i (literal-at (H .formed) refl (same-read f i refl k) .goal) (none-effect (program f) (signatureAt f i) refl)
+    none-at kSum k = same-step f i (sum-at (H .formed) refl (same-read f i refl k) .goal) (none-effect (program f) (signatureAt f i) refl)
+    none-at kAssign k = same-step f i (assign-at (H .formed) refl (same-read f i refl k) .goal) (none-effect (program f) (signatureAt f i) refl)
     none-at kConstruct k = absurd (n11 (e ∙ goal-number (word f i kindWord) kConstruct k))
     none-at kSwitch k = no-step f i (switch-at (H .formed) refl (same-read f i refl k) .goal) refl
     none-at kIf k = no-step f i (if-at (H .formed) refl (same-read f i refl k) .goal) refl
     none-at kCall k = absurd (n15 (goal-number (word f i kindWord) kCall k))
-    none-at kPrint k = effect-made f i (print-at (H .formed) refl (same-read f i refl k) .goal) (none-effect (program f) (signatureAt f i) refl)
+    none-at kPrint k = same-step f i (print-at (H .formed) refl (same-read f i refl k) .goal) (none-effect (program f) (signatureAt f i) refl)
     none-at kCreate k = absurd (n18 (e ∙ goal-number (word f i kindWord) kCreate k))
     none-at kRemove k = absurd (n19 (e ∙ goal-number (word f i kindWord) kRemove k))
 
     pub none-made : {d : Effect} → d ≡ regionEffect 0 0 0 → EffectAt f i d
-    none-made m g s = let k = goal-kind (s .stands) (s .some) in rw m (none-at (k .0) (k .1) g s)
+    none-made m = record {
+      made = λ g s. let k = goal-kind (s .stands) (s .some) in rw m (none-at (k .0) (k .1) g s);
+      none = λ z. m;
+    }

@@ -22,7 +22,7 @@ use Rattle.chains.specs.Formed.{Formed, Stands, goalAt, edgesAt, armsAt, arms-n
 use Rattle.chains.specs.Kinds.{same-read}
 use Rattle.chains.specs.Goals.{literal-at, sum-at, print-at, create-at, remove-at}
 use Rattle.chains.specs.Parts.{if-at}
-use Rattle.chains.specs.Shapes.{IsAssign, IsConstruct, IsSwitch, IsCall, goal-number, assign-here, construct-here, switch-here, call-here, arm-here}
+use Rattle.chains.specs.Shapes.{IsAssign, IsConstruct, IsSwitch, IsCall, IsCreate, IsRemove, goal-number, assign-here, construct-here, switch-here, call-here, arm-here}
 use Rattle.owners.specs.Owner.{ownerOf}
 use Rattle.owners.specs.Everywhere.{ifGoal, recordTest}
 use Rattle.owners.specs.TreeLaw.{record-kind}
@@ -68,6 +68,14 @@ module _ (f : List ℕ) (i : ℕ) where
   pub call-kind : IsCall f i → kindOf (word f i kindWord) ≡ kGoal kCall
   unfolding kindOf kinds nth
   call-kind k = ap kindOf k
+
+  pub create-kind : IsCreate f i → kindOf (word f i kindWord) ≡ kGoal kCreate
+  unfolding kindOf kinds nth
+  create-kind k = ap kindOf k
+
+  pub remove-kind : IsRemove f i → kindOf (word f i kindWord) ≡ kGoal kRemove
+  unfolding kindOf kinds nth
+  remove-kind k = ap kindOf k
 
 -- ---- what number 3 says of it
 module _ {f : List ℕ} (F : Formed f) (ok : typingOk (program f) ≡ true) {i : ℕ} (p : 0 < i) (q : i < recordCount f) (g : GoalKind)

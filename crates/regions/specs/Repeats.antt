@@ -1,31 +1,27 @@
 -- A call that repeats another: of the same procedure, from the same procedure, with arguments in the same regions. The mapping goes by these alone.
 use Prim.Native.Nat.{ℕ, _<_}
-use native.Mathlib.Omega.{arith}
 use mathlib.Core.Bool.{Bool, true}
 use mathlib.Core.List.{List, [], _∷_}
-use mathlib.Core.Logic.{inr}
 use mathlib.Core.Path.{_≡_, refl, sym, ap, ap₂, _∙_}
 use lib.ListN.{getD}
-use Rattle.language.specs.File.{kCall, Kind, kGoal, goals, row, kindOf, word, recordCount}
+use Rattle.language.specs.File.{kCall, kGoal, kindOf, word, recordCount}
 use Rattle.language.specs.Format.{kindWord, callProcedure, callArguments}
 use Rattle.language.specs.Program.{call, step, Signature, Program, signatureOf}
 use Rattle.language.specs.Regions.{mapping, oneWay, regionsOf, stepRegions}
 use Rattle.language.specs.Lifetimes
 use Rattle.language.specs.Lifetimes.{callEffect, effect}
 use Rattle.language.specs.Answers.{program}
-use Rattle.chains.specs.Layout.{all-rows}
 use Rattle.chains.specs.Formed.{Formed, argumentsAt}
 use Rattle.chains.specs.Shapes.{IsCall, call-here}
 use Rattle.owners.specs.Owner.{ownerOf}
 use Rattle.owners.specs.Everywhere.{recordTest, ifGoal}
 use Rattle.owners.specs.TreeLaw.{record-kind}
-use Rattle.tables.specs.Filled.{StepAt}
 use Rattle.tables.specs.Rows.{effectIn}
 use Rattle.tables.specs.declared.Effect.{Effect}
 use Rattle.regions.specs.CallMap.{homesIn, homes-regions}
 use Rattle.regions.specs.Single.{agreesHere, agrees}
 use Rattle.regions.specs.Here.{signatureAt, Given, Here, call-kind, goal-test}
-use Rattle.regions.specs.Effects.{Effects, EffectAt, effect-made}
+use Rattle.regions.specs.Effects.{Effects, EffectAt, step-at, effect-made}
 use Rattle.regions.specs.Rowed.{Before}
 
 -- the call at record i repeats that at record j, by the window of its procedure
@@ -65,18 +61,13 @@ module _ {f own owners : List ℕ} {i j : ℕ} (H : Here f own i) (R : Repeats f
 
   -- .. and so is its effect
   pub repeat-made : {e : Effect} → EffectAt f j e → EffectAt f i e
-  unfolding effect all-rows
+  unfolding effect
   repeat-made {e} m =
       let v = call-here (H .formed) refl (R .kind) in
-      let s : StepAt f j (call (word f j callProcedure) (argumentsAt f (word f j callArguments))) = record {
-        stands = record { below = v .below; sort = inr (ap (λ (n : Kind). row n .chain) (call-kind f j (R .kind))) };
-        some = λ z. let l = v .some in omega arith;
-        view = v .goal;
-      } in
-      let h = m _ s in
+      let h = m .made _ (step-at f j (v .goal) kCall (call-kind f j (R .kind)) (v .some) (v .below)) in
       let d : effect (program f) (signatureAt f j) (call (word f j callProcedure) (argumentsAt f (word f j callArguments))) ≡ effect (program f) C (call (word f i callProcedure) (argumentsAt f (word f i callArguments))) =
       rw (← o, ← R .callee) (ap (λ n. callEffect n Q) (sym same)) in
-      effect-made f i (call-here (H .formed) refl k .goal) (record {
+      effect-made H kCall (call-kind f i k) (call-here (H .formed) refl k .goal) (record {
         needs = h .needs ∙ ap (λ (x : Lifetimes.Effect). x .needs) d;
         bears = h .bears ∙ ap (λ (x : Lifetimes.Effect). x .bears) d;
         ends = h .ends ∙ ap (λ (x : Lifetimes.Effect). x .ends) d;
@@ -92,7 +83,7 @@ module _ {f table owners own : List ℕ} (G : Given f table owners) {i j : ℕ} 
   repeated-agrees = repeat-agrees H R same-owner (B .agrees (R .kind))
 
   pub repeated-made : {e : Effect} → e ≡ effectIn t j → EffectAt f i e
-  repeated-made d = repeat-made H R same-owner (rw d (B .made))
+  repeated-made d = repeat-made H R same-owner (rw d (B .made (R .kind)))
 
 -- ---- along two chains of arguments: where the rest is in the same regions, so is the whole
 pub same-next : (t xs ys xs′ ys′ : List ℕ) {u v : ℕ} → homesIn t xs ≡ u ∷ homesIn t xs′ → homesIn t ys ≡ v ∷ homesIn t ys′ → u ≡ v

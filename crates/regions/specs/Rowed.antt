@@ -1,13 +1,15 @@
 -- The pass over the records: what it leaves in the rows, and the loop.
-use Prim.Native.Nat.{ℕ, _+_, _-_, _≤_, _<_}
+use Prim.Native.Nat.{ℕ, _+_, _-_, _*_, _≤_, _<_}
 use native.Mathlib.Omega.{arith}
-use native.Mathlib.Decide.{ℕ-discrete}
+use native.Mathlib.Decide.{ℕ-discrete, decLt}
 use mathlib.Core.Bool.{Bool, true, false, false≢true}
 use mathlib.Core.List.{List}
-use mathlib.Core.Logic.{_≢_}
-use mathlib.Core.Path.{_≡_, refl, sym, ap, ap₂, _∙_}
-use lib.ListN.{length}
+use mathlib.Core.Logic.{_≢_, _⊎_, inl, inr, ⊎-elim}
+use mathlib.Core.Path.{_≡_, refl, sym, ap, _∙_}
+use lib.ListN.{length, getD, set}
+use lib.Seq.{getD-set-other}
 use Rattle.sets.specs.Tests.{_&_}
+use Rattle.sets.specs.Sets.{stored}
 use Rattle.language.specs.File.{recordCount}
 use Rattle.language.specs.Format.{maxRecords}
 use Rattle.language.specs.Lists.{all, upFrom}
@@ -19,54 +21,103 @@ use Rattle.chains.specs.Formed.{Formed, counted}
 use Rattle.chains.specs.Shapes.{IsCall, call-here}
 use Rattle.owners.specs.Owner.{ownerOf}
 use Rattle.owners.specs.Everywhere.{recordTest}
-use Rattle.tables.specs.Rows.{readsIn, givesIn, needsIn, bearsIn, endsIn, markIn, effectIn, putEffect, SameRow, rowsLength, effect-length, effect-other, effect-reads, effect-gives, effect-put}
+use Rattle.tables.specs.Rows.{rowSet, readsIn, givesIn, effectIn, bitOf, putEffect, SameRow, rowsLength, row-same, effect-length, effect-put}
 use Rattle.tables.specs.Filled.{StepAt, Accessed, Effected}
 use Rattle.tables.specs.declared.Effect.{Effect}
 use Rattle.regions.specs.Single.{agrees, number-5}
-use Rattle.regions.specs.Here.{signatureAt}
 use Rattle.regions.specs.Effects.{Effects, EffectAt}
 
--- what goals read and give is as it was, and the table is as long
-pub record Unread (t t′ : List ℕ) : Type 0 where
-  pub size : length t′ ≡ length t
-  pub reads : (j : ℕ) → readsIn t′ j ≡ readsIn t j
-  pub gives : (j : ℕ) → givesIn t′ j ≡ givesIn t j
+-- ---- what stands in the rows u, where t stood
+-- every word of row i is as it was
+abbrev pub Still : List ℕ → List ℕ → ℕ → Type 0
+Still t u i = (k : ℕ) → k < 6 → getD u (6 * i + k) 0 ≡ getD t (6 * i + k) 0
 
--- .. and where record i passes, its row has its step's effect, and no other row is changed
-pub record Rowed (f : List ℕ) (i : ℕ) (t : List ℕ) (b : Bool) (t′ : List ℕ) : Type 0 where
-  pub unread : Unread t t′
-  pub other : (j : ℕ) → j ≢ i → effectIn t′ j ≡ effectIn t j
-  pub made : b ≡ true → EffectAt f i (effectIn t′ i)
+-- row i has the effect of record i; it may be as it was where the answer is false
+abbrev pub RowDone : List ℕ → ℕ → List ℕ → Bool → List ℕ → Type 0
+RowDone f i t b u = EffectAt f i (effectIn u i) ⊎ ((b ≡ false) × Still t u i)
 
-pub unread-refl : (t : List ℕ) → Unread t t
-unread-refl t = record { size = refl; reads = λ j. refl; gives = λ j. refl }
+-- word k of row i is no effect's of a record of the file, but what its goal reads or gives, or behind the last record
+abbrev pub Apart : List ℕ → ℕ → ℕ → Type 0
+Apart f i k = (k < 2) ⊎ ((i ≡ 0) ⊎ (recordCount f ≤ i))
 
-pub unread-trans : {t u v : List ℕ} → Unread t u → Unread u v → Unread t v
-unread-trans a b = record { size = b .size ∙ a .size; reads = λ j. b .reads j ∙ a .reads j; gives = λ j. b .gives j ∙ a .gives j }
+-- after record i
+pub record Rowed (f : List ℕ) (i : ℕ) (t : List ℕ) (b : Bool) (u : List ℕ) : Type 0 where
+  pub size : length u ≡ length t
+  pub access : (k : ℕ) → k < 2 → getD u (6 * i + k) 0 ≡ getD t (6 * i + k) 0
+  pub others : (j : ℕ) → j ≢ i → Still t u j
+  pub row : RowDone f i t b u
 
-pub accessed-still : {f t t′ : List ℕ} → Unread t t′ → Accessed f t → Accessed f t′
-accessed-still u a = record {
-  reads = λ i g s. u .reads i ∙ a .reads i g s;
-  gives = λ i g s. u .gives i ∙ a .gives i g s;
-  arm-gives = λ i s z. u .gives i ∙ a .arm-gives i s z;
-}
+-- after the pass
+pub record Passed (f t : List ℕ) (b : Bool) (u : List ℕ) : Type 0 where
+  pub size : length u ≡ length t
+  pub apart : (i k : ℕ) → k < 6 → Apart f i k → getD u (6 * i + k) 0 ≡ getD t (6 * i + k) 0
+  pub rows : (i : ℕ) → 0 < i → i < recordCount f → RowDone f i t b u
 
-same-effect : {t t′ : List ℕ} (j : ℕ) → SameRow t t′ j → effectIn t′ j ≡ effectIn t j
+-- ---- what follows for those that read the rows
+still-effect : (t u : List ℕ) (j : ℕ) → Still t u j → effectIn u j ≡ effectIn t j
 unfolding effectIn
-same-effect j s = rw (s .needs, s .bears, s .ends, s .mark) refl
+still-effect t u j h = let s = row-same t u j h in rw (s .needs, s .bears, s .ends, s .mark) refl
 
--- an effect is stored
-pub rowed-put : (f : List ℕ) (i : ℕ) (t : List ℕ) {t′ : List ℕ} {b : Bool} {e : Effect} → i < maxRecords → rowsLength ≤ length t → t′ ≡ putEffect t i e
-    → (b ≡ true → EffectAt f i e) → Rowed f i t b t′
-rowed-put f i t {t′} {b} {e} few long p m = rw p (record {
-  unread = record { size = effect-length t i e; reads = effect-reads t i e; gives = effect-gives t i e };
-  other = λ j z. same-effect j (effect-other t i e j z);
-  made = λ y. rw (effect-put t i e few long) (m y);
+word-still : (t u : List ℕ) (i k : ℕ) → getD u (6 * i + k) 0 ≡ getD t (6 * i + k) 0 → rowSet u i k ≡ rowSet t i k
+unfolding rowSet
+word-still t u i k e = rw e refl
+
+-- what goals read and give is as it was
+pub passed-accessed : {f t u : List ℕ} {b : Bool} → Passed f t b u → Accessed f t → Accessed f u
+unfolding readsIn givesIn
+passed-accessed {f} {t} {u} p a =
+    let gives : (i : ℕ) → givesIn u i ≡ givesIn t i = λ i. word-still t u i 1 (p .apart i 1 (omega arith) (inl (omega arith))) in
+    record {
+      reads = λ i g s. word-still t u i 0 (p .apart i 0 (omega arith) (inl (omega arith))) ∙ a .reads i g s;
+      gives = λ i g s. gives i ∙ a .gives i g s;
+      arm-gives = λ i s z. gives i ∙ a .arm-gives i s z;
+    }
+
+row-true : {f : List ℕ} (t u : List ℕ) {b : Bool} (i : ℕ) → b ≡ true → RowDone f i t b u → EffectAt f i (effectIn u i)
+row-true t u i y (inl e) = e
+row-true t u i y (inr d) = absurd (false≢true (sym (d .0) ∙ y))
+
+-- every step has its effect, where the pass answers true
+pub passed-effected : {f t u : List ℕ} {b : Bool} → Passed f t b u → b ≡ true → Effected f (ownerOf f) u
+unfolding effectIn
+passed-effected {f} {t} {u} {b} p y =
+    let at : (j : ℕ) (g : Step) → StepAt f j g → EffectAt f j (effectIn u j) = λ j g s. row-true t u j y (p .rows j (omega (arith, s .some)) (s .stands .below)) in
+    record {
+      needs = λ j g s. at j g s .made g s .needs;
+      bears = λ j g s. at j g s .made g s .bears;
+      ends = λ j g s. at j g s .made g s .ends;
+      unshared = λ j g s. at j g s .made g s .unshared;
+    }
+
+-- ---- an effect is stored
+module _ (t : List ℕ) (i : ℕ) (e : Effect) where
+  abbrev needs-put : List ℕ
+  needs-put = set t (6 * i + 2) (stored (e .needs))
+
+  abbrev bears-put : List ℕ
+  bears-put = set needs-put (6 * i + 3) (stored (e .bears))
+
+  abbrev ends-put : List ℕ
+  ends-put = set bears-put (6 * i + 4) (stored (e .ends))
+
+  put-still : (n : ℕ) → n ≢ 6 * i + 2 → n ≢ 6 * i + 3 → n ≢ 6 * i + 4 → n ≢ 6 * i + 5 → getD (putEffect t i e) n 0 ≡ getD t n 0
+  unfolding putEffect
+  put-still n p q r s =
+      getD-set-other ends-put (6 * i + 5) n (bitOf (e .unshared)) 0 s ∙ getD-set-other bears-put (6 * i + 4) n (stored (e .ends)) 0 r
+      ∙ getD-set-other needs-put (6 * i + 3) n (stored (e .bears)) 0 q ∙ getD-set-other t (6 * i + 2) n (stored (e .needs)) 0 p
+
+pub rowed-put : (f : List ℕ) (i : ℕ) (t : List ℕ) {u : List ℕ} {b : Bool} {e : Effect} → i < maxRecords → rowsLength ≤ length t → u ≡ putEffect t i e
+    → EffectAt f i e → Rowed f i t b u
+rowed-put f i t {u} {b} {e} few long p m = rw p (record {
+  size = effect-length t i e;
+  access = λ k l. put-still t i e (6 * i + k) (λ d. omega arith) (λ d. omega arith) (λ d. omega arith) (λ d. omega arith);
+  others = λ j z k l. put-still t i e (6 * j + k) (λ d. z (omega arith)) (λ d. z (omega arith)) (λ d. z (omega arith)) (λ d. z (omega arith));
+  row = inl (rw (effect-put t i e few long) m);
 })
 
--- the record is refused
+-- the record is refused, and its row is as it was
 pub rowed-not : (f : List ℕ) (i : ℕ) (t : List ℕ) {b : Bool} → b ≡ false → Rowed f i t b t
-rowed-not f i t z = record { unread = unread-refl t; other = λ j n. refl; made = λ y. absurd (false≢true (sym z ∙ y)) }
+rowed-not f i t z = record { size = refl; access = λ k l. refl; others = λ j n k l. refl; row = inr (z, λ k l. refl) }
 
 -- ---- the loop: the records below i are done, and the rest decides
 pub record Going (f t₀ t : List ℕ) (n i : ℕ) : Type 0 where
@@ -74,8 +125,10 @@ pub record Going (f t₀ t : List ℕ) (n i : ℕ) : Type 0 where
   pub some : 0 < i
   pub most : i ≤ n
   pub rest : regionsOk (program f) ≡ all (recordTest (agrees f) f) (upFrom i (n - i))
-  pub unread : Unread t₀ t
-  pub done : (j : ℕ) → j < i → EffectAt f j (effectIn t j)
+  pub size : length t ≡ length t₀
+  pub apart : (j k : ℕ) → k < 6 → Apart f j k → getD t (6 * j + k) 0 ≡ getD t₀ (6 * j + k) 0
+  pub ahead : (j : ℕ) → i ≤ j → Still t₀ t j
+  pub done : (j : ℕ) → 0 < j → j < i → EffectAt f j (effectIn t j)
   pub passed : (j : ℕ) → 0 < j → j < i → true ≡ recordTest (agrees f) f j
 
 pub going-first : {f : List ℕ} (t : List ℕ) {n : ℕ} → Formed f → n ≡ recordCount f → Going f t t n 1
@@ -84,8 +137,10 @@ going-first t F e = record {
   some = omega arith;
   most = omega (arith, counted F .some);
   rest = number-5 F ∙ rw e refl;
-  unread = unread-refl t;
-  done = λ j l g s. absurd (s .some (omega arith));
+  size = refl;
+  apart = λ j k l a. refl;
+  ahead = λ j l k m. refl;
+  done = λ j p l. absurd (omega arith);
   passed = λ j p l. absurd (omega arith);
 }
 
@@ -98,42 +153,63 @@ module _ {f t₀ t : List ℕ} {n i : ℕ} (h : Going f t₀ t n i) where
   unfolding _&_
   going-stop l e z = sym (here l ∙ rw (sym e ∙ z) refl)
 
-  pub going-next : {b : Bool} {t′ : List ℕ} → i < n → b ≡ recordTest (agrees f) f i → Rowed f i t b t′ → b ≡ true → Going f t₀ t′ n (i + 1)
-  unfolding _&_
-  going-next {b} {t′} l e r y = record {
-    count = h .count;
-    some = omega arith;
-    most = omega arith;
-    rest = here l ∙ rw (sym e ∙ y) refl;
-    unread = unread-trans (h .unread) (r .unread);
-    done = λ j k. elim (ℕ-discrete j i) [ yes z ↦ rw z (r .made y) | no z ↦ rw (r .other j z) (h .done j (omega (arith, z))) ];
-    passed = λ j p k. elim (ℕ-discrete j i) [ yes z ↦ rw z (sym y ∙ e) | no z ↦ h .passed j p (omega (arith, z)) ];
-  }
-
   pub going-last : n ≤ i → true ≡ regionsOk (program f)
   unfolding all
   going-last l = sym (h .rest ∙ ap (all (recordTest (agrees f) f)) (from-end n i l))
 
-  pub going-effected : n ≤ i → Effected f (ownerOf f) t
-  unfolding effectIn
-  going-effected l =
-      let at : (j : ℕ) → EffectAt f j (effectIn t j) = λ j g s. h .done j (let b = s .stands .below in omega (arith, h .count)) g s in
-      record {
-        needs = λ j g s. at j g s .needs;
-        bears = λ j g s. at j g s .bears;
-        ends = λ j g s. at j g s .ends;
-        unshared = λ j g s. at j g s .unshared;
-      }
+  pub going-passed : n ≤ i → Passed f t₀ true t
+  going-passed l = record { size = h .size; apart = h .apart; rows = λ j p m. inl (h .done j p (omega (arith, h .count))) }
 
--- ---- what the pass knows of the record j that it has done last
+  -- record i is done
+  module _ {b : Bool} {u : List ℕ} (l : i < n) (r : Rowed f i t b u) where
+    own-apart : (j k : ℕ) → j ≡ i → Apart f j k → getD u (6 * j + k) 0 ≡ getD t (6 * j + k) 0
+    own-apart j k z (inl c) = rw z (r .access k c)
+    own-apart j k z (inr (inl c)) = absurd (omega (arith, h .some))
+    own-apart j k z (inr (inr c)) = absurd (omega (arith, h .count))
+
+    apart-here : (j k : ℕ) → k < 6 → Apart f j k → getD u (6 * j + k) 0 ≡ getD t₀ (6 * j + k) 0
+    apart-here j k m a = elim (ℕ-discrete j i) [ yes z ↦ own-apart j k z a | no z ↦ r .others j z k m ] ∙ h .apart j k m a
+
+    done-here : (j : ℕ) → 0 < j → j < i → EffectAt f j (effectIn u j)
+    done-here j p m = rw (still-effect t u j (r .others j (λ z. omega arith))) (h .done j p m)
+
+    ahead-here : (j : ℕ) → i < j → Still t₀ u j
+    ahead-here j m k q = r .others j (λ z. omega arith) k q ∙ h .ahead j (omega arith) k q
+
+    row-here : RowDone f i t₀ b u
+    row-here = ⊎-elim (λ e. inl e) (λ d. inr (d .0, λ k q. d .1 k q ∙ h .ahead i (omega arith) k q)) (r .row)
+
+    pub going-stopped : b ≡ false → Passed f t₀ false u
+    going-stopped z = record { size = r .size ∙ h .size; apart = apart-here; rows = λ j p m. row j p (ℕ-discrete j i) (decLt j i) }
+      where
+        row : (j : ℕ) → 0 < j → Dec (j ≡ i) → Dec (j < i) → RowDone f j t₀ false u
+        row j p (yes c) d = rw c (rw z at row-here)
+        row j p (no c) (yes d) = inl (done-here j p d)
+        row j p (no c) (no d) = inr (refl, ahead-here j (omega (arith, c, d)))
+
+    pub going-next : b ≡ recordTest (agrees f) f i → b ≡ true → Going f t₀ u n (i + 1)
+    unfolding _&_
+    going-next e y = record {
+      count = h .count;
+      some = omega arith;
+      most = omega arith;
+      rest = here l ∙ rw (sym e ∙ y) refl;
+      size = r .size ∙ h .size;
+      apart = apart-here;
+      ahead = λ j m. ahead-here j (omega arith);
+      done = λ j p k. elim (ℕ-discrete j i) [ yes z ↦ rw z (row-true t u i y (r .row)) | no z ↦ done-here j p (omega (arith, z)) ];
+      passed = λ j p k. elim (ℕ-discrete j i) [ yes z ↦ rw z (sym y ∙ e) | no z ↦ h .passed j p (omega (arith, z)) ];
+    }
+
+-- ---- what the pass knows of the record j, which was its last call, or 0
 pub record Before (f t : List ℕ) (j : ℕ) : Type 0 where
   pub below : j < recordCount f
-  pub made : EffectAt f j (effectIn t j)
+  pub made : IsCall f j → EffectAt f j (effectIn t j)
   pub agrees : IsCall f j → true ≡ recordTest (agrees f) f j
 
 pub going-before : {f t₀ t : List ℕ} {n i j : ℕ} → Going f t₀ t n i → Formed f → j < i → Before f t j
 going-before {f} {j = j} h F l = record {
   below = let m = h .most in omega (arith, h .count);
-  made = h .done j l;
+  made = λ k. h .done j (call-here {f = f} {i = j} F refl k .some) l;
   agrees = λ k. h .passed j (call-here {f = f} {i = j} F refl k .some) l;
 }

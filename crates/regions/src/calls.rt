@@ -11,10 +11,11 @@ use tables::word_at;
 ghost use mathlib.Core.Path.{_≡_};
 ghost use Rattle.language.specs.File;
 ghost use Rattle.chains.specs.Formed.{Formed, Stands};
-ghost use Rattle.regions.specs.Pairs.{Standing};
+ghost use Rattle.regions.specs.Pairs.{Standing, Grown};
 ghost use Rattle.regions.specs.CallMap.{CallMapped};
 
-// The callee's in and out variables against the call's arguments, which are in the chain at record arguments. False where a region has two images.
+// The callee's in and out variables against the call's arguments, which are in the chain at record arguments. False where a region has two images;
+// the places of regions that had no image are then free.
 pub fn map_call(
     file: &[u8],
     own: &[u64],
@@ -26,6 +27,7 @@ pub fn map_call(
     requires { ⌜ Standing (now file) (now own) ⌝ }
     requires { ⌜ Standing (now file) (now callee) ⌝ }
     requires { ⌜ Stands (now file) File.arguments arguments ⌝ }
+    ensures { λ b. ⌜ Grown (now (images .entry)) (now (images .exit)) ⌝ }
     ensures { λ b. ⌜ CallMapped (now (file .entry)) (now (own .entry)) (now (callee .entry)) arguments (now (images .entry)) b (now (images .exit)) ⌝ }
 {
     let mut x = word_at(callee, FIRST);

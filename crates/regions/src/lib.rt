@@ -8,4 +8,5 @@ mod repeats;
 mod single;
 mod terms;
 
+pub use calls::map_call;
 pub use pass::regions_agree;

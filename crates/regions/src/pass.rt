@@ -17,21 +17,18 @@ use tables::needs_at;
 use tables::put_effect;
 use tables::start_of;
 ghost use mathlib.Core.Path.{_≡_};
-ghost use mathlib.Core.Bool.{true};
 ghost use Prim.Native.Nat.{_≤_, _<_};
 ghost use lib.ListN.{length};
 ghost use Rattle.language.specs.File.{recordCount};
 ghost use Rattle.language.specs.Regions.{regionsOk};
 ghost use Rattle.language.specs.Answers.{program};
-ghost use Rattle.owners.specs.Owner.{ownerOf};
 ghost use Rattle.owners.specs.Everywhere.{recordTest};
 ghost use Rattle.tables.specs.Window.{FileTable};
 ghost use Rattle.tables.specs.Rows.{rowsLength, effectIn};
-ghost use Rattle.tables.specs.Filled.{Effected};
 ghost use Rattle.regions.specs.Single.{agrees};
 ghost use Rattle.regions.specs.Here.{Given, Here};
 ghost use Rattle.regions.specs.CallEffect.{CallHere};
-ghost use Rattle.regions.specs.Rowed.{Before, Rowed, Unread};
+ghost use Rattle.regions.specs.Rowed.{Before, Rowed, Passed};
 
 // The call at record i of the procedure with the window callee: it maps no region two ways.
 fn call_ok(file: &[u8], own: &[u64], callee: &[u64], i: usize, rows: &mut [u64; ROWS]) -> bool
@@ -105,13 +102,13 @@ fn next_ok(
     row_ok(file, table, &table[start..], i, rows)
 }
 
-// Number 5. Puts what each step does to regions into its row; where the answer is false, those words of the rows are free.
+// Number 5. Puts what each step does to regions into its row, and no effect into the row of any other record; where the answer is false, each
+// of these rows may be as it was.
 pub fn regions_agree(file: &[u8], table: &[u64], owners: &[u16], rows: &mut [u64; ROWS]) -> bool
     requires { ⌜ Given (now file) (now table) (now owners) ⌝ }
     requires { ⌜ rowsLength ≤ length (now rows) ⌝ }
     ensures { λ b. ⌜ b ≡ regionsOk (program (now (file .entry))) ⌝ }
-    ensures { λ b. ⌜ (b ≡ true → Effected (now (file .entry)) (ownerOf (now (file .entry))) (now (rows .exit))) ⌝ }
-    ensures { λ b. ⌜ Unread (now (rows .entry)) (now (rows .exit)) ⌝ }
+    ensures { λ b. ⌜ Passed (now (file .entry)) (now (rows .entry)) b (now (rows .exit)) ⌝ }
 {
     let n = word(file, 0, format::HEADER_COUNT);
     let mut last = 0;

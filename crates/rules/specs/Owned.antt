@@ -1,7 +1,7 @@
 -- Each goal and arm belongs to the procedure that `owners` says, and what the stages prepare.
 use Prim.Native.Nat.{ℕ, _≤_}
 use native.Mathlib.Omega.{arith}
-use mathlib.Core.Bool.{true}
+use mathlib.Core.Bool.{Bool, true}
 use mathlib.Core.List.{List, _++_}
 use mathlib.Core.Path.{_≡_, refl, ap}
 use borrow.Author.Tests.{leb-true}
@@ -18,9 +18,11 @@ use Rattle.chains.specs.Is.{arm-is}
 use Rattle.chains.specs.Shapes.{by-number}
 use Rattle.owners.specs.Owner.{ownersOf, ownerOf}
 use Rattle.owners.specs.Owners.{listed-owner, goals-owned, switch-owned, if-owned, arm-owned, procedureRecord, procedure-first}
+use Rattle.values.specs.Noting.{Noted, noted-accessed}
 use Rattle.regions.specs.Here.{Given}
+use Rattle.regions.specs.Rowed.{Passed, passed-accessed, passed-effected}
 use Rattle.tables.specs.Window.{FileTable}
-use Rattle.tables.specs.Filled.{Accessed, Effected, Owning, Prepared}
+use Rattle.tables.specs.Filled.{Owning, Prepared}
 
 -- of the record that a word leads to
 moved : (f : List ℕ) {q w j : ℕ} → j ≡ w → ((w ≡ 0 → ⊥) → ownerOf f w ≡ q) → (j ≡ 0 → ⊥) → ownerOf f j ≡ q
@@ -49,6 +51,13 @@ few-procedures : (f : List ℕ) → typingOk (program f) ≡ true → length (pr
 unfolding typingOk among
 few-procedures f e = leb-true _ _ (and-true (and-true (and-true e .1) .0) .1)
 
-pub prepared : {f table rows : List ℕ} → Formed f → typingOk (program f) ≡ true → FileTable f table → Accessed f rows → Effected f (ownerOf f) rows
+pub prepared : {f table m rows : List ℕ} {b : Bool} → Formed f → typingOk (program f) ≡ true → FileTable f table → Noted f m → Passed f m b rows → b ≡ true
     → Prepared f table rows
-prepared {f} F t w a e = record { owner = ownerOf f; few = few-procedures f t; windows = w; accessed = a; effected = e; owning = owning F }
+prepared {f} F t w n p y = record {
+  owner = ownerOf f;
+  few = few-procedures f t;
+  windows = w;
+  accessed = passed-accessed p (noted-accessed n);
+  effected = passed-effected p y;
+  owning = owning F;
+}

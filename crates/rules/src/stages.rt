@@ -20,11 +20,11 @@ ghost use Rattle.language.specs.Regions.{regionsOk};
 ghost use Rattle.language.specs.Answers.{lowest, program};
 ghost use Rattle.records.specs.Blank.{fileWords, rowWords};
 ghost use Rattle.chains.specs.Formed.{Formed};
-ghost use Rattle.owners.specs.Owner.{ownerOf};
 ghost use Rattle.tables.specs.Window.{FileTable};
-ghost use Rattle.tables.specs.Filled.{Effected, Prepared};
-ghost use Rattle.regions.specs.Rowed.{Unread};
+ghost use Rattle.tables.specs.Filled.{Prepared};
+ghost use Rattle.regions.specs.Rowed.{Passed};
 ghost use Rattle.rules.specs.Stages.{typingStages, tableStages};
+ghost use Rattle.rules.specs.Tabled.{Tabled};
 
 // Numbers 1 to 3.
 pub fn check_typing(file: &[u8]) -> Verdict
@@ -47,22 +47,22 @@ fn regions_ok(file: &[u8], table: &[u64; TABLE], rows: &mut [u64; ROWS]) -> bool
     requires { ⌜ FileTable (now file) (now table) ⌝ }
     requires { ⌜ rowWords ≤ length (now rows) ⌝ }
     ensures { λ b. ⌜ b ≡ regionsOk (program (now (file .entry))) ⌝ }
-    ensures { λ b. ⌜ (b ≡ true → Effected (now (file .entry)) (ownerOf (now (file .entry))) (now (rows .exit))) ⌝ }
-    ensures { λ b. ⌜ Unread (now (rows .entry)) (now (rows .exit)) ⌝ }
+    ensures { λ b. ⌜ Passed (now (file .entry)) (now (rows .entry)) b (now (rows .exit)) ⌝ }
 {
     let mut owners = blank_owners();
     list_owners(file, &mut owners);
     regions_agree(file, table, &owners, rows)
 }
 
-// Numbers 4 and 5, and 7's part for every program, of a file that passed number 3. Fills the file's table and the rows; after a refusal both are
-// free.
+// Numbers 4 and 5, and 7's part for every program, of a file that passed number 3. Fills the file's table, and the rows as far as it comes before a
+// refusal.
 pub fn check_classes(file: &[u8], table: &mut [u64; TABLE], rows: &mut [u64; ROWS]) -> Verdict
     requires { ⌜ Formed (now file) ⌝ }
     requires { ⌜ typingOk (program (now file)) ≡ true ⌝ }
     requires { ⌜ (fileWords ≤ length (now table)) × (rowWords ≤ length (now rows)) ⌝ }
     ensures { λ r. ⌜ r ≡ lowest (tableStages (now (file .entry))) ⌝ }
     ensures { λ r. ⌜ (r ≡ Accepted → Prepared (now (file .entry)) (now (table .exit)) (now (rows .exit))) ⌝ }
+    ensures { λ r. ⌜ Tabled (now (file .entry)) (now (table .entry)) (now (rows .entry)) r (now (table .exit)) (now (rows .exit)) ⌝ }
 {
     let right = list_procedures(file, table);
     if !values_ok(file, table, rows) {

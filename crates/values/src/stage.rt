@@ -28,17 +28,16 @@ ghost use Rattle.language.specs.Values.{procedureValues, valuesOk};
 ghost use Rattle.language.specs.Answers.{program};
 ghost use Rattle.chains.specs.Formed.{Formed};
 ghost use Rattle.tables.specs.Window.{FileTable};
-ghost use Rattle.tables.specs.Filled.{Accessed};
 ghost use Rattle.values.specs.Noting.{rowWords, Noted, Kept};
 
-// Number 4.
+// Number 4. Fills the rows of steps and arms, whatever the answer.
 pub fn values_ok(file: &[u8], table: &[u64; TABLE], rows: &mut [u64; ROWS]) -> bool
     requires { ⌜ Formed (now file) ⌝ }
     requires { ⌜ typingOk (program (now file)) ≡ true ⌝ }
     requires { ⌜ FileTable (now file) (now table) ⌝ }
     requires { ⌜ rowWords ≤ length (now rows) ⌝ }
     ensures { λ b. ⌜ b ≡ valuesOk (program (now (file .entry))) ⌝ }
-    ensures { λ _. ⌜ Accessed (now (file .entry)) (now (rows .exit)) ⌝ }
+    ensures { λ _. ⌜ Noted (now (file .entry)) (now (rows .exit)) ⌝ }
     ensures { λ _. ⌜ Kept (now (file .entry)) (now (rows .entry)) (now (rows .exit)) ⌝ }
 {
     list_accesses(file, table, rows);

@@ -28,7 +28,7 @@ returns : tie.Need-returns
 returns c = passed-up _ Rules _ (c .before .before .check-classes .ensures .0) (c .enum-told2 .given .1)
 
 rules-ok-requires : tie.Need-rules-ok-requires
-rules-ok-requires c κs = let p = c .before .before .before .before .before .before .before .before .before .before .pre in (p .0, c .before .before .before .before .check-classes .ensures .1 (c .before .before .enum-told .given .1))
+rules-ok-requires c κs = let p = c .before .before .before .before .before .before .before .before .before .before .pre in (p .0, c .before .before .before .before .check-classes .ensures .1 .0 (c .before .before .enum-told .given .1))
 
 returns-2 : tie.Need-returns-2
 returns-2 c = refused-here _ Rules (c .before .before .before .before .before .before .check-classes .ensures .0) (c .before .before .before .before .enum-told .given .1) (sym (c .before .rules-ok .ensures) ∙ not-true _ (c .if1 .taken))

@@ -9,14 +9,14 @@ use lib.ListN.{length}
 use Rattle.language.specs.File
 use Rattle.chains.specs.Formed.{Stands, ahead, variablesAt, variables-none, argumentsAt, arguments-none}
 use Rattle.chains.specs.Is.{chain-next}
-use Rattle.regions.specs.Pairs.{RestMapped, rest-first, rest-next, rest-stops, rest-ends}
+use Rattle.regions.specs.Pairs.{Grown, grown-refl, grown-trans, RestMapped, rest-first, rest-next, rest-stops, rest-ends}
 use Rattle.regions.specs.CallMap.{regionsOfParameters, parameters-none, parameter-passed, parameter-here, argument-here, homesIn, homes-none, rest-skips, call-mapped}
 use Rattle.regions.proofs.calls.map_call.Statement.{statement}
 use Rattle.regions.proofs.calls.map_call.Tie as tie
 
 abbrev Inv-loop : tie.InvT-loop
 Inv-loop file own callee arguments images₀ x₀ a₀ images x a =
-    Stands file File.variables x × Stands file File.arguments a × (length images ≡ length images₀)
+    Stands file File.variables x × Stands file File.arguments a × (length images ≡ length images₀) × Grown images₀ images
     × RestMapped file own callee (regionsOfParameters (variablesAt file x₀)) (homesIn own (argumentsAt file arguments)) images₀
     (regionsOfParameters (variablesAt file x)) (homesIn own (argumentsAt file a)) images
 
@@ -33,6 +33,7 @@ loop-holds c =
       rw (c .word-at .ensures) (a .pre .1 .1 .0 .variables),
       a .pre .1 .1 .1,
       refl,
+      grown-refl _,
       rest-first f _ _ (regionsOfParameters (variablesAt f (c .word-at .result))) (homesIn (a .args .own .now) (argumentsAt f (a .args .arguments))) _,
     )
 
@@ -49,9 +50,11 @@ returns : tie.Need-returns Inv-loop μ-loop
 returns c =
     let l = c .before .before .before .before .before in
     let a = l .before .before .before .before .before .before in
-    let f : List ℕ = a .args .file .now in
-    call-mapped f _ _ (a .args .arguments) _ _ _ (l .before .word-at .ensures)
-    (rest-ends f _ _ (l .loop .inv .3) (inr (homes-none (a .args .own .now) (arguments-none f (c .if2 .taken)))))
+    let f : List ℕ = a .args .file .now in (
+      l .loop .inv .3,
+      call-mapped f _ _ (a .args .arguments) _ _ _ (l .before .word-at .ensures)
+          (rest-ends f _ _ (l .loop .inv .4) (inr (homes-none (a .args .own .now) (arguments-none f (c .if2 .taken))))),
+    )
 
 word-requires-3 : tie.Need-word-requires-3 Inv-loop μ-loop
 word-requires-3 c κs = search needs
@@ -88,9 +91,11 @@ returns-2 c =
     let z = w .before .before .loop-test .taken in
     let n = w .before .word .ensures .0 in
     let rs = parameter-here f _ F (k .0) z (w .word2 .ensures .0) (y .before .if1 .taken) n (v .before .word3 .ensures .0) in
-    let us = argument-here f (a .args .own .now) _ F (k .1) (y .if2 .left) (v .word4 .ensures .0) (g .home .ensures) refl in
-    call-mapped f _ _ (a .args .arguments) _ _ _ (l .before .word-at .ensures)
-    (rest-stops f _ _ (k .3) _ rs us (m .map-region .ensures .1) (not-true _ (c .if3 .taken)))
+    let us = argument-here f (a .args .own .now) _ F (k .1) (y .if2 .left) (v .word4 .ensures .0) (g .home .ensures) refl in (
+      grown-trans (k .3) (m .map-region .ensures .0),
+      call-mapped f _ _ (a .args .arguments) _ _ _ (l .before .word-at .ensures)
+          (rest-stops f _ _ (k .4) _ rs us (m .map-region .ensures .1) (not-true _ (c .if3 .taken))),
+    )
 
 word-requires-5 : tie.Need-word-requires-5 Inv-loop μ-loop
 word-requires-5 c κs = search needs
@@ -122,7 +127,8 @@ loop-again c =
       chain-next F (k .0) z n .stands,
       chain-next F (k .1) (y .if2 .left) (c .word5 .ensures .0) .stands,
       e ∙ k .2,
-      rest-next f _ _ (k .3) rs us (m .map-region .ensures .1) (not-false _ (c .before .if3 .left)) e (m .map-region .ensures .0),
+      grown-trans (k .3) (m .map-region .ensures .0),
+      rest-next f _ _ (k .4) rs us (m .map-region .ensures .1) (not-false _ (c .before .if3 .left)) e (m .map-region .ensures .0),
     )
 
 loop-less-2 : tie.Need-loop-less-2 Inv-loop μ-loop
@@ -140,7 +146,7 @@ loop-again-2 c =
     let k = l .loop .inv in
     let z = c .before .before .before .loop-test .taken in
     let n = c .before .before .word .ensures .0 in
-    (chain-next F (k .0) z n .stands, k .1, k .2, rest-skips f _ _ (parameter-passed f _ F (k .0) z (c .before .word2 .ensures .0) (c .if1 .left) n) (k .3))
+    (chain-next F (k .0) z n .stands, k .1, k .2, k .3, rest-skips f _ _ (parameter-passed f _ F (k .0) z (c .before .word2 .ensures .0) (c .if1 .left) n) (k .4))
 
 same-length-3 : tie.Need-same-length-3 Inv-loop μ-loop
 same-length-3 c = c .before .loop .inv .2
@@ -149,9 +155,11 @@ returns-3 : tie.Need-returns-3 Inv-loop μ-loop
 returns-3 c =
     let l = c .before in
     let a = l .before .before .before .before .before .before in
-    let f : List ℕ = a .args .file .now in
-    call-mapped f _ _ (a .args .arguments) _ _ _ (l .before .word-at .ensures)
-    (rest-ends f _ _ (l .loop .inv .3) (inl (parameters-none (variables-none f (c .loop-test .left)))))
+    let f : List ℕ = a .args .file .now in (
+      l .loop .inv .3,
+      call-mapped f _ _ (a .args .arguments) _ _ _ (l .before .word-at .ensures)
+          (rest-ends f _ _ (l .loop .inv .4) (inl (parameters-none (variables-none f (c .loop-test .left))))),
+    )
 
 pub map-call-spec : {M : Type 1} → statement M
 map-call-spec =

@@ -35,7 +35,7 @@ returns c =
     let a = m .before .before .before .before .before .before .before in
     let K = a .pre .0 in
     let z = not-true _ (c .if1 .taken) in
-    (sym z ∙ call-agrees K (m .before .before .word .ensures .0) (blank (m .before .before .before .blank-places .ensures)) _ _ (m .map-call .ensures), rowed-not (a .args .file .now) (a .args .i) _ refl)
+    (sym z ∙ call-agrees K (m .before .before .word .ensures .0) (blank (m .before .before .before .blank-places .ensures)) _ _ (m .map-call .ensures .1), rowed-not (a .args .file .now) (a .args .i) _ refl)
 
 slice-aggregate-image-effect : tie.Need-slice-aggregate-image-effect
 slice-aggregate-image-effect c = search needs
@@ -60,8 +60,8 @@ returns-2 c =
     let below = K .here .below in
     let few : a .args .i < maxRecords = omega (arith, counted (K .here .formed) .most, below) in
     let long = a .pre .1 in (
-      sym y ∙ call-agrees K e B _ _ (m .map-call .ensures),
-      rowed-put (a .args .file .now) (a .args .i) (a .args .rows .now) few long (c .put-effect .ensures) (λ q. call-made K e B _ _ (m .map-call .ensures) y (c .before .image-effect .ensures)),
+      sym y ∙ call-agrees K e B _ _ (m .map-call .ensures .1),
+      rowed-put (a .args .file .now) (a .args .i) (a .args .rows .now) few long (c .put-effect .ensures) (call-made K e B _ _ (m .map-call .ensures .1) y (c .before .image-effect .ensures)),
     )
 
 pub call-ok-spec : {M : Type 1} → statement M

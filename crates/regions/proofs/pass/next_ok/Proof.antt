@@ -53,7 +53,7 @@ returns c =
     let R = i .before .repeats .ensures (i .if1 .taken) in
     let few : a .args .i < maxRecords = let l = b .1 in omega (arith, counted (G .formed) .most, l) in (
       repeated-agrees G H (a .pre .1 .1 .1) R,
-      rowed-put (a .args .file .now) (a .args .i) (a .args .rows .now) few (a .pre .1 .1 .0) (c .put-effect .ensures) (λ y. repeated-made G H (a .pre .1 .1 .1) R (c .before .before .effect-at .ensures)),
+      rowed-put (a .args .file .now) (a .args .i) (a .args .rows .now) few (a .pre .1 .1 .0) (c .put-effect .ensures) (repeated-made G H (a .pre .1 .1 .1) R (c .before .before .effect-at .ensures)),
     )
 
 mul-row-ok : tie.Need-mul-row-ok

@@ -2,12 +2,11 @@
 use borrow.Author.Needs.{needs}
 use Prim.Native.Nat.{ℕ, _-_, _<_}
 use native.Mathlib.Omega.{arith}
-use mathlib.Core.Bool.{false≢true}
 use mathlib.Core.Logic.{⊎-elim}
 use mathlib.Core.Path.{_≡_}
 use borrow.Author.Tests.{not-true, not-false}
 use Rattle.language.specs.File.{recordCount}
-use Rattle.regions.specs.Rowed.{Going, going-first, going-stop, going-next, going-last, going-effected, going-before, unread-trans}
+use Rattle.regions.specs.Rowed.{Going, going-first, going-stop, going-next, going-last, going-passed, going-stopped, going-before}
 use Rattle.regions.proofs.pass.regions_agree.Statement.{statement}
 use Rattle.regions.proofs.pass.regions_agree.Tie as tie
 
@@ -29,7 +28,7 @@ next-ok-requires c κs =
     let l = c .before .before in
     let a = l .before .before .before .before .before in
     let k = l .loop .inv .0 in
-    let m = k .unread .size in
+    let m = k .size in
     (a .pre .0, ((k .some, omega (arith, c .before .loop-test .taken, k .count)), (omega (arith, a .pre .1, m), going-before k (a .pre .0 .formed) (l .loop .inv .1))))
 
 returns : tie.Need-returns Inv-loop μ-loop
@@ -38,7 +37,8 @@ returns c =
     let t = r .before .before in
     let k = t .before .loop .inv .0 in
     let e = r .next-ok .ensures in
-    (going-stop k (t .loop-test .taken) (e .0) (not-true _ (c .if1 .taken)), ((λ y. absurd (false≢true y)), unread-trans (k .unread) (e .1 .unread)))
+    let z = not-true _ (c .if1 .taken) in
+    (going-stop k (t .loop-test .taken) (e .0) z, going-stopped k (t .loop-test .taken) (e .1) z)
 
 word-requires-2 : tie.Need-word-requires-2 Inv-loop μ-loop
 word-requires-2 c κs = search needs
@@ -56,13 +56,13 @@ loop-again c =
     let t = r .before .before in
     let k = t .before .loop .inv in
     let e = r .next-ok .ensures in
-    (going-next (k .0) (t .loop-test .taken) (e .0) (e .1) (not-false _ (i .if1 .left)), ⊎-elim (λ y. omega (arith, y .1)) (λ y. omega (arith, y .1, k .1)) (c .if2 .came))
+    (going-next (k .0) (t .loop-test .taken) (e .1) (e .0) (not-false _ (i .if1 .left)), ⊎-elim (λ y. omega (arith, y .1)) (λ y. omega (arith, y .1, k .1)) (c .if2 .came))
 
 returns-2 : tie.Need-returns-2 Inv-loop μ-loop
 returns-2 c =
     let k = c .before .loop .inv .0 in
     let l = c .loop-test .left in
-    (going-last k l, ((λ y. going-effected k l), k .unread))
+    (going-last k l, going-passed k l)
 
 pub regions-agree-spec : {M : Type 1} → statement M
 regions-agree-spec =

@@ -66,7 +66,7 @@ returns-2 c =
     let b = H .below in
     let few : a .args .i < maxRecords = omega (arith, counted (H .formed) .most, b) in
     let long = a .pre .1 .1 in
-    (c .record-ok .ensures, rowed-put (a .args .file .now) (a .args .i) (a .args .rows .now) few long (c .before .put-effect .ensures) (λ y. c .before .before .step-effect .ensures))
+    (c .record-ok .ensures, rowed-put (a .args .file .now) (a .args .i) (a .args .rows .now) few long (c .before .put-effect .ensures) (c .before .before .step-effect .ensures))
 
 pub row-ok-spec : {M : Type 1} → statement M
 row-ok-spec =
