@@ -132,6 +132,8 @@ module _ (t : List ℕ) (r : ℕ) {n : ℕ} (e : n ≡ getD t variablesPlace 0) 
 
 -- t is the window of a procedure with this signature
 pub record Window (f : List ℕ) (S : Signature) (t : List ℕ) : Type 0 where
+  pub variable-count : getD t variablesPlace 0 ≡ length (S .variables)
+  pub region-count : getD t regionsPlace 0 ≡ length (S .regions)
   pub ins : setIn t insPlace ≡ insOf S
   pub outs : setIn t outsPlace ≡ outsOf S
   pub born : setIn t bornPlace ≡ Lifetimes.born S

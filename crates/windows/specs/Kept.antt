@@ -49,6 +49,8 @@ module _ (t u : List ℕ) (same : (k : ℕ) → k < 10 + 2 * getD t 0 0 + getD t
 
   pub window-kept : {f : List ℕ} {S : Signature} → Window f S t → Window f S u
   window-kept {f} h = record {
+    variable-count = same 0 (omega arith) ∙ h .variable-count;
+    region-count = same 1 (omega arith) ∙ h .region-count;
     ins = set-kept 3 (omega arith) ∙ h .ins;
     outs = set-kept 4 (omega arith) ∙ h .outs;
     born = set-kept 5 (omega arith) ∙ h .born;

@@ -158,7 +158,7 @@ module _ {f t₀ t : List ℕ} {right : Bool} {i q at : ℕ} (F : Formed f) (T :
       start = at;
       here = P .before q (omega (arith, place-here, h .low)) ∙ set-here t place-low e₁ refl;
       low = h .low;
-      ends = omega (arith, P .variables, P .regions, P .size);
+      ends = omega (arith, P .window .variable-count, P .window .region-count, P .size);
       window = record {
         window = P .window;
         body = ap (goalsAt f) (P .body) ∙ sym (ap (λ (p : Procedure). p .body) (is-here ∙ ap (λ (ps : List Procedure). nth noProcedure ps 0) (view .view)));

@@ -44,8 +44,6 @@ pub record Room (f : List ℕ) (i at size : ℕ) : Type 0 where
 pub record ProcedureListed (f : List ℕ) (S : Signature) (i at : ℕ) (t₀ : List ℕ) (l : Listed) (t : List ℕ) : Type 0 where
   pub window : Window f S (drop at t)
   pub body : getD (drop at t) 2 0 ≡ word f i 4
-  pub variables : getD (drop at t) 0 0 ≡ length (S .variables)
-  pub regions : getD (drop at t) 1 0 ≡ length (S .regions)
   pub size : l .size ≡ windowSize S
   pub right : l .right ≡ classesOk S
   pub before : (p : ℕ) → p < at → getD t p 0 ≡ getD t₀ p 0
@@ -112,6 +110,8 @@ module _ {f : List ℕ} {v r : ℕ} (F : Formed f) (S : Signature) (h : Signatur
     window-here : Window f S (drop at t)
     unfolding headerWords
     window-here = record {
+      variable-count = count-variables ∙ sym (ap length (h .variables) ∙ variables-count F v sv);
+      region-count = count-regions ∙ sym (ap length (h .regions) ∙ regions-count F r sr);
       ins = head-set 3 (c .ins) _ (omega arith) refl (C .ins);
       outs = head-set 4 (c .outs) _ (omega arith) refl (C .outs);
       born = head-set 5 (c .born) _ (omega arith) refl (C .born);
@@ -132,8 +132,6 @@ module _ {f : List ℕ} {v r : ℕ} (F : Formed f) (S : Signature) (h : Signatur
     procedure-listed i e s b = record {
       window = window-here;
       body = head 2 u (omega arith) refl ∙ e;
-      variables = count-variables ∙ sym (ap length (h .variables) ∙ variables-count F v sv);
-      regions = count-regions ∙ sym (ap length (h .regions) ∙ regions-count F r sr);
       size = s ∙ omega (arith, em, en, ap length (h .variables), variables-count F v sv, ap length (h .regions), regions-count F r sr);
       right = b S C;
       before = λ p k. H .before p k ∙ V′ .before p (omega arith) ∙ set-else t₁ at m e₂ p (λ q. omega arith) ∙ R .before p (omega arith);
