@@ -27,7 +27,7 @@ abbrev pub planWords : ℕ
 planWords = 16384
 
 abbrev pub imageBytes : ℕ
-imageBytes = 258049
+imageBytes = 262145
 
 unfoldable pub tablesIn : List ℕ → List ℕ → List ℕ → List ℕ → Tables
 tablesIn f plan images table = record {

@@ -142,7 +142,7 @@ module _ {f own theirs : List ℕ} {i : ℕ} (K : CallHere f own theirs i) where
   matches = and-true (call-typed (K .here) (K .kind)) .1
 
   module _ {a : ℕ} (e : a ≡ word f i callArguments) {t : List ℕ} (B : Blank t) (b : Bool) (t′ : List ℕ) (M : CallMapped f own theirs a t b t′) where
-    mapped : mapping C Q ys ≡ answer b t′
+    pub mapped : mapping C Q ys ≡ answer b t′
     mapped =
         (rw e at M) C Q
         (record { types = program f .types; okC = okC; okQ = okQ; atC = K .here .window kCall (call-kind f i (K .kind)); atQ = K .callee })
@@ -158,7 +158,7 @@ module _ {f own theirs : List ℕ} {i : ℕ} (K : CallHere f own theirs i) where
       found : mapping C Q ys ≡ images (imagesIn t′)
       found = mapped ∙ images-answer b t′ y
 
-      imaged : Imaged (imagesIn t′) (inputs Q ∪ outputs Q)
+      pub imaged : Imaged (imagesIn t′) (inputs Q ∪ outputs Q)
       unfolding imageIn oneWay
       imaged =
           let D = declared (program f .types) Q okQ in

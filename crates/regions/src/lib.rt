@@ -10,3 +10,4 @@ mod terms;
 
 pub use calls::map_call;
 pub use pass::regions_agree;
+pub use repeats::owner_of;

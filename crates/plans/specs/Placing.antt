@@ -1,0 +1,199 @@
+-- What the passes leave in each sort of the plan: where chains go on in the first, and in the second and third what the arguments of calls match.
+use Prim.Native.Nat.{ℕ, zero, suc, _+_, _≤_, _<_}
+use native.Mathlib.Omega.{arith}
+use mathlib.Core.Bool.{Bool, true, false}
+use mathlib.Core.List.{List, [], _∷_}
+use mathlib.Core.Path.{_≡_, refl, sym, ap, _∙_}
+use borrow.Author.Tests.{eqb-true, eqb-false}
+use lib.ListN.{length, getD, set, length-set}
+use Rattle.language.specs.Lists.{count, choose}
+use Rattle.language.specs.File.{arguments, kLiteral, kSum, kAssign, kConstruct, kSwitch, kIf, kCall, kPrint, kCreate, kRemove, Kind, kNone, kHeader, kType, kFunctor, kProcedure, kVariable, kRegion, kEdge, kArm, kArgument, kGoal, kindOf, word, recordCount}
+use Rattle.language.specs.Format.{maxRecords, kindWord, callArguments}
+use Rattle.language.specs.Program.{Parameter, parametersOf}
+use Rattle.laws.specs.Counts.{hit-same, count-cons}
+use Rattle.records.specs.Records.{recordAs, recordAt}
+use Rattle.records.specs.declared.Record.{Record}
+use Rattle.chains.specs.Layout.{real, all-rows}
+use Rattle.chains.specs.Formed.{Formed, Stands, counted}
+use Rattle.chains.specs.Shapes.{goal-number, by-number, to-arguments}
+use Rattle.chains.specs.Records.{chainRecords, records-none, records-step, along}
+use Rattle.word_machine.specs.Filling.{stores, referred, filled, matched, matchedBy, matches}
+use Rattle.plans.specs.Plan.{slotsFrom, modesFrom, sidesFrom}
+use Rattle.plans.specs.Passes.{isCall, calleeOf, eachFrom, placed, placedAt, placing, sideAt, imagesBefore, sidedAt, siding}
+use Rattle.plans.specs.Parts.{part, part-here, part-before, part-behind, part-read}
+
+-- each number of a list has a place in a sort
+abbrev pub AllRecords : List ℕ → Type 0
+AllRecords [] = Unit {0}
+AllRecords (j ∷ js) = (j < maxRecords) × AllRecords js
+
+pub all-records : (ps : List ℕ) → ((p : ℕ) → 0 < count p ps → p < maxRecords) → AllRecords ps
+all-records [] h = tt
+all-records (p ∷ ps) h =
+    (h p (omega (arith, count-cons p p ps, hit-same p)), all-records ps (λ q k. h q (omega (arith, count-cons q p ps))))
+
+-- ---- where chains go on: stores in the first sort
+first-set : (t : List ℕ) (p v : ℕ) → p < maxRecords → part 0 (set t p v) ≡ set (part 0 t) p v
+first-set t p v l = let e : 0 + p ≡ p = omega arith in ap (λ (q : ℕ). part 0 (set t q v)) (sym e) ∙ part-here 0 t p v l
+
+pub first-read : (t : List ℕ) (p : ℕ) → p < maxRecords → getD (part 0 t) p 0 ≡ getD t p 0
+first-read t p l = let e : 0 + p ≡ p = omega arith in part-read 0 t p l ∙ ap (λ (q : ℕ). getD t q 0) e
+
+stores-first : (ps vs t : List ℕ) → AllRecords ps → part 0 (stores ps vs t) ≡ stores ps vs (part 0 t)
+unfolding stores
+stores-first [] vs t h = refl
+stores-first (p ∷ ps) [] t h = refl
+stores-first (p ∷ ps) (v ∷ vs) t h = stores-first ps vs (set t p v) (h .1) ∙ ap (stores ps vs) (first-set t p v (h .0))
+
+stores-later : (s : ℕ) (ps vs t : List ℕ) → maxRecords ≤ s → AllRecords ps → part s (stores ps vs t) ≡ part s t
+unfolding stores
+stores-later s [] vs t l h = refl
+stores-later s (p ∷ ps) [] t l h = refl
+stores-later s (p ∷ ps) (v ∷ vs) t l h = stores-later s ps vs (set t p v) l (h .1) ∙ part-before s t p v (omega (arith, h .0))
+
+module _ (words : ℕ → Record → ℕ → List ℕ) (f : List ℕ) where
+  pub filled-first : (m b : ℕ) (t : List ℕ) → ((i : ℕ) → b ≤ i → i < b + m → AllRecords (referred (recordAt f i))) → b + m ≤ maxRecords
+      → part 0 (filled words f m b t) ≡ filled words f m b (part 0 t)
+  unfolding filled
+  filled-first zero b t h l = refl
+  filled-first (suc m) b t h l =
+      filled-first m (suc b) (stores (referred (recordAt f b)) (words b (recordAt f b) (getD t b 0)) t) (λ i j k. h i (omega arith) (omega arith)) (omega arith)
+      ∙ ap (filled words f m (suc b)) (stores-first (referred (recordAt f b)) (words b (recordAt f b) (getD t b 0)) t (h b (omega arith) (omega arith))
+      ∙ ap (λ (v : ℕ). stores (referred (recordAt f b)) (words b (recordAt f b) v) (part 0 t)) (sym (first-read t b (omega arith))))
+
+  pub filled-later : (s m b : ℕ) (t : List ℕ) → maxRecords ≤ s → ((i : ℕ) → b ≤ i → i < b + m → AllRecords (referred (recordAt f i)))
+      → part s (filled words f m b t) ≡ part s t
+  unfolding filled
+  filled-later s zero b t l h = refl
+  filled-later s (suc m) b t l h =
+      filled-later s m (suc b) (stores (referred (recordAt f b)) (words b (recordAt f b) (getD t b 0)) t) l (λ i j k. h i (omega arith) (omega arith))
+      ∙ stores-later s (referred (recordAt f b)) (words b (recordAt f b) (getD t b 0)) t l (h b (omega arith) (omega arith))
+
+-- ---- what arguments match: stores in the second and the third
+placed-slots : (ps : List Parameter) (js t : List ℕ) → AllRecords js → part slotsFrom (placed ps js t) ≡ matched (λ a. a .variable) ps js (part slotsFrom t)
+unfolding placed matched
+placed-slots [] js t h = refl
+placed-slots (a ∷ ps) [] t h = refl
+placed-slots (a ∷ ps) (j ∷ js) t h =
+    placed-slots ps js (set (set t (slotsFrom + j) (a .variable)) (modesFrom + j) (a .mode)) (h .1)
+    ∙ ap (matched (λ b. b .variable) ps js)
+    (part-behind slotsFrom (set t (slotsFrom + j) (a .variable)) (modesFrom + j) (a .mode) (omega arith) ∙ part-here slotsFrom t j (a .variable) (h .0))
+
+placed-modes : (ps : List Parameter) (js t : List ℕ) → AllRecords js → part modesFrom (placed ps js t) ≡ matched (λ a. a .mode) ps js (part modesFrom t)
+unfolding placed matched
+placed-modes [] js t h = refl
+placed-modes (a ∷ ps) [] t h = refl
+placed-modes (a ∷ ps) (j ∷ js) t h =
+    placed-modes ps js (set (set t (slotsFrom + j) (a .variable)) (modesFrom + j) (a .mode)) (h .1)
+    ∙ ap (matched (λ b. b .mode) ps js)
+    (part-here modesFrom (set t (slotsFrom + j) (a .variable)) j (a .mode) (h .0)
+    ∙ ap (λ (x : List ℕ). set x j (a .mode)) (part-before modesFrom t (slotsFrom + j) (a .variable) (omega (arith, h .0))))
+
+placed-first : (ps : List Parameter) (js t : List ℕ) → part 0 (placed ps js t) ≡ part 0 t
+unfolding placed
+placed-first [] js t = refl
+placed-first (a ∷ ps) [] t = refl
+placed-first (a ∷ ps) (j ∷ js) t =
+    placed-first ps js (set (set t (slotsFrom + j) (a .variable)) (modesFrom + j) (a .mode))
+    ∙ part-behind 0 (set t (slotsFrom + j) (a .variable)) (modesFrom + j) (a .mode) (omega arith) ∙ part-behind 0 t (slotsFrom + j) (a .variable) (omega arith)
+
+placed-length : (ps : List Parameter) (js t : List ℕ) → length (placed ps js t) ≡ length t
+unfolding placed
+placed-length [] js t = refl
+placed-length (a ∷ ps) [] t = refl
+placed-length (a ∷ ps) (j ∷ js) t =
+    placed-length ps js (set (set t (slotsFrom + j) (a .variable)) (modesFrom + j) (a .mode))
+    ∙ length-set (set t (slotsFrom + j) (a .variable)) (modesFrom + j) (a .mode) ∙ length-set t (slotsFrom + j) (a .variable)
+
+-- no other record's step stores anything
+other-step : (f : List ℕ) (g : Parameter → ℕ) (k : Kind) (w : ℕ → ℕ) (t : List ℕ) → (k ≡ kGoal kCall → ⊥) → matchedBy f g (recordAs k w) t ≡ t
+unfolding matchedBy
+other-step f g kNone w t n = refl
+other-step f g kHeader w t n = refl
+other-step f g kType w t n = refl
+other-step f g kFunctor w t n = refl
+other-step f g kProcedure w t n = refl
+other-step f g kVariable w t n = refl
+other-step f g kRegion w t n = refl
+other-step f g kEdge w t n = refl
+other-step f g kArm w t n = refl
+other-step f g kArgument w t n = refl
+other-step f g (kGoal kLiteral) w t n = refl
+other-step f g (kGoal kSum) w t n = refl
+other-step f g (kGoal kAssign) w t n = refl
+other-step f g (kGoal kConstruct) w t n = refl
+other-step f g (kGoal kSwitch) w t n = refl
+other-step f g (kGoal kIf) w t n = refl
+other-step f g (kGoal kCall) w t n = absurd (n refl)
+other-step f g (kGoal kPrint) w t n = refl
+other-step f g (kGoal kCreate) w t n = refl
+other-step f g (kGoal kRemove) w t n = refl
+
+module _ {f : List ℕ} (F : Formed f) where
+  pub arguments-records : (a : ℕ) → Stands f arguments a → AllRecords (chainRecords f a)
+  unfolding real
+  arguments-records =
+      along F arguments refl (λ a. AllRecords (chainRecords f a)) (rw (records-none f {i = 0} refl) tt)
+      (λ i s z h. let c = counted F in rw (records-step {w = word f i 1} F z (s .below) refl) (omega (arith, s .below), h))
+
+  module _ (s : ℕ) (g : Parameter → ℕ) (one : (ps : List Parameter) (js t : List ℕ) → AllRecords js → part s (placed ps js t) ≡ matched g ps js (part s t)) where
+    by-test : (i : ℕ) (t : List ℕ) (b : Bool) → isCall f i ≡ b
+        → part s (choose b (placed (parametersOf (calleeOf f i)) (chainRecords f (word f i callArguments)) t) t) ≡ matchedBy f g (recordAt f i) (part s t)
+    unfolding isCall choose matchedBy all-rows recordAt
+    by-test i t true e =
+        let k = eqb-true _ _ e in
+        rw (by-number f i (kGoal kCall) refl k) (one (parametersOf (calleeOf f i)) (chainRecords f (word f i callArguments)) t (arguments-records _ (to-arguments F k refl .stands)))
+    by-test i t false e = sym (other-step f g (kindOf (word f i kindWord)) (word f i) (part s t) (λ k. eqb-false _ _ e (goal-number (word f i kindWord) kCall k)))
+
+    step-part : (i : ℕ) (t : List ℕ) → part s (placedAt f i t) ≡ matchedBy f g (recordAt f i) (part s t)
+    unfolding placedAt
+    step-part i t = by-test i t (isCall f i) refl
+
+    placing-part : (m b : ℕ) (t : List ℕ) → part s (placing f m b t) ≡ matches f g m b (part s t)
+    unfolding placing eachFrom matches
+    placing-part zero b t = refl
+    placing-part (suc m) b t = placing-part m (suc b) (placedAt f b t) ∙ ap (matches f g m (suc b)) (step-part b t)
+
+  pub placing-slots : (m b : ℕ) (t : List ℕ) → part slotsFrom (placing f m b t) ≡ matches f (λ a. a .variable) m b (part slotsFrom t)
+  placing-slots = placing-part slotsFrom (λ a. a .variable) placed-slots
+
+  pub placing-modes : (m b : ℕ) (t : List ℕ) → part modesFrom (placing f m b t) ≡ matches f (λ a. a .mode) m b (part modesFrom t)
+  placing-modes = placing-part modesFrom (λ a. a .mode) placed-modes
+
+module _ (f : List ℕ) where
+  first-by : (i : ℕ) (t : List ℕ) (b : Bool) → part 0 (choose b (placed (parametersOf (calleeOf f i)) (chainRecords f (word f i callArguments)) t) t) ≡ part 0 t
+  unfolding choose
+  first-by i t true = placed-first (parametersOf (calleeOf f i)) (chainRecords f (word f i callArguments)) t
+  first-by i t false = refl
+
+  step-first : (i : ℕ) (t : List ℕ) → part 0 (placedAt f i t) ≡ part 0 t
+  unfolding placedAt
+  step-first i t = first-by i t (isCall f i)
+
+  pub placing-first : (m b : ℕ) (t : List ℕ) → part 0 (placing f m b t) ≡ part 0 t
+  unfolding placing eachFrom
+  placing-first zero b t = refl
+  placing-first (suc m) b t = placing-first m (suc b) (placedAt f b t) ∙ step-first b t
+
+  length-by : (i : ℕ) (t : List ℕ) (b : Bool)
+      → length (choose b (placed (parametersOf (calleeOf f i)) (chainRecords f (word f i callArguments)) t) t) ≡ length t
+  unfolding choose
+  length-by i t true = placed-length (parametersOf (calleeOf f i)) (chainRecords f (word f i callArguments)) t
+  length-by i t false = refl
+
+  step-length : (i : ℕ) (t : List ℕ) → length (placedAt f i t) ≡ length t
+  unfolding placedAt
+  step-length i t = length-by i t (isCall f i)
+
+  pub placing-length : (m b : ℕ) (t : List ℕ) → length (placing f m b t) ≡ length t
+  unfolding placing eachFrom
+  placing-length zero b t = refl
+  placing-length (suc m) b t = placing-length m (suc b) (placedAt f b t) ∙ step-length b t
+
+  -- ---- the sides leave the sorts before them
+  pub siding-before : (s m b : ℕ) (t : List ℕ) → s + maxRecords ≤ sidesFrom → part s (siding f m b t) ≡ part s t
+  unfolding siding eachFrom sidedAt
+  siding-before s zero b t l = refl
+  siding-before s (suc m) b t l =
+      siding-before s m (suc b) (sidedAt f b t) l
+      ∙ part-behind s t (sidesFrom + b) (sideAt f (imagesBefore f b) b) (omega arith)
