@@ -8,15 +8,15 @@ use mathlib.Core.List.{List, _∷_}
 use lib.Dec.{eqb, leb}
 use lib.ListN.{length}
 use Rattle.sets.specs.Tests.{_&_}
-use Rattle.language.specs.Format.{nextWord, typeFunctors, regionType, regionClass, regionEdges, deadClass}
+use Rattle.language.specs.Format.{nextWord, variableMode, variableType, variableRegion, typeFunctors, regionType, regionClass, regionEdges, deadClass}
 use Rattle.language.specs.Lists.{all, choose}
-use Rattle.language.specs.File.{regions, word}
+use Rattle.language.specs.File.{variables, regions, word}
 use Rattle.language.specs.Program.{Variable, Region, Signature, functorsOf, outMode}
 use Rattle.language.specs.Answers.{program}
 use Rattle.language.specs.Typing.{isType, regioned, placesFrom, edgesOk, regionOk}
 use Rattle.chains.specs.Formed.{Formed, Stands, functorsAt, edgesAt, variablesAt, regionsAt}
-use Rattle.chains.specs.Is.{region-is}
-use Rattle.chains.specs.Declared.{RegionAt, region-at}
+use Rattle.chains.specs.Is.{variable-is, region-is}
+use Rattle.chains.specs.Declared.{VariableAt, RegionAt, variable-at, region-at}
 use Rattle.laws.specs.Tests.{and-stop, and-on}
 use Rattle.laws.specs.Lists.{all-no, all-yes}
 use Rattle.declarations.specs.Names.{wordIn, typedIn, TypeTable}
@@ -38,6 +38,11 @@ RegionFits f t n i r = (S : Signature) → RegionsAgree f t S → n ≡ length (
 
 abbrev pub RegionsFit : List ℕ → List ℕ → ℕ → ℕ → Bool → Type 0
 RegionsFit f t n i r = (S : Signature) → RegionsAgree f t S → n ≡ length (program f .types) → r ≡ all (regionOk (program f .types) S) (regionsAt f i)
+
+-- the variable at record i, by the words that the code has read
+pub variable-here : {f : List ℕ} {i : ℕ} → Formed f → Stands f variables i → (i ≡ 0 → ⊥) → {next mode ty region : ℕ} → next ≡ word f i nextWord
+    → mode ≡ word f i variableMode → ty ≡ word f i variableType → region ≡ word f i variableRegion → VariableAt f i next mode ty region
+variable-here F s z e1 e2 e3 e4 = rw (e1, e2, e3, e4) (variable-at F refl (variable-is s z))
 
 -- ---- what the code computes
 module _ (f t : List ℕ) (n mode ty region : ℕ) where

@@ -11,6 +11,9 @@ use language::format::MODE_OUT;
 use language::format::NEXT;
 use language::format::PLACES;
 use language::format::TYPE_FUNCTORS;
+use language::format::VARIABLE_MODE;
+use language::format::VARIABLE_REGION;
+use language::format::VARIABLE_TYPE;
 use records::Record;
 use records::blank::blank_places;
 use records::record_at;
@@ -47,19 +50,13 @@ fn variables_ok(file: &[u8], table: &[usize], n: usize, start: usize) -> bool
 {
     let mut i = start;
     while i != 0 {
-        let Record::Variable {
-            next,
-            mode,
-            of_type,
-            region,
-        } = record_at(file, i)
-        else {
-            return false;
-        };
+        let mode = word(file, i, VARIABLE_MODE);
+        let of_type = word(file, i, VARIABLE_TYPE);
+        let region = word(file, i, VARIABLE_REGION);
         if !variable_ok(file, table, n, mode, of_type, region) {
             return false;
         }
-        i = next;
+        i = word(file, i, NEXT);
     }
     true
 }

@@ -1,8 +1,8 @@
 -- The arguments of a construct or an arm, slot by slot, and the goals without parts but the call, by a table of the variables.
-use Prim.Native.Nat.{ℕ, _≤_, _<_}
+use Prim.Native.Nat.{ℕ, zero, suc, _+_, _-_, _≤_, _<_}
 use native.Mathlib.Omega.{arith}
 use borrow.Author.Tests.{lt-ltb, le-ltb, le-leb, lt-leb, eq-eqb, ne-eqb}
-use mathlib.Core.Path.{_≡_, ap, sym, _∙_}
+use mathlib.Core.Path.{_≡_, refl, ap, sym, _∙_}
 use mathlib.Core.Bool.{Bool, true, false, false≢true}
 use mathlib.Core.List.{List}
 use lib.Dec.{eqb, leb, ltb}
@@ -17,7 +17,7 @@ use Rattle.chains.specs.Elements.{functors-count}
 use Rattle.chains.specs.Reached.{place-below, place-past}
 use Rattle.chains.specs.Lookups.{functor-of}
 use Rattle.chains.specs.Records.{chainRecords, records-some}
-use Rattle.laws.specs.Tests.{and-stop, and-on, refuse, pass}
+use Rattle.laws.specs.Tests.{and-stop, and-on, and-yes, refuse, pass}
 use Rattle.declarations.specs.Names.{listedIn, wordIn, typedIn}
 use Rattle.declarations.specs.Functors.{functorAtRecord, functor-same}
 use Rattle.typing.specs.Places.{placeIn, FunctorTable}
@@ -91,29 +91,40 @@ module _ (f t : List ℕ) where
     unfolding argumentSlot choose
     argument-past h = rw (le-ltb k arity h, ea)
 
-  module _ (g i : ℕ) {arity : ℕ} (ea : arity ≡ word f g 2) where
-    arguments-same : argumentSlots f t arity (four (word f g 3) (word f g 4) (word f g 5) (word f g 6)) (argumentsAtRecord f i) ≡ argumentsFit f t (functorAtRecord f g) (argumentsAtRecord f i)
-    unfolding argumentsFit functorAtRecord
-    arguments-same = rw ea
+  module _ (g i arity : ℕ) where
+    -- the n slots from k on
+    unfoldable slotsFrom : ℕ → ℕ → Bool
+    slotsFrom zero k = true
+    slotsFrom (suc n) k = argumentSlot f t arity k (word f g (3 + k)) (word f i (4 + k)) & slotsFrom n (suc k)
 
-    module _ {r1 : Bool} (e1 : r1 ≡ argumentSlot f t arity 0 (word f g 3) (word f i 4)) where
-      pub arguments-first : r1 ≡ false → false ≡ argumentsFit f t (functorAtRecord f g) (argumentsAtRecord f i)
-      unfolding argumentSlots argumentsAtRecord
-      arguments-first p1 = refuse _ e1 p1 ∙ arguments-same
+    -- k are looked at, and those that are left decide
+    pub slotsLeft : ℕ → Bool
+    slotsLeft k = slotsFrom (4 - k) k
 
-      module _ {r2 : Bool} (p1 : r1 ≡ true) (e2 : r2 ≡ argumentSlot f t arity 1 (word f g 4) (word f i 5)) where
-        pub arguments-second : r2 ≡ false → false ≡ argumentsFit f t (functorAtRecord f g) (argumentsAtRecord f i)
-        unfolding argumentSlots argumentsAtRecord
-        arguments-second p2 = pass e1 p1 (refuse _ e2 p2) ∙ arguments-same
+    pub slots-whole : arity ≡ word f g 2 → slotsLeft 0 ≡ argumentsFit f t (functorAtRecord f g) (argumentsAtRecord f i)
+    unfolding slotsLeft slotsFrom argumentSlots argumentsAtRecord argumentsFit functorAtRecord
+    slots-whole ea =
+        rw ea
+        (ap (λ (b : Bool). argumentSlot f t (word f g 2) 0 (word f g 3) (word f i 4) & argumentSlot f t (word f g 2) 1 (word f g 4) (word f i 5)
+        & argumentSlot f t (word f g 2) 2 (word f g 5) (word f i 6) & b) (and-yes _))
 
-        module _ {r3 : Bool} (p2 : r2 ≡ true) (e3 : r3 ≡ argumentSlot f t arity 2 (word f g 5) (word f i 6)) where
-          pub arguments-third : r3 ≡ false → false ≡ argumentsFit f t (functorAtRecord f g) (argumentsAtRecord f i)
-          unfolding argumentSlots argumentsAtRecord
-          arguments-third p3 = pass e1 p1 (pass e2 p2 (refuse _ e3 p3)) ∙ arguments-same
+    module _ {k : ℕ} (l : k < 4) {r : Bool} (e : r ≡ argumentSlot f t arity k (word f g (3 + k)) (word f i (4 + k))) where
+      slots-here : slotsLeft k ≡ (r & slotsLeft (k + 1))
+      unfolding slotsLeft slotsFrom
+      slots-here =
+          let m : 4 - k ≡ suc (4 - (k + 1)) = omega arith in
+          let p : suc k ≡ k + 1 = omega arith in
+          rw (m, p, e) refl
 
-          pub arguments-all : {r4 : Bool} → r3 ≡ true → r4 ≡ argumentSlot f t arity 3 (word f g 6) (word f i 7) → r4 ≡ argumentsFit f t (functorAtRecord f g) (argumentsAtRecord f i)
-          unfolding argumentSlots argumentsAtRecord
-          arguments-all p3 e4 = pass e1 p1 (pass e2 p2 (pass e3 p3 e4)) ∙ arguments-same
+      pub slots-stop : r ≡ false → false ≡ slotsLeft k
+      slots-stop z = refuse _ refl z ∙ sym slots-here
+
+      pub slots-on : r ≡ true → slotsLeft (k + 1) ≡ slotsLeft k
+      slots-on z = pass refl z refl ∙ sym slots-here
+
+    pub slots-end : {k : ℕ} → 4 ≤ k → true ≡ slotsLeft k
+    unfolding slotsLeft slotsFrom
+    slots-end {k} l = let m : 4 - k ≡ 0 = omega arith in rw m refl
 
   module _ (i : ℕ) {r1 : Bool} (e1 : r1 ≡ typedIn f t variableType 0 (word f i 2)) where
     pub sum-first : r1 ≡ false → false ≡ sumFits f t i

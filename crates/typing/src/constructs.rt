@@ -6,6 +6,7 @@ use declarations::type_of;
 use language::format::FUNCTOR_ARITY;
 use language::format::FUNCTOR_TYPES;
 use language::format::GOAL_X;
+use language::format::MAX_ARITY;
 use language::format::TERM_ARGUMENTS;
 use language::format::TERM_FUNCTOR;
 use records::word;
@@ -35,16 +36,14 @@ fn arguments_ok(file: &[u8], variables: &[usize], g: usize, i: usize) -> bool
     ensures { λ r. ⌜ r ≡ argumentsFit (now (file .entry)) (now (variables .entry)) (functorAtRecord (now (file .entry)) g) (argumentsAtRecord (now (file .entry)) i) ⌝ }
 {
     let arity = word(file, g, FUNCTOR_ARITY);
-    if !argument_ok(file, variables, arity, g, 0, i) {
-        return false;
+    let mut k = 0;
+    while k < MAX_ARITY {
+        if !argument_ok(file, variables, arity, g, k, i) {
+            return false;
+        }
+        k += 1;
     }
-    if !argument_ok(file, variables, arity, g, 1, i) {
-        return false;
-    }
-    if !argument_ok(file, variables, arity, g, 2, i) {
-        return false;
-    }
-    argument_ok(file, variables, arity, g, 3, i)
+    true
 }
 
 // The arm of record i against functor n, of record g: the number and the arguments. There may be no such functor.

@@ -5,10 +5,9 @@ use borrow.Author.Needs.{needs}
 use Rattle.language.specs.Lists.{all}
 use Rattle.language.specs.File.{variables}
 use Rattle.chains.specs.Formed.{Stands, variablesAt, variables-none, ahead}
-use Rattle.chains.specs.Is.{variable-else}
-use Rattle.chains.specs.Declared.{variable-at}
+use Rattle.chains.specs.Is.{chain-next}
 use Rattle.laws.specs.Lists.{all-end, all-no, all-yes}
-use Rattle.declarations.specs.Signatures.{variableFits}
+use Rattle.declarations.specs.Signatures.{variableFits, variable-here}
 use Rattle.declarations.proofs.signatures.variables_ok.Statement.{statement}
 use Rattle.declarations.proofs.signatures.variables_ok.Tie as tie
 
@@ -21,29 +20,47 @@ abbrev μ-loop : tie.MeasureT-loop
 loop-holds : tie.Need-loop-holds Inv-loop μ-loop
 loop-holds c = let s = c .before .before in (s .pre .1, refl)
 
-record-at-requires : tie.Need-record-at-requires Inv-loop μ-loop
-record-at-requires c κs = search needs
+word-requires : tie.Need-word-requires Inv-loop μ-loop
+word-requires c κs = search needs
 
-enum-known-next : tie.Need-enum-known-next Inv-loop μ-loop
-enum-known-next c = search needs
+word-requires-2 : tie.Need-word-requires-2 Inv-loop μ-loop
+word-requires-2 c κs = search needs
 
-returns : tie.Need-returns Inv-loop μ-loop
-returns c = absurd (variable-else (c .before .before .before .loop .inv .0) (c .before .before .loop-test .taken) (c .before .record-at .ensures) (c .match .keys2))
+word-requires-3 : tie.Need-word-requires-3 Inv-loop μ-loop
+word-requires-3 c κs = search needs
 
 variable-ok-requires : tie.Need-variable-ok-requires Inv-loop μ-loop
 variable-ok-requires c κs = search needs
 
-returns-2 : tie.Need-returns-2 Inv-loop μ-loop
-returns-2 c = let b = c .before in let t = b .before .before in let e = t .before .before in let l = e .before .before in let s = l .before .before .before in let v = variable-at (s .pre .0) (e .record-at .ensures) (t .next .given .1) in all-no _ (v .view) (b .variable-ok .ensures) (not-true _ (c .if1 .taken)) ∙ l .loop .inv .1
+returns : tie.Need-returns Inv-loop μ-loop
+returns c =
+    let b = c .before in
+    let w = b .before in
+    let t = w .before .before .before in
+    let l = t .before in
+    let v = variable-here (l .before .before .before .pre .0) (l .loop .inv .0) (t .loop-test .taken) refl (w .before .before .word .ensures .0) (w .before .word2 .ensures .0) (w .word3 .ensures .0) in
+    all-no _ (v .view) (b .variable-ok .ensures) (not-true _ (c .if1 .taken)) ∙ l .loop .inv .1
+
+word-requires-4 : tie.Need-word-requires-4 Inv-loop μ-loop
+word-requires-4 c κs = search needs
 
 loop-less : tie.Need-loop-less Inv-loop μ-loop
-loop-less c = let b = c .before in let t = b .before .before in let e = t .before .before in let l = e .before .before in let s = l .before .before .before in let v = variable-at (s .pre .0) (e .record-at .ensures) (t .next .given .1) in v .to-next .falls
+loop-less c =
+    let t = c .before .before .before .before .before .before in
+    let l = t .before in
+    chain-next (l .before .before .before .pre .0) (l .loop .inv .0) (t .loop-test .taken) (c .word4 .ensures .0) .falls
 
 loop-again : tie.Need-loop-again Inv-loop μ-loop
-loop-again c = let b = c .before in let t = b .before .before in let e = t .before .before in let l = e .before .before in let s = l .before .before .before in let v = variable-at (s .pre .0) (e .record-at .ensures) (t .next .given .1) in (v .to-next .stands, all-yes _ (v .view) (b .variable-ok .ensures) (not-false _ (c .if1 .left)) ∙ l .loop .inv .1)
+loop-again c =
+    let b = c .before .before in
+    let w = b .before in
+    let t = w .before .before .before in
+    let l = t .before in
+    let v = variable-here (l .before .before .before .pre .0) (l .loop .inv .0) (t .loop-test .taken) (c .word4 .ensures .0) (w .before .before .word .ensures .0) (w .before .word2 .ensures .0) (w .word3 .ensures .0) in
+    (v .to-next .stands, all-yes _ (v .view) (b .variable-ok .ensures) (not-false _ (c .before .if1 .left)) ∙ l .loop .inv .1)
 
-returns-3 : tie.Need-returns-3 Inv-loop μ-loop
-returns-3 c = all-end _ (variables-none _ (c .loop-test .left)) ∙ c .before .loop .inv .1
+returns-2 : tie.Need-returns-2 Inv-loop μ-loop
+returns-2 c = all-end _ (variables-none _ (c .loop-test .left)) ∙ c .before .loop .inv .1
 
 pub variables-ok-spec : {M : Type 1} → statement M
 variables-ok-spec =
@@ -52,11 +69,12 @@ variables-ok-spec =
     Inv-loop
     μ-loop
     loop-holds
-    record-at-requires
-    enum-known-next
-    returns
+    word-requires
+    word-requires-2
+    word-requires-3
     variable-ok-requires
-    returns-2
+    returns
+    word-requires-4
     loop-less
     loop-again
-    returns-3)
+    returns-2)
