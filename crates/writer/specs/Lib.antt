@@ -2,5 +2,6 @@ pub mod Laid
 pub mod Ready
 pub mod Leads
 pub mod Spelling
+pub mod Skips
 pub mod Whole
 pub mod Trees

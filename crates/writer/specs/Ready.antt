@@ -3,13 +3,14 @@ use Prim.Native.Nat.{ℕ, zero, suc, _+_, _-_, _*_, _≤_, _<_}
 use native.Mathlib.Omega.{arith}
 use mathlib.Core.List.{List, [], _∷_, _++_, append-assoc, append-nil}
 use mathlib.Core.Path.{_≡_, refl, ap, sym, _∙_}
+use mathlib.Core.Logic.{inl, inr}
 use lib.ListN.{length, length-append}
 use Rattle.language.specs.Format.{kindWord, nextWord, recordBytes, maxRecords}
 use Rattle.language.specs.File.{Use, row, kindOf, word, recordCount}
 use Rattle.language.specs.Tree.{Tree, end, node, Words, readWords, readRecord, readChain}
 use Rattle.language.specs.Layout.{size, sizeWords, reference, wordList, lay, layWords}
-use Rattle.chains.specs.Layout.{layWords-length, chain-end, chain-step}
-use Rattle.chains.specs.Formed.{Formed, ahead, ahead-some}
+use Rattle.chains.specs.Layout.{next-leads, layWords-length, chain-end, chain-step}
+use Rattle.chains.specs.Formed.{Formed, counted, ahead, ahead-some}
 use Rattle.chains.specs.Records.{next-onward}
 use Rattle.writer.specs.Laid.{Laid, laid-none, laid-then, linked}
 
@@ -37,6 +38,11 @@ frontOf (node k t ws) c = (row k .kind ∷ reference (suc c + sizeWords ws) t �
 unfoldable pub front : List ℕ → ℕ → ℕ → List (List ℕ)
 front f i c = frontOf (node (kindOf (word f i kindWord)) (treeAt f (word f i nextWord)) (wordsAt f i)) c
 
+-- the same where the chain goes on if `on` is not 0
+unfoldable pub frontTo : List ℕ → ℕ → ℕ → ℕ → List (List ℕ)
+frontTo f i on c =
+    (row (kindOf (word f i kindWord)) .kind ∷ linked on (suc c + sizeWords (wordsAt f i)) ∷ wordList (suc c) (wordsAt f i)) ∷ layWords (wordsAt f i) (suc c)
+
 -- the chain at record i may be written from record c on: len bytes are lent
 pub record ChainReady (f : List ℕ) (i c len : ℕ) : Type 0 where
   pub formed : Formed f
@@ -61,6 +67,17 @@ reference-chain zero W w c l = absurd (omega arith)
 pub reference-is : (f : List ℕ) {w : ℕ} (c : ℕ) → w < recordCount f → reference c (treeAt f w) ≡ linked w c
 unfolding treeAt
 reference-is f {w} c h = reference-chain (recordCount f) (word f) w c h
+
+-- the file's own chain goes on where its next word is not 0
+next-below : {f : List ℕ} → Formed f → (i : ℕ) → i < recordCount f → word f i nextWord < recordCount f
+next-below {f} F i q =
+    let n = next-leads (word f) (recordCount f) (F .form) i q in
+    let t = counted F in
+    elim n [ inl o ↦ omega arith | inr o ↦ o .1 ]
+
+pub front-to : {f : List ℕ} → Formed f → (i c : ℕ) {w : ℕ} → i < recordCount f → w ≡ word f i nextWord → frontTo f i w c ≡ front f i c
+unfolding front frontOf frontTo
+front-to {f} F i c q e = rw (e, reference-is f (suc c + sizeWords (wordsAt f i)) (next-below F i q)) refl
 
 -- ---- a chain is its first record with what the words lead to, and the rest
 pub front-length : (f : List ℕ) (i c : ℕ) → length (front f i c) ≡ suc (sizeWords (wordsAt f i))
@@ -110,8 +127,9 @@ module _ {f a d : List ℕ} {start from i c : ℕ} (G : Writing f a d start from
     pub writing-falls : ahead f w < ahead f i
     writing-falls = next-onward (R .formed) z (R .below) g .falls
 
-    pub writing-next : {e : List ℕ} {r : ℕ} → Wrote d e c r (front f i c) → Writing f a e start from w r
-    writing-next {e} {r} N =
+    pub writing-next : {e : List ℕ} {r : ℕ} → Wrote d e c r (frontTo f i w c) → Writing f a e start from w r
+    writing-next {e} {r} M =
+        let N : Wrote d e c r (front f i c) = rw (front-to (R .formed) i c (R .below) g) at M in
         let o = next-onward (R .formed) z (R .below) g in
         let n : size (treeAt f i) ≡ suc (sizeWords (wordsAt f i) + size (treeAt f w)) = rw g (size-is (R .formed) i (omega arith) (R .below)) in
         let m = front-length f i c in

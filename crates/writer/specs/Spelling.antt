@@ -3,20 +3,20 @@ use Prim.Native.Nat.{ℕ, suc, _+_, _-_, _*_, _≤_, _<_}
 use native.Mathlib.Omega.{arith}
 use native.Mathlib.Decide.{decLt}
 use mathlib.Core.List.{List, [], _∷_, _++_, append-assoc, append-nil}
-use mathlib.Core.Path.{_≡_, refl, ap, ap₂, sym, _∙_}
+use mathlib.Core.Path.{_≡_, refl, ap, sym, _∙_}
 use mathlib.Core.Bool.{true, false, false≢true}
 use mathlib.Core.Logic.{_⊎_, inl, inr}
 use lib.ListN.{length, drop, length-drop, drop-of-length-le}
-use Rattle.language.specs.Format.{kindWord, nextWord}
+use Rattle.language.specs.Format.{kindWord}
 use Rattle.language.specs.File.{kHeader, Use, number, unused, first, row, kindOf, word, recordCount}
 use Rattle.language.specs.Tree.{readWords}
 use Rattle.language.specs.Layout.{size, sizeWords, reference, wordList, lay, layWords}
 use Rattle.laws.specs.Lists.{drop-more, drop-nth}
-use Rattle.chains.specs.Layout.{row-length, Used, next-leads, record-used, known-number, header-kind, lay-length}
+use Rattle.chains.specs.Layout.{row-length, Used, record-used, known-number, header-kind, lay-length}
 use Rattle.chains.specs.Shapes.{kind-number}
 use Rattle.chains.specs.Formed.{Formed, counted, ahead, ahead-none, ahead-some}
 use Rattle.writer.specs.Laid.{Put, linked, Begun, begun-none, begun-put, begun-part, begun-done}
-use Rattle.writer.specs.Ready.{Wrote, treeAt, usesAt, wordsAt, front, frontOf, ChainReady, RecordReady, reference-is}
+use Rattle.writer.specs.Ready.{Wrote, treeAt, usesAt, wordsAt, frontTo, ChainReady, RecordReady, reference-is}
 use Rattle.writer.specs.Leads.{isFirst, leadsAt}
 
 pub record Spelling (f : List ℕ) (i at : ℕ) (a b : List ℕ) (k c : ℕ) : Type 0 where
@@ -48,35 +48,44 @@ spelling-first {f} {i} {at} a R =
 
 -- ---- the next word
 -- some word is left
-some-left : (us : List Use) (n : ℕ) → n < length us → (u : Use) × (vs : List Use) × (drop n us ≡ u ∷ vs)
+pub some-left : (us : List Use) (n : ℕ) → n < length us → (u : Use) × (vs : List Use) × (drop n us ≡ u ∷ vs)
 some-left us n l = go (drop n us) refl
   where
     go : (vs : List Use) → drop n us ≡ vs → (u : Use) × (ws : List Use) × (drop n us ≡ u ∷ ws)
     go [] e = absurd (let m = ap length e in omega (arith, length-drop n us))
     go (u ∷ vs) e = (u, vs, e)
 
+pub row-uses : (f : List ℕ) (i : ℕ) → length (usesAt f i) ≡ 6
+unfolding usesAt
+row-uses f i = row-length (kindOf (word f i kindWord))
+
+-- the use of word k says whether it leads to a chain
+pub is-first : (f : List ℕ) (i k : ℕ) {u : Use} {vs : List Use} → drop (k - 2) (usesAt f i) ≡ u ∷ vs → leadsAt (word f i kindWord) k ≡ isFirst u
+unfolding leadsAt usesAt
+is-first f i k e = ap isFirst (drop-nth unused (usesAt f i) (k - 2) e)
+
 -- word k is x, what it leads to is ys, and the words behind it have theirs from e on
-record Next (f : List ℕ) (i k c : ℕ) (left rest : List Use) (x : ℕ) (ys : List (List ℕ)) (e : ℕ) : Type 0 where
-  used : Used (word f) (recordCount f) i (suc k) rest
-  text : wordList c (readWords (λ j. treeAt f j) (word f i) k left) ≡ x ∷ wordList e (readWords (λ j. treeAt f j) (word f i) (suc k) rest)
-  laid : layWords (readWords (λ j. treeAt f j) (word f i) k left) c ≡ ys ++ layWords (readWords (λ j. treeAt f j) (word f i) (suc k) rest) e
-  total : c + sizeWords (readWords (λ j. treeAt f j) (word f i) k left) ≡ e + sizeWords (readWords (λ j. treeAt f j) (word f i) (suc k) rest)
+pub record Next (f : List ℕ) (i k c : ℕ) (left rest : List Use) (x : ℕ) (ys : List (List ℕ)) (e : ℕ) : Type 0 where
+  pub used : Used (word f) (recordCount f) i (suc k) rest
+  pub text : wordList c (readWords (λ j. treeAt f j) (word f i) k left) ≡ x ∷ wordList e (readWords (λ j. treeAt f j) (word f i) (suc k) rest)
+  pub laid : layWords (readWords (λ j. treeAt f j) (word f i) k left) c ≡ ys ++ layWords (readWords (λ j. treeAt f j) (word f i) (suc k) rest) e
+  pub total : c + sizeWords (readWords (λ j. treeAt f j) (word f i) k left) ≡ e + sizeWords (readWords (λ j. treeAt f j) (word f i) (suc k) rest)
 
 module _ (f : List ℕ) (i k c : ℕ) (us : List Use) where
-  plain-next : (u : Use) → isFirst u ≡ false → Used (word f) (recordCount f) i k (u ∷ us) → Next f i k c (u ∷ us) us (word f i k) [] c
+  pub plain-next : (u : Use) → isFirst u ≡ false → Used (word f) (recordCount f) i k (u ∷ us) → Next f i k c (u ∷ us) us (word f i k) [] c
   unfolding isFirst readWords wordList layWords sizeWords
   plain-next number e h = record { used = h; text = refl; laid = refl; total = refl }
   plain-next unused e h = record { used = h .1; text = refl; laid = refl; total = refl }
   plain-next (first s) e h = absurd (false≢true (sym e))
 
   -- a word that leads: it is above record i, or 0
-  leads-up : (u : Use) → isFirst u ≡ true → Used (word f) (recordCount f) i k (u ∷ us) → (word f i k ≡ 0) ⊎ ((i < word f i k) × (word f i k < recordCount f))
+  pub leads-up : (u : Use) → isFirst u ≡ true → Used (word f) (recordCount f) i k (u ∷ us) → (word f i k ≡ 0) ⊎ ((i < word f i k) × (word f i k < recordCount f))
   unfolding isFirst
   leads-up number e h = absurd (false≢true e)
   leads-up unused e h = absurd (false≢true e)
   leads-up (first s) e h = elim (h .0) [ inl z ↦ inl z | inr z ↦ inr (z .0, z .1) ]
 
-  leads-next : (u : Use) → isFirst u ≡ true → word f i k < recordCount f → Used (word f) (recordCount f) i k (u ∷ us)
+  pub leads-next : (u : Use) → isFirst u ≡ true → word f i k < recordCount f → Used (word f) (recordCount f) i k (u ∷ us)
       → Next f i k c (u ∷ us) us (linked (word f i k) c) (lay (treeAt f (word f i k)) c) (c + size (treeAt f (word f i k)))
   unfolding isFirst readWords wordList layWords sizeWords
   leads-next number e l h = absurd (false≢true e)
@@ -85,21 +94,14 @@ module _ (f : List ℕ) (i k c : ℕ) (us : List Use) where
       record { used = h .1; text = ap (λ x. x ∷ wordList (c + size (treeAt f (word f i k))) (readWords (λ j. treeAt f j) (word f i) (suc k) us)) (reference-is f c l); laid = refl; total = omega arith }
 
 module _ {f : List ℕ} {i at : ℕ} {a b : List ℕ} {k c : ℕ} (R : RecordReady f i at (length a)) (G : Spelling f i at a b k c) (m : k < 8) where
-  six : length (usesAt f i) ≡ 6
-  unfolding usesAt
-  six = row-length (kindOf (word f i kindWord))
-
   here : (u : Use) × (vs : List Use) × (drop (length (G .xs)) (usesAt f i) ≡ u ∷ vs)
-  here = some-left (usesAt f i) (length (G .xs)) (omega (arith, six, G .begun .many))
+  here = some-left (usesAt f i) (length (G .xs)) (omega (arith, row-uses f i, G .begun .many))
 
   left-is : G .left ≡ here .0 ∷ here .1
   left-is = sym (G .uses) ∙ here .2
 
   first-is : leadsAt (word f i kindWord) k ≡ isFirst (here .0)
-  unfolding leadsAt usesAt
-  first-is =
-      let e : k - 2 ≡ length (G .xs) = omega (arith, G .begun .many) in
-      rw e (ap isFirst (drop-nth unused (usesAt f i) (length (G .xs)) (here .2)))
+  first-is = let e : k - 2 ≡ length (G .xs) = omega (arith, G .begun .many) in is-first f i k {vs = here .1} (rw e (here .2))
 
   used-here : Used (word f) (recordCount f) i k (here .0 ∷ here .1)
   used-here = rw left-is at (G .used)
@@ -199,14 +201,10 @@ module _ {f : List ℕ} {i at : ℕ} {a b : List ℕ} {k c : ℕ} (R : RecordRea
   pub done-room : (16 * at + 16 ≤ length b) × (c < 65536)
   done-room = (omega (arith, R .room, G .begun .same), omega (arith, R .few, all-total))
 
-  pub spelling-done : {d e : List ℕ} {u v w : ℕ} → u ≡ word f i kindWord → w ≡ word f i nextWord → v ≡ linked w c → Put b d at 0 u → Put d e at 1 v
-      → Wrote a e at c (front f i at)
-  unfolding front frontOf
-  spelling-done {d} {e} {u} {v} {w} p q r y z =
-      let n = next-leads (word f) (recordCount f) (R .formed .form) i (R .below) in
-      let t = counted (R .formed) in
-      let s : word f i nextWord < recordCount f = elim n [ inl o ↦ omega arith | inr o ↦ o .1 ] in
-      let o : v ≡ reference (suc at + sizeWords (wordsAt f i)) (treeAt f (word f i nextWord)) =
-      r ∙ ap₂ linked q (sym all-total) ∙ sym (reference-is f (suc at + sizeWords (wordsAt f i)) s) in
+  pub spelling-done : {d e : List ℕ} {u v : ℕ} (on : ℕ) → u ≡ word f i kindWord → v ≡ linked on c → Put b d at 0 u → Put d e at 1 v
+      → Wrote a e at c (frontTo f i on at)
+  unfolding frontTo
+  spelling-done {d} {e} {u} {v} on p r y z =
+      let o : v ≡ linked on (suc at + sizeWords (wordsAt f i)) = r ∙ ap (linked on) (sym all-total) in
       let L = begun-done (G .begun) l y z in
       rw (sym o, all-text, all-laid, sym (p ∙ number-here (R .formed) i (R .below))) (record { laid = L; next = omega (arith, G .begun .place) })

@@ -11,7 +11,7 @@ use Rattle.language.specs.Layout.{size, sizeWords, lay, written}
 use Rattle.chains.specs.Layout.{Fits, lay-length, tree-size, tree-fits, written-front}
 use Rattle.chains.specs.Formed.{Formed, counted, procedures-stand}
 use Rattle.writer.specs.Laid.{Laid, laid-then}
-use Rattle.writer.specs.Ready.{Wrote, treeAt, usesAt, wordsAt, front, frontOf, front-length, ChainReady, RecordReady}
+use Rattle.writer.specs.Ready.{Wrote, treeAt, usesAt, wordsAt, front, frontOf, frontTo, front-to, front-length, ChainReady, RecordReady}
 
 -- ---- lists that agree from some place on
 same-list : (xs ys : List ℕ) → length xs ≡ length ys → ((j : ℕ) → getD xs j 0 ≡ getD ys j 0) → xs ≡ ys
@@ -57,7 +57,10 @@ module _ {f : List ℕ} (a : List ℕ) (F : Formed f) (m : recordBytes * recordC
       let n = counted F in
       record { formed = F; below = n .some; room = omega (arith, whole-size F); few = omega (arith, whole-size F, n .most) }
 
-  module _ {b : List ℕ} {c w : ℕ} (N : Wrote a b 0 c (front f 0 0)) (g : w ≡ word f 0 headerProcedures) where
+  module _ {b : List ℕ} {c w : ℕ} (g : w ≡ word f 0 headerProcedures) (M : Wrote a b 0 c (frontTo f 0 w 0)) where
+    N : Wrote a b 0 c (front f 0 0)
+    N = rw (front-to F 0 0 (counted F .some) g) at M
+
     pub procedures-ready : ChainReady f w c (length b)
     procedures-ready =
         let n = counted F in
@@ -71,7 +74,7 @@ module _ {f : List ℕ} (a : List ℕ) (F : Formed f) (m : recordBytes * recordC
 
     pub whole-written : {d : List ℕ} {r : ℕ} → ((j : ℕ) → getD d j 0 < 256) → Wrote b d c r (lay (treeAt f w) c)
         → d ≡ written (treeOf f) ++ drop (recordBytes * recordCount f) a
-    whole-written {d} B M =
+    whole-written {d} B K =
         let n = tree-size f (F .header) (F .form) in
-        let L : Laid a d 0 (lay (treeOf f) 0) = rw (whole-lay f, ← (N .next), sym g) (laid-then (sym (N .next)) (N .laid) (M .laid)) in
+        let L : Laid a d 0 (lay (treeOf f) 0) = rw (whole-lay f, ← (N .next), sym g) (laid-then (sym (N .next)) (N .laid) (K .laid)) in
         laid-written (tree-fits f (F .header) (F .form)) B (omega (arith, n)) L ∙ ap (λ s. written (treeOf f) ++ drop (16 * s) a) n

@@ -20,6 +20,7 @@ pub fn write_in_order(file: &[u8], out: &mut [u8])
     requires { ⌜ recordBytes * recordCount (now file) ≤ length (now out) ⌝ }
     ensures { λ _. ⌜ now (out .exit) ≡ written (treeOf (now (file .entry))) ++ drop (recordBytes * recordCount (now (file .entry))) (now (out .entry)) ⌝ }
 {
-    let end = write_record(file, out, 0, 0);
-    write_chain(file, out, word(file, 0, HEADER_PROCEDURES), end);
+    let procedures = word(file, 0, HEADER_PROCEDURES);
+    let end = write_record(file, out, 0, procedures, 0);
+    write_chain(file, out, procedures, end);
 }

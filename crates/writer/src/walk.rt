@@ -25,11 +25,11 @@ ghost use mathlib.Core.Path.{_≡_};
 ghost use Prim.Native.Nat.{_≤_, _<_};
 ghost use lib.ListN.{length};
 ghost use Rattle.language.specs.Layout.{lay};
-ghost use Rattle.writer.specs.Ready.{ChainReady, RecordReady, Wrote, treeAt, front};
+ghost use Rattle.writer.specs.Ready.{ChainReady, RecordReady, Wrote, treeAt, frontTo};
 ghost use Rattle.writer.specs.Leads.{leadsAt};
 
 // Whether word k, from 2 to 7, of a record of that kind leads to a chain.
-fn leads(kind: usize, k: usize) -> bool
+pub fn leads(kind: usize, k: usize) -> bool
     requires { ⌜ 2 ≤ k ⌝ }
     requires { ⌜ k < 8 ⌝ }
     ensures { λ r. ⌜ r ≡ leadsAt kind k ⌝ }
@@ -60,16 +60,18 @@ pub fn write_chain(file: &[u8], out: &mut [u8], start: usize, first: usize) -> u
     let mut i = start;
     let mut at = first;
     while i != 0 {
-        at = write_record(file, out, i, at);
-        i = word(file, i, NEXT);
+        let next = word(file, i, NEXT);
+        at = write_record(file, out, i, next, at);
+        i = next;
     }
     at
 }
 
-// Writes record i as record at, and behind it what its words lead to. Returns the place behind that, where the rest of its chain goes.
-pub fn write_record(file: &[u8], out: &mut [u8], i: usize, at: usize) -> usize
+// Writes record i as record at, and behind it what its words lead to. Returns the place behind that, where the rest of its chain goes if `on` is
+// not 0.
+pub fn write_record(file: &[u8], out: &mut [u8], i: usize, on: usize, at: usize) -> usize
     requires { ⌜ RecordReady (now file) i at (length (now out)) ⌝ }
-    ensures { λ r. ⌜ Wrote (now (out .entry)) (now (out .exit)) at r (front (now (file .entry)) i at) ⌝ }
+    ensures { λ r. ⌜ Wrote (now (out .entry)) (now (out .exit)) at r (frontTo (now (file .entry)) i on at) ⌝ }
 {
     let kind = word(file, i, KIND);
     let mut end = at + 1;
@@ -85,7 +87,7 @@ pub fn write_record(file: &[u8], out: &mut [u8], i: usize, at: usize) -> usize
             k += 1;
         }
     }
-    let next = link(word(file, i, NEXT), end);
+    let next = link(on, end);
     put_word(out, at, KIND, kind);
     put_word(out, at, NEXT, next);
     end

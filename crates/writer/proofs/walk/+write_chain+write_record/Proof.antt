@@ -8,7 +8,8 @@ use Rattle.writer.specs.Laid.{linked-small}
 use Rattle.writer.specs.Leads.{told}
 use Rattle.writer.specs.Ready.{Writing, writing-first, writing-record, writing-less, writing-falls, writing-next, writing-last}
 use Rattle.writer.specs.Spelling.{Spelling, spelling-first, spelling-room, spelling-falls, spelling-chain, spelling-leads, spelling-plain, done-room, spelling-done}
-use Prim.Native.Nat.{ℕ, _<_, _+_, _-_, _*_}
+use Prim.Native.Nat.{_+_, _-_, _*_}
+use Prim.Native.Nat.{ℕ, _<_}
 use borrow.Fn.Kinds.{In}
 use borrow.Fn.PlainCycle.{Measures, is, falls, and}
 use Rattle.writer.proofs.walk.write_chain.Reads as write-chain
@@ -25,10 +26,12 @@ use Rattle.writer.proofs.walk.+write_chain+write_record.{statement}
 use Rattle.writer.proofs.walk.+write_chain+write_record.Tie.{close}
 
 abbrev μ-write-chain : Measures 2 write-chain-kinds.ps ℕ
-μ-write-chain κs a = 2 * ahead (a .0 .now) (a .1 .1 .0) + 1
+μ-write-chain κs a =
+    2 * ahead (a .0 .now) (a .1 .1 .0) + 1
 
 abbrev μ-write-record : Measures 2 write-record-kinds.ps ℕ
-μ-write-record κs a = 2 * (recordCount (a .0 .now) - a .1 .1 .0)
+μ-write-record κs a =
+    2 * (recordCount (a .0 .now) - a .1 .1 .0)
 
 abbrev write-chain-at : ℕ → In 2 write-chain-kinds.ps
 write-chain-at t =
@@ -51,15 +54,17 @@ write-record-below t =
     write-record.Pre
 
 abbrev write-chain-Inv-loop : write-chain-lts.InvT-loop
-write-chain-Inv-loop file out₀ start first i₀ at₀ out i at = Writing file out₀ out start first i at
+write-chain-Inv-loop file out₀ start first i₀ at₀ out i at =
+    Writing file out₀ out start first i at
 
 abbrev write-chain-μ-loop : write-chain-lts.MeasureT-loop
-write-chain-μ-loop file out₀ start first i₀ at₀ out i at = ahead file i
+write-chain-μ-loop file out₀ start first i₀ at₀ out i at =
+    ahead file i
 
 -- what each member's callees ask and give
 abbrev write-chain-calls : ℕ → write-chain-lts.Claims
 write-chain-calls t =
-    (write-record-below t, write-record.Post, word-reads.Asked, word-reads.Learnt)
+    (word-reads.Asked, word-reads.Learnt, write-record-below t, write-record.Post)
 
 abbrev write-record-calls : ℕ → write-record-lts.Claims
 write-record-calls t =
@@ -69,22 +74,23 @@ write-chain-loop-holds : (t : ℕ) → write-chain-lts.Need-loop-holds (write-ch
 write-chain-loop-holds t c =
     writing-first _ (c .before .before .pre .1)
 
+write-chain-word-requires : (t : ℕ) → write-chain-lts.Need-word-requires (write-chain-calls t) (write-chain-at t) write-chain.Post write-chain-Inv-loop write-chain-μ-loop
+write-chain-word-requires t c κs =
+    search needs
+
 write-chain-write-record-requires : (t : ℕ) → write-chain-lts.Need-write-record-requires (write-chain-calls t) (write-chain-at t) write-chain.Post write-chain-Inv-loop write-chain-μ-loop
 write-chain-write-record-requires t c κs =
-    let v = c .before .before .loop .inv in
-    let z = c .before .loop-test .taken in
-    (omega (arith, writing-less v z, c .before .before .before .before .before .pre .0), writing-record v z)
-
-write-chain-word-requires : (t : ℕ) → write-chain-lts.Need-word-requires (write-chain-calls t) (write-chain-at t) write-chain.Post write-chain-Inv-loop write-chain-μ-loop
-write-chain-word-requires t c κs = search needs
+    let v = c .before .before .before .loop .inv in
+    let z = c .before .before .loop-test .taken in
+    (omega (arith, writing-less v z, c .before .before .before .before .before .before .pre .0), writing-record v z)
 
 write-chain-loop-less : (t : ℕ) → write-chain-lts.Need-loop-less (write-chain-calls t) (write-chain-at t) write-chain.Post write-chain-Inv-loop write-chain-μ-loop
 write-chain-loop-less t c =
-    writing-falls (c .before .before .before .before .before .before .loop .inv) (c .before .before .before .before .before .loop-test .taken) (c .word .ensures .0)
+    writing-falls (c .before .before .before .before .before .before .loop .inv) (c .before .before .before .before .before .loop-test .taken) (c .before .before .before .before .word .ensures .0)
 
 write-chain-loop-again : (t : ℕ) → write-chain-lts.Need-loop-again (write-chain-calls t) (write-chain-at t) write-chain.Post write-chain-Inv-loop write-chain-μ-loop
 write-chain-loop-again t c =
-    writing-next (c .before .before .before .before .before .before .loop .inv) (c .before .before .before .before .before .loop-test .taken) (c .word .ensures .0) (c .before .before .before .write-record .ensures)
+    writing-next (c .before .before .before .before .before .before .loop .inv) (c .before .before .before .before .before .loop-test .taken) (c .before .before .before .before .word .ensures .0) (c .before .before .write-record .ensures)
 
 write-chain-same-length : (t : ℕ) → write-chain-lts.Need-same-length (write-chain-calls t) (write-chain-at t) write-chain.Post write-chain-Inv-loop write-chain-μ-loop
 write-chain-same-length t c =
@@ -95,13 +101,16 @@ write-chain-returns t c =
     writing-last (c .before .loop .inv) (c .loop-test .left)
 
 abbrev write-record-Inv-loop : write-record-lts.InvT-loop
-write-record-Inv-loop file out₀ i at kind end₀ k₀ out end k = Spelling file i at out₀ out k end
+write-record-Inv-loop file out₀ i on at kind end₀ k₀ out end k =
+    Spelling file i at out₀ out k end
 
 abbrev write-record-μ-loop : write-record-lts.MeasureT-loop
-write-record-μ-loop file out₀ i at kind end₀ k₀ out end k = 8 - k
+write-record-μ-loop file out₀ i on at kind end₀ k₀ out end k =
+    8 - k
 
 write-record-word-requires : (t : ℕ) → write-record-lts.Need-word-requires (write-record-calls t) (write-record-at t) write-record.Post write-record-Inv-loop write-record-μ-loop
-write-record-word-requires t c κs = search needs
+write-record-word-requires t c κs =
+    search needs
 
 write-record-add-end : (t : ℕ) → write-record-lts.Need-add-end (write-record-calls t) (write-record-at t) write-record.Post write-record-Inv-loop write-record-μ-loop
 write-record-add-end t c =
@@ -112,21 +121,21 @@ write-record-loop-holds t c =
     spelling-first _ (c .before .before .before .pre .1)
 
 write-record-word-requires-2 : (t : ℕ) → write-record-lts.Need-word-requires-2 (write-record-calls t) (write-record-at t) write-record.Post write-record-Inv-loop write-record-μ-loop
-write-record-word-requires-2 t c κs = search needs
+write-record-word-requires-2 t c κs =
+    search needs
 
 write-record-leads-requires : (t : ℕ) → write-record-lts.Need-leads-requires (write-record-calls t) (write-record-at t) write-record.Post write-record-Inv-loop write-record-μ-loop
 write-record-leads-requires t c κs =
     (omega (arith, c .before .before .loop .inv .begun .many), c .before .loop-test .taken)
 
 write-record-link-requires : (t : ℕ) → write-record-lts.Need-link-requires (write-record-calls t) (write-record-at t) write-record.Post write-record-Inv-loop write-record-μ-loop
-write-record-link-requires t c κs = search needs
+write-record-link-requires t c κs =
+    search needs
 
 write-record-put-word-requires : (t : ℕ) → write-record-lts.Need-put-word-requires (write-record-calls t) (write-record-at t) write-record.Post write-record-Inv-loop write-record-μ-loop
 write-record-put-word-requires t c κs =
-    let R = c .before .before .before .before .before .before .before .before .before .before .pre .1 in
-    let G = c .before .before .before .before .before .before .loop .inv in
     let m = c .before .before .before .before .before .loop-test .taken in
-    let o = spelling-room R G m in
+    let o = spelling-room (c .before .before .before .before .before .before .before .before .before .before .pre .1) (c .before .before .before .before .before .before .loop .inv) m in
     (o .0, (m, linked-small _ _ (c .link .ensures) (o .1)))
 
 write-record-write-chain-requires : (t : ℕ) → write-record-lts.Need-write-chain-requires (write-record-calls t) (write-record-at t) write-record.Post write-record-Inv-loop write-record-μ-loop
@@ -139,10 +148,12 @@ write-record-write-chain-requires t c κs =
     (omega (arith, spelling-falls R G m e g, c .before .before .before .before .before .before .before .before .before .before .before .before .before .before .pre .0), spelling-chain R G m e g (c .before .before .before .put-word .ensures))
 
 write-record-add-k : (t : ℕ) → write-record-lts.Need-add-k (write-record-calls t) (write-record-at t) write-record.Post write-record-Inv-loop write-record-μ-loop
-write-record-add-k t c = search needs
+write-record-add-k t c =
+    search needs
 
 write-record-loop-less : (t : ℕ) → write-record-lts.Need-loop-less (write-record-calls t) (write-record-at t) write-record.Post write-record-Inv-loop write-record-μ-loop
-write-record-loop-less t c = search needs
+write-record-loop-less t c =
+    search needs
 
 write-record-loop-again : (t : ℕ) → write-record-lts.Need-loop-again (write-record-calls t) (write-record-at t) write-record.Post write-record-Inv-loop write-record-μ-loop
 write-record-loop-again t c =
@@ -154,56 +165,42 @@ write-record-loop-again t c =
 
 write-record-put-word-requires-2 : (t : ℕ) → write-record-lts.Need-put-word-requires-2 (write-record-calls t) (write-record-at t) write-record.Post write-record-Inv-loop write-record-μ-loop
 write-record-put-word-requires-2 t c κs =
-    let R = c .before .before .before .before .before .before .before .before .before .pre .1 in
-    let G = c .before .before .before .before .before .loop .inv in
     let m = c .before .before .before .before .loop-test .taken in
-    (spelling-room R G m .0, (m, c .before .before .before .word2 .ensures .1))
+    (spelling-room (c .before .before .before .before .before .before .before .before .before .pre .1) (c .before .before .before .before .before .loop .inv) m .0, (m, c .before .before .before .word2 .ensures .1))
 
 write-record-add-k-2 : (t : ℕ) → write-record-lts.Need-add-k-2 (write-record-calls t) (write-record-at t) write-record.Post write-record-Inv-loop write-record-μ-loop
-write-record-add-k-2 t c = search needs
+write-record-add-k-2 t c =
+    search needs
 
 write-record-loop-less-2 : (t : ℕ) → write-record-lts.Need-loop-less-2 (write-record-calls t) (write-record-at t) write-record.Post write-record-Inv-loop write-record-μ-loop
-write-record-loop-less-2 t c = search needs
+write-record-loop-less-2 t c =
+    search needs
 
 write-record-loop-again-2 : (t : ℕ) → write-record-lts.Need-loop-again-2 (write-record-calls t) (write-record-at t) write-record.Post write-record-Inv-loop write-record-μ-loop
 write-record-loop-again-2 t c =
-    let R = c .before .before .before .before .before .before .before .before .before .before .before .before .pre .1 in
-    let G = c .before .before .before .before .before .before .before .before .loop .inv in
-    let m = c .before .before .before .before .before .before .before .loop-test .taken in
     let e = told _ _ _ (c .before .before .before .before .before .leads .ensures) (c .before .before .before .before .before .before .before .before .before .word .ensures .0) (c .before .before .before .before .if1 .left) in
-    spelling-plain R G m e (c .before .before .before .before .before .before .word2 .ensures .0) (c .before .before .put-word2 .ensures)
-
-write-record-word-requires-3 : (t : ℕ) → write-record-lts.Need-word-requires-3 (write-record-calls t) (write-record-at t) write-record.Post write-record-Inv-loop write-record-μ-loop
-write-record-word-requires-3 t c κs = search needs
+    spelling-plain (c .before .before .before .before .before .before .before .before .before .before .before .before .pre .1) (c .before .before .before .before .before .before .before .before .loop .inv) (c .before .before .before .before .before .before .before .loop-test .taken) e (c .before .before .before .before .before .before .word2 .ensures .0) (c .before .before .put-word2 .ensures)
 
 write-record-link-requires-2 : (t : ℕ) → write-record-lts.Need-link-requires-2 (write-record-calls t) (write-record-at t) write-record.Post write-record-Inv-loop write-record-μ-loop
-write-record-link-requires-2 t c κs = search needs
+write-record-link-requires-2 t c κs =
+    search needs
 
 write-record-put-word-requires-3 : (t : ℕ) → write-record-lts.Need-put-word-requires-3 (write-record-calls t) (write-record-at t) write-record.Post write-record-Inv-loop write-record-μ-loop
 write-record-put-word-requires-3 t c κs =
-    let R = c .before .before .before .before .before .before .before .before .pre .1 in
-    let G = c .before .before .before .before .loop .inv in
-    let l = c .before .before .before .loop-test .left in
-    (done-room R G l .0, (omega arith, c .before .before .before .before .before .word .ensures .1))
+    (done-room (c .before .before .before .before .before .before .before .pre .1) (c .before .before .before .loop .inv) (c .before .before .loop-test .left) .0, (omega arith, c .before .before .before .before .word .ensures .1))
 
 write-record-put-word-requires-4 : (t : ℕ) → write-record-lts.Need-put-word-requires-4 (write-record-calls t) (write-record-at t) write-record.Post write-record-Inv-loop write-record-μ-loop
 write-record-put-word-requires-4 t c κs =
-    let R = c .before .before .before .before .before .before .before .before .before .before .before .before .pre .1 in
-    let G = c .before .before .before .before .before .before .before .before .loop .inv in
-    let l = c .before .before .before .before .before .before .before .loop-test .left in
-    let o = done-room R G l in
+    let o = done-room (c .before .before .before .before .before .before .before .before .before .before .before .pre .1) (c .before .before .before .before .before .before .before .loop .inv) (c .before .before .before .before .before .before .loop-test .left) in
     (omega (arith, o .0, c .before .before .before .put-word3 .ensures .same), (omega arith, linked-small _ _ (c .before .before .before .before .before .link2 .ensures) (o .1)))
 
 write-record-same-length : (t : ℕ) → write-record-lts.Need-same-length (write-record-calls t) (write-record-at t) write-record.Post write-record-Inv-loop write-record-μ-loop
 write-record-same-length t c =
-    c .before .before .put-word4 .ensures .same ∙ c .before .before .before .before .before .before .put-word3 .ensures .same ∙ c .before .before .before .before .before .before .before .before .before .before .before .loop .inv .begun .same
+    c .before .before .put-word4 .ensures .same ∙ c .before .before .before .before .before .before .put-word3 .ensures .same ∙ c .before .before .before .before .before .before .before .before .before .before .loop .inv .begun .same
 
 write-record-returns : (t : ℕ) → write-record-lts.Need-returns (write-record-calls t) (write-record-at t) write-record.Post write-record-Inv-loop write-record-μ-loop
 write-record-returns t c =
-    let R = c .before .before .before .before .before .before .before .before .before .before .before .before .before .before .before .pre .1 in
-    let G = c .before .before .before .before .before .before .before .before .before .before .before .loop .inv in
-    let l = c .before .before .before .before .before .before .before .before .before .before .loop-test .left in
-    spelling-done R G l (c .before .before .before .before .before .before .before .before .before .before .before .before .word .ensures .0) (c .before .before .before .before .before .before .before .before .before .word3 .ensures .0) (c .before .before .before .before .before .before .before .before .link2 .ensures) (c .before .before .before .before .before .before .put-word3 .ensures) (c .before .before .put-word4 .ensures)
+    spelling-done (c .before .before .before .before .before .before .before .before .before .before .before .before .before .before .pre .1) (c .before .before .before .before .before .before .before .before .before .before .loop .inv) (c .before .before .before .before .before .before .before .before .before .loop-test .left) _ (c .before .before .before .before .before .before .before .before .before .before .before .word .ensures .0) (c .before .before .before .before .before .before .before .before .link2 .ensures) (c .before .before .before .before .before .before .put-word3 .ensures) (c .before .before .put-word4 .ensures)
 
 pub +write-chain+write-record-spec : {M : Type 1} → statement M
 +write-chain+write-record-spec = close μ-write-chain μ-write-record (λ t. write-chain-lts.spec (write-chain-calls t)
@@ -212,8 +209,8 @@ pub +write-chain+write-record-spec : {M : Type 1} → statement M
     write-chain-Inv-loop
     write-chain-μ-loop
     (write-chain-loop-holds t)
-    (write-chain-write-record-requires t)
     (write-chain-word-requires t)
+    (write-chain-write-record-requires t)
     (write-chain-loop-less t)
     (write-chain-loop-again t)
     (write-chain-same-length t)
@@ -238,7 +235,6 @@ pub +write-chain+write-record-spec : {M : Type 1} → statement M
     (write-record-add-k-2 t)
     (write-record-loop-less-2 t)
     (write-record-loop-again-2 t)
-    (write-record-word-requires-3 t)
     (write-record-link-requires-2 t)
     (write-record-put-word-requires-3 t)
     (write-record-put-word-requires-4 t)
