@@ -1,0 +1,23 @@
+-- `refer` meets its contract.
+use native.Mathlib.Omega.{arith}
+use Rattle.writer.specs.Laid.{linked-none, linked-some}
+use borrow.Author.Needs.{needs}
+use Rattle.insertion.proofs.place.refer.Statement.{statement}
+use Rattle.insertion.proofs.place.refer.Tie as tie
+use Rattle.insertion.proofs.place.refer.Reads as reads
+use Rattle.insertion.proofs.place.refer.Lts as lts
+
+returns : tie.Need-returns
+returns c =
+    record { small = omega arith; is = λ l. linked-none _ (c .if1 .taken) }
+
+returns-2 : tie.Need-returns-2
+returns-2 c =
+    record { small = omega arith; is = λ l. absurd (omega arith) }
+
+returns-3 : tie.Need-returns-3
+returns-3 c =
+    record { small = omega arith; is = λ l. linked-some _ _ (c .before .if1 .left) }
+
+pub refer-spec : {M : Type 1} → statement M
+refer-spec = tie.close (tie.spec returns returns-2 returns-3)

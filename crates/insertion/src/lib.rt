@@ -1,0 +1,13 @@
+// The annotated file, laid into a lent slice: the file's records with creates and removes between them.
+mod copies;
+mod marks;
+mod place;
+
+// Where a walk stands: the next record to write, and the point of the next goal.
+pub struct Cursor {
+    pub record: usize,
+    pub point: usize,
+}
+
+// Words of the points of 4,096 goals.
+pub const POINTS: usize = 8192;
