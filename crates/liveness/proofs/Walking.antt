@@ -1,24 +1,39 @@
 -- The walk over goals, one law for each way through it, over the code's own values.
-use Prim.Native.Nat.{ℕ}
-use mathlib.Core.Path.{_≡_, refl, sym, ap, ap₂, _∙_}
+use Prim.Native.Nat.{ℕ, _≤_}
+use mathlib.Core.Bool.{Bool, true, false}
+use mathlib.Core.Path.{_≡_, refl, sym, ap, _∙_}
 use mathlib.Core.List.{List, [], _∷_, _++_}
+use lib.ListN.{length}
+use Rattle.sets.specs.Tests.{_&_}
 use Rattle.sets.specs.Sets.{emptySet, single, _∪_, _∖_}
 use Rattle.sets.specs.Members.{setOf}
 use Rattle.sets.specs.declared.Set.{Set}
 use Rattle.language.specs.File.{goals, arms, word}
-use Rattle.language.specs.Program.{four, argumentsOf, Step, Goals, _then_, Goal, step, switch, ifLess, Arms, arm, Program}
-use Rattle.language.specs.Values.{reads, gives}
-use Rattle.language.specs.Lifetimes.{liveStep, live, liveGoal, liveArms}
+use Rattle.language.specs.Program.{four, argumentsOf, Step, Goals, _then_, Goal, step, switch, ifLess, Arms, arm, Signature, Program, signatureOf}
+use Rattle.language.specs.Lifetimes.{liveStep, live, liveGoal, liveArms, stepClasses, goalsClasses, goalClasses, armsClasses}
 use Rattle.language.specs.Answers.{program}
 use Rattle.chains.specs.Formed.{Formed, Stands, Onward, goalsAt, goalAt, firstGoal, armsAt, goals-none, arms-none}
 use Rattle.chains.specs.Parts.{SwitchAt, IfAt, ArmAt, arm-at}
 use Rattle.chains.specs.Is.{chain-next, goals-step, arm-is}
 use Rattle.chains.specs.Shapes.{StepAt as Stepped, step-here, switch-here, if-here}
-use Rattle.tables.specs.Rows.{readsIn, givesIn}
 use Rattle.tables.specs.Filled.{StepAt, Accessed}
 use Rattle.liveness.specs.Points.{Point, point, points, partPoints, goalPoints, armsPoints}
 use Rattle.liveness.specs.Table.{Fills, fills-none, fills-more}
-use Rattle.liveness.specs.Done.{GoalsDone, GoalDone, ArmsDone}
+use Rattle.liveness.specs.Carried.{liveIn, placeIn, classesIn, Carries}
+use Rattle.liveness.specs.Noted.{Noted}
+use Rattle.liveness.specs.Room.{points-room}
+use Rattle.liveness.specs.Wants.{Wants, wants-are}
+use Rattle.liveness.specs.Step.{StepNoted, and-right, live-is, classes-are}
+use Rattle.liveness.specs.Done.{GoalsFrom, GoalFrom, ArmsFrom, GoalsDone, GoalDone, ArmsDone, pointWords, ListDone, ListClasses}
+
+-- what is walked later stands in front
+later-first : (x a b : Bool) → ((x & b) & a) ≡ (x & (a & b))
+unfolding _&_
+later-first false a b = refl
+later-first true true true = refl
+later-first true true false = refl
+later-first true false true = refl
+later-first true false false = refl
 
 -- ---- over goals
 module _ (P : Program) where
@@ -37,8 +52,8 @@ module _ (P : Program) where
   unfolding goalPoints
   own-point g after ps e n h k = rw (e, sym n) (fills-more h k)
 
-  step-live : {g : Goal} {one : Step} (after : Set) → g ≡ step one → (after ∖ gives P one) ∪ reads P one ≡ liveGoal P g after
-  unfolding liveGoal liveStep
+  step-live : {g : Goal} {one : Step} (after : Set) → g ≡ step one → liveStep P one after ≡ liveGoal P g after
+  unfolding liveGoal
   step-live after e = rw e refl
 
   step-parts : {g : Goal} {one : Step} (after : Set) → g ≡ step one → partPoints P g after ≡ []
@@ -62,98 +77,211 @@ module _ (P : Program) where
   unfolding partPoints
   if-parts after e = rw e refl
 
+  -- number 7
+  module _ (S : Signature) where
+    then-classes : {gs hs : Goals} {g : Goal} (after : Set) {l : Set} (x : Bool) {y r : Bool} → gs ≡ g then hs → l ≡ live P hs after
+        → y ≡ (x & goalsClasses P S hs after) → r ≡ (y & goalClasses P S g l) → r ≡ (x & goalsClasses P S gs after)
+    unfolding goalsClasses
+    then-classes {hs = hs} {g = g} after {l} x e k m n =
+        n ∙ ap (λ (y : Bool). y & goalClasses P S g l) m ∙ later-first x (goalClasses P S g l) (goalsClasses P S hs after) ∙ rw (e, k) refl
+
+    step-classes : {g : Goal} {one : Step} (after : Set) → g ≡ step one → stepClasses P S one after ≡ goalClasses P S g after
+    unfolding goalClasses
+    step-classes after e = rw e refl
+
+    switch-classes : {g : Goal} {z : ℕ} {cs : Arms} (after : Set) → g ≡ switch z cs → armsClasses P S cs after ≡ goalClasses P S g after
+    unfolding goalClasses
+    switch-classes after e = rw e refl
+
+    if-classes : {g : Goal} {y z : ℕ} {gs hs : Goals} (after : Set) (x : Bool) {k r : Bool} → g ≡ ifLess y z gs hs
+        → k ≡ (x & goalsClasses P S hs after) → r ≡ (k & goalsClasses P S gs after) → r ≡ (x & goalClasses P S g after)
+    unfolding goalClasses
+    if-classes {gs = gs} {hs = hs} after x e m n =
+        n ∙ ap (λ (y : Bool). y & goalsClasses P S gs after) m ∙ later-first x (goalsClasses P S gs after) (goalsClasses P S hs after) ∙ rw e refl
+
+    arms-classes : {ds cs : Arms} {n : ℕ} {ys : _} {gs : Goals} (after : Set) (x : Bool) {k r : Bool} → ds ≡ arm n ys gs cs
+        → k ≡ (x & armsClasses P S cs after) → r ≡ (k & goalsClasses P S gs after) → r ≡ (x & armsClasses P S ds after)
+    unfolding armsClasses
+    arms-classes {cs = cs} {gs = gs} after x e m n =
+        n ∙ ap (λ (y : Bool). y & goalsClasses P S gs after) m ∙ later-first x (goalsClasses P S gs after) (armsClasses P S cs after) ∙ rw e refl
+
+-- ---- where the records lead
+module _ (f : List ℕ) (i : ℕ) where
+  pub to-next : Formed f → Stands f goals i → (i ≡ 0 → ⊥) → Onward f goals i (word f i 1)
+  to-next F s z = chain-next F s z refl
+
+  pub part-stands : (k : ℕ) {n : ℕ} → n ≡ word f i k → Stands f goals (word f i k) → Stands f goals n
+  part-stands k e s = rw e s
+
+  module _ (F : Formed f) (k : word f i 0 ≡ 12) where
+    switch-at : SwitchAt f i (word f i 1) (word f i 2) (word f i 3)
+    switch-at = switch-here F refl k
+
+    pub to-arms : {n : ℕ} → n ≡ word f i 3 → Onward f arms i n
+    to-arms e = rw e (switch-at .to-arms)
+
+  module _ (F : Formed f) (k : word f i 0 ≡ 14) where
+    if-at : IfAt f i (word f i 1) (word f i 2) (word f i 3) (word f i 4) (word f i 5)
+    if-at = if-here F refl k
+
+    pub to-then : Onward f goals i (word f i 4)
+    to-then = if-at .to-then
+
+    pub to-else : Onward f goals i (word f i 5)
+    to-else = if-at .to-else
+
+  pub arm-here : Formed f → Stands f arms i → (i ≡ 0 → ⊥) → ArmAt f i (word f i 1) (word f i 2) (word f i 3) (word f i 4) (word f i 5) (word f i 6) (word f i 7)
+  arm-here F S z = arm-at F refl (arm-is S z)
+
 -- ---- over the records
--- ---- a chain
-pub goals-last : (f : List ℕ) (i : ℕ) (after : Set) (t : List ℕ) (end : ℕ) → i ≡ 0 → GoalsDone f i after t t end end after
-unfolding live points
-goals-last f i after t end z = rw (goals-none f z) (refl, fills-none t end)
+module _ (f rows w : List ℕ) where
+  -- ---- a chain
+  pub goals-last : (i : ℕ) (c t : List ℕ) → i ≡ 0 → GoalsDone f rows w i c t c t
+  unfolding live points goalsClasses
+  goals-last i c t z =
+      record {
+        live-is = rw (goals-none f z) refl;
+        fills = rw (goals-none f z) (fills-none t (placeIn c));
+        classes-are = λ o q y b. rw (goals-none f z) (sym (and-right (classesIn c)));
+      }
 
-pub to-next : (f : List ℕ) (i : ℕ) → Formed f → Stands f goals i → (i ≡ 0 → ⊥) → Onward f goals i (word f i 1)
-to-next f i F s z = chain-next F s z refl
+  pub goals-more : (i : ℕ) {after : Set} {end : ℕ} {x : Bool} {t d u e v : List ℕ} → Formed f → Stands f goals i → (i ≡ 0 → ⊥)
+      → GoalsFrom f rows w (word f i 1) after end x t d u → GoalDone f rows w i d u e v → GoalsFrom f rows w i after end x t e v
+  goals-more i {after} {x = x} F s z h k =
+      let e = goals-step F s z refl in
+      record {
+        live-is = then-live (program f) after e (h .live-is) (k .live-is);
+        fills = then-points (program f) after e (h .live-is) (h .fills) (k .fills);
+        classes-are = λ o q y b.
+            then-classes (program f) (signatureOf (program f) q) after x e (h .live-is)
+            (h .classes-are o q y (λ n. y .owning .to-next i s z _ refl n ∙ b z)) (k .classes-are o q y (b z));
+      }
 
-pub goals-more : (f : List ℕ) (i : ℕ) (after : Set) {t u v : List ℕ} {s m end : ℕ} {l r : Set} → Formed f → Stands f goals i → (i ≡ 0 → ⊥)
-    → GoalsDone f (word f i 1) after t u m end l → GoalDone f i l u v s m r → GoalsDone f i after t v s end r
-goals-more f i after F s z h k =
-    let e = goals-step F s z refl in
-    (then-live (program f) after e (h .0) (k .0), then-points (program f) after e (h .0) (h .1) (k .1))
+  -- ---- a step
+  module _ (i : ℕ) (F : Formed f) (S : Stands f goals i) (z : i ≡ 0 → ⊥) (p : word f i 0 ≡ 12 → ⊥) (q : word f i 0 ≡ 14 → ⊥) where
+    step-at : Stepped f i
+    step-at = step-here F S z refl p q
 
--- ---- a step
-module _ (f : List ℕ) (i : ℕ) (F : Formed f) (S : Stands f goals i) (z : i ≡ 0 → ⊥) (p : word f i 0 ≡ 12 → ⊥) (q : word f i 0 ≡ 14 → ⊥) where
-  step-at : Stepped f i
-  step-at = step-here F S z refl p q
+    step-goal : goalAt f i ≡ step (step-at .one)
+    unfolding goalAt firstGoal
+    step-goal = ap firstGoal (step-at .view)
 
-  step-goal : goalAt f i ≡ step (step-at .one)
-  unfolding goalAt firstGoal
-  step-goal = ap firstGoal (step-at .view)
+    step-stands : StepAt f i (step-at .one)
+    step-stands = record { stands = S; some = z; view = step-goal }
 
-  step-stands : StepAt f i (step-at .one)
-  step-stands = record { stands = S; some = z; view = step-goal }
+    pub step-done : (c : List ℕ) {t d u : List ℕ} → Accessed f rows → StepNoted rows w i c t d u → GoalDone f rows w i c t d u
+    step-done c {t} A n =
+        let b = live-is A step-stands (liveIn c) ∙ step-live (program f) (liveIn c) step-goal in
+        record {
+          live-is = n .live-is ∙ b;
+          fills = own-point (program f) (goalAt f i) (liveIn c) [] (step-parts (program f) (liveIn c) step-goal) b (fills-none t (placeIn c)) (n .fills);
+          classes-are = λ o k y h.
+              n .classes-is
+              ∙ ap (λ (v : Bool). classesIn c & v)
+              (classes-are A step-stands w (y .effected) (y .wants) h (liveIn c) ∙ step-classes (program f) (signatureOf (program f) k) (liveIn c) step-goal);
+        }
 
-  pub step-lives : (after : Set) {rows : List ℕ} {r : Set} → Accessed f rows → r ≡ (after ∖ givesIn rows i) ∪ readsIn rows i
-      → r ≡ liveGoal (program f) (goalAt f i) after
-  step-lives after A e =
-      e ∙ ap₂ (λ g s. (after ∖ g) ∪ s) (A .gives i (step-at .one) step-stands) (A .reads i (step-at .one) step-stands) ∙ step-live (program f) after step-goal
+  -- ---- a switch
+  module _ (i : ℕ) (F : Formed f) (k : word f i 0 ≡ 12) where
+    pub switch-done : {after now : Set} {end first m : ℕ} {x : Bool} {t d u e v : List ℕ} {o n b : Set} → now ≡ after → first ≡ word f i 3
+        → ArmsFrom f rows w first after end x t d u → m ≡ word f i 2 → o ≡ single m → n ≡ liveIn d → b ≡ o ∪ n
+        → Noted d u e v b now (classesIn d) → GoalFrom f rows w i after end x t e v
+    switch-done {after} {now} {x = x} {b = b} ea ew h em eo en eb n =
+        let l : b ≡ liveGoal (program f) (goalAt f i) after = eb ∙ cc (eo, em, en, ew, h .live-is) ∙ switch-live (program f) after (switch-at f i F k .goal) in
+        record {
+          live-is = n .live-is ∙ l;
+          fills = own-point (program f) (goalAt f i) after _ (switch-parts (program f) after (switch-at f i F k .goal)) l (rw ew at (h .fills)) (rw ea at (n .fills));
+          classes-are = λ o q y g.
+              n .classes-is ∙ h .classes-are o q y (λ z. y .owning .to-arms i k _ ew z ∙ g)
+              ∙ ap (λ (v : Bool). x & v) (rw ew (switch-classes (program f) (signatureOf (program f) q) after (switch-at f i F k .goal)));
+        }
 
-  pub step-done : (after : Set) {t u : List ℕ} {s end : ℕ} {b r : Set} → b ≡ liveGoal (program f) (goalAt f i) after → r ≡ b
-      → Fills t u s end (point b after ∷ []) → GoalDone f i after t u s end r
-  step-done after {t} {u} {s} {end} e k h =
-      (k ∙ e, own-point (program f) (goalAt f i) after [] (step-parts (program f) after step-goal) e (fills-none t end) h)
+  -- ---- the goals of a part, where what is live behind the whole goal was put back
+  pub part-from : (i : ℕ) {after now : Set} {end : ℕ} {x : Bool} {c t d u : List ℕ} → now ≡ after → Carries c now end x → GoalsDone f rows w i c t d u
+      → GoalsFrom f rows w i after end x t d u
+  part-from i {after} {now} {end} {x} {c} {t} {d} {u} ea h k =
+      let a : liveIn c ≡ after = h .live-is ∙ ea in
+      record {
+        live-is = rw a at (k .live-is);
+        fills = rw (a, h .place-is) at (k .fills);
+        classes-are = λ o q y b. rw (a, h .classes-is) at (k .classes-are o q y b);
+      }
 
--- ---- a switch
-module _ (f : List ℕ) (i : ℕ) (F : Formed f) (k : word f i 0 ≡ 12) where
-  switch-at : SwitchAt f i (word f i 1) (word f i 2) (word f i 3)
-  switch-at = switch-here F refl k
+  -- ---- an if
+  module _ (i : ℕ) (F : Formed f) (k : word f i 0 ≡ 14) where
+    -- the points of the second part stand behind those of the first
+    pub if-done : {after now : Set} {end m n : ℕ} {x : Bool} {t c u c′ d v e v′ : List ℕ} {other one a b p q r : Set} → now ≡ after
+        → GoalsFrom f rows w (word f i 5) after end x t c u → other ≡ liveIn c → Carries c′ now (placeIn c) (classesIn c)
+        → GoalsDone f rows w (word f i 4) c′ u d v → one ≡ liveIn d → m ≡ word f i 2 → a ≡ single m → n ≡ word f i 3 → b ≡ single n
+        → p ≡ a ∪ b → q ≡ one ∪ other → r ≡ p ∪ q → Noted d v e v′ r now (classesIn d) → GoalFrom f rows w i after end x t e v′
+    if-done {after} {now} {x = x} {r = r} ea h eo g j ep p₁ p₂ p₃ p₄ p₅ p₆ p₇ n =
+        let j′ = part-from (word f i 4) ea g j in
+        let l : r ≡ liveGoal (program f) (goalAt f i) after =
+        p₇ ∙ cc (h .live-is, eo, ep, j′ .live-is, p₁, p₂, p₃, p₄, p₅, p₆) ∙ if-live (program f) after (if-at f i F k .goal) in
+        record {
+          live-is = n .live-is ∙ l;
+          fills = own-point (program f) (goalAt f i) after _ (if-parts (program f) after (if-at f i F k .goal)) l (fills-more (h .fills) (j′ .fills)) (rw ea at (n .fills));
+          classes-are = λ o q y b.
+              n .classes-is
+              ∙ if-classes (program f) (signatureOf (program f) q) after x (if-at f i F k .goal)
+              (h .classes-are o q y (λ z. y .owning .to-else i k _ refl z ∙ b)) (j′ .classes-are o q y (λ z. y .owning .to-then i k _ refl z ∙ b));
+        }
 
-  pub to-arms : {w : ℕ} → w ≡ word f i 3 → Onward f arms i w
-  to-arms e = rw e (switch-at .to-arms)
+  -- ---- arms
+  pub arms-last : (i : ℕ) {after : Set} {end : ℕ} {x : Bool} {d : List ℕ} (t : List ℕ) → i ≡ 0 → Carries d emptySet end x → ArmsFrom f rows w i after end x t d t
+  unfolding liveArms armsPoints armsClasses
+  arms-last i {end = end} {x = x} t z h =
+      record {
+        live-is = rw (arms-none f z) (h .live-is);
+        fills = rw (arms-none f z, h .place-is) (fills-none t end);
+        classes-are = λ o q y b. rw (arms-none f z) (h .classes-is ∙ sym (and-right x));
+      }
 
-  pub switch-done : (after : Set) {t u v : List ℕ} {s m end w x : ℕ} {n o b r : Set} → w ≡ word f i 3 → ArmsDone f w after t u m end n
-      → x ≡ word f i 2 → o ≡ single x → b ≡ o ∪ n → r ≡ b → Fills u v s m (point b after ∷ []) → GoalDone f i after t v s end r
-  switch-done after {t} {u} {v} {s} {m} {end} {w} {x} {n} {o} {b} e h j q c g l =
-      let y = switch-live (program f) after (switch-at .goal) in
-      let a : b ≡ liveGoal (program f) (goalAt f i) after = c ∙ cc (e, h .0, j, q) ∙ y in
-      (g ∙ a, own-point (program f) (goalAt f i) after _ (switch-parts (program f) after (switch-at .goal)) a (rw e at (h .1)) l)
+  module _ (i : ℕ) (F : Formed f) (S : Stands f arms i) (z : i ≡ 0 → ⊥) where
+    arms-live : (after : Set) {r : Set}
+        → r ≡ (live (program f) (goalsAt f (word f i 2)) after ∖ setOf (argumentsOf (four (word f i 4) (word f i 5) (word f i 6) (word f i 7))))
+        ∪ liveArms (program f) (armsAt f (word f i 1)) after → r ≡ liveArms (program f) (armsAt f i) after
+    unfolding liveArms
+    arms-live after e = rw (arm-here f i F S z .view) e
 
--- ---- an if
-module _ (f : List ℕ) (i : ℕ) (F : Formed f) (k : word f i 0 ≡ 14) where
-  if-at : IfAt f i (word f i 1) (word f i 2) (word f i 3) (word f i 4) (word f i 5)
-  if-at = if-here F refl k
+    arms-points : (after : Set) {t v : List ℕ} {s end : ℕ}
+        → Fills t v s end (points (program f) (goalsAt f (word f i 2)) after ++ armsPoints (program f) (armsAt f (word f i 1)) after)
+        → Fills t v s end (armsPoints (program f) (armsAt f i) after)
+    unfolding armsPoints
+    arms-points after h = rw (arm-here f i F S z .view) h
 
-  pub to-then : Onward f goals i (word f i 4)
-  to-then = if-at .to-then
+    pub arms-more : {after now : Set} {end next : ℕ} {x : Bool} {t c u c′ d v e : List ℕ} {other own bound p r : Set} → now ≡ after → next ≡ word f i 1
+        → ArmsFrom f rows w next after end x t c u → other ≡ liveIn c → Carries c′ now (placeIn c) (classesIn c)
+        → GoalsDone f rows w (word f i 2) c′ u d v → own ≡ liveIn d
+        → bound ≡ setOf (argumentsOf (four (word f i 4) (word f i 5) (word f i 6) (word f i 7))) → p ≡ own ∖ bound → r ≡ p ∪ other
+        → Carries e r (placeIn d) (classesIn d) → ArmsFrom f rows w i after end x t e v
+    arms-more {after} {now} {x = x} {r = r} ea ew h eo g j ep eb p₁ p₂ n =
+        let j′ = part-from (word f i 2) ea g j in
+        record {
+          live-is = n .live-is ∙ arms-live after (p₂ ∙ cc (ew, h .live-is, eo, ep, j′ .live-is, eb, p₁));
+          fills = rw (n .place-is) (arms-points after (fills-more (rw ew at (h .fills)) (j′ .fills)));
+          classes-are = λ o q y b.
+              n .classes-is
+              ∙ arms-classes (program f) (signatureOf (program f) q) after x (arm-here f i F S z .view)
+              (rw ew at (h .classes-are o q y (λ k. y .owning .arm-next i S z _ ew k ∙ b z)))
+              (j′ .classes-are o q y (λ k. y .owning .arm-goals i S z _ refl k ∙ b z));
+        }
 
-  pub to-else : Onward f goals i (word f i 5)
-  to-else = if-at .to-else
+  -- ---- the goals that a word leads to
+  pub part-done : (i k : ℕ) {after : Set} {end : ℕ} {x : Bool} {t d u : List ℕ} {n : ℕ} → n ≡ word f i k → GoalsFrom f rows w n after end x t d u
+      → GoalsFrom f rows w (word f i k) after end x t d u
+  part-done i k e h = rw e at h
 
-  -- the points of the second part stand behind those of the first
-  pub if-done : (after : Set) {t u v w : List ℕ} {s m n end y z : ℕ} {no yes a b c d e r : Set}
-      → GoalsDone f (word f i 5) after t u m end no → GoalsDone f (word f i 4) after u v n m yes → y ≡ word f i 2 → a ≡ single y
-      → z ≡ word f i 3 → b ≡ single z → c ≡ a ∪ b → d ≡ yes ∪ no → e ≡ c ∪ d → r ≡ e → Fills v w s n (point e after ∷ [])
-      → GoalDone f i after t w s end r
-  if-done after {e = e} h j p₁ p₂ p₃ p₄ p₅ p₆ p₇ g l =
-      let x = if-live (program f) after (if-at .goal) in
-      let o : e ≡ liveGoal (program f) (goalAt f i) after = p₇ ∙ cc (h .0, j .0, p₁, p₂, p₃, p₄, p₅, p₆) ∙ x in
-      (g ∙ o, own-point (program f) (goalAt f i) after _ (if-parts (program f) after (if-at .goal)) o (fills-more (h .1) (j .1)) l)
+-- ---- a whole procedure: nothing is behind its last goal
+module _ {f rows w : List ℕ} (i : ℕ) {outs : Set} {c₀ c t d u : List ℕ} (e : c₀ ≡ 0 ∷ pointWords ∷ 1 ∷ [])
+    (h : Carries c outs (placeIn c₀) (classesIn c₀)) (g : GoalsDone f rows w i c t d u) where
+  from-end : GoalsFrom f rows w i outs pointWords true t d u
+  unfolding placeIn classesIn
+  from-end = rw e at (part-from f rows w i refl h g)
 
--- ---- arms
-pub arms-last : (f : List ℕ) (i : ℕ) (after : Set) (t : List ℕ) (end : ℕ) → i ≡ 0 → ArmsDone f i after t t end end emptySet
-unfolding liveArms armsPoints
-arms-last f i after t end z = rw (arms-none f z) (refl, fills-none t end)
+  pub list-done : {r : Set} {s : ℕ} → Formed f → Stands f goals i → pointWords ≤ length t → r ≡ liveIn d → s ≡ placeIn d → ListDone f i outs t u s r
+  list-done F S l er es = (er ∙ from-end .live-is, rw es (from-end .fills .room (points-room F i outs (S .below)) l))
 
-module _ (f : List ℕ) (i : ℕ) (F : Formed f) (S : Stands f arms i) (z : i ≡ 0 → ⊥) where
-  pub arm-here : ArmAt f i (word f i 1) (word f i 2) (word f i 3) (word f i 4) (word f i 5) (word f i 6) (word f i 7)
-  arm-here = arm-at F refl (arm-is S z)
-
-  pub arms-more : (after : Set) {t u v : List ℕ} {s m end w : ℕ} {others own bound d r : Set} → w ≡ word f i 1 → ArmsDone f w after t u m end others
-      → GoalsDone f (word f i 2) after u v s m own → bound ≡ setOf (argumentsOf (four (word f i 4) (word f i 5) (word f i 6) (word f i 7)))
-      → d ≡ own ∖ bound → r ≡ d ∪ others → ArmsDone f i after t v s end r
-  unfolding liveArms armsPoints
-  arms-more after e h j b d r = rw (arm-here .view) (r ∙ cc (e, h .0, j .0, b, d), fills-more (rw e at (h .1)) (j .1))
-
--- ---- the goals that a word leads to
-pub part-stands : (f : List ℕ) (i k : ℕ) {w : ℕ} → w ≡ word f i k → Stands f goals (word f i k) → Stands f goals w
-part-stands f i k e s = rw e s
-
-pub part-done : (f : List ℕ) (i k : ℕ) (after : Set) {t u : List ℕ} {s end w : ℕ} {r : Set} → w ≡ word f i k → GoalsDone f w after t u s end r
-    → GoalsDone f (word f i k) after t u s end r
-part-done f i k after e h = rw e at h
+  pub list-classes : {own : List ℕ} {b : Bool} → Wants own w → b ≡ classesIn d → ListClasses f rows own i outs b
+  unfolding _&_
+  list-classes k eb o q E O W B = eb ∙ from-end .classes-are o q (record { effected = E; owning = O; wants = wants-are W k }) B

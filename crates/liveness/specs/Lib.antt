@@ -3,4 +3,8 @@ pub mod Counts
 pub mod Room
 pub mod Table
 pub mod Holds
+pub mod Carried
+pub mod Noted
+pub mod Wants
+pub mod Step
 pub mod Done

@@ -1,6 +1,9 @@
-// Live variables at every point of a procedure's goals, in a table that a later walk reads in its own order.
+// Live variables at every point of a procedure's goals, in a table that a later walk reads in its own order; and number 7 at its steps.
+mod carried;
+mod step;
 mod table;
 mod walk;
+mod wants;
 mod whole;
 
 use sets::Set;
@@ -8,8 +11,20 @@ pub use table::live_after;
 pub use table::live_before;
 pub use whole::list_live;
 
-// What is live before the goals whose points were written, and the place of the first of them in the table.
+// Words of the points of 4,096 goals.
+pub const POINTS: usize = 8192;
+
+// Words of what is wanted: the reach of each variable, at the place of its number, then the kept regions.
+pub const WANTS: usize = 66;
+
+pub const WANTS_KEPT: usize = 65;
+
+// Words that the walk carries: what is live, the place that the next point is written in front of, and 1 unless a step broke number 7.
+pub const CARRIED: usize = 3;
+
+// What is live before the goals whose points were written, the place of the first of them in the table, and whether their steps keep number 7.
 pub struct Filled {
     pub live: Set,
     pub start: usize,
+    pub classes: bool,
 }

@@ -1,31 +1,23 @@
 // The table of points: two words each, what is live before the goal and what is live after it.
-use crate::Filled;
 use sets::Set;
 ghost use mathlib.Core.Path.{_≡_};
 ghost use mathlib.Core.List.{_∷_, []};
 ghost use Rattle.liveness.specs.Points.{point};
 ghost use Rattle.liveness.specs.Table.{Fills, beforeAt, afterAt};
 
-// Writes a point in front of place end. Where it has no room there, the table stays as it is.
-pub fn note(before: Set, after: Set, end: usize, table: &mut [u64]) -> Filled
-    ensures { λ r. ⌜ r .live ≡ before ⌝ }
-    ensures { λ r. ⌜ Fills (now (table .entry)) (now (table .exit)) (r .start) end (point before after ∷ []) ⌝ }
+// Writes a point in front of place end, and answers where it stands. Where it has no room there, the table stays as it is.
+pub fn note(before: Set, after: Set, end: usize, table: &mut [u64]) -> usize
+    ensures { λ r. ⌜ Fills (now (table .entry)) (now (table .exit)) r end (point before after ∷ []) ⌝ }
 {
     if end < 2 {
-        return Filled {
-            live: before,
-            start: 0,
-        };
+        return 0;
     }
     let start = end - 2;
     if end <= table.len() {
         table[start] = before.stored();
         table[start + 1] = after.stored();
     }
-    Filled {
-        live: before,
-        start,
-    }
+    start
 }
 
 // What is live before the goal whose point stands at that place; nothing past the end.

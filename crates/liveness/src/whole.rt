@@ -1,28 +1,65 @@
 // The points of a whole procedure.
+use crate::CARRIED;
 use crate::Filled;
+use crate::POINTS;
+use crate::WANTS;
+use crate::carried::classes_in;
+use crate::carried::live_in;
+use crate::carried::place_in;
+use crate::carried::put_live;
 use crate::walk::goals;
+use crate::wants::list_wants;
 use sets::Set;
 use tables::ROWS;
+ghost use mathlib.Core.Path.{_≡_};
+ghost use mathlib.Core.List.{_∷_, []};
 ghost use Prim.Native.Nat.{_≤_};
 ghost use lib.ListN.{length};
 ghost use Rattle.language.specs.File.{goals};
 ghost use Rattle.chains.specs.Formed.{Formed, Stands};
 ghost use Rattle.tables.specs.Filled.{Accessed};
-ghost use Rattle.liveness.specs.Done.{pointWords, ListDone};
+ghost use Rattle.liveness.specs.Wants.{wantsWords};
+ghost use Rattle.liveness.specs.Done.{pointWords, ListDone, ListClasses};
 
-// Writes the points of a procedure's goals, from record body on, at the end of the table. "After the last goal, the out variables are live."
+// Room for what is wanted.
+fn blank_wants() -> [u64; WANTS]
+    ensures { λ r. ⌜ wantsWords ≡ length r ⌝ }
+{
+    [0; WANTS]
+}
+
+// Nothing live, the table's end, and no step yet that breaks number 7.
+fn at_end() -> [u64; CARRIED]
+    ensures { λ r. ⌜ r ≡ 0 ∷ pointWords ∷ 1 ∷ [] ⌝ }
+{
+    [0, POINTS as u64, 1]
+}
+
+// Writes the points of a procedure's goals, from record body on, at the end of the table; own is the procedure's window. "After the last goal, the
+// out variables are live."
 pub fn list_live(
     file: &[u8],
     rows: &[u64; ROWS],
+    own: &[u64],
     body: usize,
     outs: Set,
-    table: &mut [u64],
+    table: &mut [u64; POINTS],
 ) -> Filled
     requires { ⌜ Formed (now file) ⌝ }
     requires { ⌜ Accessed (now file) (now rows) ⌝ }
     requires { ⌜ Stands (now file) goals body ⌝ }
     requires { ⌜ pointWords ≤ length (now table) ⌝ }
     ensures { λ r. ⌜ ListDone (now (file .entry)) body outs (now (table .entry)) (now (table .exit)) (r .start) (r .live) ⌝ }
+    ensures { λ r. ⌜ ListClasses (now (file .entry)) (now (rows .entry)) (now (own .entry)) body outs (r .classes) ⌝ }
 {
-    goals(file, rows, body, outs, table.len(), table)
+    let mut wants = blank_wants();
+    list_wants(own, &mut wants);
+    let mut carried = at_end();
+    put_live(&mut carried, outs);
+    goals(file, rows, &wants, body, &mut carried, table);
+    Filled {
+        live: live_in(&carried),
+        start: place_in(&carried),
+        classes: classes_in(&carried),
+    }
 }

@@ -1,6 +1,5 @@
 -- `note` meets its contract.
 use native.Mathlib.Omega.{arith}
-use mathlib.Core.Path.{refl}
 use lib.ListN.{length-set}
 use Rattle.liveness.specs.Table.{fills-point, fills-full}
 use borrow.Author.Needs.{needs}
@@ -8,7 +7,7 @@ use Rattle.liveness.proofs.table.note.Statement.{statement}
 use Rattle.liveness.proofs.table.note.Tie as tie
 
 returns : tie.Need-returns
-returns c = (refl, fills-full _ _ _ _ _ (λ p q. omega arith))
+returns c = fills-full _ _ _ _ _ (λ p q. omega arith)
 
 stored-requires : tie.Need-stored-requires
 stored-requires c κs = search needs
@@ -35,10 +34,10 @@ same-length : tie.Need-same-length
 same-length c = search needs
 
 returns-2 : tie.Need-returns-2
-returns-2 c = (refl, fills-point _ _ _ _ (omega arith) (omega arith) (c .before .stored .ensures) (c .stored2 .ensures))
+returns-2 c = fills-point _ _ _ _ (omega arith) (omega arith) (c .before .stored .ensures) (c .stored2 .ensures)
 
 returns-3 : tie.Need-returns-3
-returns-3 c = (refl, fills-full _ _ _ _ _ (λ p q. omega arith))
+returns-3 c = fills-full _ _ _ _ _ (λ p q. omega arith)
 
 pub note-spec : {M : Type 1} → statement M
 note-spec =

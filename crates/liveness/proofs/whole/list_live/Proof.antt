@@ -1,23 +1,54 @@
 -- `list_live` meets its contract: there is room for all points.
-use native.Mathlib.Omega.{arith}
-use Rattle.liveness.specs.Room.{points-room}
+use Rattle.liveness.proofs.Walking.{list-done, list-classes}
 use borrow.Author.Needs.{needs}
 use Rattle.liveness.proofs.whole.list_live.Statement.{statement}
 use Rattle.liveness.proofs.whole.list_live.Tie as tie
 
+blank-wants-requires : tie.Need-blank-wants-requires
+blank-wants-requires c κs = search needs
+
+slice-aggregate-list-wants : tie.Need-slice-aggregate-list-wants
+slice-aggregate-list-wants c = search needs
+
+list-wants-requires : tie.Need-list-wants-requires
+list-wants-requires c κs = search needs
+
+at-end-requires : tie.Need-at-end-requires
+at-end-requires c κs = search needs
+
+slice-aggregate-put-live : tie.Need-slice-aggregate-put-live
+slice-aggregate-put-live c = search needs
+
+put-live-requires : tie.Need-put-live-requires
+put-live-requires c κs = search needs
+
 goals-requires : tie.Need-goals-requires
 goals-requires c κs = search needs
 
-same-length : tie.Need-same-length
-same-length c = search needs
+live-in-requires : tie.Need-live-in-requires
+live-in-requires c κs = search needs
+
+place-in-requires : tie.Need-place-in-requires
+place-in-requires c κs = search needs
+
+classes-in-requires : tie.Need-classes-in-requires
+classes-in-requires c κs = search needs
 
 returns : tie.Need-returns
-returns c =
-    let on-goals = c .before .before in
-    let start = on-goals .before .before .before .before in
-    let e = on-goals .goals .ensures in
-    let few = points-room (start .pre .0) (start .args .body) (start .args .outs) (start .pre .1 .1 .0 .below) in
-    (e .0, e .1 .room (omega (arith, few, start .pre .1 .1 .1)) (omega arith))
+returns c = let p = c .before .before .before .before .before .before .before .before .before .before .before .before .before .before .before .before .before .before .before .before .pre in (list-done _ (c .before .before .before .before .before .before .before .before .before .before .before .before .before .at-end .ensures) (c .before .before .before .before .before .before .before .before .before .before .before .put-live .ensures) (c .before .before .before .before .before .before .goals .ensures) (p .0) (p .1 .1 .0) (p .1 .1 .1) (c .before .before .before .before .live-in .ensures) (c .before .before .place-in .ensures), list-classes _ (c .before .before .before .before .before .before .before .before .before .before .before .before .before .at-end .ensures) (c .before .before .before .before .before .before .before .before .before .before .before .put-live .ensures) (c .before .before .before .before .before .before .goals .ensures) (c .before .before .before .before .before .before .before .before .before .before .before .before .before .before .before .list-wants .ensures) (c .classes-in .ensures))
 
 pub list-live-spec : {M : Type 1} → statement M
-list-live-spec = tie.close (tie.spec goals-requires same-length returns)
+list-live-spec =
+    tie.close
+    (tie.spec
+    blank-wants-requires
+    slice-aggregate-list-wants
+    list-wants-requires
+    at-end-requires
+    slice-aggregate-put-live
+    put-live-requires
+    goals-requires
+    live-in-requires
+    place-in-requires
+    classes-in-requires
+    returns)
