@@ -36,7 +36,7 @@ unfoldable pub marksTree : Kind → List ℕ → Tree → Tree
 marksTree k [] t = t
 marksTree k (x ∷ xs) t = node k (marksTree k xs t) (plain x (zeros 5))
 
-marks-goes : (k : Kind) (xs : List ℕ) (on : ℕ) (t : Tree) → Goes on t → Goes (moreOf xs on) (marksTree k xs t)
+pub marks-goes : (k : Kind) (xs : List ℕ) (on : ℕ) (t : Tree) → Goes on t → Goes (moreOf xs on) (marksTree k xs t)
 unfolding moreOf marksTree linked reference
 marks-goes k [] on t g c = g c
 marks-goes k (x ∷ xs) on t g c = refl
@@ -72,6 +72,9 @@ more-is : (s : Set) (on r n m : ℕ) → n ≡ nextMember s r → (n < 65 → m 
 unfolding moreOf
 more-is s on r n m e p q (yes h) = p h ∙ ap (λ xs. moreOf xs on) (sym (above-next s r n (sym e) h))
 more-is s on r n m e p q (no h) = q (omega arith) ∙ ap (λ xs. moreOf xs on) (sym (above-end s r (next-ends s r e (omega arith))))
+
+pub follows-is : (s : Set) (on : ℕ) {n m : ℕ} → n ≡ nextMember s 0 → (n < 65 → m ≡ 1) → (65 ≤ n → m ≡ on) → m ≡ moreOf (members s) on
+follows-is s on {n} {m} e p q = more-is s on 0 n m e p q (decLt n 65) ∙ ap (λ xs. moreOf xs on) (above-start s)
 
 module _ {a b : List ℕ} {k : ℕ} {s : Set} {on first r c : ℕ} (G : Marking a b k s on first r c) where
   pub marking-last : 65 ≤ r → Lays a b first c (marks k (members s) on first)

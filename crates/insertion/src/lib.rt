@@ -1,7 +1,11 @@
 // The annotated file, laid into a lent slice: the file's records with creates and removes between them.
 mod copies;
+mod heads;
 mod marks;
 mod place;
+mod points;
+mod step;
+mod walk;
 
 // Where a walk stands: the next record to write, and the point of the next goal.
 pub struct Cursor {

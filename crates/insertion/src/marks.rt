@@ -8,7 +8,7 @@ ghost use mathlib.Core.Path.{_≡_};
 ghost use Prim.Native.Nat.{_≤_, _<_};
 ghost use Rattle.sets.specs.Members.{members};
 ghost use Rattle.insertion.specs.Lays.{Lays};
-ghost use Rattle.insertion.specs.Marks.{marks};
+ghost use Rattle.insertion.specs.Marks.{moreOf, marks};
 
 // Not 0 where the record of another number follows, or where the chain goes on behind the last of them.
 fn more(next: usize, on: usize) -> usize
@@ -16,6 +16,13 @@ fn more(next: usize, on: usize) -> usize
     ensures { λ r. ⌜ (65 ≤ next → r ≡ on) ⌝ }
 {
     if next < PLACES { 1 } else { on }
+}
+
+// Not 0 where a record for a member follows, or the chain goes on behind them.
+pub fn follows(s: Set, on: usize) -> usize
+    ensures { λ r. ⌜ r ≡ moreOf (members s) on ⌝ }
+{
+    more(s.after(0), on)
 }
 
 // Lays a record of that kind for each member, in rising number. Behind them the chain goes on where `on` is not 0.

@@ -85,7 +85,7 @@ unfolding front frontOf
 front-length f i c = ap suc (layWords-length (wordsAt f i) (suc c))
 
 module _ {f : List ℕ} (F : Formed f) (i : ℕ) (p : 0 < i) (q : i < recordCount f) where
-  tree-is : treeAt f i ≡ node (kindOf (word f i kindWord)) (treeAt f (word f i nextWord)) (wordsAt f i)
+  pub tree-is : treeAt f i ≡ node (kindOf (word f i kindWord)) (treeAt f (word f i nextWord)) (wordsAt f i)
   unfolding treeAt wordsAt usesAt readRecord
   tree-is = chain-step (word f) (recordCount f) (F .form) i p q
 

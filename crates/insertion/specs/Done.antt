@@ -1,0 +1,79 @@
+-- What the functions of the walk promise. `c` is where they start to lay, `r` where they end; `at` the place of the first point, `p` of the next one.
+use Prim.Native.Nat.{ℕ, _+_, _*_}
+use mathlib.Core.List.{List}
+use mathlib.Core.Path.{_≡_}
+use lib.ListN.{length}
+use Rattle.language.specs.File.{kArm, word}
+use Rattle.language.specs.Tree.{noWords, plain, leads}
+use Rattle.language.specs.Layout.{lay}
+use Rattle.language.specs.Records.{fourPlain, goalsTree, armsTree}
+use Rattle.language.specs.Program.{four, Goals, _before_, signatureOf}
+use Rattle.language.specs.Lifetimes.{wanted, live}
+use Rattle.language.specs.Answers.{program}
+use Rattle.placement.specs.Local.{removesTo, localGoals, localGoal, localArms}
+use Rattle.sets.specs.declared.Set.{Set}
+use Rattle.chains.specs.Formed.{goalsAt, goalAt, armsAt}
+use Rattle.tables.specs.Filled.{Effected, Owning}
+use Rattle.liveness.specs.Points.{points, goalPoints, armsPoints}
+use Rattle.liveness.specs.Counts.{goalsCount, goalCount, armsCount}
+use Rattle.liveness.specs.Table.{beforeAt, afterAt}
+use Rattle.insertion.specs.Lays.{Lays, headOf}
+use Rattle.insertion.specs.Chains.{Fronts}
+use Rattle.insertion.specs.Wants.{Wants}
+
+-- the rows are those of the file
+pub record Ready (f rows : List ℕ) (o : ℕ → ℕ) : Type 0 where
+  pub effected : Effected f o rows
+  pub owning : Owning f o
+
+-- record i belongs to procedure q, if there is such a record
+abbrev pub Belongs : (ℕ → ℕ) → ℕ → ℕ → Type 0
+Belongs o q i = (i ≡ 0 → ⊥) → o i ≡ q
+
+-- a part of the goal whose point is at `whole`: the removes at its start, then its goals
+unfoldable pub partOf : List ℕ → List ℕ → ℕ → ℕ → ℕ → Set → Goals
+partOf f t whole q i after =
+    removesTo (signatureOf (program f) q) (beforeAt t whole) (live (program f) (goalsAt f i) after)
+    before localGoals (program f) (signatureOf (program f) q) (goalsAt f i) after
+
+module _ (f rows t : List ℕ) (i at : ℕ) (a b : List ℕ) (c r p : ℕ) where
+  -- the goals from record i on
+  abbrev pub GoalsLaid : Type 0
+  GoalsLaid =
+      (length b ≡ length a)
+      × ((o : ℕ → ℕ) (q : ℕ) (after : Set) → Ready f rows o → Belongs o q i → Wants (signatureOf (program f) q) t at (points (program f) (goalsAt f i) after)
+      → Lays a b c r (lay (goalsTree (localGoals (program f) (signatureOf (program f) q) (goalsAt f i) after)) c) × (p ≡ at + 2 * goalsCount (goalsAt f i)))
+
+  -- the goal at record i
+  abbrev pub GoalLaid : Type 0
+  GoalLaid =
+      (length b ≡ length a)
+      × ((o : ℕ → ℕ) (q : ℕ) (after : Set) → Ready f rows o → o i ≡ q → Wants (signatureOf (program f) q) t at (goalPoints (program f) (goalAt f i) after)
+      → Fronts a b c r (localGoal (program f) (signatureOf (program f) q) (goalAt f i) after) (word f i 1) × (p ≡ at + 2 * goalCount (goalAt f i)))
+
+  -- the goals from record i on, as a part of the goal whose point is at `whole`
+  abbrev pub PartLaid : ℕ → Type 0
+  PartLaid whole =
+      (length b ≡ length a)
+      × ((o : ℕ → ℕ) (q : ℕ) (after : Set) → Ready f rows o → Belongs o q i → afterAt t whole ≡ wanted (signatureOf (program f) q) after
+      → Wants (signatureOf (program f) q) t at (points (program f) (goalsAt f i) after)
+      → Lays a b c r (lay (goalsTree (partOf f t whole q i after)) c) × (p ≡ at + 2 * goalsCount (goalsAt f i)))
+
+  -- the arm at record i
+  abbrev pub ArmLaid : ℕ → Type 0
+  ArmLaid whole =
+      (length b ≡ length a)
+      × ((o : ℕ → ℕ) (q : ℕ) (after : Set) → Ready f rows o → o i ≡ q → afterAt t whole ≡ wanted (signatureOf (program f) q) after
+      → Wants (signatureOf (program f) q) t at (points (program f) (goalsAt f (word f i 2)) after)
+      → Lays a b c r (headOf kArm (word f i 1)
+      (leads (goalsTree (partOf f t whole q (word f i 2) after)) (plain (word f i 3) (fourPlain (four (word f i 4) (word f i 5) (word f i 6) (word f i 7)) noWords))) c)
+      × (p ≡ at + 2 * goalsCount (goalsAt f (word f i 2))))
+
+  -- the arms from record i on
+  abbrev pub ArmsLaid : ℕ → Type 0
+  ArmsLaid whole =
+      (length b ≡ length a)
+      × ((o : ℕ → ℕ) (q : ℕ) (after : Set) → Ready f rows o → Belongs o q i → afterAt t whole ≡ wanted (signatureOf (program f) q) after
+      → Wants (signatureOf (program f) q) t at (armsPoints (program f) (armsAt f i) after)
+      → Lays a b c r (lay (armsTree (localArms (program f) (signatureOf (program f) q) (armsAt f i) after (beforeAt t whole))) c)
+      × (p ≡ at + 2 * armsCount (armsAt f i)))
