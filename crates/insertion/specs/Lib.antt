@@ -6,3 +6,4 @@ pub mod Wants
 pub mod Heads
 pub mod Done
 pub mod Steps
+pub mod Bodies

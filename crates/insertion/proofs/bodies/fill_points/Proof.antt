@@ -1,0 +1,37 @@
+-- `fill_points` meets its contract.
+use native.Mathlib.Omega.{arith}
+use Rattle.insertion.specs.Bodies.{points-long, points-start, points-filled}
+use borrow.Author.Needs.{needs}
+use Rattle.insertion.proofs.bodies.fill_points.Statement.{statement}
+use Rattle.insertion.proofs.bodies.fill_points.Tie as tie
+use Rattle.insertion.proofs.bodies.fill_points.Reads as reads
+use Rattle.insertion.proofs.bodies.fill_points.Lts as lts
+use Rattle.insertion.proofs.points.list_wanted.Reads as list-wanted-reads
+use Rattle.liveness.proofs.list_live.Reads as list-live-reads
+use Rattle.tables.proofs.set_at.Reads as set-at-reads
+use Rattle.tables.proofs.word_at.Reads as word-at-reads
+
+word-at-requires : tie.Need-word-at-requires
+word-at-requires c κs = search needs
+
+set-at-requires : tie.Need-set-at-requires
+set-at-requires c κs = search needs
+
+list-live-requires : tie.Need-list-live-requires
+list-live-requires c κs =
+    let p = c .before .before .before .before .before .pre in
+    (p .0, (p .1 .0, (rw (c .before .before .word-at .ensures) (p .1 .1 .0), omega (arith, p .1 .1 .1))))
+
+list-wanted-requires : tie.Need-list-wanted-requires
+list-wanted-requires c κs =
+    let n = c .before .before .before .before .before .before .before .pre .1 .1 .1 in
+    (points-long _ _ _ _ _ _ _ _ n (c .before .before .before .before .word-at .ensures) (c .before .before .before .set-at .ensures) (c .before .list-live .ensures), points-start _ _ _ _ _ _ _ _ n (c .before .before .before .before .word-at .ensures) (c .before .before .before .set-at .ensures) (c .before .list-live .ensures))
+
+returns : tie.Need-returns
+returns c =
+    points-filled _ _ _ _ _ _ _ _ (c .before .before .before .before .before .before .before .before .pre .1 .1 .1) (c .before .before .before .before .before .word-at .ensures) (c .before .before .before .before .set-at .ensures) (c .before .before .list-live .ensures) (c .list-wanted .ensures)
+
+pub fill-points-spec : {M : Type 1} → statement M
+fill-points-spec =
+    tie.close
+    (tie.spec word-at-requires set-at-requires list-live-requires list-wanted-requires returns)
