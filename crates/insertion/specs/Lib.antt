@@ -7,3 +7,4 @@ pub mod Heads
 pub mod Done
 pub mod Steps
 pub mod Bodies
+pub mod Procedures

@@ -5,6 +5,7 @@ mod heads;
 mod marks;
 mod place;
 mod points;
+mod procedures;
 mod step;
 mod walk;
 

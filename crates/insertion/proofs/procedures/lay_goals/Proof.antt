@@ -1,0 +1,50 @@
+-- `lay_goals` meets its contract.
+use borrow.Author.Needs.{needs}
+use Rattle.insertion.specs.Procedures.{window-stands, goals-laid}
+use borrow.Author.Needs.{needs}
+use Rattle.insertion.proofs.procedures.lay_goals.Statement.{statement}
+use Rattle.insertion.proofs.procedures.lay_goals.Tie as tie
+use Rattle.insertion.proofs.procedures.lay_goals.Reads as reads
+use Rattle.insertion.proofs.procedures.lay_goals.Lts as lts
+use Rattle.insertion.proofs.bodies.lay_body.Reads as lay-body-reads
+use Rattle.tables.proofs.start_of.Reads as start-of-reads
+
+start-of-requires : tie.Need-start-of-requires
+start-of-requires c κs = search needs
+
+mul-lay-body : tie.Need-mul-lay-body
+mul-lay-body c = search needs
+
+sub-lay-body : tie.Need-sub-lay-body
+sub-lay-body c = search needs
+
+part-lay-body-start : tie.Need-part-lay-body-start
+part-lay-body-start c = search needs
+
+part-lay-body-end : tie.Need-part-lay-body-end
+part-lay-body-end c = search needs
+
+lay-body-requires : tie.Need-lay-body-requires
+lay-body-requires c κs =
+    let p = c .before .before .before .before .before .before .before .pre in
+    (p .0 .formed, (p .0 .prepared .accessed, (window-stands (p .0) (p .1 .0) (c .before .before .before .start-of .ensures .0), p .1 .1)))
+
+same-length : tie.Need-same-length
+same-length c = search needs
+
+returns : tie.Need-returns
+returns c =
+    (c .before .before .lay-body .ensures .0, goals-laid (c .before .before .before .before .before .before .before .before .before .before .pre .0) (c .before .before .before .before .before .before .before .before .before .before .pre .1 .0) (c .before .before .before .before .before .before .start-of .ensures .0) (c .before .before .lay-body .ensures .1))
+
+pub lay-goals-spec : {M : Type 1} → statement M
+lay-goals-spec =
+    tie.close
+    (tie.spec
+    start-of-requires
+    mul-lay-body
+    sub-lay-body
+    part-lay-body-start
+    part-lay-body-end
+    lay-body-requires
+    same-length
+    returns)
