@@ -24,7 +24,7 @@ lays-low {c = c} {r = r} {rs = rs} L l = go (decLt maxRecords (c + length rs))
     go (yes h) = absurd (omega (arith, L .place .over h))
     go (no h) = omega arith
 
-lays-zeros : (a : List ℕ) (c : ℕ) (n : ℕ) → Lays a a c c (layWords (zeros n) c)
+pub lays-zeros : (a : List ℕ) (c : ℕ) (n : ℕ) → Lays a a c c (layWords (zeros n) c)
 unfolding zeros
 lays-zeros a c zero = lays-no-words a c
 lays-zeros a c (suc n) = lays-number 0 (zeros n) (lays-zeros a c n)

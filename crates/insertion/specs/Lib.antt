@@ -8,3 +8,4 @@ pub mod Done
 pub mod Steps
 pub mod Bodies
 pub mod Procedures
+pub mod Whole

@@ -8,6 +8,10 @@ mod points;
 mod procedures;
 mod step;
 mod walk;
+mod whole;
+
+pub use whole::measure;
+pub use whole::write;
 
 // Where a walk stands: the next record to write, and the point of the next goal.
 pub struct Cursor {

@@ -1,0 +1,45 @@
+-- `lay_file` meets its contract.
+use borrow.Author.Needs.{needs}
+use mathlib.Core.Path.{_∙_}
+use Rattle.insertion.specs.Whole.{file-laid, types-below}
+use borrow.Author.Needs.{needs}
+use Rattle.insertion.proofs.whole.lay_file.Statement.{statement}
+use Rattle.insertion.proofs.whole.lay_file.Tie as tie
+use Rattle.insertion.proofs.whole.lay_file.Reads as reads
+use Rattle.insertion.proofs.whole.lay_file.Lts as lts
+use Rattle.insertion.proofs.copies.lay_chain.Reads as lay-chain-reads
+use Rattle.insertion.proofs.procedures.lay_procedures.Reads as lay-procedures-reads
+use Rattle.insertion.proofs.whole.store_header.Reads as store-header-reads
+use Rattle.records.proofs.word.Reads as word-reads
+
+word-requires : tie.Need-word-requires
+word-requires c κs = search needs
+
+lay-chain-requires : tie.Need-lay-chain-requires
+lay-chain-requires c κs =
+    (c .before .before .before .before .pre .formed, types-below (c .before .before .before .before .pre .formed) (c .before .word .ensures .0))
+
+lay-procedures-requires : tie.Need-lay-procedures-requires
+lay-procedures-requires c κs = search needs
+
+store-header-requires : tie.Need-store-header-requires
+store-header-requires c κs = search needs
+
+same-length : tie.Need-same-length
+same-length c =
+    c .before .before .store-header .ensures .stored .same ∙ c .before .before .before .before .before .before .lay-procedures .ensures .same ∙ c .before .before .before .before .before .before .before .before .before .before .lay-chain .ensures .same
+
+returns : tie.Need-returns
+returns c =
+    file-laid (c .before .before .before .before .before .before .before .before .before .before .before .before .before .before .before .pre .formed) (c .before .before .before .before .before .before .before .before .before .before .before .before .word .ensures .0) (c .before .before .before .before .before .before .before .before .before .before .lay-chain .ensures) (c .before .before .before .before .before .before .lay-procedures .ensures) (c .before .before .store-header .ensures)
+
+pub lay-file-spec : {M : Type 1} → statement M
+lay-file-spec =
+    tie.close
+    (tie.spec
+    word-requires
+    lay-chain-requires
+    lay-procedures-requires
+    store-header-requires
+    same-length
+    returns)

@@ -1,0 +1,71 @@
+// The annotated file: how many records it has, and its bytes.
+use crate::copies::lay_chain;
+use crate::place::refer;
+use crate::place::span;
+use crate::place::store;
+use crate::procedures::lay_procedures;
+use language::format::HEADER;
+use language::format::HEADER_TYPES;
+use records::word;
+use tables::ROWS;
+use tables::TABLE;
+ghost use mathlib.Core.Path.{_≡_};
+ghost use Prim.Native.Nat.{_*_, _≤_, _<_};
+ghost use lib.ListN.{length};
+ghost use Rattle.language.specs.Format.{recordBytes, maxRecords};
+ghost use Rattle.language.specs.Lists.{frontWritten};
+ghost use Rattle.language.specs.Layout.{size, lay};
+ghost use Rattle.language.specs.Records.{programTree};
+ghost use Rattle.language.specs.Annotation.{annotate};
+ghost use Rattle.language.specs.Answers.{program, fileOf};
+ghost use Rattle.insertion.specs.Lays.{Lays};
+ghost use Rattle.insertion.specs.Procedures.{Given};
+ghost use Rattle.insertion.specs.Whole.{HeaderStored};
+
+// Stores the header: the types were laid from 1 to procedures, the procedures from there to end.
+fn store_header(out: &mut [u8], procedures: usize, end: usize)
+    ensures { λ _. ⌜ HeaderStored (now (out .entry)) (now (out .exit)) procedures end ⌝ }
+{
+    let w1 = span(procedures, end);
+    let w2 = span(1, procedures);
+    let count = refer(1, end);
+    store(out, 0, HEADER, w1, w2, count, 0, 0, 0, 0);
+}
+
+// Lays the whole file, as far as the slice has room for it.
+fn lay_file(file: &[u8], table: &[u64; TABLE], rows: &[u64; ROWS], out: &mut [u8]) -> usize
+    requires { ⌜ Given (now file) (now table) (now rows) ⌝ }
+    ensures { λ r. ⌜ Lays (now (out .entry)) (now (out .exit)) 0 r (lay (programTree (annotate (program (now (file .entry))))) 0) ⌝ }
+{
+    let types = word(file, 0, HEADER_TYPES);
+    let procedures = lay_chain(file, out, types, 1);
+    let end = lay_procedures(file, table, rows, out, procedures);
+    store_header(out, procedures, end);
+    end
+}
+
+fn no_room() -> [u8; 1]
+    ensures { λ r. ⌜ 1 ≡ length r ⌝ }
+{
+    [0; 1]
+}
+
+// How many records the annotated file has; some number above 4,096 where it has more than that.
+pub fn measure(file: &[u8], table: &[u64; TABLE], rows: &[u64; ROWS]) -> usize
+    requires { ⌜ Given (now file) (now table) (now rows) ⌝ }
+    ensures { λ r. ⌜ (size (programTree (annotate (program (now (file .entry))))) ≤ maxRecords → r ≡ size (programTree (annotate (program (now (file .entry)))))) ⌝ }
+    ensures { λ r. ⌜ (maxRecords < size (programTree (annotate (program (now (file .entry))))) → maxRecords < r) ⌝ }
+{
+    let mut none = no_room();
+    lay_file(file, table, rows, &mut none)
+}
+
+// Writes the annotated file as the front part of the slice, which has room for it. Bytes behind it stay as they are.
+pub fn write(file: &[u8], table: &[u64; TABLE], rows: &[u64; ROWS], out: &mut [u8])
+    requires { ⌜ Given (now file) (now table) (now rows) ⌝ }
+    requires { ⌜ size (programTree (annotate (program (now file)))) ≤ maxRecords ⌝ }
+    requires { ⌜ recordBytes * size (programTree (annotate (program (now file)))) ≤ length (now out) ⌝ }
+    ensures { λ _. ⌜ now (out .exit) ≡ frontWritten (fileOf (annotate (program (now (file .entry))))) (now (out .entry)) ⌝ }
+{
+    lay_file(file, table, rows, out);
+}
