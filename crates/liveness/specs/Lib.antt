@@ -8,3 +8,4 @@ pub mod Noted
 pub mod Wants
 pub mod Step
 pub mod Done
+pub mod Classes

@@ -1,11 +1,13 @@
 // Live variables at every point of a procedure's goals, in a table that a later walk reads in its own order; and number 7 at its steps.
 mod carried;
+mod classes;
 mod step;
 mod table;
 mod walk;
 mod wants;
 mod whole;
 
+pub use classes::call_classes_ok;
 use sets::Set;
 pub use table::live_after;
 pub use table::live_before;
