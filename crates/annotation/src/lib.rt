@@ -1,4 +1,11 @@
 // The annotator's answer to any bytes: the annotated file at the front of the lent memory, or the lowest number that applies.
 mod stages;
 
+use language::Refusal;
 pub use stages::check_annotatable;
+
+// The cause of a refusal, or how many bytes of the lent memory are the annotated file.
+pub enum Annotated {
+    Refused(Refusal),
+    Written(usize),
+}
