@@ -47,15 +47,15 @@ BodyLaid f rows own a b c r =
     → Lays a b c r (lay (goalsTree (bodyOf f (signatureOf (program f) q) (getD own bodyPlace 0))) c))
 
 -- ---- points
-written-same : {t u : List ℕ} {s : ℕ} {ps : List Point} → Written t u s (length t) ps → length u ≡ length t
-written-same {t} {u} {s} {ps} w =
+written-same : {t u : List ℕ} {s e : ℕ} {ps : List Point} → length t ≡ e → Written t u s e ps → length u ≡ e
+written-same {t} {u} {s} {e} {ps} n w =
     ap length (written-whole w)
-    ∙ omega (arith, length-append (take s t) (words ps ++ drop (length t) t), length-append (words ps) (drop (length t) t), length-take s t, length-drop (length t) t, words-length ps, w .place)
+    ∙ omega (arith, n, length-append (take s t) (words ps ++ drop e t), length-append (words ps) (drop e t), length-take s t, length-drop e t, words-length ps, w .place)
 
 module _ (f own t u : List ℕ) (body s : ℕ) (outs l : Set) (n : length t ≡ pointWords) (eb : body ≡ getD own bodyPlace 0) (eo : outs ≡ setIn own outsPlace)
     (D : ListDone f body outs t u s l) where
   pub points-long : length u ≡ pointWords
-  points-long = written-same (D .1) ∙ n
+  points-long = written-same n (D .1)
 
   pub points-start : s ≤ pointWords
   points-start = omega (arith, D .1 .place, n)

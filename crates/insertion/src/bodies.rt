@@ -39,7 +39,7 @@ fn fill_points(file: &[u8], rows: &[u64; ROWS], own: &[u64], points: &mut [u64; 
 {
     let body = word_at(own, BODY);
     let outs = set_at(own, OUTS);
-    let filled = list_live(file, rows, body, outs, points);
+    let filled = list_live(file, rows, own, body, outs, points);
     list_wanted(own, points, filled.start);
     filled
 }

@@ -29,13 +29,13 @@ returns-2 : tie.Need-returns-2
 returns-2 c = (annotated-refused _ (c .before .before .before .before .check-classes .ensures .0) (c .before .before .enum-told .given .1) (c .before .is-unannotated .ensures) (not-true _ (c .if1 .taken)), not-accepted)
 
 call-classes-ok-requires : tie.Need-call-classes-ok-requires
-call-classes-ok-requires c κs = (c .before .before .before .before .before .before .before .before .before .before .pre .0, c .before .before .before .before .before .before .check-classes .ensures .1 (c .before .before .before .before .enum-told .given .1))
+call-classes-ok-requires c κs = (c .before .before .before .before .before .before .before .before .before .before .pre .0, c .before .before .before .before .before .before .check-classes .ensures .1 .0 (c .before .before .before .before .enum-told .given .1))
 
 returns-3 : tie.Need-returns-3
 returns-3 c = (calls-refused _ (c .before .before .before .before .before .before .before .before .check-classes .ensures .0) (c .before .before .before .before .before .before .enum-told .given .1) (c .before .before .before .before .before .is-unannotated .ensures) (not-false _ (c .before .before .before .before .if1 .left)) (c .before .call-classes-ok .ensures) (not-true _ (c .if2 .taken)), not-accepted)
 
 returns-4 : tie.Need-returns-4
-returns-4 c = (marks-passed _ (c .before .before .before .before .before .before .before .before .check-classes .ensures .0) (c .before .before .before .before .before .before .enum-told .given .1) (c .before .before .before .before .before .is-unannotated .ensures) (not-false _ (c .before .before .before .before .if1 .left)) (c .before .call-classes-ok .ensures) (not-false _ (c .if2 .left)), λ _. c .before .before .before .before .before .before .before .before .check-classes .ensures .1 (c .before .before .before .before .before .before .enum-told .given .1))
+returns-4 c = (marks-passed _ (c .before .before .before .before .before .before .before .before .check-classes .ensures .0) (c .before .before .before .before .before .before .enum-told .given .1) (c .before .before .before .before .before .is-unannotated .ensures) (not-false _ (c .before .before .before .before .if1 .left)) (c .before .call-classes-ok .ensures) (not-false _ (c .if2 .left)), λ _. c .before .before .before .before .before .before .before .before .check-classes .ensures .1 .0 (c .before .before .before .before .before .before .enum-told .given .1))
 
 pub check-annotatable-spec : {M : Type 1} → statement M
 check-annotatable-spec =

@@ -25,11 +25,11 @@ list-live-requires c κs =
 list-wanted-requires : tie.Need-list-wanted-requires
 list-wanted-requires c κs =
     let n = c .before .before .before .before .before .before .before .pre .1 .1 .1 in
-    (points-long _ _ _ _ _ _ _ _ n (c .before .before .before .before .word-at .ensures) (c .before .before .before .set-at .ensures) (c .before .list-live .ensures), points-start _ _ _ _ _ _ _ _ n (c .before .before .before .before .word-at .ensures) (c .before .before .before .set-at .ensures) (c .before .list-live .ensures))
+    (points-long _ _ _ _ _ _ _ _ n (c .before .before .before .before .word-at .ensures) (c .before .before .before .set-at .ensures) (c .before .list-live .ensures .0), points-start _ _ _ _ _ _ _ _ n (c .before .before .before .before .word-at .ensures) (c .before .before .before .set-at .ensures) (c .before .list-live .ensures .0))
 
 returns : tie.Need-returns
 returns c =
-    points-filled _ _ _ _ _ _ _ _ (c .before .before .before .before .before .before .before .before .pre .1 .1 .1) (c .before .before .before .before .before .word-at .ensures) (c .before .before .before .before .set-at .ensures) (c .before .before .list-live .ensures) (c .list-wanted .ensures)
+    points-filled _ _ _ _ _ _ _ _ (c .before .before .before .before .before .before .before .before .pre .1 .1 .1) (c .before .before .before .before .before .word-at .ensures) (c .before .before .before .before .set-at .ensures) (c .before .before .list-live .ensures .0) (c .list-wanted .ensures)
 
 pub fill-points-spec : {M : Type 1} → statement M
 fill-points-spec =
