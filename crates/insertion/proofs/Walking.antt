@@ -13,10 +13,10 @@ use Rattle.language.specs.File.{kSwitch, kIf, kArm, kGoal, goals, arms, word}
 use Rattle.language.specs.Tree.{noWords, plain, leads}
 use Rattle.language.specs.Layout.{reference, lay}
 use Rattle.language.specs.Records.{zeros, fourPlain, goalsTree, goalTree, armsTree}
-use Rattle.language.specs.Program.{four, _then_, switch, ifLess, _before_, signatureOf}
-use Rattle.language.specs.Lifetimes.{wanted, live, liveGoal}
+use Rattle.language.specs.Program.{four, _then_, switch, ifLess, signatureOf}
+use Rattle.language.specs.Lifetimes.{wanted, live}
 use Rattle.language.specs.Answers.{program}
-use Rattle.placement.specs.Local.{removesTo, localGoals, localGoal, localArms}
+use Rattle.placement.specs.Local.{localGoals, localGoal, localArms}
 use Rattle.chains.specs.Formed.{Formed, Stands, Onward, ahead, goalsAt, goalAt, armsAt, goals-none, arms-none}
 use Rattle.chains.specs.Is.{chain-next, goals-step}
 use Rattle.chains.specs.Shapes.{IsSwitch, IsIf, switch-here, if-here, arm-here}
@@ -26,7 +26,7 @@ use Rattle.liveness.specs.Table.{beforeAt, afterAt}
 use Rattle.liveness.specs.Done.{pointWords}
 use Rattle.writer.specs.Laid.{linked}
 use Rattle.writer.specs.Skips.{Behind}
-use Rattle.insertion.specs.Lays.{Lays, Goes, headOf, lays-end, lays-node}
+use Rattle.insertion.specs.Lays.{Lays, Goes, lays-end, lays-node}
 use Rattle.insertion.specs.Marks.{marks}
 use Rattle.insertion.specs.Chains.{Fronts, fronts-head, chain-goes, lays-first, lays-part}
 use Rattle.insertion.specs.Wants.{Wants, goal-wants, first-wants, start-wants, switch-wants, branches-want, arms-want}

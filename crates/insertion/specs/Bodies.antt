@@ -1,8 +1,8 @@
 -- The goals of a procedure, by its window: the points that are filled for them, and what is laid.
-use Prim.Native.Nat.{ℕ, _+_, _-_, _*_, _≤_, min}
+use Prim.Native.Nat.{ℕ, _+_, _≤_}
 use native.Mathlib.Omega.{arith}
 use mathlib.Core.List.{List, _++_}
-use mathlib.Core.Path.{_≡_, refl, ap, sym, _∙_}
+use mathlib.Core.Path.{_≡_, refl, ap, _∙_}
 use lib.ListN.{length, getD, take, drop, length-append, length-take, length-drop}
 use Rattle.sets.specs.Sets.{_∪_, _∖_}
 use Rattle.sets.specs.Members.{members}

@@ -4,11 +4,11 @@ use native.Mathlib.Omega.{arith}
 use native.Mathlib.Decide.{decLt}
 use mathlib.Core.Bool.{Bool, true, false}
 use mathlib.Core.List.{List}
-use mathlib.Core.Path.{_≡_, refl, ap, sym, _∙_}
+use mathlib.Core.Path.{_≡_, refl, ap}
 use lib.ListN.{length}
 use Rattle.language.specs.Format.{recordBytes, maxRecords}
 use Rattle.language.specs.File.{recordCount}
-use Rattle.language.specs.Layout.{size, sizeWords, lay, layWords}
+use Rattle.language.specs.Layout.{size, sizeWords, lay}
 use Rattle.chains.specs.Layout.{lay-length, layWords-length}
 use Rattle.chains.specs.Formed.{Formed}
 use Rattle.writer.specs.Ready.{Wrote, treeAt, wordsAt, frontTo, ChainReady, RecordReady}

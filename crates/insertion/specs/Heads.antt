@@ -3,16 +3,15 @@ use Prim.Native.Nat.{ℕ, zero, suc, _+_, _≤_, _<_}
 use native.Mathlib.Omega.{arith}
 use native.Mathlib.Decide.{decLt}
 use mathlib.Core.List.{List, [], _∷_}
-use mathlib.Core.Path.{_≡_, refl, ap, ap₂, sym, _∙_}
+use mathlib.Core.Path.{_≡_, ap₂, sym}
 use lib.ListN.{length}
 use Rattle.language.specs.Format.{maxRecords, switchKind, ifKind, armKind, procedureKind}
-use Rattle.language.specs.File.{kSwitch, kIf, Kind, kProcedure, kArm, kGoal, word}
+use Rattle.language.specs.File.{kSwitch, kIf, kProcedure, kArm, kGoal, word}
 use Rattle.language.specs.Tree.{Tree, noWords, plain, leads}
-use Rattle.language.specs.Layout.{size, reference, wordList, lay, layWords}
+use Rattle.language.specs.Layout.{wordList, lay, layWords}
 use Rattle.language.specs.Records.{zeros, fourPlain}
 use Rattle.language.specs.Program.{four}
 use Rattle.chains.specs.Layout.{all-rows}
-use Rattle.writer.specs.Laid.{linked}
 use Rattle.writer.specs.Skips.{Behind}
 use Rattle.insertion.specs.Lays.{Lays, lays-none, Stored, headOf, lays-number, lays-no-words, lays-leads, lays-head, Refers, Spans, lays-span}
 

@@ -1,15 +1,14 @@
 -- Creates and removes as records: one for each number of a list, in its order.
-use Prim.Native.Nat.{ℕ, zero, suc, _+_, _≤_, _<_}
+use Prim.Native.Nat.{ℕ, suc, _+_, _≤_, _<_}
 use native.Mathlib.Omega.{arith}
 use native.Mathlib.Decide.{decLt}
 use mathlib.Core.List.{List, [], _∷_, _++_}
 use mathlib.Core.Path.{_≡_, refl, ap, ap₂, sym, _∙_}
 use lib.ListN.{length}
 use Rattle.sets.specs.Members.{members, nextMember}
-use Rattle.sets.specs.Walk.{above, above-start, above-end, above-next, next-is}
+use Rattle.sets.specs.Walk.{above, above-start, above-end, above-next}
 use Rattle.sets.specs.declared.Set.{Set}
-use Rattle.language.specs.Format.{maxRecords}
-use Rattle.language.specs.File.{kCreate, kRemove, Kind, kGoal, row}
+use Rattle.language.specs.File.{Kind, row}
 use Rattle.language.specs.Tree.{Tree, node, plain}
 use Rattle.language.specs.Layout.{sizeWords, reference, wordList, lay, layWords}
 use Rattle.language.specs.Records.{zeros}

@@ -1,20 +1,18 @@
 -- The procedures of the annotated program, laid one behind the other.
-use Prim.Native.Nat.{ℕ, zero, suc, _+_, _-_, _≤_, _<_}
+use Prim.Native.Nat.{ℕ, zero, suc, _+_, _-_, _<_}
 use native.Mathlib.Omega.{arith}
-use mathlib.Core.Bool.{true}
-use mathlib.Core.List.{List, [], _∷_, map}
+use mathlib.Core.List.{List, map}
 use mathlib.Core.Path.{_≡_, refl, ap, sym, _∙_}
 use lib.ListN.{length, getD, take, drop}
-use Rattle.language.specs.File.{kProcedure, kVariable, kRegion, goals, procedures, word, recordCount}
-use Rattle.language.specs.Tree.{Tree, node, leads}
+use Rattle.language.specs.File.{kProcedure, kVariable, kRegion, goals, procedures, word}
+use Rattle.language.specs.Tree.{Tree}
 use Rattle.language.specs.Layout.{reference, lay}
-use Rattle.language.specs.Records.{zeros, chainOf, variableWords, regionWords, goalsTree, procedureWords}
+use Rattle.language.specs.Records.{chainOf, variableWords, regionWords, goalsTree, procedureWords}
 use Rattle.language.specs.Program.{Goals, Procedure, Program, procedureAt, signatureOf}
 use Rattle.language.specs.Annotation.{annotateProcedure}
 use Rattle.language.specs.Answers.{program}
 use Rattle.placement.specs.Whole.{Annotatable, procedure-local}
-use Rattle.chains.specs.Layout.{procedureOf}
-use Rattle.chains.specs.Formed.{Formed, Stands, ahead, goalsAt, variablesAt, regionsAt, proceduresAt, procedures-none, procedures-stand, program-procedures}
+use Rattle.chains.specs.Formed.{Formed, Stands, ahead, proceduresAt, procedures-none}
 use Rattle.chains.specs.Declared.{ProcedureAt, procedure-at}
 use Rattle.chains.specs.Is.{procedure-is}
 use Rattle.chains.specs.Turns.{Turn, turn-first, turn-below, turn-procedure, turn-next}

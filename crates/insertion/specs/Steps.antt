@@ -1,20 +1,19 @@
 -- A step, from the row of its record and the point at its place.
-use Prim.Native.Nat.{ℕ, _+_, _*_, _<_}
+use Prim.Native.Nat.{ℕ, _+_, _<_}
 use native.Mathlib.Omega.{arith}
 use mathlib.Core.List.{List}
 use mathlib.Core.Path.{_≡_, refl, ap, sym, _∙_}
-use lib.ListN.{length}
 use Rattle.sets.specs.Sets.{_∪_, _∖_}
-use Rattle.sets.specs.Members.{members, nextMember}
+use Rattle.sets.specs.Members.{members}
 use Rattle.sets.specs.declared.Set.{Set}
 use Rattle.language.specs.Format.{createKind, removeKind}
 use Rattle.language.specs.File.{goals, word}
-use Rattle.language.specs.Program.{Step, _then_, Goals, Goal, step, signatureOf}
-use Rattle.language.specs.Lifetimes.{wanted, liveStep, liveGoal, effect, heldAfter}
+use Rattle.language.specs.Program.{Step, Goal, step, signatureOf}
+use Rattle.language.specs.Lifetimes.{wanted, liveGoal, heldAfter}
 use Rattle.language.specs.Annotation.{createdFor}
 use Rattle.language.specs.Answers.{program}
 use Rattle.placement.specs.Local.{heldPast}
-use Rattle.chains.specs.Formed.{Formed, Stands, goalsAt, goalAt, firstGoal}
+use Rattle.chains.specs.Formed.{Formed, Stands, goalAt, firstGoal}
 use Rattle.chains.specs.Shapes.{IsSwitch, IsIf, step-here}
 use Rattle.tables.specs.Rows.{needsIn, bearsIn, endsIn}
 use Rattle.tables.specs.Filled.{StepAt}

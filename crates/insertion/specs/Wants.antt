@@ -1,19 +1,18 @@
 -- The table of points with what is wanted there, in the order in which the goals are walked.
-use Prim.Native.Nat.{ℕ, suc, _+_, _*_, _≤_, _<_}
+use Prim.Native.Nat.{ℕ, _+_, _*_, _≤_, _<_}
 use native.Mathlib.Omega.{arith}
 use native.Mathlib.Decide.{decLt}
 use mathlib.Core.List.{List, [], _∷_, _++_}
-use mathlib.Core.Logic.{_≢_}
-use mathlib.Core.Path.{_≡_, refl, sym, ap, _∙_}
-use lib.ListN.{length, getD, set, drop, length-append, length-set, length-drop}
+use mathlib.Core.Path.{_≡_, refl, ap, _∙_}
+use lib.ListN.{length, getD, set, length-append, length-set, length-drop}
 use lib.Seq.{getD-set-same, getD-set-other}
 use Rattle.sets.specs.Sets.{stored, loaded, loaded-stored}
 use Rattle.sets.specs.declared.Set.{Set}
 use Rattle.language.specs.Program.{Four, Goals, _then_, Goal, switch, ifLess, Arms, arm, Signature, Program}
 use Rattle.language.specs.Lifetimes.{wanted, live, liveGoal}
 use Rattle.tables.specs.Window.{Window}
-use Rattle.liveness.specs.Points.{Point, point, points, partPoints, goalPoints, armsPoints, words, words-length}
-use Rattle.liveness.specs.Counts.{goalsCount, goalCount, armsCount, points-count, parts-count}
+use Rattle.liveness.specs.Points.{Point, point, points, partPoints, goalPoints, armsPoints, words}
+use Rattle.liveness.specs.Counts.{goalsCount, goalCount, points-count, parts-count}
 use Rattle.liveness.specs.Table.{beforeAt, afterAt}
 use Rattle.liveness.specs.Done.{pointWords}
 use Rattle.liveness.specs.Holds.{Holds, holds-before, holds-after, holds-behind}

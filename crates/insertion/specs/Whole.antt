@@ -1,15 +1,15 @@
 -- The whole annotated file.
 use Prim.Native.Nat.{ℕ, suc, _+_, _*_, _≤_, _<_}
 use native.Mathlib.Omega.{arith}
-use mathlib.Core.List.{List, [], _∷_, _++_, map}
-use mathlib.Core.Path.{_≡_, refl, ap, ap₂, sym, _∙_}
+use mathlib.Core.List.{List, [], _∷_, _++_}
+use mathlib.Core.Path.{_≡_, ap, ap₂, sym, _∙_}
 use lib.ListN.{length, getD, drop}
 use Rattle.language.specs.Format.{recordBytes, maxRecords, headerKind}
 use Rattle.language.specs.Lists.{frontWritten}
-use Rattle.language.specs.File.{kHeader, kType, kProcedure, word, recordCount}
-use Rattle.language.specs.Tree.{Tree, node, Words, plain, leads}
+use Rattle.language.specs.File.{kType, word, recordCount}
+use Rattle.language.specs.Tree.{Tree, plain, leads}
 use Rattle.language.specs.Layout.{size, sizeWords, reference, wordList, lay, layWords, written}
-use Rattle.language.specs.Records.{zeros, chainOf, typeWords, procedureWords, headed, programTree}
+use Rattle.language.specs.Records.{zeros, chainOf, typeWords, headed, programTree}
 use Rattle.language.specs.Annotation.{annotate}
 use Rattle.language.specs.Answers.{program, fileOf}
 use Rattle.layout.specs.Bytes.{written-length}

@@ -6,7 +6,7 @@ use mathlib.Core.List.{List, [], _∷_}
 use mathlib.Core.Path.{_≡_, refl, ap, sym, _∙_}
 use mathlib.Core.Bool.{true, false}
 use mathlib.Core.Logic.{inl, inr}
-use lib.ListN.{length, drop, drop-of-length-le}
+use lib.ListN.{drop, drop-of-length-le}
 use Rattle.language.specs.Format.{kindWord, nextWord, maxRecords}
 use Rattle.language.specs.File.{Use, word, recordCount}
 use Rattle.language.specs.Tree.{readWords, readChain}

@@ -10,7 +10,7 @@ use lib.ListN.{length, drop, length-drop, drop-of-length-le}
 use Rattle.language.specs.Format.{kindWord}
 use Rattle.language.specs.File.{kHeader, Use, number, unused, first, row, kindOf, word, recordCount}
 use Rattle.language.specs.Tree.{readWords}
-use Rattle.language.specs.Layout.{size, sizeWords, reference, wordList, lay, layWords}
+use Rattle.language.specs.Layout.{size, sizeWords, wordList, lay, layWords}
 use Rattle.laws.specs.Lists.{drop-more, drop-nth}
 use Rattle.chains.specs.Layout.{row-length, Used, record-used, known-number, header-kind, lay-length}
 use Rattle.chains.specs.Shapes.{kind-number}

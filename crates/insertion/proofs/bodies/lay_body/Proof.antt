@@ -1,6 +1,4 @@
 -- `lay_body` meets its contract.
-use native.Mathlib.Omega.{arith}
-use mathlib.Core.Path.{_∙_}
 use Rattle.insertion.specs.Bodies.{body-laid}
 use borrow.Author.Needs.{needs}
 use Rattle.insertion.proofs.bodies.lay_body.Statement.{statement}

@@ -1,7 +1,6 @@
 -- `has_room` meets its contract.
 use native.Mathlib.Omega.{arith}
 use mathlib.Core.Bool.{false≢true}
-use mathlib.Core.Path.{sym}
 use borrow.Author.Tests.{leb-true, leb-false}
 use borrow.Author.Needs.{needs}
 use Rattle.insertion.proofs.copies.has_room.Statement.{statement}

@@ -1,7 +1,6 @@
 -- `refer` meets its contract.
 use native.Mathlib.Omega.{arith}
 use Rattle.writer.specs.Laid.{linked-none, linked-some}
-use borrow.Author.Needs.{needs}
 use Rattle.insertion.proofs.place.refer.Statement.{statement}
 use Rattle.insertion.proofs.place.refer.Tie as tie
 use Rattle.insertion.proofs.place.refer.Reads as reads
