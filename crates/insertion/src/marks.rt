@@ -7,13 +7,14 @@ use writer::behind;
 ghost use mathlib.Core.Path.{_≡_};
 ghost use Prim.Native.Nat.{_≤_, _<_};
 ghost use Rattle.sets.specs.Members.{members};
+ghost use Rattle.language.specs.Format.{places};
 ghost use Rattle.insertion.specs.Lays.{Lays};
 ghost use Rattle.insertion.specs.Marks.{moreOf, marks};
 
 // Not 0 where the record of another number follows, or where the chain goes on behind the last of them.
 fn more(next: usize, on: usize) -> usize
-    ensures { λ r. ⌜ (next < 65 → r ≡ 1) ⌝ }
-    ensures { λ r. ⌜ (65 ≤ next → r ≡ on) ⌝ }
+    ensures { λ r. ⌜ (next < places → r ≡ 1) ⌝ }
+    ensures { λ r. ⌜ (places ≤ next → r ≡ on) ⌝ }
 {
     if next < PLACES { 1 } else { on }
 }
