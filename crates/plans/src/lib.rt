@@ -1,11 +1,14 @@
 // What a run reads beside the file, worked out once before the first step.
 mod arguments;
+mod blank;
 mod fill;
 mod images;
 mod onward;
 mod sides;
 mod steps;
 
+pub use blank::blank_images;
+pub use blank::blank_plan;
 pub use fill::fill_plan;
 
 // The plan: four words for each of 4,096 records, sort by sort (specs/Plan.antt). These are the places where the sorts after the first start.
