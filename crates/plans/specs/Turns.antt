@@ -1,8 +1,9 @@
 -- What the functions come to on each way through them.
 use Prim.Native.Nat.{ℕ, suc, _+_, _-_, _≤_, _<_}
 use native.Mathlib.Omega.{arith}
+use native.Mathlib.Decide.{ℕ-discrete}
 use native.Mathlib.Numerals.{add-one}
-use mathlib.Core.Bool.{true, false, false≢true}
+use mathlib.Core.Bool.{true, false}
 use mathlib.Core.List.{List, [], _++_}
 use mathlib.Core.Path.{_≡_, refl, sym, ap, _∙_, fun-ext}
 use borrow.Author.Tests.{eq-eqb, ne-eqb}
@@ -23,7 +24,7 @@ use Rattle.tables.specs.Window.{Window, homeIn, firstPlace, regionsPlace}
 use Rattle.tables.specs.Starts.{windowIn}
 use Rattle.word_machine.specs.Filling.{onwardWords, filled}
 use Rattle.plans.specs.Plan.{sidesFrom}
-use Rattle.plans.specs.Images.{CallImages}
+use Rattle.plans.specs.Images.{kind-differs, CallImages, Found}
 use Rattle.plans.specs.Passes.{Ready, eachFrom, isCall, isConstruct, calleeOf, placed, placedAt, placing, imageCount, imagesBefore, imageOf, sideAt, sidedAt, siding, copied, picturedAt, picturing, planOf, imagesOf}
 
 -- ---- a pass: record i is next
@@ -85,7 +86,7 @@ module _ (f : List ℕ) (i : ℕ) {w : ℕ} (e : w ≡ word f i kindWord) where
   unfolding imageCount choose
   count-none n = rw (call-no n) refl
 
-  pub pictured-none : (w ≡ callKind → ⊥) → (t : List ℕ) → t ≡ picturedAt f i t
+  pictured-none : (w ≡ callKind → ⊥) → (t : List ℕ) → t ≡ picturedAt f i t
   unfolding picturedAt choose
   pictured-none n t = rw (call-no n) refl
 
@@ -143,10 +144,6 @@ pub sided-here : (f : List ℕ) (i : ℕ) {at v : ℕ} (t : List ℕ) → at ≡
 unfolding sidedAt
 sided-here f i t e g = rw (g, e) refl
 
--- the header is no call
-kind-differs : kHeader ≡ kGoal kCall → ⊥
-kind-differs e = false≢true cc
-
 pub before-first : {f : List ℕ} → Formed f → 0 ≡ imagesBefore f 1
 unfolding imagesBefore kindOf kinds nth
 before-first {f} F =
@@ -165,12 +162,23 @@ pub copied-none : (m : ℕ → ℕ) (at : ℕ) (t : List ℕ) → t ≡ copied m
 unfolding copied
 copied-none m at t = refl
 
-pub pictured-call : (f : List ℕ) (i : ℕ) {w : ℕ} → w ≡ word f i kindWord → w ≡ callKind → {n at : ℕ} → n ≡ imageCount f i → at ≡ imagesBefore f i → {found : List ℕ}
+pictured-call : (f : List ℕ) (i : ℕ) {w : ℕ} → w ≡ word f i kindWord → w ≡ callKind → {n at : ℕ} → n ≡ imageCount f i → at ≡ imagesBefore f i → {found : List ℕ}
     → CallImages f i found → (t : List ℕ) {u : List ℕ} → u ≡ copied (λ r. getD found r 0) n at t → u ≡ picturedAt f i t
 unfolding picturedAt choose
 pictured-call f i e k en ea {found} m t eu =
     let d : (λ (r : ℕ). getD found r 0) ≡ imageOf f i = fun-ext (m .at) in
     rw (call-yes f i e k, ← en, ← ea, ← d) eu
+
+-- .. at any record: no other has images
+pub pictured-next : {f : List ℕ} {i j : ℕ} {found : List ℕ} → Found f j found → (IsCall f i → j ≡ i) → {n at : ℕ} → n ≡ imageCount f i → at ≡ imagesBefore f i → (t : List ℕ)
+    {u : List ℕ} → u ≡ copied (λ r. getD found r 0) n at t → u ≡ picturedAt f i t
+pictured-next {f} {i} {j} {found} D h {n} {at} en ea t {u} eu = go (ℕ-discrete (word f i kindWord) callKind)
+  where
+    go : Dec (word f i kindWord ≡ callKind) → u ≡ picturedAt f i t
+    go (yes k) = pictured-call f i refl k en ea (rw (h k) at (D .call (rw (h k) k))) t eu
+    go (no k) =
+        let z : n ≡ 0 = en ∙ sym (count-none f i refl k) in
+        (rw z at eu) ∙ sym (copied-none _ at t) ∙ pictured-none f i refl k t
 
 -- ---- the three passes over the plan, one after the other
 pub filled-plan : (f t : List ℕ) {u v w : List ℕ} → u ≡ filled onwardWords f (recordCount f - 1) 1 t → v ≡ placing f (recordCount f - 1) 1 u

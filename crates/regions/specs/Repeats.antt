@@ -47,7 +47,7 @@ module _ {f own owners : List ℕ} {i j : ℕ} (H : Here f own i) (R : Repeats f
   abbrev Q : Signature
   Q = signatureOf (program f) (word f i callProcedure)
 
-  same : mapping C Q (argumentsAt f (word f i callArguments)) ≡ mapping C Q (argumentsAt f (word f j callArguments))
+  pub same : mapping C Q (argumentsAt f (word f i callArguments)) ≡ mapping C Q (argumentsAt f (word f j callArguments))
   same =
       let W = H .window kCall (call-kind f i k) in
       same-mapping C Q _ _ (sym (homes-regions C W (argumentsAt f (word f i callArguments))) ∙ R .homes ∙ homes-regions C W (argumentsAt f (word f j callArguments)))

@@ -1,4 +1,5 @@
--- `fill_images` meets its contract: the pass from record i on is still to do, and `at` counts the images of the calls before it.
+-- `fill_images` meets its contract: the pass from record i on is still to do, `at` counts the images of the calls before it, and those of the last
+-- stand in `found`.
 use Prim.Native.Nat.{_-_}
 use native.Mathlib.Omega.{arith}
 use mathlib.Core.Path.{_≡_}
@@ -6,41 +7,60 @@ use borrow.Author.Needs.{needs}
 use Rattle.language.specs.File.{recordCount}
 use Rattle.chains.specs.Formed.{counted}
 use Rattle.plans.specs.Passes.{imagesBefore, picturedAt, picturing}
+use Rattle.plans.specs.Images.{Found, found-none}
 use Rattle.plans.specs.Pictures.{before-few, count-few}
-use Rattle.plans.specs.Turns.{Pass, pass-first, pass-below, pass-more, pass-last, given-ready, before-first, before-more}
+use Rattle.plans.specs.Turns.{Pass, pass-first, pass-below, pass-more, pass-last, given-ready, before-first, before-more, pictured-next}
 use Rattle.plans.proofs.images.fill_images.Statement.{statement}
 use Rattle.plans.proofs.images.fill_images.Tie as tie
 
 abbrev Inv-loop : tie.InvT-loop
-Inv-loop file table owners images₀ records i₀ at₀ images i at = Pass file (picturedAt file) records images₀ i images × (at ≡ imagesBefore file i)
+Inv-loop file table owners images₀ records found₀ last₀ i₀ at₀ images found last i at =
+    Pass file (picturedAt file) records images₀ i images × (at ≡ imagesBefore file i) × Found file last found
 
 abbrev μ-loop : tie.MeasureT-loop
-μ-loop file table owners images₀ records i₀ at₀ images i at = records - i
+μ-loop file table owners images₀ records found₀ last₀ i₀ at₀ images found last i at = records - i
 
 word-requires : tie.Need-word-requires Inv-loop μ-loop
 word-requires c κs = search needs
 
+blank-places-requires : tie.Need-blank-places-requires Inv-loop μ-loop
+blank-places-requires c κs = search needs
+
 loop-holds : tie.Need-loop-holds Inv-loop μ-loop
 unfolding recordCount
-loop-holds c = (pass-first _ _ (c .word .ensures .0), before-first (c .before .before .before .before .pre .formed))
+loop-holds c =
+    let F = c .before .before .before .before .before .pre .formed in
+    (pass-first _ _ (c .before .word .ensures .0), before-first F, found-none F (c .blank-places .ensures))
 
 image-count-requires : tie.Need-image-count-requires Inv-loop μ-loop
 image-count-requires c κs =
     let P = c .before .loop .inv .0 in
-    (given-ready (c .before .before .before .before .before .before .pre), (P .some, pass-below _ P (c .loop-test .taken)))
+    (given-ready (c .before .before .before .before .before .before .before .pre), (P .some, pass-below _ P (c .loop-test .taken)))
 
-image-record-requires : tie.Need-image-record-requires Inv-loop μ-loop
-image-record-requires c κs =
+next-images-requires : tie.Need-next-images-requires Inv-loop μ-loop
+next-images-requires c κs =
     let P = c .before .before .before .loop .inv in
-    (c .before .before .before .before .before .before .before .before .pre, ((P .0 .some, pass-below _ (P .0) (c .before .before .loop-test .taken)), (c .before .image-count .ensures, P .1)))
+    (c .before .before .before .before .before .before .before .before .before .pre, ((P .0 .some, pass-below _ (P .0) (c .before .before .loop-test .taken)), P .2))
+
+copy-images-requires : tie.Need-copy-images-requires Inv-loop μ-loop
+copy-images-requires c κs =
+    let l = c .before .before .before .before .before .before .loop in
+    let a = c .before .before .before .before .before .before .before .before .before .before .before .before in
+    let f = a .args .file .now in
+    let n = count-few f (a .pre .typed) (l .i) in
+    let e = c .before .before .before .before .image-count .ensures in
+    let p = pass-below _ (l .inv .0) (c .before .before .before .before .before .loop-test .taken) in (
+      omega (arith, e, n),
+      (omega (arith, e, n, l .inv .1, p, before-few f (a .pre .typed) (l .i), counted (a .pre .formed) .most), c .before .before .next-images .ensures .0 .regions .below),
+    )
 
 add-at : tie.Need-add-at Inv-loop μ-loop
 add-at c =
-    let l = c .before .before .before .before in
-    let a = l .before .before .before .before .before in
+    let l = c .before .before .before .before .before .before .before .loop in
+    let a = c .before .before .before .before .before .before .before .before .before .before .before .before .before in
     let f = a .args .file .now in
-    let p = pass-below _ (l .loop .inv .0) (c .before .before .before .loop-test .taken) in
-    omega (arith, p, counted (a .pre .formed) .most, l .loop .inv .1, c .before .before .image-count .ensures, before-few f (a .pre .typed) (l .loop .i), count-few f (a .pre .typed) (l .loop .i))
+    let p = pass-below _ (l .inv .0) (c .before .before .before .before .before .before .loop-test .taken) in
+    omega (arith, p, counted (a .pre .formed) .most, l .inv .1, c .before .before .before .before .before .image-count .ensures, before-few f (a .pre .typed) (l .i), count-few f (a .pre .typed) (l .i))
 
 add-i : tie.Need-add-i Inv-loop μ-loop
 add-i c = search needs
@@ -50,8 +70,13 @@ loop-less c = omega arith
 
 loop-again : tie.Need-loop-again Inv-loop μ-loop
 loop-again c =
-    let l = c .before .before .before .before .loop in
-    (pass-more _ (l .inv .0) (c .before .before .before .loop-test .taken) (c .image-record .ensures), before-more _ (l .i) (l .inv .1) (c .before .before .image-count .ensures))
+    let l = c .before .before .before .before .before .before .before .loop in
+    let D = c .before .before .before .next-images .ensures in
+    let e = c .before .before .before .before .before .image-count .ensures in (
+      pass-more _ (l .inv .0) (c .before .before .before .before .before .before .loop-test .taken) (pictured-next (D .0) (D .1) e (l .inv .1) (l .images) (c .copy-images .ensures)),
+      before-more _ (l .i) (l .inv .1) e,
+      D .0,
+    )
 
 returns : tie.Need-returns Inv-loop μ-loop
 unfolding picturing
@@ -64,9 +89,11 @@ fill-images-spec =
     Inv-loop
     μ-loop
     word-requires
+    blank-places-requires
     loop-holds
     image-count-requires
-    image-record-requires
+    next-images-requires
+    copy-images-requires
     add-at
     add-i
     loop-less
