@@ -6,7 +6,7 @@ use mathlib.Core.List.{List, []}
 use mathlib.Core.Logic.{_≢_, inl, inr}
 use mathlib.Core.List.{_∷_}
 use mathlib.Core.Path.{_≡_, refl, sym, ap, _∙_}
-use lib.ListN.{getD, set}
+use lib.ListN.{set}
 use Rattle.language.specs.File
 use Rattle.language.specs.File.{word}
 use Rattle.language.specs.Format.{nextWord, variableMode}

@@ -4,7 +4,7 @@ use mathlib.Core.Bool.{Bool, true}
 use mathlib.Core.List.{List, [], _∷_}
 use mathlib.Core.Path.{_≡_}
 use lib.Dec.{eqb}
-use lib.ListN.{length, getD, set}
+use lib.ListN.{length, set}
 use Rattle.language.specs.Lists.{choose}
 use Rattle.language.specs.File.{word, recordCount}
 use Rattle.language.specs.Format.{kindWord, callKind, constructKind, goalX, callProcedure, callArguments}

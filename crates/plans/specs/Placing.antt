@@ -7,7 +7,7 @@ use mathlib.Core.Path.{_≡_, refl, sym, ap, _∙_}
 use borrow.Author.Tests.{eqb-true, eqb-false}
 use lib.ListN.{length, getD, set, length-set}
 use Rattle.language.specs.Lists.{count, choose}
-use Rattle.language.specs.File.{arguments, kLiteral, kSum, kAssign, kConstruct, kSwitch, kIf, kCall, kPrint, kCreate, kRemove, Kind, kNone, kHeader, kType, kFunctor, kProcedure, kVariable, kRegion, kEdge, kArm, kArgument, kGoal, kindOf, word, recordCount}
+use Rattle.language.specs.File.{arguments, kLiteral, kSum, kAssign, kConstruct, kSwitch, kIf, kCall, kPrint, kCreate, kRemove, Kind, kNone, kHeader, kType, kFunctor, kProcedure, kVariable, kRegion, kEdge, kArm, kArgument, kGoal, kindOf, word}
 use Rattle.language.specs.Format.{maxRecords, kindWord, callArguments}
 use Rattle.language.specs.Program.{Parameter, parametersOf}
 use Rattle.laws.specs.Counts.{hit-same, count-cons}

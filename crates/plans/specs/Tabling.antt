@@ -1,19 +1,18 @@
 -- The plan and the images, as the passes leave them, are tables of the file.
-use Prim.Native.Nat.{ℕ, suc, _+_, _*_, _-_, _≤_, _<_}
+use Prim.Native.Nat.{ℕ, _+_, _-_, _≤_, _<_}
 use native.Mathlib.Omega.{arith}
 use native.Mathlib.Decide.{ℕ-discrete}
-use mathlib.Core.Bool.{Bool, true, false}
+use mathlib.Core.Bool.{true}
 use mathlib.Core.List.{List, [], _∷_}
-use mathlib.Core.Logic.{_≢_, _⊎_, ⊎-elim}
+use mathlib.Core.Logic.{_⊎_, ⊎-elim}
 use mathlib.Core.Path.{_≡_, refl, sym, ap, ap₂, _∙_}
 use lib.ListN.{length, getD, replicate, length-replicate}
 use Rattle.sets.specs.Sets.{member, _∪_, union-in}
-use Rattle.sets.specs.declared.Set.{Set}
 use Rattle.language.specs.Lists.{count, choose}
-use Rattle.language.specs.File.{kConstruct, kCall, kGoal, word, recordCount}
-use Rattle.language.specs.Format.{maxRecords, kindWord, callKind, constructKind, procedureGoals}
+use Rattle.language.specs.File.{kConstruct, kCall, word, recordCount}
+use Rattle.language.specs.Format.{maxRecords, kindWord, constructKind, procedureGoals}
 use Rattle.language.specs.Program.{Functor, Parameter, Signature, regionOf, signatureOf, parametersOf}
-use Rattle.language.specs.Typing.{isRegion, signatureOk}
+use Rattle.language.specs.Typing.{signatureOk}
 use Rattle.language.specs.Regions.{mapping, imageIn}
 use Rattle.language.specs.Lifetimes.{born, dead, kept, startHeld}
 use Rattle.language.specs.Answers.{program}
@@ -33,15 +32,14 @@ use Rattle.chains.specs.Is.{arm-is}
 use Rattle.chains.specs.Shapes.{goal-number}
 use Rattle.owners.specs.Owner.{ownerOf}
 use Rattle.owners.specs.Owners.{goals-owned, switch-owned, if-owned, arm-owned, procedureRecord, procedure-first, procedure-stands}
-use Rattle.tables.specs.Starts.{windowIn, window-here, body-here}
-use Rattle.tables.specs.Window.{bodyPlace}
+use Rattle.tables.specs.Starts.{window-here, body-here}
 use Rattle.word_machine.specs.Tables.{Tables, onto, Starts, Matches, bodyRecord, Tabled}
 use Rattle.word_machine.specs.Filling.{referred, onwardWords, filled, matches, onwards, slots, modes, tablesOf}
 use Rattle.word_machine.specs.FillingLaws.{filled-length}
 use Rattle.word_machine.specs.FormedTree.{formed-tree}
 use Rattle.word_machine.specs.Tabling.{tabled}
 use Rattle.plans.specs.Plan.{slotsFrom, modesFrom, sidesFrom, planWords, imageBytes, tablesIn}
-use Rattle.plans.specs.Passes.{Ready, isCall, isConstruct, calleeOf, callerOf, placing, imageCount, imagesBefore, imageOf, sideAt, siding, picturing, planOf, imagesOf}
+use Rattle.plans.specs.Passes.{Ready, isCall, callerOf, placing, imageCount, imagesBefore, imageOf, sideAt, picturing, planOf, imagesOf}
 use Rattle.plans.specs.Parts.{part, part-read, part-zeros}
 use Rattle.plans.specs.Placing.{AllRecords, all-records, first-read, filled-first, filled-later, arguments-records, placing-slots, placing-modes, placing-first, placing-length, siding-before}
 use Rattle.plans.specs.Pictures.{siding-here, count-few, before-few, picturing-here}

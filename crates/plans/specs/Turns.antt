@@ -9,7 +9,7 @@ use mathlib.Core.Path.{_≡_, refl, sym, ap, _∙_, fun-ext}
 use borrow.Author.Tests.{eq-eqb, ne-eqb}
 use lib.ListN.{length, getD, set, replicate, length-replicate}
 use Rattle.language.specs.Lists.{choose, nth}
-use Rattle.language.specs.File.{kConstruct, kCall, kHeader, kGoal, kinds, kindOf, word, recordCount}
+use Rattle.language.specs.File.{kConstruct, kinds, kindOf, word, recordCount}
 use Rattle.language.specs.Format.{maxRecords, kindWord, callKind, constructKind, goalX, callProcedure, callArguments}
 use Rattle.language.specs.Program.{parametersFrom, parametersOf}
 use Rattle.chains.specs.Layout.{header-kind}

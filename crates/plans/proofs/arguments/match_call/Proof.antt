@@ -1,5 +1,4 @@
 -- `match_call` meets its contract: the rest of the variables and arguments gives the whole.
-use Prim.Native.Nat.{ℕ}
 use native.Mathlib.Omega.{arith}
 use borrow.Author.Needs.{needs}
 use Rattle.chains.specs.Formed.{ahead, counted}

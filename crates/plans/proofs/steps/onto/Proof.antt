@@ -1,5 +1,4 @@
 use Rattle.plans.specs.Onward.{onto-none, onto-some}
-use borrow.Author.Needs.{needs}
 use Rattle.plans.proofs.steps.onto.Statement.{statement}
 use Rattle.plans.proofs.steps.onto.Tie as tie
 use Rattle.plans.proofs.steps.onto.Reads as reads
