@@ -7,7 +7,7 @@ use mathlib.Core.List.{List, [], _∷_, _++_}
 use mathlib.Core.Path.{_≡_, refl, sym, ap, _∙_}
 use borrow.Author.Tests.{le-leb, lt-leb}
 use lib.Dec.{leb}
-use lib.ListN.{length}
+use lib.ListN.{length, replicate, length-replicate}
 use Rattle.sets.specs.Tests.{_&_}
 use Rattle.language.specs.declared.Refusal.{Refusal}
 use Rattle.language.specs.declared.Refusal.the-variants.{Room}
@@ -92,7 +92,7 @@ module _ (f : List ℕ) (lent : ℕ) (n : ℕ) (small : size (programTree (annot
       ]
 
   module _ (l : n ≤ maxRecords) where
-    sized : n ≡ size (programTree P)
+    pub sized : n ≡ size (programTree P)
     sized =
         elim (decLt maxRecords (size (programTree P))) [
           | yes h ↦ (let e = large h in absurd (omega arith))
@@ -113,3 +113,7 @@ module _ (f : List ℕ) (lent : ℕ) (n : ℕ) (small : size (programTree (annot
     pub file-told : (before : List ℕ) {after : List ℕ} → 16 * n ≤ lent → after ≡ frontWritten (fileOf P) before → Annotates (roomAnswer f lent) before after (Written (16 * n))
     unfolding told annotatorMemory
     file-told before h e = rw (room-there h) (ap (λ (k : ℕ). Written k) (let q = sized in omega (arith, bytes)), e)
+
+-- a table of zeros is as long as it was made
+pub blank-fits : (n : ℕ) {t : List ℕ} → t ≡ replicate n 0 → n ≤ length t
+blank-fits n e = omega (arith, ap length e, length-replicate {A = ℕ} n 0)

@@ -4,17 +4,20 @@ use Prim.Native.Nat.{ℕ}
 use mathlib.Core.Bool.{Bool, true, false}
 use mathlib.Core.List.{List, [], _∷_}
 use mathlib.Core.Path.{_≡_, refl, sym, ap, _∙_}
-use Rattle.sets.specs.Tests.{_&_}
+use Rattle.sets.specs.Tests.{_&_, and-true}
 use Rattle.language.specs.declared.Refusal.{Refusal}
 use Rattle.language.specs.declared.Refusal.the-variants.{Header, Form, Typing, Values, Regions, Annotated, Classes, Rules, Room}
 use Rattle.language.specs.declared.Verdict.{Verdict}
 use Rattle.language.specs.declared.Verdict.the-variants.{Refused, Accepted}
 use Rattle.language.specs.Lists.{choose}
+use Rattle.language.specs.Typing.{typingOk}
 use Rattle.language.specs.Values.{valuesOk}
 use Rattle.language.specs.Regions.{regionsOk}
 use Rattle.language.specs.Lifetimes.{declaredClassesOk, callClassesOk}
 use Rattle.language.specs.Annotation.{unannotated}
 use Rattle.language.specs.Answers.{Stage, stage, lowest, program}
+use Rattle.laws.specs.Stages.{lowest-passed}
+use Rattle.placement.specs.Whole.{Annotatable}
 use Rattle.rules.specs.Stages.{tableStages}
 
 -- numbers 4 to 7
@@ -89,3 +92,10 @@ module _ {u b : Bool} (e : b ≡ u) where
   pub six : b ≡ false → Annotated ≡ sooner u Classes
   unfolding sooner choose
   six p = rw (sym e ∙ p) refl
+
+-- ---- what the stages have found
+pub marks-found : (f : List ℕ) {v : Verdict} → typingOk (program f) ≡ true → v ≡ lowest (markStages f) → v ≡ Accepted → Annotatable (program f)
+marks-found f t e g =
+    let p = lowest-passed (markStages f) (sym e ∙ g) in
+    let c = and-true (p .1 .1 .1 .0) in
+    record { typing = t; values = p .0; regions = p .1 .0; classes = c .0; calls = c .1 }

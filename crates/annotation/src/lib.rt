@@ -1,6 +1,8 @@
 // The annotator's answer to any bytes: the annotated file at the front of the lent memory, or the lowest number that applies.
+mod answer;
 mod stages;
 
+pub use answer::annotate;
 use language::Refusal;
 pub use stages::check_annotatable;
 

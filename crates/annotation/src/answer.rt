@@ -1,0 +1,67 @@
+// The annotator's answer to any bytes.
+use crate::Annotated;
+use crate::stages::check_annotatable;
+use insertion::measure;
+use insertion::write;
+use language::Refusal;
+use language::Verdict;
+use language::format::MAX_RECORDS;
+use records::blank::blank_file_table;
+use records::blank::blank_rows;
+use rules::check_typing;
+use tables::ROWS;
+use tables::TABLE;
+ghost use mathlib.Core.Path.{_≡_};
+ghost use mathlib.Core.Bool.{true};
+ghost use lib.ListN.{length};
+ghost use Rattle.language.specs.Typing.{typingOk};
+ghost use Rattle.language.specs.Answers.{program, annotated};
+ghost use Rattle.chains.specs.Formed.{Formed};
+ghost use Rattle.insertion.specs.Procedures.{Given};
+ghost use Rattle.annotation.specs.Answer.{Annotates, roomAnswer, typedAnswer};
+
+// Number 9, "annotated file over 4,096 records or longer than the memory lent", before the first byte is written; then the file.
+fn write_annotated(
+    file: &[u8],
+    table: &[u64; TABLE],
+    rows: &[u64; ROWS],
+    out: &mut [u8],
+) -> Annotated
+    requires { ⌜ Given (now file) (now table) (now rows) ⌝ }
+    ensures { λ r. ⌜ Annotates (roomAnswer (now (file .entry)) (length (now (out .entry)))) (now (out .entry)) (now (out .exit)) r ⌝ }
+{
+    let records = measure(file, table, rows);
+    if records > MAX_RECORDS {
+        return Annotated::Refused(Refusal::Room);
+    }
+    let bytes = 16 * records;
+    if out.len() < bytes {
+        return Annotated::Refused(Refusal::Room);
+    }
+    write(file, table, rows, out);
+    Annotated::Written(bytes)
+}
+
+// The answer to a file that passed number 3. The tables are made here, where the stack of number 3's walk is given back.
+fn annotate_typed(file: &[u8], out: &mut [u8]) -> Annotated
+    requires { ⌜ Formed (now file) ⌝ }
+    requires { ⌜ typingOk (program (now file)) ≡ true ⌝ }
+    ensures { λ r. ⌜ Annotates (typedAnswer (now (file .entry)) (length (now (out .entry)))) (now (out .entry)) (now (out .exit)) r ⌝ }
+{
+    let mut table = blank_file_table();
+    let mut rows = blank_rows();
+    if let Verdict::Refused(r) = check_annotatable(file, &mut table, &mut rows) {
+        return Annotated::Refused(r);
+    }
+    write_annotated(file, &table, &rows, out)
+}
+
+// Writes the annotated file as the front part of `out`; "bytes behind it keep their contents". After a refusal all of them do.
+pub fn annotate(file: &[u8], out: &mut [u8]) -> Annotated
+    ensures { λ r. ⌜ Annotates (annotated (now (file .entry)) (length (now (out .entry)))) (now (out .entry)) (now (out .exit)) r ⌝ }
+{
+    if let Verdict::Refused(r) = check_typing(file) {
+        return Annotated::Refused(r);
+    }
+    annotate_typed(file, out)
+}
