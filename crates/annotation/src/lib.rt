@@ -1,8 +1,10 @@
 // The annotator's answer to any bytes: the annotated file at the front of the lent memory, or the lowest number that applies.
 mod answer;
+mod front;
 mod stages;
 
 pub use answer::annotate;
+pub use front::annotated_front;
 use language::Refusal;
 pub use stages::check_annotatable;
 
