@@ -5,6 +5,7 @@ use crate::carried::sound_in;
 use crate::walk::goals;
 use language::format::HEADER_PROCEDURES;
 use language::format::NEXT;
+use records::blank::blank_pair;
 use records::word;
 use tables::BODY;
 use tables::BORN;
@@ -28,13 +29,6 @@ ghost use Rattle.tables.specs.Window.{bodyPlace};
 ghost use Rattle.tables.specs.Filled.{Prepared};
 ghost use Rattle.checking.specs.Procedures.{WindowChecked};
 
-// Room for what is carried.
-fn pair() -> [u64; 2]
-    ensures { λ r. ⌜ 2 ≡ length r ⌝ }
-{
-    [0; 2]
-}
-
 // Whether the procedure with this window keeps the rules. "A procedure starts with its dead and kept regions held and its in variables sound." "At
 // the end: born and kept regions held, no other; out variables sound."
 fn window_ok(file: &[u8], rows: &[u64; ROWS], own: &[u64]) -> bool
@@ -43,7 +37,7 @@ fn window_ok(file: &[u8], rows: &[u64; ROWS], own: &[u64]) -> bool
     ensures { λ b. ⌜ WindowChecked (now (file .entry)) (now (rows .entry)) (now (own .entry)) b ⌝ }
 {
     let kept = set_at(own, KEPT);
-    let mut carried = pair();
+    let mut carried = blank_pair();
     carry(
         &mut carried,
         set_at(own, DEAD).union(kept),

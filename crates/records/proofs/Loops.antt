@@ -2,7 +2,7 @@
 use Prim.Native.Nat.{ℕ, suc, _+_, _-_, _/_, _%_, _≤_, _<_}
 use native.Mathlib.Omega.{arith}
 use mathlib.Core.Path.{_≡_, refl, sym, ap, _∙_}
-use mathlib.Core.Bool.{Bool, true, false, false≢true}
+use mathlib.Core.Bool.{Bool, true, false, _&&_, false≢true}
 use mathlib.Core.List.{List, [], _∷_}
 use lib.Dec.{eqb}
 use lib.ListN.{length, getD, replicate}
@@ -22,6 +22,16 @@ and-first e = rw e
 and-none : {a : Bool} (b : Bool) → a ≡ false → (a & b) ≡ false
 unfolding _&_
 and-none b e = rw e
+
+and-both : (a b c : Bool) → (a & (b & c)) ≡ ((a && b) & c)
+unfolding _&_
+and-both true b c = refl
+and-both false b c = refl
+
+and-last : (a : Bool) → (a & true) ≡ a
+unfolding _&_
+and-last true = refl
+and-last false = refl
 
 -- ---- the words of a record, from word k on
 module _ (W : ℕ → ℕ → ℕ) (n i : ℕ) where
@@ -168,24 +178,21 @@ module _ (seen : List ℕ) (n : ℕ) where
   abbrev pub one-at : ℕ → Bool
   one-at j = eqb (getD seen j 0) 1
 
-  -- those from j on decide
-  pub record Once (j : ℕ) : Type 0 where
-    pub says : all one-at (upFrom 1 (n - 1)) ≡ all one-at (upFrom j (n - j))
+  -- those below j, as `so` says, and those from j on decide
+  pub record Once (so : Bool) (j : ℕ) : Type 0 where
+    pub says : all one-at (upFrom 1 (n - 1)) ≡ (so & all one-at (upFrom j (n - j)))
 
-  pub once-first : Once 1
+  pub once-first : Once true 1
+  unfolding _&_
   once-first = record { says = refl }
 
-  pub once-next : {j : ℕ} → Once j → j < n → getD seen j 0 ≡ 1 → Once (j + 1)
+  pub once-next : {so : Bool} {j : ℕ} → Once so j → j < n → Once (so && eqb (getD seen j 0) 1) (j + 1)
   unfolding all
-  once-next {j = j} h l e = record { says = h .says ∙ ap (all one-at) (from-here n j l) ∙ and-first (eq-eqb _ _ e) }
+  once-next {so} {j} h l = record { says = h .says ∙ ap (λ (x : List ℕ). so & all one-at x) (from-here n j l) ∙ and-both so (one-at j) _ }
 
-  pub once-refused : {j : ℕ} → Once j → j < n → (getD seen j 0 ≡ 1 → ⊥) → false ≡ all one-at (upFrom 1 (n - 1))
+  pub once-last : {so : Bool} {j : ℕ} → Once so j → n ≤ j → so ≡ all one-at (upFrom 1 (n - 1))
   unfolding all
-  once-refused {j = j} h l e = sym (h .says ∙ ap (all one-at) (from-here n j l) ∙ and-none _ (ne-eqb _ _ e))
-
-  pub once-last : {j : ℕ} → Once j → n ≤ j → true ≡ all one-at (upFrom 1 (n - 1))
-  unfolding all
-  once-last {j = j} h l = sym (h .says ∙ ap (all one-at) (from-end n j l))
+  once-last {so} {j} h l = sym (h .says ∙ ap (λ (x : List ℕ). so & all one-at x) (from-end n j l) ∙ and-last so)
 
 -- ---- number 2
 module _ (W : ℕ → ℕ → ℕ) (n : ℕ) {b : Bool} {seen₀ seen : List ℕ} (s : Referred W n b seen₀ seen) where

@@ -23,6 +23,13 @@ pub const ROW_WORDS: usize = 6 * MAX_RECORDS;
 // The longest file and one byte, so that a longer one is told.
 pub const INPUT_BYTES: usize = MAX_BYTES + 1;
 
+// Two words, for what a walk over goals carries.
+pub fn blank_pair() -> [u64; 2]
+    ensures { λ r. ⌜ r ≡ replicate 2 0 ⌝ }
+{
+    [0; 2]
+}
+
 // A record number for each variable, region or type.
 pub fn blank_places() -> [usize; PLACES]
     ensures { λ r. ⌜ r ≡ replicate places 0 ⌝ }
@@ -63,15 +70,8 @@ pub fn blank_marks() -> [u8; MAX_RECORDS]
     [0; MAX_RECORDS]
 }
 
-// A procedure's number for each record.
+// A number for each record: its procedure's, or a record's.
 pub fn blank_owners() -> [u16; MAX_RECORDS]
-    ensures { λ r. ⌜ r ≡ replicate maxRecords 0 ⌝ }
-{
-    [0; MAX_RECORDS]
-}
-
-// A record number for each record.
-pub fn blank_links() -> [usize; MAX_RECORDS]
     ensures { λ r. ⌜ r ≡ replicate maxRecords 0 ⌝ }
 {
     [0; MAX_RECORDS]

@@ -277,19 +277,18 @@ fn records_ok(file: &[u8], seen: &mut [u8], n: usize) -> bool
     true
 }
 
-// Whether records 1 to n - 1 were counted once.
+// Whether records 1 to n - 1 were counted once. It looks at all of them, so that many are looked at in one step.
 fn all_once(seen: &[u8], n: usize) -> bool
     requires { ⌜ n ≤ length (now seen) ⌝ }
     ensures { λ b. ⌜ b ≡ all (λ j. eqb (getD (now (seen .entry)) j 0) 1) (upFrom 1 (n - 1)) ⌝ }
 {
+    let mut once = true;
     let mut j: usize = 1;
     while j < n {
-        if seen[j] != 1 {
-            return false;
-        }
+        once = once & (seen[j] == 1);
         j += 1;
     }
-    true
+    once
 }
 
 // Number 2, over the words of n records.

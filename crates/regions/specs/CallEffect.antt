@@ -151,7 +151,7 @@ module _ {f own theirs : List ℕ} {i : ℕ} (K : CallHere f own theirs i) where
     pub call-agrees : b ≡ recordTest (agrees f) f i
     unfolding agreesHere stepRegions
     call-agrees =
-        goal-test (K .here) kCall (call-kind f i (K .kind)) (call-here (K .here .formed) refl (K .kind) .goal)
+        goal-test i (K .here .formed) kCall (call-kind f i (K .kind)) (call-here (K .here .formed) refl (K .kind) .goal)
         (sym (ap oneWay mapped ∙ one-way b t′))
 
     module _ (y : b ≡ true) where
@@ -178,7 +178,7 @@ module _ {f own theirs : List ℕ} {i : ℕ} (K : CallHere f own theirs i) where
       call-made {d} h =
           let m : imageIn (mapping C Q ys) ≡ imagesIn t′ = fun-ext (λ n. ap (λ (a : Mapping). imageIn a n) found) in
           let w = K .callee in
-          effect-made (K .here) kCall (call-kind f i (K .kind)) (call-here (K .here .formed) refl (K .kind) .goal) (record {
+          effect-made (K .here .some) (K .here .below) kCall (call-kind f i (K .kind)) (call-here (K .here .formed) refl (K .kind) .goal) (record {
             needs = h .needs ∙ rw (m, w .dead, w .kept) refl;
             bears = h .bears ∙ rw (m, w .born) refl;
             ends = h .ends ∙ rw (m, w .dead) refl;

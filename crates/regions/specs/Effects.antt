@@ -7,7 +7,7 @@ use mathlib.Core.Logic.{inr}
 use mathlib.Core.Path.{_≡_, refl, sym, ap, _∙_}
 use Rattle.sets.specs.Sets.{single, single-zero}
 use Rattle.language.specs.File.{GoalKind, kLiteral, kSum, kAssign, kConstruct, kSwitch, kIf, kCall, kPrint, kCreate, kRemove, Kind, kGoal, goals, row, kindOf, word, recordCount}
-use Rattle.language.specs.Format.{kindWord, constructKind, createKind, removeKind, goalX, lifetimeRegion}
+use Rattle.language.specs.Format.{kindWord, literalKind, sumKind, assignKind, constructKind, callKind, printKind, createKind, removeKind, goalX, lifetimeRegion}
 use Rattle.language.specs.Program.{Four, Step, literal, sum, assign, construct, print, create, remove, Goal, step, switch, ifLess, Signature, Program, regionOf}
 use Rattle.language.specs.Lifetimes
 use Rattle.language.specs.Lifetimes.{effect, noEffect}
@@ -17,11 +17,11 @@ use Rattle.chains.specs.Formed.{Formed, goalAt}
 use Rattle.chains.specs.Kinds.{same-read}
 use Rattle.chains.specs.Goals.{literal-at, sum-at, assign-at, print-at}
 use Rattle.chains.specs.Parts.{switch-at, if-at}
-use Rattle.chains.specs.Shapes.{IsCall, goal-number, goal-kind, construct-here, create-here, remove-here}
+use Rattle.chains.specs.Shapes.{IsLiteral, IsSum, IsAssign, IsConstruct, IsSwitch, IsCall, IsPrint, IsCreate, IsRemove, goal-number, goal-kind, literal-here, sum-here, assign-here, construct-here, switch-here, call-here, print-here, create-here, remove-here}
 use Rattle.tables.specs.Window.{homeIn}
 use Rattle.tables.specs.Filled.{StepAt}
 use Rattle.tables.specs.declared.Effect.{Effect}
-use Rattle.regions.specs.Here.{signatureAt, Here, construct-kind, create-kind, remove-kind}
+use Rattle.regions.specs.Here.{signatureAt, Here, literal-kind, sum-kind, assign-kind, construct-kind, call-kind, print-kind, create-kind, remove-kind}
 
 -- e is the effect of g
 pub record Effects (P : Program) (S : Signature) (g : Step) (e : Effect) : Type 0 where
@@ -34,10 +34,17 @@ pub record Effects (P : Program) (S : Signature) (g : Step) (e : Effect) : Type 
 unfoldable pub regionEffect : ℕ → ℕ → ℕ → Effect
 regionEffect n b e = record { needs = single n; bears = single b; ends = single e; unshared = true }
 
--- e is the effect of the step at record i; a record without a step has none
+-- a step stands at record i, or none does
+abbrev pub SomeStep : List ℕ → ℕ → Type 0
+SomeStep f i = (g : Step) × StepAt f i g
+
+abbrev pub NoStep : List ℕ → ℕ → Type 0
+NoStep f i = (g : Step) → StepAt f i g → ⊥
+
+-- one does, and e is its effect
 pub record EffectAt (f : List ℕ) (i : ℕ) (e : Effect) : Type 0 where
+  pub one : SomeStep f i
   pub made : (g : Step) → StepAt f i g → Effects (program f) (signatureAt f i) g e
-  pub none : ((g : Step) → StepAt f i g → ⊥) → e ≡ regionEffect 0 0 0
 
 module _ (P : Program) (S : Signature) where
   construct-effect : (x f : ℕ) (ws : Four) {r : ℕ} → r ≡ regionOf S x → Effects P S (construct x f ws) (regionEffect r 0 0)
@@ -97,14 +104,71 @@ module _ (f : List ℕ) (i : ℕ) {h : Step} (v : goalAt f i ≡ step h) where
     view = v;
   }
 
-no-step : (f : List ℕ) (i : ℕ) {h : Goal} {e : Effect} → goalAt f i ≡ h → isStep h ≡ false → (g : Step) → StepAt f i g → Effects (program f) (signatureAt f i) g e
+no-step : (f : List ℕ) (i : ℕ) {h : Goal} → goalAt f i ≡ h → isStep h ≡ false → NoStep f i
 unfolding isStep
-no-step f i v z g s = absurd (false≢true (sym z ∙ ap isStep (sym v ∙ s .view)))
+no-step f i v z g s = false≢true (sym z ∙ ap isStep (sym v ∙ s .view))
 
 -- where the goal at record i is the step h, its effect is that of the step at record i
-pub effect-made : {f own : List ℕ} {i : ℕ} → Here f own i → (k : GoalKind) → kindOf (word f i kindWord) ≡ kGoal k → {h : Step} {e : Effect}
-    → goalAt f i ≡ step h → Effects (program f) (signatureAt f i) h e → EffectAt f i e
-effect-made {f} {own} {i} H k n v m = record { made = same-step f i v m; none = λ z. absurd (z _ (step-at f i v k n (H .some) (H .below))) }
+module _ {f : List ℕ} {i : ℕ} (p : 0 < i) (q : i < recordCount f) (k : GoalKind) (n : kindOf (word f i kindWord) ≡ kGoal k) {h : Step} (v : goalAt f i ≡ step h) where
+  pub effect-made : {e : Effect} → Effects (program f) (signatureAt f i) h e → EffectAt f i e
+  effect-made m = record { one = (h, step-at f i v k n p q); made = same-step f i v m }
+
+  effect-none : {e : Effect} → effect (program f) (signatureAt f i) h ≡ noEffect → e ≡ regionEffect 0 0 0 → EffectAt f i e
+  effect-none m d = rw d (effect-made (none-effect (program f) (signatureAt f i) m))
+
+-- ---- by the kind, and the words that the code has read
+module _ {f : List ℕ} {i : ℕ} (F : Formed f) (p : 0 < i) (q : i < recordCount f) where
+  -- literals, sums and prints have none
+  pub literal-made : {e : Effect} → IsLiteral f i → e ≡ regionEffect 0 0 0 → EffectAt f i e
+  unfolding effect
+  literal-made k = effect-none p q kLiteral (literal-kind f i k) (literal-here F refl k .goal) refl
+
+  pub sum-made : {e : Effect} → IsSum f i → e ≡ regionEffect 0 0 0 → EffectAt f i e
+  unfolding effect
+  sum-made k = effect-none p q kSum (sum-kind f i k) (sum-here F refl k .goal) refl
+
+  pub print-made : {e : Effect} → IsPrint f i → e ≡ regionEffect 0 0 0 → EffectAt f i e
+  unfolding effect
+  print-made k = effect-none p q kPrint (print-kind f i k) (print-here F refl k .goal) refl
+
+  -- steps that ask for a window
+  pub assign-step : IsAssign f i → SomeStep f i
+  assign-step k = (_, step-at f i (assign-here F refl k .goal) kAssign (assign-kind f i k) p q)
+
+  pub construct-step : IsConstruct f i → SomeStep f i
+  construct-step k = (_, step-at f i (construct-here F refl k .goal) kConstruct (construct-kind f i k) p q)
+
+  pub create-step : IsCreate f i → SomeStep f i
+  create-step k = (_, step-at f i (create-here F refl k .goal) kCreate (create-kind f i k) p q)
+
+  pub remove-step : IsRemove f i → SomeStep f i
+  remove-step k = (_, step-at f i (remove-here F refl k .goal) kRemove (remove-kind f i k) p q)
+
+pub call-step : {f : List ℕ} {i : ℕ} → Formed f → IsCall f i → SomeStep f i
+call-step {f} {i} F k = let v = call-here F refl k in (_, step-at f i (v .goal) kCall (call-kind f i k) (v .some) (v .below))
+
+-- no step
+pub switch-none : {f : List ℕ} {i : ℕ} → Formed f → IsSwitch f i → NoStep f i
+unfolding isStep
+switch-none {f} {i} F k = no-step f i (switch-here F refl k .goal) refl
+
+module _ {f : List ℕ} {i : ℕ} (F : Formed f) {w : ℕ} (e : w ≡ word f i kindWord) (n8 : w ≡ literalKind → ⊥) (n9 : w ≡ sumKind → ⊥) (n10 : w ≡ assignKind → ⊥)
+    (n11 : w ≡ constructKind → ⊥) (n15 : w ≡ callKind → ⊥) (n17 : w ≡ printKind → ⊥) (n18 : w ≡ createKind → ⊥) (n19 : w ≡ removeKind → ⊥) where
+  none-left : (k : GoalKind) → kindOf (word f i kindWord) ≡ kGoal k → NoStep f i
+  unfolding all-rows isStep
+  none-left kLiteral k = absurd (n8 (e ∙ goal-number (word f i kindWord) kLiteral k))
+  none-left kSum k = absurd (n9 (e ∙ goal-number (word f i kindWord) kSum k))
+  none-left kAssign k = absurd (n10 (e ∙ goal-number (word f i kindWord) kAssign k))
+  none-left kConstruct k = absurd (n11 (e ∙ goal-number (word f i kindWord) kConstruct k))
+  none-left kSwitch k = no-step f i (switch-at F refl (same-read f i refl k) .goal) refl
+  none-left kIf k = no-step f i (if-at F refl (same-read f i refl k) .goal) refl
+  none-left kCall k = absurd (n15 (e ∙ goal-number (word f i kindWord) kCall k))
+  none-left kPrint k = absurd (n17 (e ∙ goal-number (word f i kindWord) kPrint k))
+  none-left kCreate k = absurd (n18 (e ∙ goal-number (word f i kindWord) kCreate k))
+  none-left kRemove k = absurd (n19 (e ∙ goal-number (word f i kindWord) kRemove k))
+
+  pub no-step-left : NoStep f i
+  no-step-left g s = let k = goal-kind (s .stands) (s .some) in none-left (k .0) (k .1) g s
 
 -- ---- any goal but a call, by its kind
 module _ {f own : List ℕ} {i : ℕ} (H : Here f own i) where
@@ -112,33 +176,34 @@ module _ {f own : List ℕ} {i : ℕ} (H : Here f own i) where
       → EffectAt f i e
   construct-made wk k j l d =
       let n = construct-kind f i (sym wk ∙ k) in
-      rw d (effect-made H kConstruct n (construct-here (H .formed) wk k .goal)
+      rw d (effect-made (H .some) (H .below) kConstruct n (construct-here (H .formed) wk k .goal)
       (construct-effect (program f) (signatureAt f i) _ _ _ (l ∙ ap (homeIn own) j ∙ H .window kConstruct n .home _)))
 
   pub create-made : {w r : ℕ} {e : Effect} → w ≡ word f i kindWord → w ≡ createKind → r ≡ word f i lifetimeRegion → e ≡ regionEffect 0 r 0 → EffectAt f i e
   create-made wk k j d =
-      rw (d, j) (effect-made H kCreate (create-kind f i (sym wk ∙ k)) (create-here (H .formed) wk k .goal) (create-effect (program f) (signatureAt f i) _))
+      rw (d, j) (effect-made (H .some) (H .below) kCreate (create-kind f i (sym wk ∙ k)) (create-here (H .formed) wk k .goal) (create-effect (program f) (signatureAt f i) _))
 
   pub remove-made : {w r : ℕ} {e : Effect} → w ≡ word f i kindWord → w ≡ removeKind → r ≡ word f i lifetimeRegion → e ≡ regionEffect r 0 r → EffectAt f i e
   remove-made wk k j d =
-      rw (d, j) (effect-made H kRemove (remove-kind f i (sym wk ∙ k)) (remove-here (H .formed) wk k .goal) (remove-effect (program f) (signatureAt f i) _))
+      rw (d, j) (effect-made (H .some) (H .below) kRemove (remove-kind f i (sym wk ∙ k)) (remove-here (H .formed) wk k .goal) (remove-effect (program f) (signatureAt f i) _))
 
-  module _ {w : ℕ} (e : w ≡ word f i kindWord) (n11 : w ≡ constructKind → ⊥) (n18 : w ≡ createKind → ⊥) (n19 : w ≡ removeKind → ⊥) (n15 : IsCall f i → ⊥) where
+  module _ {w : ℕ} (e : w ≡ word f i kindWord) (n11 : w ≡ constructKind → ⊥) (n18 : w ≡ createKind → ⊥) (n19 : w ≡ removeKind → ⊥) (n15 : IsCall f i → ⊥)
+      (one : SomeStep f i) where
     none-at : (k : GoalKind) → kindOf (word f i kindWord) ≡ kGoal k → (g : Step) → StepAt f i g → Effects (program f) (signatureAt f i) g (regionEffect 0 0 0)
     unfolding effect all-rows isStep
-    none-at kLiteral k = same-step f i (literal-at (H .formed) refl (same-read f i refl k) .goal) (none-effect (program f) (signatureAt f i) refl)
-    none-at kSum k = same-step f i (sum-at (H .formed) refl (same-read f i refl k) .goal) (none-effect (program f) (signatureAt f i) refl)
-    none-at kAssign k = same-step f i (assign-at (H .formed) refl (same-read f i refl k) .goal) (none-effect (program f) (signatureAt f i) refl)
-    none-at kConstruct k = absurd (n11 (e ∙ goal-number (word f i kindWord) kConstruct k))
-    none-at kSwitch k = no-step f i (switch-at (H .formed) refl (same-read f i refl k) .goal) refl
-    none-at kIf k = no-step f i (if-at (H .formed) refl (same-read f i refl k) .goal) refl
-    none-at kCall k = absurd (n15 (goal-number (word f i kindWord) kCall k))
-    none-at kPrint k = same-step f i (print-at (H .formed) refl (same-read f i refl k) .goal) (none-effect (program f) (signatureAt f i) refl)
-    none-at kCreate k = absurd (n18 (e ∙ goal-number (word f i kindWord) kCreate k))
-    none-at kRemove k = absurd (n19 (e ∙ goal-number (word f i kindWord) kRemove k))
+    none-at kLiteral k g s = same-step f i (literal-at (H .formed) refl (same-read f i refl k) .goal) (none-effect (program f) (signatureAt f i) refl) g s
+    none-at kSum k g s = same-step f i (sum-at (H .formed) refl (same-read f i refl k) .goal) (none-effect (program f) (signatureAt f i) refl) g s
+    none-at kAssign k g s = same-step f i (assign-at (H .formed) refl (same-read f i refl k) .goal) (none-effect (program f) (signatureAt f i) refl) g s
+    none-at kConstruct k g s = absurd (n11 (e ∙ goal-number (word f i kindWord) kConstruct k))
+    none-at kSwitch k g s = absurd (no-step f i (switch-at (H .formed) refl (same-read f i refl k) .goal) refl g s)
+    none-at kIf k g s = absurd (no-step f i (if-at (H .formed) refl (same-read f i refl k) .goal) refl g s)
+    none-at kCall k g s = absurd (n15 (goal-number (word f i kindWord) kCall k))
+    none-at kPrint k g s = same-step f i (print-at (H .formed) refl (same-read f i refl k) .goal) (none-effect (program f) (signatureAt f i) refl) g s
+    none-at kCreate k g s = absurd (n18 (e ∙ goal-number (word f i kindWord) kCreate k))
+    none-at kRemove k g s = absurd (n19 (e ∙ goal-number (word f i kindWord) kRemove k))
 
     pub none-made : {d : Effect} → d ≡ regionEffect 0 0 0 → EffectAt f i d
     none-made m = record {
+      one = one;
       made = λ g s. let k = goal-kind (s .stands) (s .some) in rw m (none-at (k .0) (k .1) g s);
-      none = λ z. m;
     }

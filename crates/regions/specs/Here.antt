@@ -22,7 +22,7 @@ use Rattle.chains.specs.Formed.{Formed, Stands, goalAt, edgesAt, armsAt, arms-n
 use Rattle.chains.specs.Kinds.{same-read}
 use Rattle.chains.specs.Goals.{literal-at, sum-at, print-at, create-at, remove-at}
 use Rattle.chains.specs.Parts.{if-at}
-use Rattle.chains.specs.Shapes.{IsAssign, IsConstruct, IsSwitch, IsCall, IsCreate, IsRemove, goal-number, assign-here, construct-here, switch-here, call-here, arm-here}
+use Rattle.chains.specs.Shapes.{IsLiteral, IsSum, IsAssign, IsConstruct, IsSwitch, IsCall, IsPrint, IsCreate, IsRemove, goal-number, assign-here, construct-here, switch-here, call-here, arm-here}
 use Rattle.owners.specs.Owner.{ownerOf}
 use Rattle.owners.specs.Everywhere.{ifGoal, recordTest}
 use Rattle.owners.specs.TreeLaw.{record-kind}
@@ -53,6 +53,18 @@ pub record Here (f own : List ℕ) (i : ℕ) : Type 0 where
 
 -- ---- kinds by their numbers
 module _ (f : List ℕ) (i : ℕ) where
+  pub literal-kind : IsLiteral f i → kindOf (word f i kindWord) ≡ kGoal kLiteral
+  unfolding kindOf kinds nth
+  literal-kind k = ap kindOf k
+
+  pub sum-kind : IsSum f i → kindOf (word f i kindWord) ≡ kGoal kSum
+  unfolding kindOf kinds nth
+  sum-kind k = ap kindOf k
+
+  pub print-kind : IsPrint f i → kindOf (word f i kindWord) ≡ kGoal kPrint
+  unfolding kindOf kinds nth
+  print-kind k = ap kindOf k
+
   pub assign-kind : IsAssign f i → kindOf (word f i kindWord) ≡ kGoal kAssign
   unfolding kindOf kinds nth
   assign-kind k = ap kindOf k
@@ -117,12 +129,13 @@ unfolding armsIn armsHere
 arms-same P W r e noArms = refl
 arms-same P W r e (arm fn ys gs cs) = ap₂ _&_ (all-in-targets P W r fn e 1 (argumentsOf ys)) (arms-same P W r e cs)
 
-module _ {f own : List ℕ} {i : ℕ} (H : Here f own i) where
+module _ {f : List ℕ} (i : ℕ) (F : Formed f) where
   pub goal-test : (g : GoalKind) → kindOf (word f i kindWord) ≡ kGoal g → {h : Goal} → goalAt f i ≡ h → {b : Bool}
       → b ≡ agreesHere (program f) (signatureAt f i) h → b ≡ recordTest (agrees f) f i
   unfolding ifGoal agrees
-  goal-test g k e m = m ∙ ap (agreesHere (program f) (signatureAt f i)) (sym e) ∙ sym (record-kind (agrees f) (H .formed) i (kGoal g) k)
+  goal-test g k e m = m ∙ ap (agreesHere (program f) (signatureAt f i)) (sym e) ∙ sym (record-kind (agrees f) F i (kGoal g) k)
 
+module _ {f own : List ℕ} {i : ℕ} (H : Here f own i) where
   pub own-stands : (g : GoalKind) → kindOf (word f i kindWord) ≡ kGoal g → Standing f own
   own-stands g k = window-stands (H .window g k)
 
@@ -132,7 +145,7 @@ module _ {f own : List ℕ} {i : ℕ} (H : Here f own i) where
   assign-agrees wk k e j g l h =
       let n = assign-kind f i (sym wk ∙ k) in
       let W = H .window kAssign n in
-      goal-test kAssign n (assign-here (H .formed) wk k .goal) (h ∙ ap₂ eqb (j ∙ ap (homeIn own) e ∙ W .home _) (l ∙ ap (homeIn own) g ∙ W .home _))
+      goal-test i (H .formed) kAssign n (assign-here (H .formed) wk k .goal) (h ∙ ap₂ eqb (j ∙ ap (homeIn own) e ∙ W .home _) (l ∙ ap (homeIn own) g ∙ W .home _))
 
   -- the edges of the region of variable x
   module _ (g : GoalKind) (n : kindOf (word f i kindWord) ≡ kGoal g) {x r es : ℕ} (e : x ≡ word f i goalX) (j : r ≡ homeIn own x) (l : es ≡ edgesIn own r) where
@@ -149,7 +162,7 @@ module _ {f own : List ℕ} {i : ℕ} (H : Here f own i) where
   unfolding agreesHere stepRegions argumentsHere
   construct-agrees wk k e j l h =
       let n = construct-kind f i (sym wk ∙ k) in
-      goal-test kConstruct n (construct-here (H .formed) wk k .goal)
+      goal-test i (H .formed) kConstruct n (construct-here (H .formed) wk k .goal)
       (h ∙ all-in-targets (program f) (H .window kConstruct n) _ (word f i termFunctor) (edges-here kConstruct n e j l) 1 _)
 
   pub switch-agrees : {w x r es cs : ℕ} {b : Bool} → w ≡ word f i kindWord → w ≡ switchKind → x ≡ word f i goalX → r ≡ homeIn own x → es ≡ edgesIn own r
@@ -157,36 +170,37 @@ module _ {f own : List ℕ} {i : ℕ} (H : Here f own i) where
   unfolding agreesHere
   switch-agrees {es = es} wk k e j l c h =
       let n = switch-kind f i (sym wk ∙ k) in
-      goal-test kSwitch n (switch-here (H .formed) wk k .goal)
+      goal-test i (H .formed) kSwitch n (switch-here (H .formed) wk k .goal)
       (h ∙ ap (λ (a : ℕ). armsIn own (edgesAt f es) (armsAt f a)) c ∙ arms-same (program f) (H .window kSwitch n) _ (edges-here kSwitch n e j l) (armsAt f (word f i switchArms)))
 
-  -- any other record but a call's
-  module _ {w : ℕ} (e : w ≡ word f i kindWord) (n10 : w ≡ assignKind → ⊥) (n11 : w ≡ constructKind → ⊥) (n12 : w ≡ switchKind → ⊥) (n15 : IsCall f i → ⊥) where
-    other-test : (k : Kind) → kindOf (word f i kindWord) ≡ k → true ≡ recordTest (agrees f) f i
-    unfolding ifGoal agreesHere stepRegions all-rows
-    other-test kNone k = sym (record-kind (agrees f) (H .formed) i kNone k)
-    other-test kHeader k = sym (record-kind (agrees f) (H .formed) i kHeader k)
-    other-test kType k = sym (record-kind (agrees f) (H .formed) i kType k)
-    other-test kFunctor k = sym (record-kind (agrees f) (H .formed) i kFunctor k)
-    other-test kProcedure k = sym (record-kind (agrees f) (H .formed) i kProcedure k)
-    other-test kVariable k = sym (record-kind (agrees f) (H .formed) i kVariable k)
-    other-test kRegion k = sym (record-kind (agrees f) (H .formed) i kRegion k)
-    other-test kEdge k = sym (record-kind (agrees f) (H .formed) i kEdge k)
-    other-test kArm k = sym (record-kind (agrees f) (H .formed) i kArm k)
-    other-test kArgument k = sym (record-kind (agrees f) (H .formed) i kArgument k)
-    other-test (kGoal kLiteral) k = goal-test kLiteral k (literal-at (H .formed) refl (same-read f i refl k) .goal) refl
-    other-test (kGoal kSum) k = goal-test kSum k (sum-at (H .formed) refl (same-read f i refl k) .goal) refl
-    other-test (kGoal kAssign) k = absurd (n10 (e ∙ goal-number (word f i kindWord) kAssign k))
-    other-test (kGoal kConstruct) k = absurd (n11 (e ∙ goal-number (word f i kindWord) kConstruct k))
-    other-test (kGoal kSwitch) k = absurd (n12 (e ∙ goal-number (word f i kindWord) kSwitch k))
-    other-test (kGoal kIf) k = goal-test kIf k (if-at (H .formed) refl (same-read f i refl k) .goal) refl
-    other-test (kGoal kCall) k = absurd (n15 (goal-number (word f i kindWord) kCall k))
-    other-test (kGoal kPrint) k = goal-test kPrint k (print-at (H .formed) refl (same-read f i refl k) .goal) refl
-    other-test (kGoal kCreate) k = goal-test kCreate k (create-at (H .formed) refl (same-read f i refl k) .goal) refl
-    other-test (kGoal kRemove) k = goal-test kRemove k (remove-at (H .formed) refl (same-read f i refl k) .goal) refl
+-- any other record
+module _ {f : List ℕ} (i : ℕ) (F : Formed f) {w : ℕ} (e : w ≡ word f i kindWord) (n10 : w ≡ assignKind → ⊥) (n11 : w ≡ constructKind → ⊥) (n12 : w ≡ switchKind → ⊥)
+    (n15 : w ≡ callKind → ⊥) where
+  other-test : (k : Kind) → kindOf (word f i kindWord) ≡ k → true ≡ recordTest (agrees f) f i
+  unfolding ifGoal agreesHere stepRegions all-rows
+  other-test kNone k = sym (record-kind (agrees f) F i kNone k)
+  other-test kHeader k = sym (record-kind (agrees f) F i kHeader k)
+  other-test kType k = sym (record-kind (agrees f) F i kType k)
+  other-test kFunctor k = sym (record-kind (agrees f) F i kFunctor k)
+  other-test kProcedure k = sym (record-kind (agrees f) F i kProcedure k)
+  other-test kVariable k = sym (record-kind (agrees f) F i kVariable k)
+  other-test kRegion k = sym (record-kind (agrees f) F i kRegion k)
+  other-test kEdge k = sym (record-kind (agrees f) F i kEdge k)
+  other-test kArm k = sym (record-kind (agrees f) F i kArm k)
+  other-test kArgument k = sym (record-kind (agrees f) F i kArgument k)
+  other-test (kGoal kLiteral) k = goal-test i F kLiteral k (literal-at F refl (same-read f i refl k) .goal) refl
+  other-test (kGoal kSum) k = goal-test i F kSum k (sum-at F refl (same-read f i refl k) .goal) refl
+  other-test (kGoal kAssign) k = absurd (n10 (e ∙ goal-number (word f i kindWord) kAssign k))
+  other-test (kGoal kConstruct) k = absurd (n11 (e ∙ goal-number (word f i kindWord) kConstruct k))
+  other-test (kGoal kSwitch) k = absurd (n12 (e ∙ goal-number (word f i kindWord) kSwitch k))
+  other-test (kGoal kIf) k = goal-test i F kIf k (if-at F refl (same-read f i refl k) .goal) refl
+  other-test (kGoal kCall) k = absurd (n15 (e ∙ goal-number (word f i kindWord) kCall k))
+  other-test (kGoal kPrint) k = goal-test i F kPrint k (print-at F refl (same-read f i refl k) .goal) refl
+  other-test (kGoal kCreate) k = goal-test i F kCreate k (create-at F refl (same-read f i refl k) .goal) refl
+  other-test (kGoal kRemove) k = goal-test i F kRemove k (remove-at F refl (same-read f i refl k) .goal) refl
 
-    pub other-agrees : true ≡ recordTest (agrees f) f i
-    other-agrees = other-test (kindOf (word f i kindWord)) refl
+  pub other-agrees : true ≡ recordTest (agrees f) f i
+  other-agrees = other-test (kindOf (word f i kindWord)) refl
 
 -- ---- along a chain of arms: the rest from record a on decides
 module _ (f t : List ℕ) (es : List Edge) (a : ℕ) (F : Formed f) (s : Stands f File.arms a) (z : a ≡ 0 → ⊥) {b : Bool}

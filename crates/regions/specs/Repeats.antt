@@ -56,7 +56,7 @@ module _ {f own owners : List ℕ} {i j : ℕ} (H : Here f own i) (R : Repeats f
   pub repeat-agrees : true ≡ recordTest (agrees f) f j → true ≡ recordTest (agrees f) f i
   unfolding ifGoal agrees agreesHere stepRegions
   repeat-agrees y =
-      goal-test H kCall (call-kind f i k) (call-here (H .formed) refl k .goal)
+      goal-test i (H .formed) kCall (call-kind f i k) (call-here (H .formed) refl k .goal)
       (y ∙ record-kind (agrees f) (H .formed) j (kGoal kCall) (call-kind f j (R .kind)) ∙ rw (call-here (H .formed) refl (R .kind) .goal, ← o, ← R .callee) (ap oneWay (sym same)))
 
   -- .. and so is its effect
@@ -67,7 +67,7 @@ module _ {f own owners : List ℕ} {i j : ℕ} (H : Here f own i) (R : Repeats f
       let h = m .made _ (step-at f j (v .goal) kCall (call-kind f j (R .kind)) (v .some) (v .below)) in
       let d : effect (program f) (signatureAt f j) (call (word f j callProcedure) (argumentsAt f (word f j callArguments))) ≡ effect (program f) C (call (word f i callProcedure) (argumentsAt f (word f i callArguments))) =
       rw (← o, ← R .callee) (ap (λ n. callEffect n Q) (sym same)) in
-      effect-made H kCall (call-kind f i k) (call-here (H .formed) refl k .goal) (record {
+      effect-made (H .some) (H .below) kCall (call-kind f i k) (call-here (H .formed) refl k .goal) (record {
         needs = h .needs ∙ ap (λ (x : Lifetimes.Effect). x .needs) d;
         bears = h .bears ∙ ap (λ (x : Lifetimes.Effect). x .bears) d;
         ends = h .ends ∙ ap (λ (x : Lifetimes.Effect). x .ends) d;

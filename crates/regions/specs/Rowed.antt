@@ -25,16 +25,16 @@ use Rattle.tables.specs.Rows.{rowSet, readsIn, givesIn, effectIn, bitOf, putEff
 use Rattle.tables.specs.Filled.{StepAt, Accessed, Effected}
 use Rattle.tables.specs.declared.Effect.{Effect}
 use Rattle.regions.specs.Single.{agrees, number-5}
-use Rattle.regions.specs.Effects.{Effects, EffectAt}
+use Rattle.regions.specs.Effects.{SomeStep, NoStep, Effects, EffectAt, call-step}
 
 -- ---- what stands in the rows u, where t stood
 -- every word of row i is as it was
 abbrev pub Still : List ℕ → List ℕ → ℕ → Type 0
 Still t u i = (k : ℕ) → k < 6 → getD u (6 * i + k) 0 ≡ getD t (6 * i + k) 0
 
--- row i has the effect of record i; it may be as it was where the answer is false
+-- row i has the effect of the step at record i, or is as it was: where no step stands there, and where the answer is false
 abbrev pub RowDone : List ℕ → ℕ → List ℕ → Bool → List ℕ → Type 0
-RowDone f i t b u = EffectAt f i (effectIn u i) ⊎ ((b ≡ false) × Still t u i)
+RowDone f i t b u = EffectAt f i (effectIn u i) ⊎ (((b ≡ false) ⊎ NoStep f i) × Still t u i)
 
 -- word k of row i is no effect's of a record of the file, but what its goal reads or gives, or behind the last record
 abbrev pub Apart : List ℕ → ℕ → ℕ → Type 0
@@ -73,15 +73,28 @@ passed-accessed {f} {t} {u} p a =
       arm-gives = λ i s z. gives i ∙ a .arm-gives i s z;
     }
 
-row-true : {f : List ℕ} (t u : List ℕ) {b : Bool} (i : ℕ) → b ≡ true → RowDone f i t b u → EffectAt f i (effectIn u i)
-row-true t u i y (inl e) = e
-row-true t u i y (inr d) = absurd (false≢true (sym (d .0) ∙ y))
+row-step : {f : List ℕ} (t u : List ℕ) {b : Bool} (i : ℕ) → b ≡ true → SomeStep f i → RowDone f i t b u → EffectAt f i (effectIn u i)
+row-step t u i y o (inl e) = e
+row-step t u i y o (inr (inl z, d)) = absurd (false≢true (sym z ∙ y))
+row-step t u i y o (inr (inr n, d)) = absurd (n (o .0) (o .1))
+
+-- from the rows t₀, where the row was as it had been
+row-since : {f : List ℕ} (t₀ t u : List ℕ) {b : Bool} (i : ℕ) → Still t₀ t i → RowDone f i t b u → RowDone f i t₀ b u
+row-since t₀ t u i h = ⊎-elim (λ e. inl e) (λ d. inr (d .0, λ k q. d .1 k q ∙ h k q))
+
+-- in the rows u, where the row is as it is in t
+row-still : {f : List ℕ} (t₀ t u : List ℕ) {b : Bool} (i : ℕ) → Still t u i → RowDone f i t₀ b t → RowDone f i t₀ b u
+row-still t₀ t u i h = ⊎-elim (λ e. inl (rw (still-effect t u i h) e)) (λ d. inr (d .0, λ k q. h k q ∙ d .1 k q))
+
+row-false : {f : List ℕ} (t u : List ℕ) (i : ℕ) → RowDone f i t true u → RowDone f i t false u
+row-false t u i = ⊎-elim (λ e. inl e) (λ d. inr (inl refl, d .1))
 
 -- every step has its effect, where the pass answers true
 pub passed-effected : {f t u : List ℕ} {b : Bool} → Passed f t b u → b ≡ true → Effected f (ownerOf f) u
 unfolding effectIn
 passed-effected {f} {t} {u} {b} p y =
-    let at : (j : ℕ) (g : Step) → StepAt f j g → EffectAt f j (effectIn u j) = λ j g s. row-true t u j y (p .rows j (omega (arith, s .some)) (s .stands .below)) in
+    let at : (j : ℕ) (g : Step) → StepAt f j g → EffectAt f j (effectIn u j) =
+    λ j g s. row-step t u j y (g, s) (p .rows j (omega (arith, s .some)) (s .stands .below)) in
     record {
       needs = λ j g s. at j g s .made g s .needs;
       bears = λ j g s. at j g s .made g s .bears;
@@ -115,8 +128,8 @@ rowed-put f i t {u} {b} {e} few long p m = rw p (record {
   row = inl (rw (effect-put t i e few long) m);
 })
 
--- the record is refused, and its row is as it was
-pub rowed-not : (f : List ℕ) (i : ℕ) (t : List ℕ) {b : Bool} → b ≡ false → Rowed f i t b t
+-- the record is refused, or has no step, and its row is as it was
+pub rowed-not : (f : List ℕ) (i : ℕ) (t : List ℕ) {b : Bool} → (b ≡ false) ⊎ NoStep f i → Rowed f i t b t
 rowed-not f i t z = record { size = refl; access = λ k l. refl; others = λ j n k l. refl; row = inr (z, λ k l. refl) }
 
 -- ---- the loop: the records below i are done, and the rest decides
@@ -128,7 +141,7 @@ pub record Going (f t₀ t : List ℕ) (n i : ℕ) : Type 0 where
   pub size : length t ≡ length t₀
   pub apart : (j k : ℕ) → k < 6 → Apart f j k → getD t (6 * j + k) 0 ≡ getD t₀ (6 * j + k) 0
   pub ahead : (j : ℕ) → i ≤ j → Still t₀ t j
-  pub done : (j : ℕ) → 0 < j → j < i → EffectAt f j (effectIn t j)
+  pub done : (j : ℕ) → 0 < j → j < i → RowDone f j t₀ true t
   pub passed : (j : ℕ) → 0 < j → j < i → true ≡ recordTest (agrees f) f j
 
 pub going-first : {f : List ℕ} (t : List ℕ) {n : ℕ} → Formed f → n ≡ recordCount f → Going f t t n 1
@@ -158,7 +171,7 @@ module _ {f t₀ t : List ℕ} {n i : ℕ} (h : Going f t₀ t n i) where
   going-last l = sym (h .rest ∙ ap (all (recordTest (agrees f) f)) (from-end n i l))
 
   pub going-passed : n ≤ i → Passed f t₀ true t
-  going-passed l = record { size = h .size; apart = h .apart; rows = λ j p m. inl (h .done j p (omega (arith, h .count))) }
+  going-passed l = record { size = h .size; apart = h .apart; rows = λ j p m. h .done j p (omega (arith, h .count)) }
 
   -- record i is done
   module _ {b : Bool} {u : List ℕ} (l : i < n) (r : Rowed f i t b u) where
@@ -170,22 +183,22 @@ module _ {f t₀ t : List ℕ} {n i : ℕ} (h : Going f t₀ t n i) where
     apart-here : (j k : ℕ) → k < 6 → Apart f j k → getD u (6 * j + k) 0 ≡ getD t₀ (6 * j + k) 0
     apart-here j k m a = elim (ℕ-discrete j i) [ yes z ↦ own-apart j k z a | no z ↦ r .others j z k m ] ∙ h .apart j k m a
 
-    done-here : (j : ℕ) → 0 < j → j < i → EffectAt f j (effectIn u j)
-    done-here j p m = rw (still-effect t u j (r .others j (λ z. omega arith))) (h .done j p m)
+    done-here : (j : ℕ) → 0 < j → j < i → RowDone f j t₀ true u
+    done-here j p m = row-still t₀ t u j (r .others j (λ z. omega arith)) (h .done j p m)
 
     ahead-here : (j : ℕ) → i < j → Still t₀ u j
     ahead-here j m k q = r .others j (λ z. omega arith) k q ∙ h .ahead j (omega arith) k q
 
     row-here : RowDone f i t₀ b u
-    row-here = ⊎-elim (λ e. inl e) (λ d. inr (d .0, λ k q. d .1 k q ∙ h .ahead i (omega arith) k q)) (r .row)
+    row-here = row-since t₀ t u i (h .ahead i (omega arith)) (r .row)
 
     pub going-stopped : b ≡ false → Passed f t₀ false u
     going-stopped z = record { size = r .size ∙ h .size; apart = apart-here; rows = λ j p m. row j p (ℕ-discrete j i) (decLt j i) }
       where
         row : (j : ℕ) → 0 < j → Dec (j ≡ i) → Dec (j < i) → RowDone f j t₀ false u
         row j p (yes c) d = rw c (rw z at row-here)
-        row j p (no c) (yes d) = inl (done-here j p d)
-        row j p (no c) (no d) = inr (refl, ahead-here j (omega (arith, c, d)))
+        row j p (no c) (yes d) = row-false t₀ u j (done-here j p d)
+        row j p (no c) (no d) = inr (inl refl, ahead-here j (omega (arith, c, d)))
 
     pub going-next : b ≡ recordTest (agrees f) f i → b ≡ true → Going f t₀ u n (i + 1)
     unfolding _&_
@@ -197,7 +210,7 @@ module _ {f t₀ t : List ℕ} {n i : ℕ} (h : Going f t₀ t n i) where
       size = r .size ∙ h .size;
       apart = apart-here;
       ahead = λ j m. ahead-here j (omega arith);
-      done = λ j p k. elim (ℕ-discrete j i) [ yes z ↦ rw z (row-true t u i y (r .row)) | no z ↦ done-here j p (omega (arith, z)) ];
+      done = λ j p k. elim (ℕ-discrete j i) [ yes z ↦ rw z (rw y at row-here) | no z ↦ done-here j p (omega (arith, z)) ];
       passed = λ j p k. elim (ℕ-discrete j i) [ yes z ↦ rw z (sym y ∙ e) | no z ↦ h .passed j p (omega (arith, z)) ];
     }
 
@@ -208,8 +221,8 @@ pub record Before (f t : List ℕ) (j : ℕ) : Type 0 where
   pub agrees : IsCall f j → true ≡ recordTest (agrees f) f j
 
 pub going-before : {f t₀ t : List ℕ} {n i j : ℕ} → Going f t₀ t n i → Formed f → j < i → Before f t j
-going-before {f} {j = j} h F l = record {
+going-before {f} {t₀} {t} {j = j} h F l = record {
   below = let m = h .most in omega (arith, h .count);
-  made = λ k. h .done j (call-here {f = f} {i = j} F refl k .some) l;
+  made = λ k. row-step t₀ t j refl (call-step F k) (h .done j (call-here {f = f} {i = j} F refl k .some) l);
   agrees = λ k. h .passed j (call-here {f = f} {i = j} F refl k .some) l;
 }

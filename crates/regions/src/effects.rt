@@ -7,10 +7,10 @@ use tables::home;
 ghost use mathlib.Core.Path.{_≡_};
 ghost use Rattle.chains.specs.Shapes.{IsCall};
 ghost use Rattle.regions.specs.Here.{Here};
-ghost use Rattle.regions.specs.Effects.{EffectAt, regionEffect};
+ghost use Rattle.regions.specs.Effects.{SomeStep, EffectAt, regionEffect};
 
 // A step that needs, bears and ends a region each, 0 for none.
-fn region_effect(needs: usize, bears: usize, ends: usize) -> Effect
+pub fn region_effect(needs: usize, bears: usize, ends: usize) -> Effect
     ensures { λ e. ⌜ e ≡ regionEffect needs bears ends ⌝ }
 {
     Effect {
@@ -21,10 +21,10 @@ fn region_effect(needs: usize, bears: usize, ends: usize) -> Effect
     }
 }
 
-// "A construct needs X's region"; a create bears its region, a remove needs and ends it. Record i is no call.
+// "A construct needs X's region"; a create bears its region, a remove needs and ends it. A step that is no call stands at record i.
 pub fn step_effect(file: &[u8], own: &[u64], i: usize) -> Effect
     requires { ⌜ Here (now file) (now own) i ⌝ }
-    requires { ⌜ (IsCall (now file) i → ⊥) ⌝ }
+    requires { ⌜ (IsCall (now file) i → ⊥) × SomeStep (now file) i ⌝ }
     ensures { λ e. ⌜ EffectAt (now (file .entry)) i e ⌝ }
 {
     match word(file, i, format::KIND) {

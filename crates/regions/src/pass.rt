@@ -1,5 +1,6 @@
 // Number 5 of a file, in one pass over its records. What each step does to regions goes into its row on the way.
 use crate::calls::map_call;
+use crate::effects::region_effect;
 use crate::effects::step_effect;
 use crate::images::image_effect;
 use crate::repeats::owner_of;
@@ -17,16 +18,19 @@ use tables::needs_at;
 use tables::put_effect;
 use tables::start_of;
 ghost use mathlib.Core.Path.{_≡_};
+ghost use mathlib.Core.Bool.{true};
 ghost use Prim.Native.Nat.{_≤_, _<_};
 ghost use lib.ListN.{length};
+ghost use Rattle.language.specs.Format.{maxRecords};
 ghost use Rattle.language.specs.File.{recordCount};
 ghost use Rattle.language.specs.Regions.{regionsOk};
 ghost use Rattle.language.specs.Answers.{program};
+ghost use Rattle.chains.specs.Shapes.{IsCall};
 ghost use Rattle.owners.specs.Everywhere.{recordTest};
-ghost use Rattle.tables.specs.Window.{FileTable};
-ghost use Rattle.tables.specs.Rows.{rowsLength, effectIn};
+ghost use Rattle.tables.specs.Rows.{rowsLength, effectIn, putEffect};
 ghost use Rattle.regions.specs.Single.{agrees};
 ghost use Rattle.regions.specs.Here.{Given, Here};
+ghost use Rattle.regions.specs.Effects.{SomeStep, regionEffect};
 ghost use Rattle.regions.specs.CallEffect.{CallHere};
 ghost use Rattle.regions.specs.Rowed.{Before, Rowed, Passed};
 
@@ -46,20 +50,49 @@ fn call_ok(file: &[u8], own: &[u64], callee: &[u64], i: usize, rows: &mut [u64; 
     true
 }
 
-// Record i, of the procedure with the window own.
-fn row_ok(file: &[u8], table: &[u64], own: &[u64], i: usize, rows: &mut [u64; ROWS]) -> bool
+// The step at record i, no call, of the procedure with the window own.
+fn row_ok(file: &[u8], own: &[u64], i: usize, rows: &mut [u64; ROWS]) -> bool
     requires { ⌜ Here (now file) (now own) i ⌝ }
-    requires { ⌜ FileTable (now file) (now table) ⌝ }
+    requires { ⌜ (IsCall (now file) i → ⊥) × SomeStep (now file) i ⌝ }
     requires { ⌜ rowsLength ≤ length (now rows) ⌝ }
     ensures { λ b. ⌜ b ≡ recordTest (agrees (now (file .entry))) (now (file .entry)) i ⌝ }
     ensures { λ b. ⌜ Rowed (now (file .entry)) i (now (rows .entry)) b (now (rows .exit)) ⌝ }
 {
-    if word(file, i, format::KIND) == format::CALL {
-        let start = start_of(table, word(file, i, format::CALL_PROCEDURE));
-        return call_ok(file, own, &table[start..], i, rows);
-    }
     put_effect(rows, i, step_effect(file, own, i));
     record_ok(file, own, i)
+}
+
+// The same by the table of windows.
+fn step_ok(file: &[u8], table: &[u64], owners: &[u16], i: usize, rows: &mut [u64; ROWS]) -> bool
+    requires { ⌜ Given (now file) (now table) (now owners) ⌝ }
+    requires { ⌜ (0 < i) × (i < recordCount (now file)) ⌝ }
+    requires { ⌜ (IsCall (now file) i → ⊥) × SomeStep (now file) i ⌝ }
+    requires { ⌜ rowsLength ≤ length (now rows) ⌝ }
+    ensures { λ b. ⌜ b ≡ recordTest (agrees (now (file .entry))) (now (file .entry)) i ⌝ }
+    ensures { λ b. ⌜ Rowed (now (file .entry)) i (now (rows .entry)) b (now (rows .exit)) ⌝ }
+{
+    let start = start_of(table, owner_of(owners, i));
+    row_ok(file, &table[start..], i, rows)
+}
+
+// The switch at record i.
+fn switch_ok(file: &[u8], table: &[u64], owners: &[u16], i: usize) -> bool
+    requires { ⌜ Given (now file) (now table) (now owners) ⌝ }
+    requires { ⌜ (0 < i) × (i < recordCount (now file)) ⌝ }
+    requires { ⌜ (IsCall (now file) i → ⊥) ⌝ }
+    ensures { λ b. ⌜ b ≡ recordTest (agrees (now (file .entry))) (now (file .entry)) i ⌝ }
+{
+    let start = start_of(table, owner_of(owners, i));
+    record_ok(file, &table[start..], i)
+}
+
+// The step at record i has no effect, and asks for nothing.
+fn put_none(rows: &mut [u64; ROWS], i: usize) -> bool
+    requires { ⌜ i < maxRecords ⌝ }
+    ensures { λ b. ⌜ (b ≡ true) × (now (rows .exit) ≡ putEffect (now (rows .entry)) i (regionEffect 0 0 0)) ⌝ }
+{
+    put_effect(rows, i, region_effect(0, 0, 0));
+    true
 }
 
 // What the row of record i says that its step does to regions.
@@ -77,7 +110,33 @@ fn effect_at(rows: &[u64; ROWS], i: usize) -> Effect
     }
 }
 
-// Record i. A call that repeats the call at record last has its effect.
+// The call at record i. One that repeats the call at record last has its effect.
+fn next_call_ok(
+    file: &[u8],
+    table: &[u64],
+    owners: &[u16],
+    last: usize,
+    i: usize,
+    rows: &mut [u64; ROWS],
+) -> bool
+    requires { ⌜ Given (now file) (now table) (now owners) ⌝ }
+    requires { ⌜ (0 < i) × (i < recordCount (now file)) × IsCall (now file) i ⌝ }
+    requires { ⌜ rowsLength ≤ length (now rows) ⌝ }
+    requires { ⌜ Before (now file) (now rows) last ⌝ }
+    ensures { λ b. ⌜ b ≡ recordTest (agrees (now (file .entry))) (now (file .entry)) i ⌝ }
+    ensures { λ b. ⌜ Rowed (now (file .entry)) i (now (rows .entry)) b (now (rows .exit)) ⌝ }
+{
+    let start = start_of(table, owner_of(owners, i));
+    if repeats(file, &table[start..], owners, last, i) {
+        let effect = effect_at(rows, last);
+        put_effect(rows, i, effect);
+        return true;
+    }
+    let callee = start_of(table, word(file, i, format::CALL_PROCEDURE));
+    call_ok(file, &table[start..], &table[callee..], i, rows)
+}
+
+// Record i, by its kind. The last call before it is at record last.
 fn next_ok(
     file: &[u8],
     table: &[u64],
@@ -93,17 +152,21 @@ fn next_ok(
     ensures { λ b. ⌜ b ≡ recordTest (agrees (now (file .entry))) (now (file .entry)) i ⌝ }
     ensures { λ b. ⌜ Rowed (now (file .entry)) i (now (rows .entry)) b (now (rows .exit)) ⌝ }
 {
-    let start = start_of(table, owner_of(owners, i));
-    if repeats(file, &table[start..], owners, last, i) {
-        let effect = effect_at(rows, last);
-        put_effect(rows, i, effect);
-        return true;
+    match word(file, i, format::KIND) {
+        format::LITERAL => put_none(rows, i),
+        format::SUM => put_none(rows, i),
+        format::PRINT => put_none(rows, i),
+        format::SWITCH => switch_ok(file, table, owners, i),
+        format::CALL => next_call_ok(file, table, owners, last, i, rows),
+        format::ASSIGN => step_ok(file, table, owners, i, rows),
+        format::CONSTRUCT => step_ok(file, table, owners, i, rows),
+        format::CREATE => step_ok(file, table, owners, i, rows),
+        format::REMOVE => step_ok(file, table, owners, i, rows),
+        _ => true,
     }
-    row_ok(file, table, &table[start..], i, rows)
 }
 
-// Number 5. Puts what each step does to regions into its row, and no effect into the row of any other record; where the answer is false, each
-// of these rows may be as it was.
+// Number 5. Puts what each step does to regions into its row; where the answer is false, such a row may be as it was. All else in the rows is.
 pub fn regions_agree(file: &[u8], table: &[u64], owners: &[u16], rows: &mut [u64; ROWS]) -> bool
     requires { ⌜ Given (now file) (now table) (now owners) ⌝ }
     requires { ⌜ rowsLength ≤ length (now rows) ⌝ }

@@ -34,6 +34,10 @@ pub record Parameter (f : List ℕ) (v u : ℕ) : Type 0 where
 pub record ParameterTable (f t : List ℕ) : Type 0 where
   pub first : (v : ℕ) → Stands f variables v → Parameter f v (getD t v 0)
 
+-- the code has it in a narrower word
+pub parameter-same : {f : List ℕ} {v u w : ℕ} → w ≡ u → (Stands f variables v → Parameter f v u) → Stands f variables v → Parameter f v w
+parameter-same e h s = rw e (h s)
+
 -- ---- one variable
 takes-none : (m ty : ℕ) (ts : List ℕ) → m ≡ 0 → takes m ty ts ≡ ts
 unfolding takes

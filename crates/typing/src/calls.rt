@@ -1,5 +1,5 @@
 // A call's arguments against the callee's in and out variables, in chain order.
-use chains::entry;
+use crate::parameters::parameter;
 use declarations::has_type;
 use declarations::listed;
 use declarations::word_of;
@@ -18,7 +18,7 @@ ghost use Rattle.typing.specs.Calls.{Matched, callFits};
 // The arguments from record first on against the callee's variables from record start on.
 fn match_arguments(
     file: &[u8],
-    parameters: &[usize],
+    parameters: &[u16],
     table: &[usize],
     start: usize,
     first: usize,
@@ -28,7 +28,7 @@ fn match_arguments(
     requires { ⌜ Stands (now file) variables start × Stands (now file) arguments first ⌝ }
     ensures { λ r. ⌜ Matched (now (file .entry)) (now (table .entry)) (variablesAt (now (file .entry)) start) first r ⌝ }
 {
-    let mut v = entry(parameters, start);
+    let mut v = parameter(parameters, start);
     let mut y = first;
     while v != 0 {
         if y == 0 {
@@ -43,7 +43,7 @@ fn match_arguments(
             return false;
         }
         y = word(file, y, NEXT);
-        v = entry(parameters, word(file, v, NEXT));
+        v = parameter(parameters, word(file, v, NEXT));
     }
     y == 0
 }
@@ -52,7 +52,7 @@ fn match_arguments(
 pub fn call_ok(
     file: &[u8],
     procedures: &[usize],
-    parameters: &[usize],
+    parameters: &[u16],
     table: &[usize],
     q: usize,
     first: usize,

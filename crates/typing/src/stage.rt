@@ -14,7 +14,7 @@ use language::format::NEXT;
 use language::format::PLACES;
 use records::Record;
 use records::blank::blank_functors;
-use records::blank::blank_links;
+use records::blank::blank_owners;
 use records::blank::blank_places;
 use records::blank::blank_procedures;
 use records::record_at;
@@ -39,7 +39,7 @@ fn body_ok(
     file: &[u8],
     places: &[usize; FUNCTOR_PLACES],
     called: &[usize; MAX_PROCEDURES],
-    parameters: &[usize; MAX_RECORDS],
+    parameters: &[u16; MAX_RECORDS],
     vs: usize,
     rs: usize,
     gs: usize,
@@ -62,7 +62,7 @@ fn procedure_ok(
     types: &[usize; PLACES],
     places: &[usize; FUNCTOR_PLACES],
     called: &[usize; MAX_PROCEDURES],
-    parameters: &[usize; MAX_RECORDS],
+    parameters: &[u16; MAX_RECORDS],
     n: usize,
     i: usize,
 ) -> bool
@@ -92,7 +92,7 @@ fn each_procedure_ok(
     types: &[usize; PLACES],
     places: &[usize; FUNCTOR_PLACES],
     called: &[usize; MAX_PROCEDURES],
-    parameters: &[usize; MAX_RECORDS],
+    parameters: &[u16; MAX_RECORDS],
     n: usize,
     start: usize,
 ) -> bool
@@ -128,7 +128,7 @@ fn procedures_ok(file: &[u8], types: &[usize; PLACES], n: usize) -> bool
     if MAX_PROCEDURES < count {
         return false;
     }
-    let mut parameters = blank_links();
+    let mut parameters = blank_owners();
     list_parameters(file, &mut parameters);
     let mut places = blank_functors();
     list_functors(file, types, &mut places);

@@ -88,7 +88,7 @@ pub fn step_ok(
     file: &[u8],
     places: &[usize; FUNCTOR_PLACES],
     called: &[usize; MAX_PROCEDURES],
-    parameters: &[usize; MAX_RECORDS],
+    parameters: &[u16; MAX_RECORDS],
     variables: &[usize; PLACES],
     regions: &[usize; PLACES],
     i: usize,

@@ -1,2 +1,1 @@
 mod Turning
-mod Stepping

@@ -10,8 +10,8 @@ use Rattle.language.specs.Program.{Step}
 use Rattle.chains.specs.Layout.{all-rows}
 use Rattle.chains.specs.Formed.{Formed, Stands, firstGoal, goalAt}
 use Rattle.tables.specs.Filled.{StepAt}
-use Rattle.values.specs.Fitting.{arm-kind}
-use Rattle.values.specs.Noting.{isStep, step-kind, arm-some}
+use Rattle.values.specs.Fitting.{arm-kind, arm-some}
+use Rattle.values.specs.Noting.{isStep, step-kind}
 use Rattle.chains.specs.Shapes.{step-here, kind-number}
 
 module _ {f : List ℕ} (F : Formed f) (i : ℕ) (S : Stands f goals i) (z : i ≡ 0 → ⊥) {w : ℕ} (e : w ≡ word f i kindWord) (p : w ≡ switchKind → ⊥)

@@ -5,27 +5,30 @@ use mathlib.Core.Path.{_≡_, refl, sym, ap, _∙_}
 use mathlib.Core.List.{List, [], _∷_}
 use lib.ListN.{length, getD, drop}
 use lib.Seq.{getD-drop}
-use Rattle.language.specs.File.{GoalKind, Kind, kArm, kGoal, goals, variables, arms, kindOf, word}
+use Rattle.language.specs.Format.{literalKind, sumKind, assignKind, constructKind, armKind, callKind, printKind, goalX, sumY, sumZ, assignY, printY, callProcedure, callArguments}
+use Rattle.language.specs.File.{GoalKind, kLiteral, kSum, kAssign, kConstruct, kSwitch, kIf, kCall, kPrint, kCreate, kRemove, Kind, kNone, kArm, kGoal, goals, variables, arms, row, kindOf, word, recordCount}
 use Rattle.language.specs.Lists.{nth}
-use Rattle.language.specs.Program.{four, argumentsOf, Step, Goals, _then_, step, call, Variable, Procedure, Program, done, procedureAt, signatureOf}
+use Rattle.language.specs.Program.{Four, four, fourWords, argumentsOf, Step, Goals, _then_, step, call, Variable, Procedure, Program, done, procedureAt, signatureOf}
 use Rattle.language.specs.Answers.{program}
-use Rattle.chains.specs.Layout.{starts-kind, goals-kind, arms-kind}
-use Rattle.language.specs.File.{recordCount}
-use Rattle.records.specs.Records.{recordAt}
-use Rattle.records.specs.declared.Record.{Record}
-use Rattle.records.specs.declared.Record.the-variants.{Arm}
-use Rattle.chains.specs.Formed.{Formed, Stands, stands-starts, variablesAt, goalsAt}
-use Rattle.chains.specs.Kinds.{kindIn, kind-read}
-use Rattle.chains.specs.Parts.{arm-at}
+use Rattle.chains.specs.Layout.{all-rows, number-is, starts-kind, goals-kind, arms-kind}
+use Rattle.chains.specs.Formed.{Formed, Stands, stands-starts, variablesAt, goalsAt, argumentsAt}
+use Rattle.chains.specs.Kinds.{same-read}
+use Rattle.chains.specs.Goals.{create-at, remove-at}
+use Rattle.chains.specs.Parts.{switch-at, if-at}
+use Rattle.chains.specs.Shapes.{kind-number, goal-number, goal-kind, literal-here, sum-here, assign-here, construct-here, call-here, print-here}
 use Rattle.tables.specs.Window.{firstPlace, FileTable}
 use Rattle.tables.specs.declared.Access.{Access}
-use Rattle.values.specs.Gathering.{noAccess, fourGiven, Gathers, four-given}
+use Rattle.values.specs.Gathering.{noAccess, readIn, givenIn, readAll, fourRead, fourGiven, Gathers, four-given}
 use Rattle.values.specs.Matching.{Matches, match-first, match-last}
-use Rattle.values.specs.Accesses.{Accesses, call-access}
+use Rattle.values.specs.Accesses.{Accesses, literal-access, sum-access, assign-access, construct-access, print-access, create-access, remove-access, call-access, at-step, no-switch, no-if}
+
+-- the four words of a construct's or an arm's arguments
+abbrev pub argumentWords : List ℕ → ℕ → Four
+argumentWords f i = four (word f i 4) (word f i 5) (word f i 6) (word f i 7)
 
 -- the arguments of the arm at record i
 unfoldable pub armArguments : List ℕ → ℕ → List ℕ
-armArguments f i = argumentsOf (four (word f i 4) (word f i 5) (word f i 6) (word f i 7))
+armArguments f i = argumentsOf (argumentWords f i)
 
 -- of the step at record i, whichever it is
 abbrev pub Stepped : List ℕ → ℕ → Access → Type 0
@@ -36,6 +39,9 @@ pub record Fits (f : List ℕ) (i : ℕ) (a : Access) : Type 0 where
   pub arm : Stands f arms i → (i ≡ 0 → ⊥) → Gathers a [] (armArguments f i)
 
 -- ---- a record is of one kind
+pub arm-some : kArm ≡ kNone → ⊥
+arm-some e = let z : _≡_ {A = ℕ} 0 1 = cc in omega arith
+
 two-kinds : {A : Type 0} {g : GoalKind} {k : Kind} → k ≡ kArm → k ≡ kGoal g → A
 two-kinds e h = let z : _≡_ {A = ℕ} 0 1 = cc in absurd (omega arith)
 
@@ -46,18 +52,75 @@ module _ (f : List ℕ) (i : ℕ) where
   pub not-both : {A : Type 0} → Stands f goals i → Stands f arms i → (i ≡ 0 → ⊥) → A
   not-both s t z = two-kinds (arm-kind t z) (goals-kind (starts-kind (word f) (recordCount f) i goals (omega arith) (stands-starts s) .1) .1)
 
-  module _ {r : Record} (e : r ≡ recordAt f i) where
-    pub fits-step : {g : GoalKind} {a : Access} → kindIn r ≡ kGoal g → Stepped f i a → Fits f i a
-    fits-step k h = record { step = λ s z. h; arm = λ s z. two-kinds (arm-kind s z) (sym (kind-read f i e) ∙ k) }
+  pub fits-step : {g : GoalKind} {a : Access} → kindOf (word f i 0) ≡ kGoal g → Stepped f i a → Fits f i a
+  fits-step k h = record { step = λ s z. h; arm = λ s z. two-kinds (arm-kind s z) k }
 
-    pub fits-arm : {n gs k a1 a2 a3 a4 : ℕ} {a : Access} → Formed f → r ≡ Arm n gs k a1 a2 a3 a4 → a ≡ fourGiven (four a1 a2 a3 a4) → Fits f i a
-    unfolding armArguments
-    fits-arm F h q =
-        let t = arm-at F e h in
-        record {
-          step = λ s z. two-kinds (sym (kind-read f i e) ∙ ap kindIn h) (goals-kind (starts-kind (word f) (recordCount f) i goals (omega arith) (stands-starts s) .1) .1);
-          arm = λ s z. rw (q, sym (t .w4), sym (t .w5), sym (t .w6), sym (t .w7)) (four-given (four _ _ _ _));
-        }
+-- the code reads the four arguments in turn
+pub four-gathered : (f : List ℕ) (i : ℕ) {w1 w2 w3 w4 : ℕ} {a0 a1 a2 a3 a4 : Access} → a0 ≡ noAccess → w1 ≡ word f i 4 → a1 ≡ readIn a0 w1 → w2 ≡ word f i 5
+    → a2 ≡ readIn a1 w2 → w3 ≡ word f i 6 → a3 ≡ readIn a2 w3 → w4 ≡ word f i 7 → a4 ≡ readIn a3 w4 → a4 ≡ fourRead (argumentWords f i)
+unfolding fourRead readAll fourWords
+four-gathered f i e0 g1 e1 g2 e2 g3 e3 g4 e4 = rw (e4, e3, e2, e1, e0, g1, g2, g3, g4) refl
+
+-- ---- a record by the kind that the code has read, a law for each
+module _ (f : List ℕ) (i : ℕ) (F : Formed f) {w : ℕ} (e : w ≡ word f i 0) where
+  is-kind : (k : Kind) → w ≡ row k .kind → kindOf (word f i 0) ≡ k
+  is-kind k n = number-is k (word f i 0) (sym e ∙ n)
+
+  pub literal-fits : {x : ℕ} {a b : Access} → w ≡ literalKind → a ≡ noAccess → x ≡ word f i goalX → b ≡ givenIn a x → Fits f i b
+  unfolding all-rows
+  literal-fits k p g q =
+      fits-step f i (is-kind (kGoal kLiteral) k) (at-step (literal-here F e k .view) (rw (q, p, g) (literal-access (program f) _ _)))
+
+  pub sum-fits : {a : Access} → w ≡ sumKind → a ≡ givenIn (readIn (readIn noAccess (word f i sumY)) (word f i sumZ)) (word f i goalX) → Fits f i a
+  unfolding all-rows
+  sum-fits k p = fits-step f i (is-kind (kGoal kSum) k) (at-step (sum-here F e k .view) (rw p (sum-access (program f) _ _ _ _)))
+
+  pub assign-fits : {a : Access} → w ≡ assignKind → a ≡ givenIn (readIn noAccess (word f i assignY)) (word f i goalX) → Fits f i a
+  unfolding all-rows
+  assign-fits k p = fits-step f i (is-kind (kGoal kAssign) k) (at-step (assign-here F e k .view) (rw p (assign-access (program f) _ _)))
+
+  pub construct-fits : {a : Access} → w ≡ constructKind → a ≡ givenIn (fourRead (argumentWords f i)) (word f i goalX) → Fits f i a
+  unfolding all-rows
+  construct-fits k p = fits-step f i (is-kind (kGoal kConstruct) k) (at-step (construct-here F e k .view) (rw p (construct-access (program f) _ _ _)))
+
+  pub print-fits : {y : ℕ} {a b : Access} → w ≡ printKind → a ≡ noAccess → y ≡ word f i printY → b ≡ readIn a y → Fits f i b
+  unfolding all-rows
+  print-fits k p g q = fits-step f i (is-kind (kGoal kPrint) k) (at-step (print-here F e k .view) (rw (q, p, g) (print-access (program f) _)))
+
+  pub call-fits : {q y : ℕ} {a : Access} → w ≡ callKind → q ≡ word f i callProcedure → y ≡ word f i callArguments
+      → Accesses (program f) (call q (argumentsAt f y)) a → Fits f i a
+  unfolding all-rows
+  call-fits k g h p = fits-step f i (is-kind (kGoal kCall) k) (at-step (call-here F e k .view) (rw (g, h) at p))
+
+  pub arm-fits : {a : Access} → w ≡ armKind → a ≡ fourGiven (argumentWords f i) → Fits f i a
+  unfolding all-rows armArguments
+  arm-fits k p = record {
+    step = λ s z. two-kinds (is-kind kArm k) (goal-kind s z .1);
+    arm = λ s z. rw p (four-given (argumentWords f i));
+  }
+
+  -- a record that is neither an arm nor a step that reads or gives
+  module _ (n8 : w ≡ literalKind → ⊥) (n9 : w ≡ sumKind → ⊥) (n10 : w ≡ assignKind → ⊥) (n11 : w ≡ constructKind → ⊥) (n13 : w ≡ armKind → ⊥)
+      (n15 : w ≡ callKind → ⊥) (n17 : w ≡ printKind → ⊥) {a : Access} (p : a ≡ noAccess) where
+    other-step : (g : GoalKind) → kindOf (word f i 0) ≡ kGoal g → Stepped f i a
+    unfolding all-rows
+    other-step kLiteral k = absurd (n8 (e ∙ goal-number (word f i 0) kLiteral k))
+    other-step kSum k = absurd (n9 (e ∙ goal-number (word f i 0) kSum k))
+    other-step kAssign k = absurd (n10 (e ∙ goal-number (word f i 0) kAssign k))
+    other-step kConstruct k = absurd (n11 (e ∙ goal-number (word f i 0) kConstruct k))
+    other-step kSwitch k = λ g gs v. no-switch (switch-at F refl (same-read f i refl k) .view) g gs v
+    other-step kIf k = λ g gs v. no-if (if-at F refl (same-read f i refl k) .view) g gs v
+    other-step kCall k = absurd (n15 (e ∙ goal-number (word f i 0) kCall k))
+    other-step kPrint k = absurd (n17 (e ∙ goal-number (word f i 0) kPrint k))
+    other-step kCreate k = at-step (create-at F refl (same-read f i refl k) .view) (rw p (create-access (program f) _))
+    other-step kRemove k = at-step (remove-at F refl (same-read f i refl k) .view) (rw p (remove-access (program f) _))
+
+    pub other-fits : Fits f i a
+    unfolding all-rows
+    other-fits = record {
+      step = λ s z. let k = goal-kind s z in other-step (k .0) (k .1);
+      arm = λ s z. absurd (n13 (e ∙ kind-number (word f i 0) kArm (arm-kind f i s z) arm-some));
+    }
 
 -- ---- a call: the callee's first variable stands in its window
 nth-none : {A : Type 0} (d : A) (xs : List A) (k : ℕ) → length xs ≤ k → nth d xs k ≡ d

@@ -28,7 +28,7 @@ use Rattle.tables.specs.Filled.{StepAt, Accessed}
 use Rattle.tables.specs.declared.Access.{Access}
 use Rattle.values.specs.Ranged.{fresh}
 use Rattle.values.specs.Gathering.{Gathers}
-use Rattle.values.specs.Fitting.{armArguments, Fits, arm-kind}
+use Rattle.values.specs.Fitting.{armArguments, Fits, arm-kind, arm-some}
 use Rattle.chains.specs.Shapes.{goal-kind, kind-number, switch-here, if-here}
 
 -- words of the rows of 4,096 records
@@ -231,9 +231,6 @@ module _ {f : List ℕ} (t : List ℕ) {i : ℕ} {a : Access} (F : Formed f) (n 
       beside j k l (inr d) = elim (ℕ-discrete i j) [ yes q ↦ filled j q d | no q ↦ put-others t i a j k l (λ r. q (sym r)) ]
 
 -- nothing to put
-pub arm-some : kArm ≡ kNone → ⊥
-arm-some e = let z : _≡_ {A = ℕ} 0 1 = cc in omega arith
-
 pub listed-none : {f t : List ℕ} {i : ℕ} → Formed f → isStep (word f i 0) ≡ false → (word f i 0 ≡ armKind → ⊥) → RowListed f i t t
 unfolding all-rows
 listed-none {f} {t} {i} F p q =

@@ -11,12 +11,6 @@ ghost use Rattle.sets.specs.Sets.{_∪_, _∩_};
 ghost use Rattle.values.specs.Valuing.{everyIn, someIn, both, valuation};
 ghost use Rattle.values.specs.Carrying.{RowValued};
 
-pub fn pair() -> [u64; 2]
-    ensures { λ r. ⌜ 2 ≡ length r ⌝ }
-{
-    [0; 2]
-}
-
 pub fn every_in(carried: &[u64; 2]) -> Set
     ensures { λ s. ⌜ s ≡ everyIn (now (carried .entry)) ⌝ }
 {

@@ -1,7 +1,6 @@
 // Number 4 of a whole file. The rows are filled on the way.
 use crate::carried::carry;
 use crate::carried::every_in;
-use crate::carried::pair;
 use crate::declared::all_local;
 use crate::rows::list_accesses;
 use crate::walk::goals;
@@ -9,6 +8,7 @@ use chains::chain_length;
 use chains::field;
 use language::format::HEADER_PROCEDURES;
 use language::format::PROCEDURE_VARIABLES;
+use records::blank::blank_pair;
 use records::word;
 use tables::BODY;
 use tables::INS;
@@ -80,7 +80,7 @@ fn procedure_ok(file: &[u8], table: &[u64; TABLE], rows: &[u64; ROWS], q: usize)
     let ins = set_at(table, window + INS);
     let body = word_at(table, window + BODY);
     let outs = set_at(table, window + OUTS);
-    let mut carried = pair();
+    let mut carried = blank_pair();
     carry(&mut carried, ins, ins);
     if !goals(file, rows, &mut carried, body) {
         return false;

@@ -1,11 +1,25 @@
 // What a step or an arm reads and gives.
 use language::format::ARGUMENT_VARIABLE;
+use language::format::ARM;
+use language::format::ASSIGN;
+use language::format::ASSIGN_Y;
+use language::format::CALL;
+use language::format::CALL_ARGUMENTS;
+use language::format::CALL_PROCEDURE;
+use language::format::CONSTRUCT;
+use language::format::GOAL_X;
+use language::format::KIND;
+use language::format::LITERAL;
 use language::format::MODE_IN;
 use language::format::MODE_OUT;
 use language::format::NEXT;
+use language::format::PRINT;
+use language::format::PRINT_Y;
+use language::format::SUM;
+use language::format::SUM_Y;
+use language::format::SUM_Z;
+use language::format::TERM_ARGUMENTS;
 use language::format::VARIABLE_MODE;
-use records::Record;
-use records::record_at;
 use records::word;
 use sets::Set;
 use tables::Access;
@@ -14,18 +28,19 @@ use tables::TABLE;
 use tables::word_at;
 ghost use mathlib.Core.Path.{_≡_};
 ghost use lib.ListN.{length};
-ghost use Rattle.language.specs.File.{variables, arguments};
-ghost use Rattle.language.specs.Program.{call, four};
+ghost use Rattle.language.specs.Format.{goalX, sumY, sumZ, assignY};
+ghost use Rattle.language.specs.File.{word, variables, arguments};
+ghost use Rattle.language.specs.Program.{call};
 ghost use Rattle.language.specs.Answers.{program};
 ghost use Rattle.chains.specs.Formed.{Formed, Stands, argumentsAt, variablesAt};
 ghost use Rattle.values.specs.Gathering.{noAccess, readIn, givenIn, passedIn, fourRead, fourGiven};
 ghost use Rattle.values.specs.Matching.{Matches};
 ghost use Rattle.values.specs.Accesses.{Accesses};
 ghost use Rattle.tables.specs.Window.{FileTable};
-ghost use Rattle.values.specs.Fitting.{Fits};
+ghost use Rattle.values.specs.Fitting.{argumentWords, Fits};
 
 // Nothing yet.
-pub fn no_access() -> Access
+fn no_access() -> Access
     ensures { λ r. ⌜ r ≡ noAccess ⌝ }
 {
     Access {
@@ -75,11 +90,42 @@ fn pass(a: Access, mode: usize, y: usize) -> Access
     a
 }
 
-// A construct reads its arguments.
-fn read_four(a1: usize, a2: usize, a3: usize, a4: usize) -> Access
-    ensures { λ r. ⌜ r ≡ fourRead (four a1 a2 a3 a4) ⌝ }
+// A sum reads y and z and gives x.
+fn sum_access(file: &[u8], i: usize) -> Access
+    ensures { λ r. ⌜ r ≡ givenIn (readIn (readIn noAccess (word (now (file .entry)) i sumY)) (word (now (file .entry)) i sumZ)) (word (now (file .entry)) i goalX) ⌝ }
 {
-    read(read(read(read(no_access(), a1), a2), a3), a4)
+    let y = word(file, i, SUM_Y);
+    let z = word(file, i, SUM_Z);
+    give(read(read(no_access(), y), z), word(file, i, GOAL_X))
+}
+
+// An assign reads y and gives x.
+fn assign_access(file: &[u8], i: usize) -> Access
+    ensures { λ r. ⌜ r ≡ givenIn (readIn noAccess (word (now (file .entry)) i assignY)) (word (now (file .entry)) i goalX) ⌝ }
+{
+    let y = word(file, i, ASSIGN_Y);
+    give(read(no_access(), y), word(file, i, GOAL_X))
+}
+
+// A construct reads its arguments and gives x.
+fn construct_access(file: &[u8], i: usize) -> Access
+    ensures { λ r. ⌜ r ≡ givenIn (fourRead (argumentWords (now (file .entry)) i)) (word (now (file .entry)) i goalX) ⌝ }
+{
+    let a1 = read(no_access(), word(file, i, TERM_ARGUMENTS));
+    let a2 = read(a1, word(file, i, TERM_ARGUMENTS + 1));
+    let a3 = read(a2, word(file, i, TERM_ARGUMENTS + 2));
+    let a4 = read(a3, word(file, i, TERM_ARGUMENTS + 3));
+    give(a4, word(file, i, GOAL_X))
+}
+
+// An arm gives its arguments.
+fn arm_access(file: &[u8], i: usize) -> Access
+    ensures { λ r. ⌜ r ≡ fourGiven (argumentWords (now (file .entry)) i) ⌝ }
+{
+    let a1 = give(no_access(), word(file, i, TERM_ARGUMENTS));
+    let a2 = give(a1, word(file, i, TERM_ARGUMENTS + 1));
+    let a3 = give(a2, word(file, i, TERM_ARGUMENTS + 2));
+    give(a3, word(file, i, TERM_ARGUMENTS + 3))
 }
 
 // What the step or arm at record i reads and gives, where there are that many procedures; of another record nothing.
@@ -89,44 +135,18 @@ pub fn record_access(file: &[u8], table: &[u64; TABLE], procedures: usize, i: us
     requires { ⌜ procedures ≡ length (program (now file) .procedures) ⌝ }
     ensures { λ r. ⌜ Fits (now (file .entry)) i r ⌝ }
 {
-    match record_at(file, i) {
-        Record::Literal {
-            next: _,
-            x,
-            value: _,
-        } => give(no_access(), x),
-        Record::Sum {
-            next: _,
-            x,
-            operation: _,
-            y,
-            z,
-        } => give(read(read(no_access(), y), z), x),
-        Record::Assign { next: _, x, y } => give(read(no_access(), y), x),
-        Record::Construct {
-            next: _,
-            x,
-            functor: _,
-            a1,
-            a2,
-            a3,
-            a4,
-        } => give(read_four(a1, a2, a3, a4), x),
-        Record::Call {
-            next: _,
-            procedure,
-            arguments,
-        } => called_access(file, table, procedures, procedure, arguments),
-        Record::Print { next: _, y } => read(no_access(), y),
-        Record::Arm {
-            next: _,
-            goals: _,
-            functor: _,
-            a1,
-            a2,
-            a3,
-            a4,
-        } => give_four(a1, a2, a3, a4),
+    match word(file, i, KIND) {
+        LITERAL => give(no_access(), word(file, i, GOAL_X)),
+        SUM => sum_access(file, i),
+        ASSIGN => assign_access(file, i),
+        CONSTRUCT => construct_access(file, i),
+        CALL => {
+            let q = word(file, i, CALL_PROCEDURE);
+            let y = word(file, i, CALL_ARGUMENTS);
+            called_access(file, table, procedures, q, y)
+        }
+        PRINT => read(no_access(), word(file, i, PRINT_Y)),
+        ARM => arm_access(file, i),
         _ => no_access(),
     }
 }
@@ -144,13 +164,6 @@ fn called_access(file: &[u8], table: &[u64; TABLE], procedures: usize, q: usize,
     }
     let window = word_at(table, q);
     match_arguments(file, word_at(table, window + FIRST), y)
-}
-
-// An arm gives its arguments.
-pub fn give_four(a1: usize, a2: usize, a3: usize, a4: usize) -> Access
-    ensures { λ r. ⌜ r ≡ fourGiven (four a1 a2 a3 a4) ⌝ }
-{
-    give(give(give(give(no_access(), a1), a2), a3), a4)
 }
 
 // The arguments from record y0 on, matched with the in and out variables among those from record v0 on.

@@ -8,8 +8,8 @@ use Rattle.checking.proofs.procedures.window_ok.Tie as tie
 set-at-requires : tie.Need-set-at-requires
 set-at-requires c κs = search needs
 
-pair-requires : tie.Need-pair-requires
-pair-requires c κs = search needs
+blank-pair-requires : tie.Need-blank-pair-requires
+blank-pair-requires c κs = search needs
 
 slice-aggregate-carry : tie.Need-slice-aggregate-carry
 slice-aggregate-carry c = search needs
@@ -67,7 +67,7 @@ window-ok-spec =
     tie.close
     (tie.spec
     set-at-requires
-    pair-requires
+    blank-pair-requires
     slice-aggregate-carry
     set-at-requires-2
     union-requires

@@ -1,25 +1,22 @@
--- `all_once` meets its contract. Invariant: the counts still ahead decide. Assumes nothing.
+-- `all_once` meets its contract. Invariant: the counts looked at and those still ahead decide. Assumes nothing.
 use Prim.Native.Nat.{_-_}
 use native.Mathlib.Omega.{arith}
 use borrow.Author.Needs.{needs}
-use Rattle.records.proofs.Loops.{Once, once-first, once-next, once-refused, once-last}
+use Rattle.records.proofs.Loops.{Once, once-first, once-next, once-last}
 use Rattle.records.proofs.form.all_once.Statement.{statement}
 use Rattle.records.proofs.form.all_once.Tie as tie
 
 abbrev Inv-loop : tie.InvT-loop
-Inv-loop seen n j₀ j = Once seen n j
+Inv-loop seen n once₀ j₀ once j = Once seen n once j
 
 abbrev μ-loop : tie.MeasureT-loop
-μ-loop seen n j₀ j = n - j
+μ-loop seen n once₀ j₀ once j = n - j
 
 loop-holds : tie.Need-loop-holds Inv-loop μ-loop
 loop-holds c = once-first _ _
 
-shared-slice-read-if1 : tie.Need-shared-slice-read-if1 Inv-loop μ-loop
-shared-slice-read-if1 c = search needs
-
-returns : tie.Need-returns Inv-loop μ-loop
-returns c = once-refused _ _ (c .before .before .before .loop .inv) (omega arith) (c .if1 .taken)
+shared-slice-read-once : tie.Need-shared-slice-read-once Inv-loop μ-loop
+shared-slice-read-once c = search needs
 
 add-j : tie.Need-add-j Inv-loop μ-loop
 add-j c = search needs
@@ -28,21 +25,10 @@ loop-less : tie.Need-loop-less Inv-loop μ-loop
 loop-less c = search needs
 
 loop-again : tie.Need-loop-again Inv-loop μ-loop
-loop-again c = once-next _ _ (c .before .before .before .loop .inv) (omega arith) (c .if1 .left)
+loop-again c = once-next _ _ (c .before .before .loop .inv) (omega arith)
 
-returns-2 : tie.Need-returns-2 Inv-loop μ-loop
-returns-2 c = once-last _ _ (c .before .loop .inv) (omega arith)
+returns : tie.Need-returns Inv-loop μ-loop
+returns c = once-last _ _ (c .before .loop .inv) (omega arith)
 
 pub all-once-spec : {M : Type 1} → statement M
-all-once-spec =
-    tie.close
-    (tie.spec
-    Inv-loop
-    μ-loop
-    loop-holds
-    shared-slice-read-if1
-    returns
-    add-j
-    loop-less
-    loop-again
-    returns-2)
+all-once-spec = tie.close (tie.spec Inv-loop μ-loop loop-holds shared-slice-read-once add-j loop-less loop-again returns)

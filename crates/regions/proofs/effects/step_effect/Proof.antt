@@ -51,7 +51,7 @@ returns-4 c =
     let m = c .before in
     let p = m .before .before .before .before .pre in
     let r = m .match .rest in
-    none-made (p .0) (m .before .word .ensures .0) (r .0 .0 .1) (r .0 .1) (r .1) (p .1) (c .region-effect4 .ensures)
+    none-made (p .0) (m .before .word .ensures .0) (r .0 .0 .1) (r .0 .1) (r .1) (p .1 .0) (p .1 .1) (c .region-effect4 .ensures)
 
 pub step-effect-spec : {M : Type 1} → statement M
 step-effect-spec =

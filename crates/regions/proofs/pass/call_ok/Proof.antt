@@ -2,6 +2,7 @@
 use Prim.Native.Nat.{ℕ, _<_, _≤_}
 use native.Mathlib.Omega.{arith}
 use mathlib.Core.List.{List}
+use mathlib.Core.Logic.{inl}
 use mathlib.Core.Path.{refl, sym, _∙_}
 use borrow.Author.Tests.{not-true, not-false}
 use lib.ListN.{length}
@@ -35,7 +36,7 @@ returns c =
     let a = m .before .before .before .before .before .before .before in
     let K = a .pre .0 in
     let z = not-true _ (c .if1 .taken) in
-    (sym z ∙ call-agrees K (m .before .before .word .ensures .0) (blank (m .before .before .before .blank-places .ensures)) _ _ (m .map-call .ensures .1), rowed-not (a .args .file .now) (a .args .i) _ refl)
+    (sym z ∙ call-agrees K (m .before .before .word .ensures .0) (blank (m .before .before .before .blank-places .ensures)) _ _ (m .map-call .ensures .1), rowed-not (a .args .file .now) (a .args .i) _ (inl refl))
 
 slice-aggregate-image-effect : tie.Need-slice-aggregate-image-effect
 slice-aggregate-image-effect c = search needs

@@ -79,7 +79,8 @@ returns-4 : tie.Need-returns-4
 returns-4 c =
     let p = c .before .before .before .before .pre in
     let r = c .match .rest in
-    other-agrees (p .0) (c .before .word .ensures .0) (r .0 .0 .1) (r .0 .1) (r .1) (p .1)
+    let e = c .before .word .ensures .0 in
+    other-agrees _ (p .0 .formed) e (r .0 .0 .1) (r .0 .1) (r .1) (λ z. p .1 (sym e ∙ z))
 
 pub record-ok-spec : {M : Type 1} → statement M
 record-ok-spec =

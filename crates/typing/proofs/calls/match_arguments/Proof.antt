@@ -20,11 +20,11 @@ Inv-loop file parameters table start first v₀ y₀ v y = Stands file variables
 abbrev μ-loop : tie.MeasureT-loop
 μ-loop file parameters table start first v₀ y₀ v y = ahead file v
 
-entry-requires : tie.Need-entry-requires Inv-loop μ-loop
-entry-requires c κs = search needs
+parameter-requires : tie.Need-parameter-requires Inv-loop μ-loop
+parameter-requires c κs = search needs
 
 loop-holds : tie.Need-loop-holds Inv-loop μ-loop
-loop-holds c = let s = c .before .before .before .before .pre in let k = parameter-at (s .1 .0) (s .1 .1 .0) refl (c .entry .ensures) in (k .stands, k .passes, s .1 .1 .1, λ S a. ap (λ ts. haveTypes S ts (argumentsAt (c .before .before .before .before .args .file .now) (c .before .before .before .before .args .first))) (k .same))
+loop-holds c = let s = c .before .before .before .before .pre in let k = parameter-at (s .1 .0) (s .1 .1 .0) refl (c .parameter .ensures) in (k .stands, k .passes, s .1 .1 .1, λ S a. ap (λ ts. haveTypes S ts (argumentsAt (c .before .before .before .before .args .file .now) (c .before .before .before .before .args .first))) (k .same))
 
 returns : tie.Need-returns Inv-loop μ-loop
 returns c = let l = c .before .before .loop in let z = c .before .loop-test .taken in λ S a. match-short (c .before .before .before .before .before .before .before .pre .0) _ _ (l .inv .0) z (l .inv .1 z) (c .if1 .taken) S ∙ l .inv .3 S a
@@ -47,14 +47,14 @@ word-requires-3 c κs = search needs
 word-requires-4 : tie.Need-word-requires-4 Inv-loop μ-loop
 word-requires-4 c κs = search needs
 
-entry-requires-2 : tie.Need-entry-requires-2 Inv-loop μ-loop
-entry-requires-2 c κs = search needs
+parameter-requires-2 : tie.Need-parameter-requires-2 Inv-loop μ-loop
+parameter-requires-2 c κs = search needs
 
 loop-less : tie.Need-loop-less Inv-loop μ-loop
-loop-less c = let o = chain-next {w = word (c .before .before .before .before .before .before .before .before .before .before .before .before .before .before .args .file .now) (c .before .before .before .before .before .before .before .before .before .loop .v) 1} (c .before .before .before .before .before .before .before .before .before .before .before .before .before .before .pre .0) (c .before .before .before .before .before .before .before .before .before .loop .inv .0) (c .before .before .before .before .before .before .before .before .loop-test .taken) refl in let k = parameter-at (c .before .before .before .before .before .before .before .before .before .before .before .before .before .before .pre .1 .0) (o .stands) (c .before .word4 .ensures .0) (c .entry2 .ensures) in omega (arith, o .falls, k .falls)
+loop-less c = let o = chain-next {w = word (c .before .before .before .before .before .before .before .before .before .before .before .before .before .before .args .file .now) (c .before .before .before .before .before .before .before .before .before .loop .v) 1} (c .before .before .before .before .before .before .before .before .before .before .before .before .before .before .pre .0) (c .before .before .before .before .before .before .before .before .before .loop .inv .0) (c .before .before .before .before .before .before .before .before .loop-test .taken) refl in let k = parameter-at (c .before .before .before .before .before .before .before .before .before .before .before .before .before .before .pre .1 .0) (o .stands) (c .before .word4 .ensures .0) (c .parameter2 .ensures) in omega (arith, o .falls, k .falls)
 
 loop-again : tie.Need-loop-again Inv-loop μ-loop
-loop-again c = let l = c .before .before .before .before .before .before .before .before .before .loop in let z = c .before .before .before .before .before .before .before .before .loop-test .taken in let o = chain-next {w = word (c .before .before .before .before .before .before .before .before .before .before .before .before .before .before .args .file .now) (c .before .before .before .before .before .before .before .before .before .loop .v) 1} (c .before .before .before .before .before .before .before .before .before .before .before .before .before .before .pre .0) (l .inv .0) z refl in let k = parameter-at (c .before .before .before .before .before .before .before .before .before .before .before .before .before .before .pre .1 .0) (o .stands) (c .before .word4 .ensures .0) (c .entry2 .ensures) in (k .stands, k .passes, chain-next (c .before .before .before .before .before .before .before .before .before .before .before .before .before .before .pre .0) (l .inv .2) (c .before .before .before .before .before .before .before .if1 .left) (c .before .before .word3 .ensures .0) .stands, λ S a. match-next (c .before .before .before .before .before .before .before .before .before .before .before .before .before .before .pre .0) _ _ (l .inv .0) z (l .inv .1 z) _ (l .inv .2) (c .before .before .before .before .before .before .before .if1 .left) (c .before .before .before .before .before .before .word .ensures .0) (c .before .before .before .before .before .word2 .ensures .0) (c .before .before .before .before .has-type .ensures) S a (not-false _ (c .before .before .before .if2 .left)) k (c .before .before .word3 .ensures .0) ∙ l .inv .3 S a)
+loop-again c = let l = c .before .before .before .before .before .before .before .before .before .loop in let z = c .before .before .before .before .before .before .before .before .loop-test .taken in let o = chain-next {w = word (c .before .before .before .before .before .before .before .before .before .before .before .before .before .before .args .file .now) (c .before .before .before .before .before .before .before .before .before .loop .v) 1} (c .before .before .before .before .before .before .before .before .before .before .before .before .before .before .pre .0) (l .inv .0) z refl in let k = parameter-at (c .before .before .before .before .before .before .before .before .before .before .before .before .before .before .pre .1 .0) (o .stands) (c .before .word4 .ensures .0) (c .parameter2 .ensures) in (k .stands, k .passes, chain-next (c .before .before .before .before .before .before .before .before .before .before .before .before .before .before .pre .0) (l .inv .2) (c .before .before .before .before .before .before .before .if1 .left) (c .before .before .word3 .ensures .0) .stands, λ S a. match-next (c .before .before .before .before .before .before .before .before .before .before .before .before .before .before .pre .0) _ _ (l .inv .0) z (l .inv .1 z) _ (l .inv .2) (c .before .before .before .before .before .before .before .if1 .left) (c .before .before .before .before .before .before .word .ensures .0) (c .before .before .before .before .before .word2 .ensures .0) (c .before .before .before .before .has-type .ensures) S a (not-false _ (c .before .before .before .if2 .left)) k (c .before .before .word3 .ensures .0) ∙ l .inv .3 S a)
 
 returns-3 : tie.Need-returns-3 Inv-loop μ-loop
 returns-3 c = λ S a. match-end _ _ _ (c .before .before .before .before .before .before .pre .0) (c .before .loop .inv .2) (c .loop-test .left) S ∙ c .before .loop .inv .3 S a
@@ -65,7 +65,7 @@ match-arguments-spec =
     (tie.spec
     Inv-loop
     μ-loop
-    entry-requires
+    parameter-requires
     loop-holds
     returns
     word-requires
@@ -74,7 +74,7 @@ match-arguments-spec =
     returns-2
     word-requires-3
     word-requires-4
-    entry-requires-2
+    parameter-requires-2
     loop-less
     loop-again
     returns-3)

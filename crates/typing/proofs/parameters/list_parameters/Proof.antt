@@ -1,5 +1,5 @@
 -- `list_parameters` meets its contract: from the last record down, what the table has is right.
-use Rattle.typing.specs.Parameters.{ListedFrom, listed-first, listed-other, listed-next, parameter-here, parameter-later, listed-all}
+use Rattle.typing.specs.Parameters.{ListedFrom, listed-first, listed-other, listed-next, parameter-here, parameter-same, parameter-later, listed-all}
 use Rattle.chains.specs.Formed.{counted}
 use Rattle.language.specs.File.{recordCount}
 use lib.ListN.{length, length-set}
@@ -37,8 +37,8 @@ word-requires-3 c κs = search needs
 word-requires-4 : tie.Need-word-requires-4 Inv-loop μ-loop
 word-requires-4 c κs = search needs
 
-entry-requires : tie.Need-entry-requires Inv-loop μ-loop
-entry-requires c κs = search needs
+link-requires : tie.Need-link-requires Inv-loop μ-loop
+link-requires c κs = search needs
 
 mul-table : tie.Need-mul-table Inv-loop μ-loop
 mul-table c = search (needs, counted (c .before .before .before .before .before .before .before .before .before .before .before .before .pre .0) .most, c .before .before .before .before .before .before .before .before .loop .inv .1)
@@ -50,19 +50,32 @@ loop-less : tie.Need-loop-less Inv-loop μ-loop
 loop-less c = omega (arith, c .before .before .before .before .before .before .before .loop-test .taken)
 
 loop-again : tie.Need-loop-again Inv-loop μ-loop
-loop-again c = let F = c .before .before .before .before .before .before .before .before .before .before .before .before .pre .0 in let l = c .before .before .before .before .before .before .before .before .loop in let h = c .before .before .before .before .before .before .before .loop-test .taken in (listed-next F (l .inv .0) _ (omega (arith, h)) (omega (arith, h, counted F .most, l .inv .1)) (λ q. omega (arith, h, q)) (parameter-later F (l .inv .0) _ (omega (arith, h)) (λ q. omega (arith, h, q)) (c .before .before .before .before .word3 .ensures .0) (c .before .before .before .if2 .taken) (c .before .word4 .ensures .0) (c .entry .ensures)), omega (arith, l .inv .1), simp length-set (l .inv .2 ∙ length-set (c .before .before .before .before .before .before .before .before .before .before .before .before .args .table .now) 0 0))
+loop-again c = let F = c .before .before .before .before .before .before .before .before .before .before .before .before .pre .0 in let l = c .before .before .before .before .before .before .before .before .loop in let h = c .before .before .before .before .before .before .before .loop-test .taken in (listed-next F (l .inv .0) _ (omega (arith, h)) (omega (arith, h, counted F .most, l .inv .1)) (λ q. omega (arith, h, q)) (parameter-later F (l .inv .0) _ (omega (arith, h)) (λ q. omega (arith, h, q)) (c .before .before .before .before .word3 .ensures .0) (c .before .before .before .if2 .taken) (c .before .word4 .ensures .0) (c .link .ensures)), omega (arith, l .inv .1), simp length-set (l .inv .2 ∙ length-set (c .before .before .before .before .before .before .before .before .before .before .before .before .args .table .now) 0 0))
+
+narrow-requires : tie.Need-narrow-requires Inv-loop μ-loop
+narrow-requires c κs = omega (arith, counted (c .before .before .before .before .before .before .before .before .before .pre .0) .most, c .before .before .before .before .before .loop .inv .1)
 
 mul-table-2 : tie.Need-mul-table-2 Inv-loop μ-loop
-mul-table-2 c = search (needs, counted (c .before .before .before .before .before .before .before .before .before .pre .0) .most, c .before .before .before .before .before .loop .inv .1)
+mul-table-2 c = search (needs, counted (c .before .before .before .before .before .before .before .before .before .before .pre .0) .most, c .before .before .before .before .before .before .loop .inv .1)
 
 slice-write-table-3 : tie.Need-slice-write-table-3 Inv-loop μ-loop
-slice-write-table-3 c = search (needs, counted (c .before .before .before .before .before .before .before .before .before .pre .0) .most, c .before .before .before .before .before .loop .inv .1, c .before .before .before .before .before .loop .inv .0 .size)
+slice-write-table-3 c = search (needs, counted (c .before .before .before .before .before .before .before .before .before .before .pre .0) .most, c .before .before .before .before .before .before .loop .inv .1, c .before .before .before .before .before .before .loop .inv .0 .size)
 
 loop-less-2 : tie.Need-loop-less-2 Inv-loop μ-loop
-loop-less-2 c = omega (arith, c .before .before .before .before .loop-test .taken)
+loop-less-2 c = omega (arith, c .before .before .before .before .before .loop-test .taken)
 
 loop-again-2 : tie.Need-loop-again-2 Inv-loop μ-loop
-loop-again-2 c = let F = c .before .before .before .before .before .before .before .before .before .pre .0 in let l = c .before .before .before .before .before .loop in let h = c .before .before .before .before .loop-test .taken in (listed-next F (l .inv .0) _ (omega (arith, h)) (omega (arith, h, counted F .most, l .inv .1)) (λ q. omega (arith, h, q)) (parameter-here F (l .inv .0) _ (omega (arith, h)) (λ q. omega (arith, h, q)) (c .before .word3 .ensures .0) (c .if2 .left)), omega (arith, l .inv .1), simp length-set (l .inv .2 ∙ length-set (c .before .before .before .before .before .before .before .before .before .args .table .now) 0 0))
+loop-again-2 c =
+    let l = c .before .before .before .before .before .before in
+    let a = l .before .before .before .before in
+    let F = a .pre .0 in
+    let k = l .loop .inv in
+    let h = c .before .before .before .before .before .loop-test .taken in (
+      listed-next F (k .0) _ (omega (arith, h)) (omega (arith, h, counted F .most, k .1)) (λ q. omega (arith, h, q))
+          (parameter-same (c .narrow .ensures) (parameter-here F (k .0) _ (omega (arith, h)) (λ q. omega (arith, h, q)) (c .before .before .word3 .ensures .0) (c .before .if2 .left))),
+      omega (arith, k .1),
+      simp length-set (k .2 ∙ length-set (a .args .table .now) 0 0),
+    )
 
 loop-less-3 : tie.Need-loop-less-3 Inv-loop μ-loop
 loop-less-3 c = omega (arith, c .before .before .loop-test .taken)
@@ -89,11 +102,12 @@ list-parameters-spec =
     word-requires-2
     word-requires-3
     word-requires-4
-    entry-requires
+    link-requires
     mul-table
     slice-write-table-2
     loop-less
     loop-again
+    narrow-requires
     mul-table-2
     slice-write-table-3
     loop-less-2

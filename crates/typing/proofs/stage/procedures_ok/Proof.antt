@@ -29,14 +29,14 @@ returns c = no-procedure _ _ (c .before .before .before .before .before .before 
 returns-2 : tie.Need-returns-2
 returns-2 c = many-procedures _ _ (c .before .before .before .before .before .before .before .before .pre .0) (c .before .before .before .before .before .before .word .ensures .0) (c .before .before .before .list-chain .ensures .0) (c .before .if1 .left) (c .if2 .taken)
 
-blank-links-requires : tie.Need-blank-links-requires
-blank-links-requires c κs = search needs
+blank-owners-requires : tie.Need-blank-owners-requires
+blank-owners-requires c κs = search needs
 
 slice-aggregate-list-parameters : tie.Need-slice-aggregate-list-parameters
 slice-aggregate-list-parameters c = search needs
 
 list-parameters-requires : tie.Need-list-parameters-requires
-list-parameters-requires c κs = (c .before .before .before .before .before .before .before .before .before .before .pre .0, omega (arith, blank-length Format.maxRecords (c .before .blank-links .ensures)))
+list-parameters-requires c κs = (c .before .before .before .before .before .before .before .before .before .before .pre .0, omega (arith, blank-length Format.maxRecords (c .before .blank-owners .ensures)))
 
 blank-functors-requires : tie.Need-blank-functors-requires
 blank-functors-requires c κs = search needs
@@ -63,7 +63,7 @@ procedures-ok-spec =
     list-chain-requires
     returns
     returns-2
-    blank-links-requires
+    blank-owners-requires
     slice-aggregate-list-parameters
     list-parameters-requires
     blank-functors-requires

@@ -13,7 +13,6 @@ use Rattle.tables.proofs.set_at.Reads as set-at-reads
 use Rattle.tables.proofs.word_at.Reads as word-at-reads
 use Rattle.values.proofs.carried.carry.Reads as carry-reads
 use Rattle.values.proofs.carried.every_in.Reads as every-in-reads
-use Rattle.values.proofs.carried.pair.Reads as pair-reads
 use Rattle.values.proofs.walk.goals.Reads as goals-reads
 
 word-at-requires : tie.Need-word-at-requires
@@ -37,8 +36,8 @@ add-set-at-2 c = omega (arith, window-fits (c .before .before .before .before .b
 set-at-requires-2 : tie.Need-set-at-requires-2
 set-at-requires-2 c κs = search needs
 
-pair-requires : tie.Need-pair-requires
-pair-requires c κs = search needs
+blank-pair-requires : tie.Need-blank-pair-requires
+blank-pair-requires c κs = search needs
 
 slice-aggregate-carry : tie.Need-slice-aggregate-carry
 slice-aggregate-carry c = search needs
@@ -72,7 +71,7 @@ procedure-ok-spec =
     word-at-requires-2
     add-set-at-2
     set-at-requires-2
-    pair-requires
+    blank-pair-requires
     slice-aggregate-carry
     carry-requires
     goals-requires

@@ -1,0 +1,48 @@
+-- `step_ok` meets its contract.
+use mathlib.Core.Path.{ap, _∙_}
+use Rattle.tables.specs.Starts.{windowIn, window-lent}
+use Rattle.regions.specs.Here.{here}
+use borrow.Author.Needs.{needs}
+use Rattle.regions.proofs.pass.step_ok.Statement.{statement}
+use Rattle.regions.proofs.pass.step_ok.Tie as tie
+
+owner-of-requires : tie.Need-owner-of-requires
+owner-of-requires c κs = search needs
+
+start-of-requires : tie.Need-start-of-requires
+start-of-requires c κs = search needs
+
+mul-row-ok : tie.Need-mul-row-ok
+mul-row-ok c = search needs
+
+sub-row-ok : tie.Need-sub-row-ok
+sub-row-ok c = search needs
+
+part-row-ok-start : tie.Need-part-row-ok-start
+part-row-ok-start c = search needs
+
+part-row-ok-end : tie.Need-part-row-ok-end
+part-row-ok-end c = search needs
+
+row-ok-requires : tie.Need-row-ok-requires
+row-ok-requires c κs =
+    let s = c .before .before in
+    let a = s .before .before .before .before .before in
+    let b = a .pre .1 .0 in
+    (here (a .pre .0) (a .args .i) (b .0) (b .1) (window-lent (a .args .table .now) _ (s .start-of .ensures .0) ∙ ap (windowIn (a .args .table .now)) (s .before .owner-of .ensures)), a .pre .1 .1)
+
+returns : tie.Need-returns
+returns c = (c .row-ok .ensures .0, c .row-ok .ensures .1)
+
+pub step-ok-spec : {M : Type 1} → statement M
+step-ok-spec =
+    tie.close
+    (tie.spec
+    owner-of-requires
+    start-of-requires
+    mul-row-ok
+    sub-row-ok
+    part-row-ok-start
+    part-row-ok-end
+    row-ok-requires
+    returns)
