@@ -6,7 +6,8 @@ use mathlib.Core.Path.{_≡_, refl, sym, ap, _∙_}
 use mathlib.Core.List.{List}
 use borrow.Author.Tests.{le-ltb}
 use lib.IntN.{ℤ, pos, negsuc, _-ℤ_}
-use lib.ListN.{set}
+use lib.ListN.{length, set}
+use lib.Seq.{set-out}
 use mir.Syntax.{Width, w32}
 use mir.Val.{SFits, bits, hbits, toZ, ofZ}
 use mir.Facts.{toZ-neg}
@@ -17,6 +18,12 @@ use Rattle.word_machine.specs.WordLaws.{add-words, subtract-words}
 pub cleared-none : (p n : ℕ) (t : List ℕ) → n ≡ 0 → t ≡ cleared p n t
 unfolding cleared
 cleared-none p n t z = rw z
+
+-- past the end there is nothing to clear
+pub cleared-past : (p n : ℕ) (t : List ℕ) → length t ≤ p → t ≡ cleared p n t
+unfolding cleared
+cleared-past p zero t l = refl
+cleared-past p (suc n) t l = rw (set-out t p 0 l) (cleared-past (suc p) n t (omega arith))
 
 pub cleared-same : (p p′ n n′ : ℕ) (t : List ℕ) → p ≡ p′ → n ≡ n′ → cleared p n t ≡ cleared p′ n′ t
 cleared-same p p′ n n′ t e d = cc

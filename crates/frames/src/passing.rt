@@ -1,12 +1,24 @@
-// Along a chain of records: the arm of a functor, and the values that a call's arguments pass.
+// Along a chain of records: the arm of a functor, and the values that a call's arguments pass. Which of the callee's variables an argument matches,
+// and its mode, stands in the plan.
 use crate::words::put_from;
 use crate::words::word_from;
 use chains::entry;
-use records::word;
+use language::format::ARGUMENT_VARIABLE;
+use language::format::MODE_IN;
+use language::format::MODE_OUT;
+use language::format::NEXT;
+use language::format::RECORD_BYTES;
+use language::format::TERM_FUNCTOR;
+use plans::MODES;
+use plans::PLAN;
+use plans::SLOTS;
+use records::word_in;
 ghost use mathlib.Core.Path.{_≡_};
-ghost use mathlib.Core.List.{[], _∷_};
-ghost use Prim.Native.Nat.{_<_};
-ghost use Rattle.language.specs.File.{recordCount};
+ghost use mathlib.Core.List.{List, [], _∷_};
+ghost use Prim.Native.Nat.{ℕ, _+_, _*_, _≤_, _<_};
+ghost use lib.ListN.{length};
+ghost use Rattle.language.specs.File.{word, recordCount};
+ghost use Rattle.language.specs.Format.{maxRecords};
 ghost use Rattle.chains.specs.Formed.{Formed};
 ghost use Rattle.chains.specs.Records.{chainRecords};
 ghost use Rattle.word_machine.specs.Machine.{armOf};
@@ -17,13 +29,14 @@ pub fn arm_of(file: &[u8], start: usize, functor: u32) -> usize
     requires { ⌜ Formed (now file) ⌝ }
     requires { ⌜ start < recordCount (now file) ⌝ }
     ensures { λ r. ⌜ r ≡ armOf (now (file .entry)) functor (chainRecords (now (file .entry)) start) ⌝ }
+    ensures { λ r. ⌜ r < recordCount (now (file .entry)) ⌝ }
 {
     let mut at = start;
     while at != 0 {
-        if word(file, at, 3) == (functor as usize) {
+        if word_in(file, at, TERM_FUNCTOR) == (functor as usize) {
             return at;
         }
-        at = word(file, at, 1);
+        at = word_in(file, at, NEXT);
     }
     0
 }
@@ -31,85 +44,97 @@ pub fn arm_of(file: &[u8], start: usize, functor: u32) -> usize
 // One argument's, if its mode is in.
 fn value_in(
     file: &[u8],
+    plan: &[usize; PLAN],
     at: usize,
-    slots: &[usize],
-    modes: &[usize],
     from: usize,
     to: usize,
     frames: &mut [u32],
 )
-    ensures { λ _. ⌜ now (frames .exit) ≡ passedIn (now (file .entry)) (now (slots .entry)) (now (modes .entry)) from to
-        (at ∷ []) (now (frames .entry)) ⌝ }
+    requires { ⌜ (at < maxRecords) × (16 * at + 16 ≤ length (now file)) ⌝ }
+    ensures { λ _. ⌜ now (frames .exit) ≡ passedIn (now (file .entry)) (now (plan .entry)) from to (at ∷ []) (now (frames .entry)) ⌝ }
 {
-    let slot = entry(slots, at);
-    let argument = word(file, at, 2);
-    if entry(modes, at) == 1 {
-        let value = word_from(&frames[..], from, argument);
-        put_from(&mut frames[..], to, slot, value);
+    if plan[MODES + at] == MODE_IN {
+        let value = word_from(&frames[..], from, word_in(file, at, ARGUMENT_VARIABLE));
+        put_from(&mut frames[..], to, plan[SLOTS + at], value);
     }
 }
 
 // "A call adds the callee's frame with its in values": from the words behind `from` to those behind `to`. The arguments' chain is at record start.
 pub fn values_in(
     file: &[u8],
+    plan: &[usize; PLAN],
     start: usize,
-    slots: &[usize],
-    modes: &[usize],
     from: usize,
     to: usize,
     frames: &mut [u32],
 )
     requires { ⌜ Formed (now file) ⌝ }
     requires { ⌜ start < recordCount (now file) ⌝ }
-    ensures { λ _. ⌜ now (frames .exit) ≡ passedIn (now (file .entry)) (now (slots .entry)) (now (modes .entry)) from to
+    ensures { λ _. ⌜ now (frames .exit) ≡ passedIn (now (file .entry)) (now (plan .entry)) from to
         (chainRecords (now (file .entry)) start) (now (frames .entry)) ⌝ }
 {
     let mut at = start;
     while at != 0 {
-        value_in(file, at, slots, modes, from, to, &mut frames[..]);
-        at = word(file, at, 1);
+        value_in(file, plan, at, from, to, &mut frames[..]);
+        at = word_in(file, at, NEXT);
     }
 }
 
 // One argument's, if its mode is out.
 fn value_out(
     file: &[u8],
+    plan: &[usize; PLAN],
     at: usize,
-    slots: &[usize],
-    modes: &[usize],
     from: usize,
     to: usize,
     frames: &mut [u32],
 )
-    ensures { λ _. ⌜ now (frames .exit) ≡ passedOut (now (file .entry)) (now (slots .entry)) (now (modes .entry)) from to
-        (at ∷ []) (now (frames .entry)) ⌝ }
+    requires { ⌜ (at < maxRecords) × (16 * at + 16 ≤ length (now file)) ⌝ }
+    ensures { λ _. ⌜ now (frames .exit) ≡ passedOut (now (file .entry)) (now (plan .entry)) from to (at ∷ []) (now (frames .entry)) ⌝ }
 {
-    let slot = entry(slots, at);
-    let argument = word(file, at, 2);
-    if entry(modes, at) == 2 {
-        let value = word_from(&frames[..], from, slot);
-        put_from(&mut frames[..], to, argument, value);
+    if plan[MODES + at] == MODE_OUT {
+        let value = word_from(&frames[..], from, plan[SLOTS + at]);
+        put_from(
+            &mut frames[..],
+            to,
+            word_in(file, at, ARGUMENT_VARIABLE),
+            value,
+        );
     }
 }
 
-// ".. and its out values pass to the call's arguments."
+// The same of a record that the file does not have: its words are 0.
+fn stray_out(plan: &[usize; PLAN], at: usize, from: usize, to: usize, frames: &mut [u32])
+    requires { ⌜ at < 65536 ⌝ }
+    ensures { λ _. ⌜ ((f : List ℕ) → word f at 2 ≡ 0 → now (frames .exit) ≡ passedOut f (now (plan .entry)) from to (at ∷ []) (now (frames .entry))) ⌝ }
+{
+    if entry(&plan[..], MODES + at) == MODE_OUT {
+        let value = word_from(&frames[..], from, entry(&plan[..], SLOTS + at));
+        put_from(&mut frames[..], to, 0, value);
+    }
+}
+
+// ".. and its out values pass to the call's arguments." Start may be any record: a frame's word says which call made it.
 pub fn values_out(
     file: &[u8],
+    plan: &[usize; PLAN],
     start: usize,
-    slots: &[usize],
-    modes: &[usize],
     from: usize,
     to: usize,
     frames: &mut [u32],
 )
     requires { ⌜ Formed (now file) ⌝ }
-    requires { ⌜ start < recordCount (now file) ⌝ }
-    ensures { λ _. ⌜ now (frames .exit) ≡ passedOut (now (file .entry)) (now (slots .entry)) (now (modes .entry)) from to
+    requires { ⌜ start < 65536 ⌝ }
+    ensures { λ _. ⌜ now (frames .exit) ≡ passedOut (now (file .entry)) (now (plan .entry)) from to
         (chainRecords (now (file .entry)) start) (now (frames .entry)) ⌝ }
 {
     let mut at = start;
     while at != 0 {
-        value_out(file, at, slots, modes, from, to, &mut frames[..]);
-        at = word(file, at, 1);
+        if file.len() / RECORD_BYTES <= at {
+            stray_out(plan, at, from, to, &mut frames[..]);
+            return;
+        }
+        value_out(file, plan, at, from, to, &mut frames[..]);
+        at = word_in(file, at, NEXT);
     }
 }

@@ -1,6 +1,8 @@
 // Words of a frame, for any number.
+use memory::put;
+use memory::word;
 ghost use mathlib.Core.Path.{_≡_};
-ghost use Prim.Native.Nat.{_+_, _*_};
+ghost use Prim.Native.Nat.{_+_, _*_, _<_};
 ghost use lib.ListN.{getD, set};
 ghost use Rattle.word_machine.specs.Machine.{cleared};
 
@@ -41,14 +43,49 @@ pub fn put_from(mem: &mut [u32], base: usize, k: usize, value: u32)
     }
 }
 
-// Zero in the words 1 to n of a frame: its values.
-pub fn clear(frames: &mut [u32], frame: u32, n: u32)
-    ensures { λ _. ⌜ now (frames .exit) ≡ cleared (1 + 136 * frame) n (now (frames .entry)) ⌝ }
+// The value of a frame's variable x.
+pub fn value(frames: &[u32], frame: u32, x: usize) -> u32
+    requires { ⌜ x < 65536 ⌝ }
+    ensures { λ r. ⌜ r ≡ getD (now (frames .entry)) (136 * frame + x) 0 ⌝ }
 {
-    let first = 136 * (frame as usize) + 1;
-    let mut k: u32 = 0;
+    word(&frames[..], 136 * (frame as usize) + x)
+}
+
+// Variable x of a frame gets a value.
+pub fn give(frames: &mut [u32], frame: u32, x: usize, value: u32)
+    requires { ⌜ x < 65536 ⌝ }
+    ensures { λ _. ⌜ now (frames .exit) ≡ set (now (frames .entry)) (136 * frame + x) value ⌝ }
+{
+    put(&mut frames[..], 136 * (frame as usize) + x, value);
+}
+
+// The place of what a frame's region number r stands for.
+pub fn region(frames: &[u32], frame: u32, r: usize) -> u32
+    ensures { λ p. ⌜ p ≡ getD (now (frames .entry)) (136 * frame + 64 + r) 0 ⌝ }
+{
+    word_from(&frames[..], region_base(frame), r)
+}
+
+// Region number r of a frame stands for what is at a place.
+pub fn name_region(frames: &mut [u32], frame: u32, r: usize, place: u32)
+    ensures { λ _. ⌜ now (frames .exit) ≡ set (now (frames .entry)) (136 * frame + 64 + r) place ⌝ }
+{
+    put_from(&mut frames[..], region_base(frame), r, place);
+}
+
+// Zero in the n words from a place on, as far as there are any.
+pub fn clear(frames: &mut [u32], first: usize, n: usize)
+    ensures { λ _. ⌜ now (frames .exit) ≡ cleared first n (now (frames .entry)) ⌝ }
+{
+    let mut k: usize = 0;
     while k < n {
-        put_from(&mut frames[..], first, k as usize, 0);
+        if frames.len() <= first {
+            return;
+        }
+        if frames.len() - first <= k {
+            return;
+        }
+        frames[first + k] = 0;
         k += 1;
     }
 }

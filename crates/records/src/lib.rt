@@ -9,6 +9,7 @@ pub use decode::record_at;
 pub use stage::check_form;
 pub use words::header_ok;
 pub use words::word;
+pub use words::word_in;
 
 // A record, its words named as document 01's table names them. `Other` stands for every number that is no kind.
 pub enum Record {

@@ -27,7 +27,7 @@ pub fn word(file: &[u8], i: usize, k: usize) -> usize
 }
 
 // The same of a record that the file has whole.
-pub(crate) fn word_in(file: &[u8], i: usize, k: usize) -> usize
+pub fn word_in(file: &[u8], i: usize, k: usize) -> usize
     requires { ⌜ (k < 8) × (16 * i + 16 ≤ length (now file)) ⌝ }
     ensures { λ r. ⌜ (r ≡ word (now (file .entry)) i k) × (r < 65536) ⌝ }
 {

@@ -1,56 +1,74 @@
+use mathlib.Core.Path.{refl}
 use Rattle.frames.specs.Passing.{out-done, out-not}
 use borrow.Author.Needs.{needs}
 use Rattle.frames.proofs.passing.value_out.Statement.{statement}
 use Rattle.frames.proofs.passing.value_out.Tie as tie
 use Rattle.frames.proofs.passing.value_out.Reads as reads
 use Rattle.frames.proofs.passing.value_out.Lts as lts
-use Rattle.chains.proofs.entry.Reads as entry-reads
 use Rattle.frames.proofs.words.put_from.Reads as put-from-reads
 use Rattle.frames.proofs.words.word_from.Reads as word-from-reads
-use Rattle.records.proofs.word.Reads as word-reads
+use Rattle.records.proofs.word_in.Reads as word-in-reads
 
--- src/passing.rt:87:9
-entry-requires : tie.Need-entry-requires
-entry-requires c κs = search needs
+-- src/passing.rt:95:13
+add-if1 : tie.Need-add-if1
+add-if1 c = search needs
 
--- src/passing.rt:88:9
-word-requires : tie.Need-word-requires
-word-requires c κs = search needs
+-- src/passing.rt:95:8
+mul-if1 : tie.Need-mul-if1
+mul-if1 c = search needs
 
--- src/passing.rt:89:8
-entry-requires-2 : tie.Need-entry-requires-2
-entry-requires-2 c κs = search needs
+-- src/passing.rt:95:8
+element-copy-out-if1 : tie.Need-element-copy-out-if1
+element-copy-out-if1 c = search needs
 
--- src/passing.rt:90:13
+-- src/passing.rt:96:55
+add-word-from : tie.Need-add-word-from
+add-word-from c = search needs
+
+-- src/passing.rt:96:50
+mul-word-from : tie.Need-mul-word-from
+mul-word-from c = search needs
+
+-- src/passing.rt:96:50
+element-copy-out-word-from : tie.Need-element-copy-out-word-from
+element-copy-out-word-from c = search needs
+
+-- src/passing.rt:96:13
 word-from-requires : tie.Need-word-from-requires
 word-from-requires c κs = search needs
 
--- src/passing.rt:91:9
+-- src/passing.rt:97:39
+word-in-requires : tie.Need-word-in-requires
+word-in-requires c κs = search needs
+
+-- src/passing.rt:97:9
 put-from-requires : tie.Need-put-from-requires
 put-from-requires c κs = search needs
 
--- src/passing.rt:75:1
+-- src/passing.rt:84:1
 same-length : tie.Need-same-length
 same-length c = search needs
 
--- src/passing.rt:75:1
+-- src/passing.rt:84:1
 returns : tie.Need-returns
-returns c =
-    out-done _ _ _ _ _ _ _ _ _ _ _ _ (c .before .before .before .before .before .before .before .before .before .entry .ensures) (c .before .before .before .before .before .before .before .before .word .ensures .0) (c .before .before .before .before .before .before .before .entry2 .ensures) (c .before .before .before .before .before .before .if1 .taken)
-    (c .before .before .before .before .word-from .ensures) (c .before .before .put-from .ensures)
+returns c = out-done _ _ _ _ _ _ _ _ _ _ _ refl (c .before .before .before .word-in .ensures .0) refl (c .before .before .before .before .before .before .before .before .if1 .taken) (c .before .before .before .before .before .word-from .ensures) (c .before .before .put-from .ensures)
 
--- src/passing.rt:75:1
+-- src/passing.rt:84:1
 returns-2 : tie.Need-returns-2
-returns-2 c = out-not _ _ _ _ _ _ _ _ (c .before .entry2 .ensures) (c .if1 .left)
+returns-2 c = out-not _ _ _ _ _ _ _ refl (c .if1 .left)
 
 pub value-out-spec : {M : Type 1} → statement M
 value-out-spec =
     tie.close
     (tie.spec
-    entry-requires
-    word-requires
-    entry-requires-2
+    add-if1
+    mul-if1
+    element-copy-out-if1
+    add-word-from
+    mul-word-from
+    element-copy-out-word-from
     word-from-requires
+    word-in-requires
     put-from-requires
     same-length
     returns

@@ -1,0 +1,62 @@
+use native.Mathlib.Omega.{arith}
+use mathlib.Core.Path.{refl}
+use Rattle.machine.specs.Calls.{body-as}
+use Rattle.machine.specs.Steps.{call-goes, call-stops}
+use native.Mathlib.Omega.{arith}
+use borrow.Author.Needs.{needs}
+use Rattle.machine.proofs.steps.call_step.Statement.{statement}
+use Rattle.machine.proofs.steps.call_step.Tie as tie
+use Rattle.machine.proofs.steps.call_step.Reads as reads
+use Rattle.machine.proofs.steps.call_step.Lts as lts
+use Rattle.machine.proofs.calls.call.Reads as call-reads
+use Rattle.memory.proofs.room.Reads as room-reads
+
+-- src/steps.rt:72:17
+room-requires : tie.Need-room-requires
+room-requires c κs = search needs
+
+-- src/steps.rt:72:17
+cast-limit : tie.Need-cast-limit
+cast-limit c = search needs
+
+-- src/steps.rt:73:18
+cast-above : tie.Need-cast-above
+cast-above c = search needs
+
+-- src/steps.rt:73:17
+add-above : tie.Need-add-above
+add-above c = search needs
+
+-- src/steps.rt:75:9
+returns : tie.Need-returns
+returns c = λ m ps. call-stops _ _ _ _ _ _ _ refl _ (c .before .before .before .before .before .before .pre .1 .1 .1) (c .before .room .ensures) (omega (arith, c .if1 .taken))
+
+-- src/steps.rt:77:9
+call-requires : tie.Need-call-requires
+call-requires c κs = search needs
+
+-- src/steps.rt:79:14
+add-t13 : tie.Need-add-t13
+add-t13 c = search needs
+
+-- src/steps.rt:55:1
+same-length : tie.Need-same-length
+same-length c = search needs
+
+-- src/steps.rt:55:1
+returns-2 : tie.Need-returns-2
+returns-2 c = λ m ps. call-goes _ _ _ _ _ _ _ refl _ _ _ _ (c .before .before .before .before .before .before .before .before .before .before .pre .1 .1 .1) (body-as _ _ _ _ _ _ (c .before .before .call .ensures .0)) (c .before .before .call .ensures .1) (omega arith) (c .before .before .before .before .before .room .ensures) (omega (arith, c .before .before .before .before .if1 .left))
+
+pub call-step-spec : {M : Type 1} → statement M
+call-step-spec =
+    tie.close
+    (tie.spec
+    room-requires
+    cast-limit
+    cast-above
+    add-above
+    returns
+    call-requires
+    add-t13
+    same-length
+    returns-2)

@@ -1,0 +1,73 @@
+use Prim.Native.Nat.{_*_}
+use mathlib.Core.Path.{refl}
+use Rattle.frames.specs.Strays.{whole}
+use Rattle.machine.specs.Calls.{successor-as}
+use Rattle.machine.specs.Goals.{value-as}
+use Rattle.machine.specs.Steps.{print-goes, print-stops}
+use borrow.Author.Needs.{needs}
+use Rattle.machine.proofs.steps.print_step.Statement.{statement}
+use Rattle.machine.proofs.steps.print_step.Tie as tie
+use Rattle.machine.proofs.steps.print_step.Reads as reads
+use Rattle.machine.proofs.steps.print_step.Lts as lts
+use Rattle.frames.proofs.value.Reads as value-reads
+use Rattle.machine.proofs.goals.successor.Reads as successor-reads
+use Rattle.memory.proofs.room.Reads as room-reads
+use Rattle.memory.proofs.put.Reads as put-reads
+use Rattle.records.proofs.word_in.Reads as word-in-reads
+
+-- src/steps.rt:101:17
+room-requires : tie.Need-room-requires
+room-requires c κs = search needs
+
+-- src/steps.rt:101:17
+cast-limit : tie.Need-cast-limit
+cast-limit c = search needs
+
+-- src/steps.rt:103:9
+returns : tie.Need-returns
+returns c = λ images table m. print-stops _ _ _ _ _ _ _ refl _ (c .before .before .before .before .before .pre .1 .1) (c .before .room .ensures) (c .if1 .taken)
+
+-- src/steps.rt:105:30
+word-in-requires : tie.Need-word-in-requires
+word-in-requires c κs = let w = whole (c .before .before .before .before .before .pre .0) (c .before .before .before .before .before .args .state .goal) (c .before .before .before .before .before .pre .1 .0) in search needs
+
+-- src/steps.rt:105:9
+value-requires : tie.Need-value-requires
+value-requires c κs = search needs
+
+-- src/steps.rt:106:5
+put-requires : tie.Need-put-requires
+put-requires c κs = search needs
+
+-- src/steps.rt:109:15
+successor-requires : tie.Need-successor-requires
+successor-requires c κs = let w = whole (c .before .before .before .before .before .before .before .before .before .before .before .pre .0) (c .before .before .before .before .before .before .before .before .before .before .before .args .state .goal) (c .before .before .before .before .before .before .before .before .before .before .before .pre .1 .0) in search needs
+
+-- src/steps.rt:110:18
+add-t18 : tie.Need-add-t18
+add-t18 c = search needs
+
+-- src/steps.rt:86:1
+same-length : tie.Need-same-length
+same-length c = search needs
+
+-- src/steps.rt:86:1
+returns-2 : tie.Need-returns-2
+returns-2 c =
+    λ images table m. print-goes _ _ _ _ _ _ _ _ refl (successor-as _ _ _ _ _ _ (c .successor .ensures .0)) _ _ _ (c .before .before .before .before .before .before .before .before .before .before .before .before .pre .1 .1)
+    (value-as (136 * c .before .before .before .before .before .before .before .before .before .before .before .before .args .state .top) _ _ _ (c .before .before .before .before .before .before .before .before .before .before .before .before .args .frames .now) (c .before .before .before .before .before .value .ensures) (c .before .before .before .before .before .before .word-in .ensures .0)) (c .before .before .before .put .ensures) (c .before .before .before .before .before .before .before .before .room .ensures) (c .before .before .before .before .before .before .before .if1 .left)
+
+pub print-step-spec : {M : Type 1} → statement M
+print-step-spec =
+    tie.close
+    (tie.spec
+    room-requires
+    cast-limit
+    returns
+    word-in-requires
+    value-requires
+    put-requires
+    successor-requires
+    add-t18
+    same-length
+    returns-2)

@@ -1,0 +1,5 @@
+pub mod Words
+pub mod Places
+pub mod Goals
+pub mod Calls
+pub mod Steps

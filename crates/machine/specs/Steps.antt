@@ -1,0 +1,232 @@
+-- What each kind of goal comes to, from what its function promises.
+use Prim.Native.Nat.{ℕ, suc, _+_, _*_, _≤_, _<_}
+use native.Mathlib.Omega.{arith}
+use mathlib.Core.Path.{_≡_, refl, sym, ap, _∙_}
+use mathlib.Core.Bool.{Bool, true, false}
+use mathlib.Core.List.{List}
+use borrow.Author.Tests.{lt-ltb, le-ltb}
+use lib.Dec.{ltb}
+use lib.ListN.{length, getD, set}
+use mir.Syntax.{w32}
+use mir.Val.{toZ}
+use Rattle.language.specs.Lists.{nth, choose}
+use Rattle.language.specs.File.{Kind, kNone, kHeader, kType, kFunctor, kProcedure, kVariable, kRegion, kEdge, kArm, kArgument, kGoal, GoalKind, kLiteral, kSum, kAssign, kConstruct, kSwitch, kIf, kCall, kPrint, kCreate, kRemove, kinds, kindOf, row, rowIn, word}
+use Rattle.language.specs.Numbers.{less}
+use Rattle.language.specs.Machine.{Room, holds}
+use Rattle.language.specs.declared.Stop.{Stop}
+use Rattle.language.specs.declared.Stop.the-variants.{Cells, Places, Frames, Prints}
+use Rattle.records.specs.Records.{recordAt, recordAs, record-as}
+use Rattle.records.specs.declared.Record.the-variants.{Literal, Sum, Assign, Construct, Switch, If, Call, Print, Create, Remove, Other}
+use Rattle.chains.specs.Shapes.{goal-number}
+use Rattle.memory.specs.declared.Heap.{Heap}
+use Rattle.memory.specs.declared.Made.{Made}
+use Rattle.memory.specs.declared.Made.the-variants.{At, NoRoom}
+use Rattle.memory.specs.Memory.{created, createdRegions, built, builtCells, builtRegions, removed, removedCells, removedRegions}
+use Rattle.plans.specs.Plan.{sidesFrom}
+use Rattle.word_machine.specs.Tables.{Tables, onto}
+use Rattle.word_machine.specs.Machine.{Words, Went, went, stops, literalWord, sumWord, given, withFrames, valueOf, contentsOf, constructed, constructedBy, makesRegion, createdBy, dropsRegion, printsWord, ifRoom, switches, entersArm, armWords, calls, calleeWords, steps}
+use Rattle.word_machine.specs.Machine
+use Rattle.machine.specs.declared.State.{State}
+use Rattle.machine.specs.declared.Step.{Step}
+use Rattle.machine.specs.declared.Step.the-variants.{Went as WentTo, Stops}
+use Rattle.machine.specs.Words.{wordsOf, cameTo, Goes}
+use Rattle.machine.specs.Places.{valueIn, termIn, homeFor, regionFor, placed, armFor, armValues}
+
+-- the state after a goal that changes neither the newest frame nor what is printed
+abbrev pub onwardTo : State → ℕ → State
+onwardTo s i = record { top = s .top; goal = i; printed = s .printed }
+
+-- ---- the record by the number of its kind, w
+module _ (f : List ℕ) (i w : ℕ) (ew : w ≡ word f i 0) where
+  pub of-kind : (n : ℕ) (k : Kind) → kindOf n ≡ k → w ≡ n → recordAt f i ≡ recordAs k (word f i)
+  of-kind n k e z = record-as f i (ap kindOf (sym ew ∙ z) ∙ e)
+
+  pub literal-record : w ≡ 8 → recordAt f i ≡ Literal (word f i 1) (word f i 2) (word f i 3)
+  unfolding kindOf kinds nth
+  literal-record z = of-kind 8 (kGoal kLiteral) refl z
+
+  pub sum-record : w ≡ 9 → recordAt f i ≡ Sum (word f i 1) (word f i 2) (word f i 3) (word f i 4) (word f i 5)
+  unfolding kindOf kinds nth
+  sum-record z = of-kind 9 (kGoal kSum) refl z
+
+  pub assign-record : w ≡ 10 → recordAt f i ≡ Assign (word f i 1) (word f i 2) (word f i 3)
+  unfolding kindOf kinds nth
+  assign-record z = of-kind 10 (kGoal kAssign) refl z
+
+  pub construct-record : w ≡ 11 → recordAt f i ≡ Construct (word f i 1) (word f i 2) (word f i 3) (word f i 4) (word f i 5) (word f i 6) (word f i 7)
+  unfolding kindOf kinds nth
+  construct-record z = of-kind 11 (kGoal kConstruct) refl z
+
+  pub switch-record : w ≡ 12 → recordAt f i ≡ Switch (word f i 1) (word f i 2) (word f i 3)
+  unfolding kindOf kinds nth
+  switch-record z = of-kind 12 (kGoal kSwitch) refl z
+
+  pub if-record : w ≡ 14 → recordAt f i ≡ If (word f i 1) (word f i 2) (word f i 3) (word f i 4) (word f i 5)
+  unfolding kindOf kinds nth
+  if-record z = of-kind 14 (kGoal kIf) refl z
+
+  pub call-record : w ≡ 15 → recordAt f i ≡ Call (word f i 1) (word f i 2) (word f i 3)
+  unfolding kindOf kinds nth
+  call-record z = of-kind 15 (kGoal kCall) refl z
+
+  pub print-record : w ≡ 17 → recordAt f i ≡ Print (word f i 1) (word f i 2)
+  unfolding kindOf kinds nth
+  print-record z = of-kind 17 (kGoal kPrint) refl z
+
+  pub create-record : w ≡ 18 → recordAt f i ≡ Create (word f i 1) (word f i 2)
+  unfolding kindOf kinds nth
+  create-record z = of-kind 18 (kGoal kCreate) refl z
+
+  pub remove-record : w ≡ 19 → recordAt f i ≡ Remove (word f i 1) (word f i 2)
+  unfolding kindOf kinds nth
+  remove-record z = of-kind 19 (kGoal kRemove) refl z
+
+-- ---- a goal that leaves the heap alone
+stopped-not : (s : State) (c : Stop) → WentTo s ≡ Stops c → ⊥
+stopped-not s c e = apart (ap told e)
+  where
+    told : Step → ℕ
+    told (WentTo t) = 0
+    told (Stops d) = 1
+
+    apart : _≡_ {A = ℕ} 0 1 → ⊥
+    apart z = omega arith
+
+module _ (f : List ℕ) (T : Tables) (s : State) (m fw ps : List ℕ) where
+  abbrev Steps : Room → Heap → List ℕ → Went
+  Steps k h rs = steps f T k (s .goal) (recordAt f (s .goal)) (wordsOf h m rs fw ps s)
+
+  -- it went on, whatever the heap is
+  pub goes-on : (v : State) (fx px : List ℕ) → ((k : Room) (h : Heap) (rs : List ℕ) → went (wordsOf h m rs fx px v) ≡ Steps k h rs)
+      → Goes f T s m fw ps (WentTo v) fx px
+  unfolding cameTo
+  goes-on v fx px e = record { comes = λ k h rs a b. e k h rs; kept = λ c z. absurd (stopped-not v c z) }
+
+  -- the state as a function gives it
+  pub goes-same : (u v : State) (fx px : List ℕ) → u ≡ v → Goes f T s m fw ps (WentTo v) fx px → Goes f T s m fw ps (WentTo u) fx px
+  goes-same u v fx px e g = rw e g
+
+  module _ (w next : ℕ) (ew : w ≡ word f (s .goal) 0) (en : next ≡ T .successor (s .goal)) where
+    literal-step : (k : Room) (h : Heap) (rs fx : List ℕ) → w ≡ 8 → fx ≡ set fw (136 * s .top + word f (s .goal) 2) (literalWord (word f (s .goal) 3))
+        → went (wordsOf h m rs fx ps (onwardTo s next)) ≡ Steps k h rs
+    unfolding steps given withFrames wordsOf
+    literal-step k h rs fx z ex = rw (literal-record f (s .goal) w ew z, ex, en)
+
+    pub literal-goes : (fx : List ℕ) → w ≡ 8 → fx ≡ set fw (136 * s .top + word f (s .goal) 2) (literalWord (word f (s .goal) 3))
+        → Goes f T s m fw ps (WentTo (onwardTo s next)) fx ps
+    literal-goes fx z ex = goes-on _ fx ps (λ k h rs. literal-step k h rs fx z ex)
+
+    sum-step : (k : Room) (h : Heap) (rs fx : List ℕ) → w ≡ 9
+        → fx ≡ set fw (136 * s .top + word f (s .goal) 2) (sumWord (word f (s .goal) 3) (valueIn (s .top) fw (word f (s .goal) 4)) (valueIn (s .top) fw (word f (s .goal) 5)))
+        → went (wordsOf h m rs fx ps (onwardTo s next)) ≡ Steps k h rs
+    unfolding steps given withFrames wordsOf valueOf
+    sum-step k h rs fx z ex = rw (sum-record f (s .goal) w ew z, ex, en)
+
+    pub sum-goes : (fx : List ℕ) → w ≡ 9
+        → fx ≡ set fw (136 * s .top + word f (s .goal) 2) (sumWord (word f (s .goal) 3) (valueIn (s .top) fw (word f (s .goal) 4)) (valueIn (s .top) fw (word f (s .goal) 5)))
+        → Goes f T s m fw ps (WentTo (onwardTo s next)) fx ps
+    sum-goes fx z ex = goes-on _ fx ps (λ k h rs. sum-step k h rs fx z ex)
+
+    assign-step : (k : Room) (h : Heap) (rs fx : List ℕ) → w ≡ 10 → fx ≡ set fw (136 * s .top + word f (s .goal) 2) (valueIn (s .top) fw (word f (s .goal) 3))
+        → went (wordsOf h m rs fx ps (onwardTo s next)) ≡ Steps k h rs
+    unfolding steps given withFrames wordsOf valueOf
+    assign-step k h rs fx z ex = rw (assign-record f (s .goal) w ew z, ex, en)
+
+    pub assign-goes : (fx : List ℕ) → w ≡ 10 → fx ≡ set fw (136 * s .top + word f (s .goal) 2) (valueIn (s .top) fw (word f (s .goal) 3))
+        → Goes f T s m fw ps (WentTo (onwardTo s next)) fx ps
+    assign-goes fx z ex = goes-on _ fx ps (λ k h rs. assign-step k h rs fx z ex)
+
+    switch-step : (k : Room) (h : Heap) (rs fx : List ℕ) (j g : ℕ) → w ≡ 12 → j ≡ armFor f (s .goal) (s .top) m fw
+        → fx ≡ armValues f j (valueIn (s .top) fw (word f (s .goal) 2)) (s .top) m fw → g ≡ onto (word f j 2) next
+        → went (wordsOf h m rs fx ps (onwardTo s g)) ≡ Steps k h rs
+    unfolding steps switches entersArm armWords withFrames wordsOf valueOf armFor armValues
+    switch-step k h rs fx j g z ej ex eg = rw (switch-record f (s .goal) w ew z, eg, ex, ej, en)
+
+    pub switch-goes : (fx : List ℕ) (j g : ℕ) → w ≡ 12 → j ≡ armFor f (s .goal) (s .top) m fw
+        → fx ≡ armValues f j (valueIn (s .top) fw (word f (s .goal) 2)) (s .top) m fw → g ≡ onto (word f j 2) next
+        → Goes f T s m fw ps (WentTo (onwardTo s g)) fx ps
+    switch-goes fx j g z ej ex eg = goes-on _ fx ps (λ k h rs. switch-step k h rs fx j g z ej ex eg)
+
+    if-step : (k : Room) (h : Heap) (rs : List ℕ) (a g : ℕ) → w ≡ 14
+        → a ≡ choose (less (toZ w32 (valueIn (s .top) fw (word f (s .goal) 2))) (toZ w32 (valueIn (s .top) fw (word f (s .goal) 3)))) (word f (s .goal) 4) (word f (s .goal) 5)
+        → g ≡ onto a next → went (wordsOf h m rs fw ps (onwardTo s g)) ≡ Steps k h rs
+    unfolding steps withFrames wordsOf valueOf
+    if-step k h rs a g z ea eg = rw (if-record f (s .goal) w ew z, eg, ea, en)
+
+    pub if-goes : (a g : ℕ) → w ≡ 14
+        → a ≡ choose (less (toZ w32 (valueIn (s .top) fw (word f (s .goal) 2))) (toZ w32 (valueIn (s .top) fw (word f (s .goal) 3)))) (word f (s .goal) 4) (word f (s .goal) 5)
+        → g ≡ onto a next → Goes f T s m fw ps (WentTo (onwardTo s g)) fw ps
+    if-goes a g z ea eg = goes-on _ fw ps (λ k h rs. if-step k h rs a g z ea eg)
+
+    -- ---- a print
+    print-step : (k : Room) (h : Heap) (rs px : List ℕ) (v : ℕ) → w ≡ 17 → v ≡ valueIn (s .top) fw (word f (s .goal) 2) → px ≡ set ps (s .printed) v
+        → s .printed < k .prints → went (wordsOf h m rs fw px (record { top = s .top; goal = next; printed = s .printed + 1 })) ≡ Steps k h rs
+    unfolding steps ifRoom printsWord wordsOf valueOf
+    print-step k h rs px v z ev ex l =
+        let o : s .printed + 1 ≡ suc (s .printed) = omega arith in rw (print-record f (s .goal) w ew z, lt-ltb (s .printed) (k .prints) l, ex, ev, en, o)
+
+    pub print-goes : (px : List ℕ) (v limit : ℕ) → w ≡ 17 → v ≡ valueIn (s .top) fw (word f (s .goal) 2) → px ≡ set ps (s .printed) v → limit ≡ holds (length ps) 1
+        → s .printed < limit → Goes f T s m fw ps (WentTo (record { top = s .top; goal = next; printed = s .printed + 1 })) fw px
+    unfolding cameTo
+    print-goes px v limit z ev ex el l =
+        record { comes = λ k h rs a b. print-step k h rs px v z ev ex (rw (b ∙ sym el) l); kept = λ c e. absurd (stopped-not _ c e) }
+
+  module _ (w : ℕ) (ew : w ≡ word f (s .goal) 0) where
+    print-stop : (k : Room) (h : Heap) (rs : List ℕ) → w ≡ 17 → k .prints ≤ s .printed → stops Prints ≡ Steps k h rs
+    unfolding steps ifRoom wordsOf
+    print-stop k h rs z l = rw (print-record f (s .goal) w ew z, le-ltb (s .printed) (k .prints) l)
+
+    pub print-stops : (limit : ℕ) → w ≡ 17 → limit ≡ holds (length ps) 1 → limit ≤ s .printed → Goes f T s m fw ps (Stops Prints) fw ps
+    unfolding cameTo
+    print-stops limit z el l = record { comes = λ k h rs a b. print-stop k h rs z (rw (b ∙ sym el) l); kept = λ c e. (refl, refl) }
+
+    -- ---- a call
+    call-step : (k : Room) (h : Heap) (rs fx : List ℕ) (g t : ℕ) → w ≡ 15 → g ≡ T .body (word f (s .goal) 2)
+        → fx ≡ calleeWords f T (s .top) (s .goal) (word f (s .goal) 2) (word f (s .goal) 3) fw → t ≡ suc (s .top) → suc (s .top) < k .frames
+        → went (wordsOf h m rs fx ps (record { top = t; goal = g; printed = s .printed })) ≡ Steps k h rs
+    unfolding steps ifRoom calls wordsOf
+    call-step k h rs fx g t z eg ex et l = rw (call-record f (s .goal) w ew z, lt-ltb (suc (s .top)) (k .frames) l, ex, eg, et)
+
+    pub call-goes : (fx : List ℕ) (g t limit : ℕ) → w ≡ 15 → g ≡ T .body (word f (s .goal) 2)
+        → fx ≡ calleeWords f T (s .top) (s .goal) (word f (s .goal) 2) (word f (s .goal) 3) fw → t ≡ suc (s .top) → limit ≡ holds (length fw) 136 → suc (s .top) < limit
+        → Goes f T s m fw ps (WentTo (record { top = t; goal = g; printed = s .printed })) fx ps
+    unfolding cameTo
+    call-goes fx g t limit z eg ex et el l =
+        record { comes = λ k h rs a b. call-step k h rs fx g t z eg ex et (rw (a ∙ sym el) l); kept = λ c e. absurd (stopped-not _ c e) }
+
+    call-stop : (k : Room) (h : Heap) (rs : List ℕ) → w ≡ 15 → k .frames ≤ suc (s .top) → stops Frames ≡ Steps k h rs
+    unfolding steps ifRoom wordsOf
+    call-stop k h rs z l = rw (call-record f (s .goal) w ew z, le-ltb (suc (s .top)) (k .frames) l)
+
+    pub call-stops : (limit : ℕ) → w ≡ 15 → limit ≡ holds (length fw) 136 → limit ≤ suc (s .top) → Goes f T s m fw ps (Stops Frames) fw ps
+    unfolding cameTo
+    call-stops limit z el l = record { comes = λ k h rs a b. call-stop k h rs z (rw (a ∙ sym el) l); kept = λ c e. (refl, refl) }
+
+    -- ---- what is no goal: nothing changes
+    else-step : (k : Room) (h : Heap) (rs : List ℕ) (K : Kind) → kindOf (word f (s .goal) 0) ≡ K → (w ≡ 8 → ⊥) → (w ≡ 9 → ⊥) → (w ≡ 10 → ⊥) → (w ≡ 11 → ⊥) → (w ≡ 12 → ⊥)
+        → (w ≡ 14 → ⊥) → (w ≡ 15 → ⊥) → (w ≡ 17 → ⊥) → (w ≡ 18 → ⊥) → (w ≡ 19 → ⊥) → went (wordsOf h m rs fw ps s) ≡ Steps k h rs
+    unfolding steps row rowIn
+    else-step k h rs kNone e n8 n9 n10 n11 n12 n14 n15 n17 n18 n19 = rw (record-as f (s .goal) e)
+    else-step k h rs kHeader e n8 n9 n10 n11 n12 n14 n15 n17 n18 n19 = rw (record-as f (s .goal) e)
+    else-step k h rs kType e n8 n9 n10 n11 n12 n14 n15 n17 n18 n19 = rw (record-as f (s .goal) e)
+    else-step k h rs kFunctor e n8 n9 n10 n11 n12 n14 n15 n17 n18 n19 = rw (record-as f (s .goal) e)
+    else-step k h rs kProcedure e n8 n9 n10 n11 n12 n14 n15 n17 n18 n19 = rw (record-as f (s .goal) e)
+    else-step k h rs kVariable e n8 n9 n10 n11 n12 n14 n15 n17 n18 n19 = rw (record-as f (s .goal) e)
+    else-step k h rs kRegion e n8 n9 n10 n11 n12 n14 n15 n17 n18 n19 = rw (record-as f (s .goal) e)
+    else-step k h rs kEdge e n8 n9 n10 n11 n12 n14 n15 n17 n18 n19 = rw (record-as f (s .goal) e)
+    else-step k h rs kArm e n8 n9 n10 n11 n12 n14 n15 n17 n18 n19 = rw (record-as f (s .goal) e)
+    else-step k h rs kArgument e n8 n9 n10 n11 n12 n14 n15 n17 n18 n19 = rw (record-as f (s .goal) e)
+    else-step k h rs (kGoal kLiteral) e n8 n9 n10 n11 n12 n14 n15 n17 n18 n19 = absurd (n8 (ew ∙ goal-number _ kLiteral e))
+    else-step k h rs (kGoal kSum) e n8 n9 n10 n11 n12 n14 n15 n17 n18 n19 = absurd (n9 (ew ∙ goal-number _ kSum e))
+    else-step k h rs (kGoal kAssign) e n8 n9 n10 n11 n12 n14 n15 n17 n18 n19 = absurd (n10 (ew ∙ goal-number _ kAssign e))
+    else-step k h rs (kGoal kConstruct) e n8 n9 n10 n11 n12 n14 n15 n17 n18 n19 = absurd (n11 (ew ∙ goal-number _ kConstruct e))
+    else-step k h rs (kGoal kSwitch) e n8 n9 n10 n11 n12 n14 n15 n17 n18 n19 = absurd (n12 (ew ∙ goal-number _ kSwitch e))
+    else-step k h rs (kGoal kIf) e n8 n9 n10 n11 n12 n14 n15 n17 n18 n19 = absurd (n14 (ew ∙ goal-number _ kIf e))
+    else-step k h rs (kGoal kCall) e n8 n9 n10 n11 n12 n14 n15 n17 n18 n19 = absurd (n15 (ew ∙ goal-number _ kCall e))
+    else-step k h rs (kGoal kPrint) e n8 n9 n10 n11 n12 n14 n15 n17 n18 n19 = absurd (n17 (ew ∙ goal-number _ kPrint e))
+    else-step k h rs (kGoal kCreate) e n8 n9 n10 n11 n12 n14 n15 n17 n18 n19 = absurd (n18 (ew ∙ goal-number _ kCreate e))
+    else-step k h rs (kGoal kRemove) e n8 n9 n10 n11 n12 n14 n15 n17 n18 n19 = absurd (n19 (ew ∙ goal-number _ kRemove e))
+
+    pub else-goes : (w ≡ 8 → ⊥) → (w ≡ 9 → ⊥) → (w ≡ 10 → ⊥) → (w ≡ 11 → ⊥) → (w ≡ 12 → ⊥) → (w ≡ 14 → ⊥) → (w ≡ 15 → ⊥) → (w ≡ 17 → ⊥) → (w ≡ 18 → ⊥) → (w ≡ 19 → ⊥)
+        → Goes f T s m fw ps (WentTo s) fw ps
+    else-goes n8 n9 n10 n11 n12 n14 n15 n17 n18 n19 = goes-on s fw ps (λ k h rs. else-step k h rs _ refl n8 n9 n10 n11 n12 n14 n15 n17 n18 n19)

@@ -1,0 +1,35 @@
+-- What the code keeps and answers, as the machine on lists of words has it.
+use Prim.Native.Nat.{ℕ, _<_}
+use mathlib.Core.Path.{_≡_}
+use mathlib.Core.List.{List}
+use lib.ListN.{length, getD}
+use Rattle.language.specs.declared.Stop.{Stop}
+use Rattle.language.specs.Format.{maxRecords}
+use Rattle.language.specs.Machine.{Room, holds}
+use Rattle.memory.specs.declared.Heap.{Heap}
+use Rattle.records.specs.Records.{recordAt}
+use Rattle.word_machine.specs.Tables.{Tables}
+use Rattle.word_machine.specs.Machine.{Words, Went, went, stops, Outcome, steps}
+use Rattle.machine.specs.declared.State.{State}
+use Rattle.machine.specs.declared.Step.{Step}
+use Rattle.machine.specs.declared.Step.the-variants.{Went as WentTo, Stops}
+
+-- where chains go on fits a word of a frame
+abbrev pub Narrow : List ℕ → Type 0
+Narrow plan = (i : ℕ) → i < maxRecords → getD plan i 0 < 4294967296
+
+-- h is the heap; m, rs, fw and ps are the words lent for cells, regions, frames and printed numbers
+unfoldable pub wordsOf : Heap → List ℕ → List ℕ → List ℕ → List ℕ → State → Words
+wordsOf h m rs fw ps s = record { heap = h; cells = m; regions = rs; frames = fw; prints = ps; top = s .top; goal = s .goal; printed = s .printed }
+
+-- what an answer stands for
+unfoldable pub cameTo : Step → Heap → List ℕ → List ℕ → List ℕ → List ℕ → Went
+cameTo (WentTo s) h m rs fw ps = went (wordsOf h m rs fw ps s)
+cameTo (Stops c) h m rs fw ps = stops c
+
+-- The goal at state s, one that leaves cells, regions and the heap alone, is carried out, whatever those are: r is the answer, fx and px the words of
+-- frames and printed numbers afterwards, which are as before where it stops.
+pub record Goes (f : List ℕ) (T : Tables) (s : State) (m fw ps : List ℕ) (r : Step) (fx px : List ℕ) : Type 0 where
+  pub comes : (k : Room) (h : Heap) (rs : List ℕ) → k .frames ≡ holds (length fw) 136 → k .prints ≡ holds (length ps) 1
+      → cameTo r h m rs fx px ≡ steps f T k (s .goal) (recordAt f (s .goal)) (wordsOf h m rs fw ps s)
+  pub kept : (c : Stop) → r ≡ Stops c → (fx ≡ fw) × (px ≡ ps)

@@ -1,0 +1,194 @@
+// A call's frame over its caller's, and returns.
+use crate::State;
+use crate::goals::successor;
+use chains::entry;
+use frames::base;
+use frames::clear;
+use frames::region_base;
+use frames::regions_in;
+use frames::regions_out;
+use frames::values_in;
+use frames::values_out;
+use language::format::CALL_ARGUMENTS;
+use language::format::CALL_PROCEDURE;
+use memory::put;
+use plans::PLAN;
+use plans::SIDES;
+use records::word;
+use records::word_in;
+use sets::Set;
+use tables::BODY;
+use tables::BORN;
+use tables::DEAD;
+use tables::KEPT;
+use tables::VARIABLES;
+use tables::set_at;
+use tables::start_of;
+use tables::word_at;
+ghost use mathlib.Core.Path.{_≡_};
+ghost use mathlib.Core.List.{List};
+ghost use Prim.Native.Nat.{ℕ, suc, _+_, _*_, _<_};
+ghost use lib.ListN.{getD};
+ghost use Rattle.language.specs.File.{word, recordCount};
+ghost use Rattle.memory.specs.declared.Heap.{Heap};
+ghost use Rattle.chains.specs.Formed.{Formed};
+ghost use Rattle.chains.specs.Shapes.{IsCall};
+ghost use Rattle.tables.specs.Window.{bodyPlace, bornPlace, setIn};
+ghost use Rattle.tables.specs.Starts.{windowIn};
+ghost use Rattle.plans.specs.Plan.{tablesIn};
+ghost use Rattle.word_machine.specs.Machine.{calleeWords, returnWords, settled};
+ghost use Rattle.machine.specs.Words.{Narrow, wordsOf};
+ghost use Rattle.machine.specs.Calls.{marked, opened, entered};
+
+// The born regions of procedure q.
+fn born_of(table: &[u64], q: usize) -> Set
+    ensures { λ r. ⌜ r ≡ setIn (windowIn (now (table .entry)) q) bornPlace ⌝ }
+{
+    let start = start_of(table, q);
+    set_at(&table[start..], BORN)
+}
+
+// Where frame k goes on after its call, and in the callee's frame the call's record.
+fn mark(frames: &mut [u32], k: u32, next: u32, i: u32)
+    ensures { λ _. ⌜ now (frames .exit) ≡ marked k next i (now (frames .entry)) ⌝ }
+{
+    let from = base(k);
+    put(&mut frames[..], from, next);
+    put(&mut frames[..], from + 265, i);
+}
+
+// The callee's values: zero, and its in values.
+fn open_values(
+    file: &[u8],
+    plan: &[usize; PLAN],
+    arguments: usize,
+    k: u32,
+    size: usize,
+    frames: &mut [u32],
+)
+    requires { ⌜ Formed (now file) ⌝ }
+    requires { ⌜ arguments < recordCount (now file) ⌝ }
+    ensures { λ _. ⌜ now (frames .exit) ≡ opened (now (file .entry)) (now (plan .entry)) arguments k size (now (frames .entry)) ⌝ }
+{
+    let from = base(k);
+    let to = from + 136;
+    clear(&mut frames[..], to + 1, size);
+    values_in(file, plan, arguments, from, to, &mut frames[..]);
+}
+
+// The callee's frame, by its window.
+fn enter(
+    file: &[u8],
+    plan: &[usize; PLAN],
+    images: &[u8],
+    own: &[u64],
+    i: usize,
+    k: u32,
+    frames: &mut [u32],
+)
+    requires { ⌜ Formed (now file) ⌝ }
+    requires { ⌜ (i < recordCount (now file)) × IsCall (now file) i ⌝ }
+    requires { ⌜ Narrow (now plan) ⌝ }
+    ensures { λ _. ⌜ now (frames .exit) ≡ entered (now (file .entry)) (now (plan .entry)) (now (images .entry)) (now (own .entry)) i k (now (frames .entry)) ⌝ }
+{
+    let next = successor(file, plan, i) as u32;
+    mark(&mut frames[..], k, next, i as u32);
+    let arguments = word_in(file, i, CALL_ARGUMENTS);
+    open_values(
+        file,
+        plan,
+        arguments,
+        k,
+        word_at(own, VARIABLES),
+        &mut frames[..],
+    );
+    let from = region_base(k);
+    let held = set_at(own, DEAD).union(set_at(own, KEPT));
+    regions_in(
+        held,
+        images,
+        plan[SIDES + i],
+        from,
+        from + 136,
+        &mut frames[..],
+    );
+}
+
+// "A call adds the callee's frame with its in values"; "a callee's dead and kept numbers stand for what their images do". Returns the callee's first goal.
+pub fn call(
+    file: &[u8],
+    plan: &[usize; PLAN],
+    images: &[u8],
+    table: &[u64],
+    i: usize,
+    k: u32,
+    frames: &mut [u32],
+) -> usize
+    requires { ⌜ Formed (now file) ⌝ }
+    requires { ⌜ (i < recordCount (now file)) × IsCall (now file) i ⌝ }
+    requires { ⌜ Narrow (now plan) ⌝ }
+    ensures { λ r. ⌜ r ≡ getD (windowIn (now (table .entry)) (word (now (file .entry)) i 2)) bodyPlace 0 ⌝ }
+    ensures { λ _. ⌜ now (frames .exit) ≡ calleeWords (now (file .entry)) (tablesIn (now (file .entry)) (now (plan .entry)) (now (images .entry)) (now (table .entry)))
+        k i (word (now (file .entry)) i 2) (word (now (file .entry)) i 3) (now (frames .entry)) ⌝ }
+{
+    let start = start_of(table, word_in(file, i, CALL_PROCEDURE));
+    enter(file, plan, images, &table[start..], i, k, &mut frames[..]);
+    word_at(&table[start..], BODY)
+}
+
+// "Its out values pass to the call's arguments"; "when its frame goes, the images of born ones stand for what those did": a return to frame k.
+fn give_back(
+    file: &[u8],
+    plan: &[usize; PLAN],
+    images: &[u8],
+    table: &[u64],
+    k: u32,
+    frames: &mut [u32],
+)
+    requires { ⌜ Formed (now file) ⌝ }
+    ensures { λ _. ⌜ now (frames .exit) ≡ returnWords (now (file .entry)) (tablesIn (now (file .entry)) (now (plan .entry)) (now (images .entry)) (now (table .entry)))
+        k (getD (now (frames .entry)) (136 * suc k + 129) 0) (now (frames .entry)) ⌝ }
+{
+    let to = base(k);
+    let from = to + 136;
+    let i = memory::word(&frames[..], from + 129) as usize;
+    values_out(
+        file,
+        plan,
+        word(file, i, CALL_ARGUMENTS),
+        from,
+        to,
+        &mut frames[..],
+    );
+    let born = born_of(table, word(file, i, CALL_PROCEDURE));
+    let side = entry(&plan[..], SIDES + i);
+    regions_out(born, images, side, from + 64, to + 64, &mut frames[..]);
+}
+
+// "Whenever the newest frame has no goals left, it goes at once". The entry's frame stays.
+pub fn settle(
+    file: &[u8],
+    plan: &[usize; PLAN],
+    images: &[u8],
+    table: &[u64],
+    state: State,
+    frames: &mut [u32],
+) -> State
+    requires { ⌜ Formed (now file) ⌝ }
+    ensures { λ r. ⌜ ((h : Heap) (m rs ps : List ℕ) → wordsOf h m rs (now (frames .exit)) ps r
+        ≡ settled (now (file .entry)) (tablesIn (now (file .entry)) (now (plan .entry)) (now (images .entry)) (now (table .entry)))
+        (wordsOf h m rs (now (frames .entry)) ps state)) ⌝ }
+{
+    let printed = state.printed;
+    let mut top = state.top;
+    let mut goal = state.goal;
+    while goal == 0 {
+        if top == 0 {
+            return State { top, goal, printed };
+        }
+        top -= 1;
+        goal = memory::word(&frames[..], base(top)) as usize;
+        give_back(file, plan, images, table, top, &mut frames[..]);
+    }
+    State { top, goal, printed }
+}

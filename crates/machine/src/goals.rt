@@ -1,0 +1,93 @@
+// Goals that change values of the newest frame alone, and the goal that comes next.
+use frames::give;
+use frames::less_words;
+use frames::literal_word;
+use frames::sum_word;
+use frames::value;
+use language::format::ASSIGN_Y;
+use language::format::GOAL_X;
+use language::format::IF_ELSE;
+use language::format::IF_THEN;
+use language::format::IF_Y;
+use language::format::IF_Z;
+use language::format::LITERAL_VALUE;
+use language::format::NEXT;
+use language::format::SUM_OPERATION;
+use language::format::SUM_Y;
+use language::format::SUM_Z;
+use plans::PLAN;
+use records::word_in;
+ghost use mathlib.Core.Path.{_≡_};
+ghost use Prim.Native.Nat.{_+_, _*_, _≤_, _<_};
+ghost use lib.ListN.{length, getD, set};
+ghost use mir.Syntax.{w32};
+ghost use mir.Val.{toZ};
+ghost use Rattle.language.specs.Lists.{choose};
+ghost use Rattle.language.specs.Numbers.{less};
+ghost use Rattle.language.specs.File.{word};
+ghost use Rattle.word_machine.specs.Tables.{onto as ontoOf};
+ghost use Rattle.word_machine.specs.Machine.{literalWord, sumWord};
+
+// The first record of a chain, or where to go on if the chain is empty.
+pub fn onto(first: usize, onward: usize) -> usize
+    ensures { λ r. ⌜ r ≡ ontoOf first onward ⌝ }
+{
+    if first == 0 { onward } else { first }
+}
+
+// "After a goal chain ends, the next goal is the enclosing goal's next": the goal after the one at record i.
+pub fn successor(file: &[u8], plan: &[usize; PLAN], i: usize) -> usize
+    requires { ⌜ (i < 4096) × (16 * i + 16 ≤ length (now file)) ⌝ }
+    ensures { λ r. ⌜ r ≡ ontoOf (word (now (file .entry)) i 1) (getD (now (plan .entry)) i 0) ⌝ }
+    ensures { λ r. ⌜ (getD (now (plan .entry)) i 0 < 4294967296 → r < 4294967296) ⌝ }
+{
+    onto(word_in(file, i, NEXT), plan[i])
+}
+
+// "Literal .. gives X a value".
+pub fn literal(file: &[u8], i: usize, top: u32, frames: &mut [u32])
+    requires { ⌜ 16 * i + 16 ≤ length (now file) ⌝ }
+    ensures { λ _. ⌜ now (frames .exit) ≡ set (now (frames .entry)) (136 * top + word (now (file .entry)) i 2) (literalWord (word (now (file .entry)) i 3)) ⌝ }
+{
+    let v = word_in(file, i, LITERAL_VALUE) as u32;
+    give(frames, top, word_in(file, i, GOAL_X), literal_word(v));
+}
+
+// ".. sum ..".
+pub fn sum(file: &[u8], i: usize, top: u32, frames: &mut [u32])
+    requires { ⌜ 16 * i + 16 ≤ length (now file) ⌝ }
+    ensures { λ _. ⌜ now (frames .exit) ≡ set (now (frames .entry)) (136 * top + word (now (file .entry)) i 2)
+        (sumWord (word (now (file .entry)) i 3) (getD (now (frames .entry)) (136 * top + word (now (file .entry)) i 4) 0)
+        (getD (now (frames .entry)) (136 * top + word (now (file .entry)) i 5) 0)) ⌝ }
+{
+    let y = value(&frames[..], top, word_in(file, i, SUM_Y));
+    let z = value(&frames[..], top, word_in(file, i, SUM_Z));
+    let v = sum_word(word_in(file, i, SUM_OPERATION), y, z);
+    give(frames, top, word_in(file, i, GOAL_X), v);
+}
+
+// ".. and assign".
+pub fn assign(file: &[u8], i: usize, top: u32, frames: &mut [u32])
+    requires { ⌜ 16 * i + 16 ≤ length (now file) ⌝ }
+    ensures { λ _. ⌜ now (frames .exit) ≡ set (now (frames .entry)) (136 * top + word (now (file .entry)) i 2)
+        (getD (now (frames .entry)) (136 * top + word (now (file .entry)) i 3) 0) ⌝ }
+{
+    let v = value(&frames[..], top, word_in(file, i, ASSIGN_Y));
+    give(frames, top, word_in(file, i, GOAL_X), v);
+}
+
+// The first goal of an if's part: "if Y < Z".
+pub fn part_of(file: &[u8], i: usize, top: u32, frames: &[u32]) -> usize
+    requires { ⌜ 16 * i + 16 ≤ length (now file) ⌝ }
+    ensures { λ r. ⌜ r ≡ choose (less (toZ w32 (getD (now (frames .entry)) (136 * top + word (now (file .entry)) i 2) 0))
+        (toZ w32 (getD (now (frames .entry)) (136 * top + word (now (file .entry)) i 3) 0)))
+        (word (now (file .entry)) i 4) (word (now (file .entry)) i 5) ⌝ }
+{
+    let y = value(frames, top, word_in(file, i, IF_Y));
+    let z = value(frames, top, word_in(file, i, IF_Z));
+    if less_words(y, z) {
+        word_in(file, i, IF_THEN)
+    } else {
+        word_in(file, i, IF_ELSE)
+    }
+}

@@ -1,0 +1,28 @@
+// The runner: the goals of an accepted file carried out in lent words, step by step as the machine on lists of words does it (word_machine).
+mod calls;
+mod goals;
+mod places;
+mod steps;
+
+use language::Ending;
+use language::Stop;
+
+// What a run keeps beside the lent words and the heap: the newest frame's number, its next goal's record, and how many numbers are printed.
+pub struct State {
+    pub top: u32,
+    pub goal: usize,
+    pub printed: usize,
+}
+
+// What a step comes to.
+pub enum Step {
+    Went(State),
+    Stops(Stop),
+}
+
+// "It returns the number and steps done"; the printed numbers stand at the front of the words lent for them.
+pub struct Outcome {
+    pub ending: Ending,
+    pub steps: usize,
+    pub printed: usize,
+}

@@ -1,0 +1,162 @@
+// One step: the goals that leave cells and regions alone.
+use crate::State;
+use crate::Step;
+use crate::calls::call;
+use crate::goals::assign;
+use crate::goals::literal;
+use crate::goals::onto;
+use crate::goals::part_of;
+use crate::goals::successor;
+use crate::goals::sum;
+use crate::places::switch_arm;
+use frames::value;
+use language::Stop;
+use language::format::ARM_GOALS;
+use language::format::ASSIGN;
+use language::format::CALL;
+use language::format::IF;
+use language::format::KIND;
+use language::format::LITERAL;
+use language::format::PRINT;
+use language::format::PRINT_Y;
+use language::format::SUM;
+use language::format::SWITCH;
+use memory::put;
+use memory::room;
+use plans::PLAN;
+use records::word_in;
+ghost use mathlib.Core.Path.{_≡_};
+ghost use mathlib.Core.List.{List};
+ghost use Prim.Native.Nat.{ℕ, _<_};
+ghost use Rattle.language.specs.File.{recordCount};
+ghost use Rattle.chains.specs.Formed.{Formed};
+ghost use Rattle.chains.specs.Shapes.{IsCall, IsPrint, IsConstruct, IsCreate, IsRemove};
+ghost use Rattle.plans.specs.Plan.{tablesIn};
+ghost use Rattle.machine.specs.Words.{Narrow, Goes};
+ghost use Rattle.machine.specs.Steps.{onwardTo};
+
+// The words of a frame, and of a printed number.
+const FRAME_WORDS: usize = 136;
+
+const PRINT_WORDS: usize = 1;
+
+// The newest frame goes on at record goal.
+pub fn onward(state: State, goal: usize) -> State
+    ensures { λ r. ⌜ r ≡ onwardTo state goal ⌝ }
+{
+    State {
+        top: state.top,
+        goal,
+        printed: state.printed,
+    }
+}
+
+// A call, "13 no free frame".
+fn call_step(
+    file: &[u8],
+    plan: &[usize; PLAN],
+    images: &[u8],
+    table: &[u64],
+    state: State,
+    frames: &mut [u32],
+) -> Step
+    requires { ⌜ Formed (now file) ⌝ }
+    requires { ⌜ Narrow (now plan) ⌝ }
+    requires { ⌜ (state .goal < recordCount (now file)) × IsCall (now file) (state .goal) ⌝ }
+    ensures { λ r. ⌜ ((m ps : List ℕ) → Goes (now (file .entry)) (tablesIn (now (file .entry)) (now (plan .entry)) (now (images .entry)) (now (table .entry)))
+        state m (now (frames .entry)) ps r (now (frames .exit)) ps) ⌝ }
+{
+    let k = state.top;
+    let i = state.goal;
+    let printed = state.printed;
+    let limit = room(frames.len(), FRAME_WORDS) as usize;
+    let above = (k as usize) + 1;
+    if limit <= above {
+        return Step::Stops(Stop::Frames);
+    }
+    let goal = call(file, plan, images, table, i, k, &mut frames[..]);
+    Step::Went(State {
+        top: k + 1,
+        goal,
+        printed,
+    })
+}
+
+// A print, "14 no place for a printed number".
+fn print_step(
+    file: &[u8],
+    plan: &[usize; PLAN],
+    state: State,
+    frames: &[u32],
+    prints: &mut [u32],
+) -> Step
+    requires { ⌜ Formed (now file) ⌝ }
+    requires { ⌜ (state .goal < recordCount (now file)) × IsPrint (now file) (state .goal) ⌝ }
+    ensures { λ r. ⌜ ((images table m : List ℕ) → Goes (now (file .entry)) (tablesIn (now (file .entry)) (now (plan .entry)) images table)
+        state m (now (frames .entry)) (now (prints .entry)) r (now (frames .entry)) (now (prints .exit))) ⌝ }
+{
+    let k = state.top;
+    let i = state.goal;
+    let printed = state.printed;
+    let limit = room(prints.len(), PRINT_WORDS) as usize;
+    if limit <= printed {
+        return Step::Stops(Stop::Prints);
+    }
+    let v = value(frames, k, word_in(file, i, PRINT_Y));
+    put(&mut prints[..], printed, v);
+    Step::Went(State {
+        top: k,
+        goal: successor(file, plan, i),
+        printed: printed + 1,
+    })
+}
+
+// The goal at record state.goal, one that leaves cells and regions alone.
+pub fn go(
+    file: &[u8],
+    plan: &[usize; PLAN],
+    images: &[u8],
+    table: &[u64],
+    state: State,
+    cells: &[u32],
+    frames: &mut [u32],
+    prints: &mut [u32],
+) -> Step
+    requires { ⌜ Formed (now file) ⌝ }
+    requires { ⌜ Narrow (now plan) ⌝ }
+    requires { ⌜ state .goal < recordCount (now file) ⌝ }
+    requires { ⌜ (IsConstruct (now file) (state .goal) → ⊥) × (IsCreate (now file) (state .goal) → ⊥) × (IsRemove (now file) (state .goal) → ⊥) ⌝ }
+    ensures { λ r. ⌜ Goes (now (file .entry)) (tablesIn (now (file .entry)) (now (plan .entry)) (now (images .entry)) (now (table .entry))) state
+        (now (cells .entry)) (now (frames .entry)) (now (prints .entry)) r (now (frames .exit)) (now (prints .exit)) ⌝ }
+{
+    let i = state.goal;
+    let top = state.top;
+    match word_in(file, i, KIND) {
+        LITERAL => {
+            literal(file, i, top, &mut frames[..]);
+            Step::Went(onward(state, successor(file, plan, i)))
+        }
+        SUM => {
+            sum(file, i, top, &mut frames[..]);
+            Step::Went(onward(state, successor(file, plan, i)))
+        }
+        ASSIGN => {
+            assign(file, i, top, &mut frames[..]);
+            Step::Went(onward(state, successor(file, plan, i)))
+        }
+        SWITCH => {
+            let j = switch_arm(file, i, top, cells, &mut frames[..]);
+            Step::Went(onward(
+                state,
+                onto(word_in(file, j, ARM_GOALS), successor(file, plan, i)),
+            ))
+        }
+        IF => {
+            let part = part_of(file, i, top, &frames[..]);
+            Step::Went(onward(state, onto(part, successor(file, plan, i))))
+        }
+        CALL => call_step(file, plan, images, table, state, &mut frames[..]),
+        PRINT => print_step(file, plan, state, &frames[..], &mut prints[..]),
+        _ => Step::Went(state),
+    }
+}
