@@ -3,7 +3,7 @@ use Prim.Native.Nat.{ℕ, zero, suc}
 use native.Mathlib.Omega.{arith}
 use mathlib.Core.Path.{_≡_, refl, sym, ap, _∙_}
 use mathlib.Core.List.{List, [], _∷_}
-use Rattle.language.specs.Program.{Four, four, fourWords, Variable, Step, literal, sum, assign, construct, call, print, create, remove, Goals, _then_, step, switch, ifLess, Program, signatureOf, parametersOf, argumentsIn, inMode, outMode}
+use Rattle.language.specs.Program.{Four, four, fourWords, Variable, Step, literal, sum, assign, construct, call, print, create, remove, Goals, _then_, step, Program, signatureOf, parametersOf, argumentsIn, inMode, outMode}
 use Rattle.language.specs.Values.{access, accessing, reads, gives}
 use Rattle.sets.specs.declared.Set.{Set}
 use Rattle.tables.specs.declared.Access.{Access}
@@ -66,9 +66,3 @@ module _ {P : Program} {gs hs : Goals} {h : Step} {a : Access} where
   -- what the record says, at the step that the contract names
   pub at-step : gs ≡ step h then hs → Accesses P h a → (g : Step) (is : Goals) → gs ≡ step g then is → Accesses P g a
   at-step v n g is e = rw (same-step e v) at n
-
-pub no-switch : {A : Type 0} {gs hs : Goals} {x : ℕ} {cs : _} → gs ≡ switch x cs then hs → (g : Step) (is : Goals) → gs ≡ step g then is → A
-no-switch v g is e = let z : _≡_ {A = ℕ} 0 1 = cc in absurd (omega arith)
-
-pub no-if : {A : Type 0} {gs hs : Goals} {y z : ℕ} {b c : Goals} → gs ≡ ifLess y z b c then hs → (g : Step) (is : Goals) → gs ≡ step g then is → A
-no-if v g is e = let z : _≡_ {A = ℕ} 0 1 = cc in absurd (omega arith)

@@ -5,22 +5,19 @@ use mathlib.Core.Path.{_≡_, refl, sym, ap, _∙_}
 use mathlib.Core.List.{List, [], _∷_}
 use lib.ListN.{length, getD, drop}
 use lib.Seq.{getD-drop}
-use Rattle.language.specs.Format.{literalKind, sumKind, assignKind, constructKind, armKind, callKind, printKind, goalX, sumY, sumZ, assignY, printY, callProcedure, callArguments}
+use Rattle.language.specs.Format.{literalKind, sumKind, assignKind, constructKind, armKind, callKind, printKind, createKind, removeKind, goalX, sumY, sumZ, assignY, printY, callProcedure, callArguments}
 use Rattle.language.specs.File.{GoalKind, kLiteral, kSum, kAssign, kConstruct, kSwitch, kIf, kCall, kPrint, kCreate, kRemove, Kind, kNone, kArm, kGoal, goals, variables, arms, row, kindOf, word, recordCount}
 use Rattle.language.specs.Lists.{nth}
 use Rattle.language.specs.Program.{Four, four, fourWords, argumentsOf, Step, Goals, _then_, step, call, Variable, Procedure, Program, done, procedureAt, signatureOf}
 use Rattle.language.specs.Answers.{program}
 use Rattle.chains.specs.Layout.{all-rows, number-is, starts-kind, goals-kind, arms-kind}
 use Rattle.chains.specs.Formed.{Formed, Stands, stands-starts, variablesAt, goalsAt, argumentsAt}
-use Rattle.chains.specs.Kinds.{same-read}
-use Rattle.chains.specs.Goals.{create-at, remove-at}
-use Rattle.chains.specs.Parts.{switch-at, if-at}
-use Rattle.chains.specs.Shapes.{kind-number, goal-number, goal-kind, literal-here, sum-here, assign-here, construct-here, call-here, print-here}
+use Rattle.chains.specs.Shapes.{goal-kind, literal-here, sum-here, assign-here, construct-here, call-here, print-here, create-here, remove-here}
 use Rattle.tables.specs.Window.{firstPlace, FileTable}
 use Rattle.tables.specs.declared.Access.{Access}
 use Rattle.values.specs.Gathering.{noAccess, readIn, givenIn, readAll, fourRead, fourGiven, Gathers, four-given}
 use Rattle.values.specs.Matching.{Matches, match-first, match-last}
-use Rattle.values.specs.Accesses.{Accesses, literal-access, sum-access, assign-access, construct-access, print-access, create-access, remove-access, call-access, at-step, no-switch, no-if}
+use Rattle.values.specs.Accesses.{Accesses, literal-access, sum-access, assign-access, construct-access, print-access, create-access, remove-access, call-access, at-step}
 
 -- the four words of a construct's or an arm's arguments
 abbrev pub argumentWords : List ℕ → ℕ → Four
@@ -66,10 +63,9 @@ module _ (f : List ℕ) (i : ℕ) (F : Formed f) {w : ℕ} (e : w ≡ word f i 0
   is-kind : (k : Kind) → w ≡ row k .kind → kindOf (word f i 0) ≡ k
   is-kind k n = number-is k (word f i 0) (sym e ∙ n)
 
-  pub literal-fits : {x : ℕ} {a b : Access} → w ≡ literalKind → a ≡ noAccess → x ≡ word f i goalX → b ≡ givenIn a x → Fits f i b
+  pub literal-fits : {a : Access} → w ≡ literalKind → a ≡ givenIn noAccess (word f i goalX) → Fits f i a
   unfolding all-rows
-  literal-fits k p g q =
-      fits-step f i (is-kind (kGoal kLiteral) k) (at-step (literal-here F e k .view) (rw (q, p, g) (literal-access (program f) _ _)))
+  literal-fits k p = fits-step f i (is-kind (kGoal kLiteral) k) (at-step (literal-here F e k .view) (rw p (literal-access (program f) _ _)))
 
   pub sum-fits : {a : Access} → w ≡ sumKind → a ≡ givenIn (readIn (readIn noAccess (word f i sumY)) (word f i sumZ)) (word f i goalX) → Fits f i a
   unfolding all-rows
@@ -83,9 +79,17 @@ module _ (f : List ℕ) (i : ℕ) (F : Formed f) {w : ℕ} (e : w ≡ word f i 0
   unfolding all-rows
   construct-fits k p = fits-step f i (is-kind (kGoal kConstruct) k) (at-step (construct-here F e k .view) (rw p (construct-access (program f) _ _ _)))
 
-  pub print-fits : {y : ℕ} {a b : Access} → w ≡ printKind → a ≡ noAccess → y ≡ word f i printY → b ≡ readIn a y → Fits f i b
+  pub print-fits : {a : Access} → w ≡ printKind → a ≡ readIn noAccess (word f i printY) → Fits f i a
   unfolding all-rows
-  print-fits k p g q = fits-step f i (is-kind (kGoal kPrint) k) (at-step (print-here F e k .view) (rw (q, p, g) (print-access (program f) _)))
+  print-fits k p = fits-step f i (is-kind (kGoal kPrint) k) (at-step (print-here F e k .view) (rw p (print-access (program f) _)))
+
+  pub create-fits : {a : Access} → w ≡ createKind → a ≡ noAccess → Fits f i a
+  unfolding all-rows
+  create-fits k p = fits-step f i (is-kind (kGoal kCreate) k) (at-step (create-here F e k .view) (rw p (create-access (program f) _)))
+
+  pub remove-fits : {a : Access} → w ≡ removeKind → a ≡ noAccess → Fits f i a
+  unfolding all-rows
+  remove-fits k p = fits-step f i (is-kind (kGoal kRemove) k) (at-step (remove-here F e k .view) (rw p (remove-access (program f) _)))
 
   pub call-fits : {q y : ℕ} {a : Access} → w ≡ callKind → q ≡ word f i callProcedure → y ≡ word f i callArguments
       → Accesses (program f) (call q (argumentsAt f y)) a → Fits f i a
@@ -98,29 +102,6 @@ module _ (f : List ℕ) (i : ℕ) (F : Formed f) {w : ℕ} (e : w ≡ word f i 0
     step = λ s z. two-kinds (is-kind kArm k) (goal-kind s z .1);
     arm = λ s z. rw p (four-given (argumentWords f i));
   }
-
-  -- a record that is neither an arm nor a step that reads or gives
-  module _ (n8 : w ≡ literalKind → ⊥) (n9 : w ≡ sumKind → ⊥) (n10 : w ≡ assignKind → ⊥) (n11 : w ≡ constructKind → ⊥) (n13 : w ≡ armKind → ⊥)
-      (n15 : w ≡ callKind → ⊥) (n17 : w ≡ printKind → ⊥) {a : Access} (p : a ≡ noAccess) where
-    other-step : (g : GoalKind) → kindOf (word f i 0) ≡ kGoal g → Stepped f i a
-    unfolding all-rows
-    other-step kLiteral k = absurd (n8 (e ∙ goal-number (word f i 0) kLiteral k))
-    other-step kSum k = absurd (n9 (e ∙ goal-number (word f i 0) kSum k))
-    other-step kAssign k = absurd (n10 (e ∙ goal-number (word f i 0) kAssign k))
-    other-step kConstruct k = absurd (n11 (e ∙ goal-number (word f i 0) kConstruct k))
-    other-step kSwitch k = λ g gs v. no-switch (switch-at F refl (same-read f i refl k) .view) g gs v
-    other-step kIf k = λ g gs v. no-if (if-at F refl (same-read f i refl k) .view) g gs v
-    other-step kCall k = absurd (n15 (e ∙ goal-number (word f i 0) kCall k))
-    other-step kPrint k = absurd (n17 (e ∙ goal-number (word f i 0) kPrint k))
-    other-step kCreate k = at-step (create-at F refl (same-read f i refl k) .view) (rw p (create-access (program f) _))
-    other-step kRemove k = at-step (remove-at F refl (same-read f i refl k) .view) (rw p (remove-access (program f) _))
-
-    pub other-fits : Fits f i a
-    unfolding all-rows
-    other-fits = record {
-      step = λ s z. let k = goal-kind s z in other-step (k .0) (k .1);
-      arm = λ s z. absurd (n13 (e ∙ kind-number (word f i 0) kArm (arm-kind f i s z) arm-some));
-    }
 
 -- ---- a call: the callee's first variable stands in its window
 nth-none : {A : Type 0} (d : A) (xs : List A) (k : ℕ) → length xs ≤ k → nth d xs k ≡ d

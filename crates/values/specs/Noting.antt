@@ -56,6 +56,10 @@ module _ {k : ℕ} where
         ne-eqb removeKind k (λ q. h (sym q)),
       ) refl
 
+-- the code has found one of them
+pub found-step : (f : List ℕ) (i k : ℕ) {w : ℕ} → w ≡ word f i 0 → w ≡ k → isStep k ≡ true → isStep (word f i 0) ≡ true
+found-step f i k e g s = ap isStep (sym e ∙ g) ∙ s
+
 -- the row of record i says that ys are read and xs are given
 pub record RowHas (rows : List ℕ) (i : ℕ) (ys xs : List ℕ) : Type 0 where
   pub read : readsIn rows i ≡ setOf ys

@@ -1,5 +1,12 @@
 // What every step and every arm reads and gives, worked out once, into the rows.
-use crate::steps::record_access;
+use crate::steps::arm_access;
+use crate::steps::assign_access;
+use crate::steps::call_access;
+use crate::steps::construct_access;
+use crate::steps::literal_access;
+use crate::steps::no_access;
+use crate::steps::print_access;
+use crate::steps::sum_access;
 use chains::chain_length;
 use language::format::ARM;
 use language::format::ASSIGN;
@@ -59,14 +66,18 @@ fn list_access(
     requires { ⌜ (i < recordCount (now file)) × (rowWords ≤ length (now rows)) ⌝ }
     ensures { λ _. ⌜ RowListed (now (file .entry)) i (now (rows .entry)) (now (rows .exit)) ⌝ }
 {
-    let kind = word(file, i, KIND);
-    if kind != ARM {
-        if !is_step(kind) {
-            return;
-        }
+    match word(file, i, KIND) {
+        LITERAL => put_access(rows, i, literal_access(file, i)),
+        SUM => put_access(rows, i, sum_access(file, i)),
+        ASSIGN => put_access(rows, i, assign_access(file, i)),
+        CONSTRUCT => put_access(rows, i, construct_access(file, i)),
+        ARM => put_access(rows, i, arm_access(file, i)),
+        CALL => put_access(rows, i, call_access(file, table, procedures, i)),
+        PRINT => put_access(rows, i, print_access(file, i)),
+        CREATE => put_access(rows, i, no_access()),
+        REMOVE => put_access(rows, i, no_access()),
+        _ => {}
     }
-    let a = record_access(file, table, procedures, i);
-    put_access(rows, i, a);
 }
 
 // Whether a goal of that kind is a step.

@@ -1,21 +1,13 @@
 // What a step or an arm reads and gives.
 use language::format::ARGUMENT_VARIABLE;
-use language::format::ARM;
-use language::format::ASSIGN;
 use language::format::ASSIGN_Y;
-use language::format::CALL;
 use language::format::CALL_ARGUMENTS;
 use language::format::CALL_PROCEDURE;
-use language::format::CONSTRUCT;
 use language::format::GOAL_X;
-use language::format::KIND;
-use language::format::LITERAL;
 use language::format::MODE_IN;
 use language::format::MODE_OUT;
 use language::format::NEXT;
-use language::format::PRINT;
 use language::format::PRINT_Y;
-use language::format::SUM;
 use language::format::SUM_Y;
 use language::format::SUM_Z;
 use language::format::TERM_ARGUMENTS;
@@ -28,10 +20,11 @@ use tables::TABLE;
 use tables::word_at;
 ghost use mathlib.Core.Path.{_≡_};
 ghost use lib.ListN.{length};
-ghost use Rattle.language.specs.Format.{goalX, sumY, sumZ, assignY};
+ghost use Rattle.language.specs.Format.{goalX, sumY, sumZ, assignY, printY};
 ghost use Rattle.language.specs.File.{word, variables, arguments};
 ghost use Rattle.language.specs.Program.{call};
 ghost use Rattle.language.specs.Answers.{program};
+ghost use Rattle.chains.specs.Shapes.{IsCall};
 ghost use Rattle.chains.specs.Formed.{Formed, Stands, argumentsAt, variablesAt};
 ghost use Rattle.values.specs.Gathering.{noAccess, readIn, givenIn, passedIn, fourRead, fourGiven};
 ghost use Rattle.values.specs.Matching.{Matches};
@@ -40,7 +33,7 @@ ghost use Rattle.tables.specs.Window.{FileTable};
 ghost use Rattle.values.specs.Fitting.{argumentWords, Fits};
 
 // Nothing yet.
-fn no_access() -> Access
+pub fn no_access() -> Access
     ensures { λ r. ⌜ r ≡ noAccess ⌝ }
 {
     Access {
@@ -91,7 +84,7 @@ fn pass(a: Access, mode: usize, y: usize) -> Access
 }
 
 // A sum reads y and z and gives x.
-fn sum_access(file: &[u8], i: usize) -> Access
+pub fn sum_access(file: &[u8], i: usize) -> Access
     ensures { λ r. ⌜ r ≡ givenIn (readIn (readIn noAccess (word (now (file .entry)) i sumY)) (word (now (file .entry)) i sumZ)) (word (now (file .entry)) i goalX) ⌝ }
 {
     let y = word(file, i, SUM_Y);
@@ -100,7 +93,7 @@ fn sum_access(file: &[u8], i: usize) -> Access
 }
 
 // An assign reads y and gives x.
-fn assign_access(file: &[u8], i: usize) -> Access
+pub fn assign_access(file: &[u8], i: usize) -> Access
     ensures { λ r. ⌜ r ≡ givenIn (readIn noAccess (word (now (file .entry)) i assignY)) (word (now (file .entry)) i goalX) ⌝ }
 {
     let y = word(file, i, ASSIGN_Y);
@@ -108,7 +101,7 @@ fn assign_access(file: &[u8], i: usize) -> Access
 }
 
 // A construct reads its arguments and gives x.
-fn construct_access(file: &[u8], i: usize) -> Access
+pub fn construct_access(file: &[u8], i: usize) -> Access
     ensures { λ r. ⌜ r ≡ givenIn (fourRead (argumentWords (now (file .entry)) i)) (word (now (file .entry)) i goalX) ⌝ }
 {
     let a1 = read(no_access(), word(file, i, TERM_ARGUMENTS));
@@ -119,7 +112,7 @@ fn construct_access(file: &[u8], i: usize) -> Access
 }
 
 // An arm gives its arguments.
-fn arm_access(file: &[u8], i: usize) -> Access
+pub fn arm_access(file: &[u8], i: usize) -> Access
     ensures { λ r. ⌜ r ≡ fourGiven (argumentWords (now (file .entry)) i) ⌝ }
 {
     let a1 = give(no_access(), word(file, i, TERM_ARGUMENTS));
@@ -128,27 +121,31 @@ fn arm_access(file: &[u8], i: usize) -> Access
     give(a3, word(file, i, TERM_ARGUMENTS + 3))
 }
 
-// What the step or arm at record i reads and gives, where there are that many procedures; of another record nothing.
-pub fn record_access(file: &[u8], table: &[u64; TABLE], procedures: usize, i: usize) -> Access
+// A literal gives x.
+pub fn literal_access(file: &[u8], i: usize) -> Access
+    ensures { λ r. ⌜ r ≡ givenIn noAccess (word (now (file .entry)) i goalX) ⌝ }
+{
+    give(no_access(), word(file, i, GOAL_X))
+}
+
+// A print reads y.
+pub fn print_access(file: &[u8], i: usize) -> Access
+    ensures { λ r. ⌜ r ≡ readIn noAccess (word (now (file .entry)) i printY) ⌝ }
+{
+    read(no_access(), word(file, i, PRINT_Y))
+}
+
+// The call at record i, where there are that many procedures.
+pub fn call_access(file: &[u8], table: &[u64; TABLE], procedures: usize, i: usize) -> Access
     requires { ⌜ Formed (now file) ⌝ }
     requires { ⌜ FileTable (now file) (now table) ⌝ }
     requires { ⌜ procedures ≡ length (program (now file) .procedures) ⌝ }
+    requires { ⌜ IsCall (now file) i ⌝ }
     ensures { λ r. ⌜ Fits (now (file .entry)) i r ⌝ }
 {
-    match word(file, i, KIND) {
-        LITERAL => give(no_access(), word(file, i, GOAL_X)),
-        SUM => sum_access(file, i),
-        ASSIGN => assign_access(file, i),
-        CONSTRUCT => construct_access(file, i),
-        CALL => {
-            let q = word(file, i, CALL_PROCEDURE);
-            let y = word(file, i, CALL_ARGUMENTS);
-            called_access(file, table, procedures, q, y)
-        }
-        PRINT => read(no_access(), word(file, i, PRINT_Y)),
-        ARM => arm_access(file, i),
-        _ => no_access(),
-    }
+    let q = word(file, i, CALL_PROCEDURE);
+    let y = word(file, i, CALL_ARGUMENTS);
+    called_access(file, table, procedures, q, y)
 }
 
 // What a call of procedure q reads and gives, its argument records from y on. A procedure that is not there has no variables.

@@ -1,0 +1,27 @@
+-- `call_access` meets its contract.
+use mathlib.Core.Path.{refl}
+use Rattle.chains.specs.Shapes.{to-arguments}
+use Rattle.values.specs.Fitting.{call-fits}
+use borrow.Author.Needs.{needs}
+use Rattle.values.proofs.steps.call_access.Statement.{statement}
+use Rattle.values.proofs.steps.call_access.Tie as tie
+
+word-requires : tie.Need-word-requires
+word-requires c κs = search needs
+
+word-requires-2 : tie.Need-word-requires-2
+word-requires-2 c κs = search needs
+
+called-access-requires : tie.Need-called-access-requires
+called-access-requires c κs =
+    let p = c .before .before .before .pre in
+    (p .0, (p .1 .0, (p .1 .1 .0, to-arguments (p .0) (p .1 .1 .1) (c .word2 .ensures .0) .stands)))
+
+returns : tie.Need-returns
+returns c =
+    let p = c .before .before .before .before .pre in
+    call-fits _ _ (p .0) refl (p .1 .1 .1) (c .before .before .word .ensures .0) (c .before .word2 .ensures .0) (c .called-access .ensures)
+
+pub call-access-spec : {M : Type 1} → statement M
+call-access-spec =
+    tie.close (tie.spec word-requires word-requires-2 called-access-requires returns)
