@@ -1,4 +1,7 @@
 // Answers on standard output. The programs and `vectors` write by the same functions, so that the gate sees what each writes for files of every answer.
+mod annotated;
+
+pub use annotated::print_annotated;
 use checking::check;
 use libc::STDERR_FILENO;
 use libc::STDOUT_FILENO;
