@@ -3,3 +3,5 @@ pub mod Places
 pub mod Goals
 pub mod Calls
 pub mod Steps
+pub mod Heaps
+pub mod Runs

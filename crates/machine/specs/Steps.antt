@@ -29,12 +29,8 @@ use Rattle.word_machine.specs.Machine
 use Rattle.machine.specs.declared.State.{State}
 use Rattle.machine.specs.declared.Step.{Step}
 use Rattle.machine.specs.declared.Step.the-variants.{Went as WentTo, Stops}
-use Rattle.machine.specs.Words.{wordsOf, cameTo, Goes}
+use Rattle.machine.specs.Words.{wordsOf, cameTo, onwardTo, Goes}
 use Rattle.machine.specs.Places.{valueIn, termIn, homeFor, regionFor, placed, armFor, armValues}
-
--- the state after a goal that changes neither the newest frame nor what is printed
-abbrev pub onwardTo : State → ℕ → State
-onwardTo s i = record { top = s .top; goal = i; printed = s .printed }
 
 -- ---- the record by the number of its kind, w
 module _ (f : List ℕ) (i w : ℕ) (ew : w ≡ word f i 0) where

@@ -1,7 +1,9 @@
 -- What the code keeps and answers, as the machine on lists of words has it.
 use Prim.Native.Nat.{ℕ, _<_}
 use mathlib.Core.Path.{_≡_}
+use mathlib.Core.Bool.{Bool, true, false}
 use mathlib.Core.List.{List}
+use mathlib.Core.Logic.{_⊎_}
 use lib.ListN.{length, getD}
 use Rattle.language.specs.declared.Stop.{Stop}
 use Rattle.language.specs.Format.{maxRecords}
@@ -11,6 +13,8 @@ use Rattle.records.specs.Records.{recordAt}
 use Rattle.word_machine.specs.Tables.{Tables}
 use Rattle.word_machine.specs.Machine.{Words, Went, went, stops, Outcome, steps}
 use Rattle.machine.specs.declared.State.{State}
+use Rattle.machine.specs.declared.Kept.{Kept}
+use Rattle.machine.specs.declared.Kept.the-variants.{Left, Lacks}
 use Rattle.machine.specs.declared.Step.{Step}
 use Rattle.machine.specs.declared.Step.the-variants.{Went as WentTo, Stops}
 
@@ -33,3 +37,24 @@ pub record Goes (f : List ℕ) (T : Tables) (s : State) (m fw ps : List ℕ) (r 
   pub comes : (k : Room) (h : Heap) (rs : List ℕ) → k .frames ≡ holds (length fw) 136 → k .prints ≡ holds (length ps) 1
       → cameTo r h m rs fx px ≡ steps f T k (s .goal) (recordAt f (s .goal)) (wordsOf h m rs fw ps s)
   pub kept : (c : Stop) → r ≡ Stops c → (fx ≡ fw) × (px ≡ ps)
+
+-- whether the goals of the kind w change the heap: constructs, creates and removes
+abbrev pub Changes : ℕ → Bool → Type 0
+Changes w true = (w ≡ 11) ⊎ ((w ≡ 18) ⊎ (w ≡ 19))
+Changes w false = (w ≡ 11 → ⊥) × (w ≡ 18 → ⊥) × (w ≡ 19 → ⊥)
+
+-- what their answer stands for, v being the state afterwards
+unfoldable pub keptTo : Kept → List ℕ → List ℕ → List ℕ → List ℕ → State → Went
+keptTo (Left h) m rs fw ps v = went (wordsOf h m rs fw ps v)
+keptTo (Lacks c) m rs fw ps v = stops c
+
+-- the state after a goal that changes neither the newest frame nor what is printed
+abbrev pub onwardTo : State → ℕ → State
+onwardTo s i = record { top = s .top; goal = i; printed = s .printed }
+
+-- Such a goal is carried out, whatever is printed: m, rs and fw are the words of cells, regions and frames before, those with ₁ afterwards; where it
+-- stops, nothing has changed.
+pub record Keeps (f : List ℕ) (T : Tables) (s : State) (h : Heap) (m rs fw : List ℕ) (r : Kept) (m₁ rs₁ fw₁ : List ℕ) : Type 0 where
+  pub comes : (k : Room) (ps : List ℕ) (next : ℕ) → next ≡ T .successor (s .goal)
+      → keptTo r m₁ rs₁ fw₁ ps (onwardTo s next) ≡ steps f T k (s .goal) (recordAt f (s .goal)) (wordsOf h m rs fw ps s)
+  pub kept : (c : Stop) → r ≡ Lacks c → (m₁ ≡ m) × (rs₁ ≡ rs) × (fw₁ ≡ fw)

@@ -33,12 +33,20 @@ ghost use Rattle.language.specs.File.{word, recordCount};
 ghost use Rattle.memory.specs.declared.Heap.{Heap};
 ghost use Rattle.chains.specs.Formed.{Formed};
 ghost use Rattle.chains.specs.Shapes.{IsCall};
-ghost use Rattle.tables.specs.Window.{bodyPlace, bornPlace, setIn};
+ghost use Rattle.tables.specs.Window.{variablesPlace, bodyPlace, bornPlace, setIn};
 ghost use Rattle.tables.specs.Starts.{windowIn};
 ghost use Rattle.plans.specs.Plan.{tablesIn};
 ghost use Rattle.word_machine.specs.Machine.{calleeWords, returnWords, settled};
 ghost use Rattle.machine.specs.Words.{Narrow, wordsOf};
 ghost use Rattle.machine.specs.Calls.{marked, opened, entered};
+
+// How many variables procedure q has.
+pub fn size_of(table: &[u64], q: usize) -> usize
+    ensures { λ r. ⌜ r ≡ getD (windowIn (now (table .entry)) q) variablesPlace 0 ⌝ }
+{
+    let start = start_of(table, q);
+    word_at(&table[start..], VARIABLES)
+}
 
 // The born regions of procedure q.
 fn born_of(table: &[u64], q: usize) -> Set

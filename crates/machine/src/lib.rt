@@ -1,11 +1,15 @@
 // The runner: the goals of an accepted file carried out in lent words, step by step as the machine on lists of words does it (word_machine).
 mod calls;
 mod goals;
+mod heaps;
 mod places;
+mod runs;
 mod steps;
 
 use language::Ending;
 use language::Stop;
+use memory::Heap;
+pub use runs::run_words;
 
 // What a run keeps beside the lent words and the heap: the newest frame's number, its next goal's record, and how many numbers are printed.
 pub struct State {
@@ -18,6 +22,12 @@ pub struct State {
 pub enum Step {
     Went(State),
     Stops(Stop),
+}
+
+// What a construct, a create or a remove comes to.
+pub enum Kept {
+    Left(Heap),
+    Lacks(Stop),
 }
 
 // "It returns the number and steps done"; the printed numbers stand at the front of the words lent for them.

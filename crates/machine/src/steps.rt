@@ -28,15 +28,15 @@ use records::word_in;
 ghost use mathlib.Core.Path.{_≡_};
 ghost use mathlib.Core.List.{List};
 ghost use Prim.Native.Nat.{ℕ, _<_};
-ghost use Rattle.language.specs.File.{recordCount};
+ghost use Rattle.language.specs.File.{word, recordCount};
+ghost use mathlib.Core.Bool.{false};
 ghost use Rattle.chains.specs.Formed.{Formed};
-ghost use Rattle.chains.specs.Shapes.{IsCall, IsPrint, IsConstruct, IsCreate, IsRemove};
+ghost use Rattle.chains.specs.Shapes.{IsCall, IsPrint};
 ghost use Rattle.plans.specs.Plan.{tablesIn};
-ghost use Rattle.machine.specs.Words.{Narrow, Goes};
-ghost use Rattle.machine.specs.Steps.{onwardTo};
+ghost use Rattle.machine.specs.Words.{Narrow, Changes, onwardTo, Goes};
 
 // The words of a frame, and of a printed number.
-const FRAME_WORDS: usize = 136;
+pub const FRAME_WORDS: usize = 136;
 
 const PRINT_WORDS: usize = 1;
 
@@ -125,7 +125,7 @@ pub fn go(
     requires { ⌜ Formed (now file) ⌝ }
     requires { ⌜ Narrow (now plan) ⌝ }
     requires { ⌜ state .goal < recordCount (now file) ⌝ }
-    requires { ⌜ (IsConstruct (now file) (state .goal) → ⊥) × (IsCreate (now file) (state .goal) → ⊥) × (IsRemove (now file) (state .goal) → ⊥) ⌝ }
+    requires { ⌜ Changes (word (now file) (state .goal) 0) false ⌝ }
     ensures { λ r. ⌜ Goes (now (file .entry)) (tablesIn (now (file .entry)) (now (plan .entry)) (now (images .entry)) (now (table .entry))) state
         (now (cells .entry)) (now (frames .entry)) (now (prints .entry)) r (now (frames .exit)) (now (prints .exit)) ⌝ }
 {

@@ -1,0 +1,143 @@
+-- What the goals that change the heap come to, from what their functions promise.
+use Prim.Native.Nat.{ℕ, _+_, _*_}
+use native.Mathlib.Omega.{arith}
+use mathlib.Core.Path.{_≡_, refl, sym, ap, _∙_, subst}
+use mathlib.Core.Bool.{Bool, true, false}
+use mathlib.Core.List.{List}
+use mathlib.Core.Logic.{_⊎_, inl, inr}
+use lib.ListN.{set}
+use Rattle.language.specs.File.{word}
+use Rattle.language.specs.Machine.{Room}
+use Rattle.language.specs.declared.Stop.{Stop}
+use Rattle.language.specs.declared.Stop.the-variants.{Cells, Places}
+use Rattle.records.specs.Records.{recordAt}
+use Rattle.memory.specs.declared.Contents.{Contents}
+use Rattle.memory.specs.declared.Heap.{Heap}
+use Rattle.memory.specs.declared.Made.{Made}
+use Rattle.memory.specs.declared.Made.the-variants.{At, NoRoom}
+use Rattle.memory.specs.declared.Taken.{Taken}
+use Rattle.memory.specs.declared.Taken.the-variants.{Place, Full}
+use Rattle.memory.specs.Memory.{created, createdOf, createdRegions, createdRegionsOf, built, builtOf, builtCells, builtCellsOf, builtRegions, builtRegionsOf, removed, removedCells, removedRegions}
+use Rattle.plans.specs.Plan.{tablesIn}
+use Rattle.word_machine.specs.Tables.{Tables}
+use Rattle.word_machine.specs.Machine.{Went, went, stops, contentsOf, valueOf, regionFor, constructed, constructedBy, makesRegion, createdBy, dropsRegion, steps}
+use Rattle.machine.specs.declared.State.{State}
+use Rattle.machine.specs.declared.Kept.{Kept}
+use Rattle.machine.specs.declared.Kept.the-variants.{Left, Lacks}
+use Rattle.machine.specs.Words.{wordsOf, onwardTo, keptTo, Keeps, Changes}
+use Rattle.machine.specs.Places.{termIn, homeFor, regionFor as regionNamed, placed}
+use Rattle.machine.specs.Steps.{construct-record, create-record, remove-record}
+
+-- ---- answers told apart
+unfoldable roomless : Made → ℕ
+roomless (At y h) = 0
+roomless NoRoom = 1
+
+not-made : (y : ℕ) (h : Heap) → NoRoom ≡ At y h → ⊥
+unfolding roomless
+not-made y h e = let z : _≡_ {A = ℕ} 1 0 = ap roomless e in omega arith
+
+unfoldable lacking : Kept → ℕ
+lacking (Left h) = 0
+lacking (Lacks c) = 1
+
+left-not : (h : Heap) (c : Stop) → Left h ≡ Lacks c → ⊥
+unfolding lacking
+left-not h c e = let z : _≡_ {A = ℕ} 0 1 = ap lacking e in omega arith
+
+-- ---- a goal that finds no room changes nothing
+built-full : (h : Heap) (m rs : List ℕ) (r : ℕ) (c : Contents) (t : Taken) → NoRoom ≡ builtOf h t → (builtCellsOf m rs r c t ≡ m) × (builtRegionsOf h rs r t ≡ rs)
+unfolding builtOf builtCellsOf builtRegionsOf
+built-full h m rs r c (Place x p) e = absurd (not-made _ _ e)
+built-full h m rs r c Full e = (refl, refl)
+
+built-none : (h : Heap) (m rs : List ℕ) (r : ℕ) (c : Contents) → NoRoom ≡ built h m → (builtCells h m rs r c ≡ m) × (builtRegions h m rs r ≡ rs)
+unfolding built builtCells builtRegions
+built-none h m rs r c e = built-full h m rs r c _ e
+
+created-full : (h : Heap) (rs : List ℕ) (t : Taken) → NoRoom ≡ createdOf h t → createdRegionsOf h rs t ≡ rs
+unfolding createdOf createdRegionsOf
+created-full h rs (Place x p) e = absurd (not-made _ _ e)
+created-full h rs Full e = refl
+
+created-none : (h : Heap) (rs : List ℕ) → NoRoom ≡ created h rs → createdRegions h rs ≡ rs
+unfolding created createdRegions
+created-none h rs e = created-full h rs _ e
+
+-- ---- the three
+pub remaining : (w : ℕ) → Changes w true → (w ≡ 11 → ⊥) → (w ≡ 18 → ⊥) → w ≡ 19
+remaining w (inl e) n m = absurd (n e)
+remaining w (inr (inl e)) n m = absurd (m e)
+remaining w (inr (inr e)) n m = e
+
+module _ (f plan images table : List ℕ) (s : State) (h : Heap) (m rs fw : List ℕ) (w : ℕ) (ew : w ≡ word f (s .goal) 0) where
+  abbrev T : Tables
+  T = tablesIn f plan images table
+
+  abbrev Steps : Room → List ℕ → Went
+  Steps k ps = steps f T k (s .goal) (recordAt f (s .goal)) (wordsOf h m rs fw ps s)
+
+  module _ (md : Made) (m₁ rs₁ fx : List ℕ) (z : w ≡ 11) (e : md ≡ built h m)
+      (em : m₁ ≡ builtCells h m rs (homeFor plan (s .goal) (s .top) fw) (termIn f (s .goal) (s .top) fw)) (er : rs₁ ≡ builtRegions h m rs (homeFor plan (s .goal) (s .top) fw))
+      (ex : fx ≡ placed (136 * s .top + word f (s .goal) 2) md fw) where
+    construct-left : (y : ℕ) (l : Heap) → md ≡ At y l → (k : Room) (ps : List ℕ) (next : ℕ) → next ≡ T .successor (s .goal)
+        → went (wordsOf l m₁ rs₁ fx ps (onwardTo s next)) ≡ Steps k ps
+    unfolding steps constructed constructedBy contentsOf valueOf regionFor wordsOf termIn homeFor placed tablesIn
+    construct-left y l d k ps next en = rw (construct-record f (s .goal) w ew z, en, em, er, ex, ← e, d)
+
+    pub construct-keeps : (y : ℕ) (l : Heap) → md ≡ At y l → Keeps f T s h m rs fw (Left l) m₁ rs₁ fx
+    unfolding keptTo
+    construct-keeps y l d = record { comes = construct-left y l d; kept = λ c q. absurd (left-not l c q) }
+
+    construct-stop : md ≡ NoRoom → (k : Room) (ps : List ℕ) → stops Cells ≡ Steps k ps
+    unfolding steps constructed constructedBy wordsOf
+    construct-stop d k ps = rw (construct-record f (s .goal) w ew z, ← e, d)
+
+    construct-same : md ≡ NoRoom → (m₁ ≡ m) × (rs₁ ≡ rs) × (fx ≡ fw)
+    unfolding placed
+    construct-same d = let b = built-none h m rs (homeFor plan (s .goal) (s .top) fw) (termIn f (s .goal) (s .top) fw) (sym d ∙ e) in (em ∙ b .0, er ∙ b .1, rw (ex, d))
+
+    pub construct-lacks : md ≡ NoRoom → Keeps f T s h m rs fw (Lacks Cells) m₁ rs₁ fx
+    unfolding keptTo
+    construct-lacks d = record { comes = λ k ps next en. construct-stop d k ps; kept = λ c q. construct-same d }
+
+  module _ (md : Made) (rs₁ fx : List ℕ) (z : w ≡ 18) (e : md ≡ created h rs) (er : rs₁ ≡ createdRegions h rs)
+      (ex : fx ≡ placed (136 * s .top + 64 + word f (s .goal) 2) md fw) where
+    create-left : (y : ℕ) (l : Heap) → md ≡ At y l → (k : Room) (ps : List ℕ) (next : ℕ) → next ≡ T .successor (s .goal)
+        → went (wordsOf l m rs₁ fx ps (onwardTo s next)) ≡ Steps k ps
+    unfolding steps makesRegion createdBy wordsOf placed
+    create-left y l d k ps next en = rw (create-record f (s .goal) w ew z, en, er, ex, ← e, d)
+
+    pub create-keeps : (y : ℕ) (l : Heap) → md ≡ At y l → Keeps f T s h m rs fw (Left l) m rs₁ fx
+    unfolding keptTo
+    create-keeps y l d = record { comes = create-left y l d; kept = λ c q. absurd (left-not l c q) }
+
+    create-stop : md ≡ NoRoom → (k : Room) (ps : List ℕ) → stops Places ≡ Steps k ps
+    unfolding steps makesRegion createdBy wordsOf
+    create-stop d k ps = rw (create-record f (s .goal) w ew z, ← e, d)
+
+    create-same : md ≡ NoRoom → (m ≡ m) × (rs₁ ≡ rs) × (fx ≡ fw)
+    unfolding placed
+    create-same d = (refl, er ∙ created-none h rs (sym d ∙ e), rw (ex, d))
+
+    pub create-lacks : md ≡ NoRoom → Keeps f T s h m rs fw (Lacks Places) m rs₁ fx
+    unfolding keptTo
+    create-lacks d = record { comes = λ k ps next en. create-stop d k ps; kept = λ c q. create-same d }
+
+  module _ (l : Heap) (m₁ rs₁ : List ℕ) (z : w ≡ 19)
+      (e : (l ≡ removed h rs (regionNamed f (s .goal) (s .top) fw)) × (m₁ ≡ removedCells h m rs (regionNamed f (s .goal) (s .top) fw))
+      × (rs₁ ≡ removedRegions h rs (regionNamed f (s .goal) (s .top) fw))) where
+    remove-left : (k : Room) (ps : List ℕ) (next : ℕ) → next ≡ T .successor (s .goal) → went (wordsOf l m₁ rs₁ fw ps (onwardTo s next)) ≡ Steps k ps
+    unfolding steps dropsRegion regionFor wordsOf regionNamed
+    remove-left k ps next en = rw (remove-record f (s .goal) w ew z, en, e .0, e .1, e .2)
+
+    pub remove-keeps : Keeps f T s h m rs fw (Left l) m₁ rs₁ fw
+    unfolding keptTo
+    remove-keeps = record { comes = remove-left; kept = λ c q. absurd (left-not l c q) }
+
+-- ---- what the test of a kind says of the record that has it
+pub changed : (w u : ℕ) (b : Bool) → w ≡ u → Changes w b → b ≡ true → Changes u true
+changed w u b e c z = subst (λ x. Changes x true) e (subst (λ x. Changes w x) z c)
+
+pub unchanged : (w u : ℕ) (b : Bool) → w ≡ u → Changes w b → b ≡ false → Changes u false
+unchanged w u b e c z = subst (λ x. Changes x false) e (subst (λ x. Changes w x) z c)

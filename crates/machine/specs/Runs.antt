@@ -1,0 +1,229 @@
+-- A whole run: the steps that are done and those still to come make the whole.
+use Prim.Native.Nat.{ℕ, zero, suc, _+_, _-_, _*_, _≤_, _<_}
+use native.Mathlib.Omega.{arith}
+use mathlib.Core.Path.{_≡_, refl, sym, ap, _∙_}
+use mathlib.Core.List.{List}
+use borrow.Author.Tests.{lt-ltb, le-ltb}
+use lib.ListN.{length}
+use Rattle.language.specs.File.{word, recordCount, kinds, kindOf}
+use Rattle.language.specs.Lists.{nth}
+use Rattle.language.specs.Machine.{Room, holds, roomIn}
+use Rattle.language.specs.declared.Stop.{Stop}
+use Rattle.language.specs.declared.Stop.the-variants.{Steps, Frames}
+use Rattle.language.specs.declared.Ending.{Ending}
+use Rattle.language.specs.declared.Ending.the-variants.{Finished, Stopped}
+use Rattle.records.specs.Records.{recordAt, record-as}
+use Rattle.chains.specs.Formed.{Formed}
+use Rattle.memory.specs.declared.Heap.{Heap}
+use Rattle.memory.specs.Memory.{emptyHeap}
+use Rattle.frames.specs.Strays.{past-word}
+use Rattle.word_machine.specs.Tables.{Tables}
+use Rattle.word_machine.specs.Machine.{Words, Went, went, stops, Outcome, endedWith, afterStep, cleared, steps, settledFrom, settled, settledIf, stepped, runOn, runFrom, startWords, noFrame, lentWords, wordRun}
+use Rattle.machine.specs.declared.State.{State}
+use Rattle.machine.specs.declared.Kept.{Kept}
+use Rattle.machine.specs.declared.Kept.the-variants.{Left, Lacks}
+use Rattle.machine.specs.declared.Step.{Step}
+use Rattle.machine.specs.declared.Step.the-variants.{Went as WentTo, Stops}
+use Rattle.machine.specs.declared.Outcome.{Outcome as Answer}
+use Rattle.machine.specs.Words.{wordsOf, onwardTo, cameTo, keptTo, Goes, Keeps}
+
+-- What a run gives: its ending, its steps, how many numbers are printed, and every lent word afterwards.
+pub record Ran (o : Outcome) (r : Answer) (m rs fw ps : List ℕ) : Type 0 where
+  pub ending : r .ending ≡ o .ending
+  pub steps : r .steps ≡ o .done
+  pub printed : r .printed ≡ o .words .printed
+  pub cells : m ≡ o .words .cells
+  pub regions : rs ≡ o .words .regions
+  pub frames : fw ≡ o .words .frames
+  pub prints : ps ≡ o .words .prints
+
+-- a run that ends at state s after n steps
+unfoldable pub endedAt : Ending → ℕ → State → Answer
+endedAt e n s = record { ending = e; steps = n; printed = s .printed }
+
+ended-ran : (e : Ending) (n : ℕ) (h : Heap) (m rs fw ps : List ℕ) (s : State) → Ran (endedWith e n (wordsOf h m rs fw ps s)) (endedAt e n s) m rs fw ps
+unfolding endedWith wordsOf endedAt
+ended-ran e n h m rs fw ps s = record { ending = refl; steps = refl; printed = refl; cells = refl; regions = refl; frames = refl; prints = refl }
+
+ran-as : (e : Ending) (n : ℕ) (h : Heap) (m rs fw ps : List ℕ) (s : State) (o : Outcome) (r : Answer) → endedWith e n (wordsOf h m rs fw ps s) ≡ o → r ≡ endedAt e n s
+    → Ran o r m rs fw ps
+ran-as e n h m rs fw ps s o r eo er = rw (← eo, er) (ended-ran e n h m rs fw ps s)
+
+-- a record that the file does not have is no goal
+past-step : (f : List ℕ) (T : Tables) (k : Room) (W : Words) (i : ℕ) → Formed f → recordCount f ≤ i → steps f T k i (recordAt f i) W ≡ went W
+unfolding steps kindOf kinds nth
+past-step f T k W i F l = rw (record-as f i (ap kindOf (past-word F i 0 l)))
+
+module _ (f : List ℕ) (T : Tables) (k : Room) (W : Words) where
+  turned : (v : Words) (n j i : ℕ) → (i ≡ 0 → ⊥) → steps f T k i (recordAt f i) W ≡ went v → runOn f T k (suc j) i n W ≡ runOn f T k j (settled f T v .goal) (suc n) (settled f T v)
+  unfolding runOn stepped settledIf afterStep
+  turned v n j zero z e = absurd (z refl)
+  turned v n j (suc i) z e = rw e
+
+  halted : (c : Stop) (n j i : ℕ) → (i ≡ 0 → ⊥) → steps f T k i (recordAt f i) W ≡ stops c → runOn f T k (suc j) i n W ≡ endedWith (Stopped c) n W
+  unfolding runOn stepped settledIf afterStep
+  halted c n j zero z e = absurd (z refl)
+  halted c n j (suc i) z e = rw e
+
+  spent : (n i : ℕ) → (i ≡ 0 → ⊥) → runOn f T k 0 i n W ≡ endedWith (Stopped Steps) n W
+  unfolding runOn
+  spent n zero z = absurd (z refl)
+  spent n (suc i) z = refl
+
+  finished : (n j : ℕ) → runOn f T k j 0 n W ≡ endedWith Finished n W
+  unfolding runOn
+  finished n zero = refl
+  finished n (suc j) = refl
+
+-- ---- l steps are lent, n are done; m₀, rs₀, fw₀ and ps₀ are the words at the first step, o is what the run comes to. It has come to state s, before
+-- frames without goals go
+pub record Going (f : List ℕ) (T : Tables) (l : ℕ) (m₀ rs₀ fw₀ ps₀ : List ℕ) (o : Outcome) (n : ℕ) (h : Heap) (m rs fw ps : List ℕ) (s : State) : Type 0 where
+  pub rest : runOn f T (roomIn (lentWords m₀ rs₀ fw₀ ps₀ l)) (l - n) (settled f T (wordsOf h m rs fw ps s) .goal) n (settled f T (wordsOf h m rs fw ps s)) ≡ o
+  pub cells : length m ≡ length m₀
+  pub regions : length rs ≡ length rs₀
+  pub frames : length fw ≡ length fw₀
+  pub prints : length ps ≡ length ps₀
+
+-- .. and after they went
+pub record Settled (f : List ℕ) (T : Tables) (l : ℕ) (m₀ rs₀ fw₀ ps₀ : List ℕ) (o : Outcome) (n : ℕ) (h : Heap) (m rs fw ps : List ℕ) (s : State) : Type 0 where
+  pub rest : runOn f T (roomIn (lentWords m₀ rs₀ fw₀ ps₀ l)) (l - n) (s .goal) n (wordsOf h m rs fw ps s) ≡ o
+  pub cells : length m ≡ length m₀
+  pub regions : length rs ≡ length rs₀
+  pub frames : length fw ≡ length fw₀
+  pub prints : length ps ≡ length ps₀
+
+-- what a run comes to from a first state on
+unfoldable pub runFirst : List ℕ → Tables → ℕ → Heap → List ℕ → List ℕ → List ℕ → List ℕ → State → Outcome
+runFirst f T l h m rs fw ps s = runOn f T (roomIn (lentWords m rs fw ps l)) l (s .goal) 0 (wordsOf h m rs fw ps s)
+
+-- ---- the start
+abbrev entryState : ℕ → State
+entryState goal = record { top = 0; goal = goal; printed = 0 }
+
+module _ (f : List ℕ) (T : Tables) (l : ℕ) (m rs fw ps : List ℕ) where
+  settled-entry : (h : Heap) (fx : List ℕ) (goal : ℕ) → settled f T (wordsOf h m rs fx ps (entryState goal)) ≡ wordsOf h m rs fx ps (entryState goal)
+  unfolding settled settledFrom wordsOf
+  settled-entry h fx goal = refl
+
+  first-rest : (h : Heap) (fx : List ℕ) (goal : ℕ)
+      → runOn f T (roomIn (lentWords m rs fx ps l)) (l - 0) (settled f T (wordsOf h m rs fx ps (entryState goal)) .goal) 0 (settled f T (wordsOf h m rs fx ps (entryState goal)))
+      ≡ runFirst f T l h m rs fx ps (entryState goal)
+  unfolding runFirst wordsOf
+  first-rest h fx goal = let o : l - 0 ≡ l = omega arith in rw (o, settled-entry h fx goal)
+
+  pub first : (h : Heap) (fx : List ℕ) (goal : ℕ) → Going f T l m rs fx ps (runFirst f T l h m rs fx ps (entryState goal)) 0 h m rs fx ps (entryState goal)
+  first h fx goal = record { rest = first-rest h fx goal; cells = refl; regions = refl; frames = refl; prints = refl }
+
+  -- the words of the entry's frame are cleared; there is room for it
+  started : (size goal : ℕ) (h : Heap) (fx : List ℕ) → goal ≡ T .body 0 → size ≡ T .size 0 → fx ≡ cleared 1 size fw → h ≡ emptyHeap (holds (length m) 8) (holds (length rs) 2)
+      → length fx ≡ length fw → 0 < holds (length fw) 136 → runFirst f T l h m rs fx ps (entryState goal) ≡ wordRun f T m rs fw ps l
+  unfolding runFirst wordRun runFrom startWords roomIn lentWords wordsOf
+  started size goal h fx eg es ef eh e q = rw (lt-ltb 0 (holds (length fw) 136) q, e, ef, es, eh, eg)
+
+  pub from-start : (limit size goal : ℕ) (h : Heap) (fx m₁ rs₁ fw₁ ps₁ : List ℕ) (r : Answer) → limit ≡ holds (length fw) 136 → (limit ≡ 0 → ⊥) → goal ≡ T .body 0 → size ≡ T .size 0
+      → fx ≡ cleared 1 size fw → h ≡ emptyHeap (holds (length m) 8) (holds (length rs) 2) → length fx ≡ length fw
+      → Ran (runFirst f T l h m rs fx ps (entryState goal)) r m₁ rs₁ fw₁ ps₁ → Ran (wordRun f T m rs fw ps l) r m₁ rs₁ fw₁ ps₁
+  from-start limit size goal h fx m₁ rs₁ fw₁ ps₁ r el z eg es ef eh e R = rw (← started size goal h fx eg es ef eh e (omega arith)) R
+
+  none : holds (length fw) 136 ≤ 0 → endedWith (Stopped Frames) 0 (noFrame f T m rs fw ps) ≡ wordRun f T m rs fw ps l
+  unfolding wordRun runFrom roomIn lentWords
+  none q = rw (le-ltb 0 (holds (length fw) 136) q)
+
+  none-ran : (goal : ℕ) → Ran (endedWith (Stopped Frames) 0 (noFrame f T m rs fw ps)) (endedAt (Stopped Frames) 0 (entryState goal)) m rs fw ps
+  unfolding endedWith noFrame endedAt
+  none-ran goal = record { ending = refl; steps = refl; printed = refl; cells = refl; regions = refl; frames = refl; prints = refl }
+
+  pub frameless : (limit goal : ℕ) (r : Answer) → limit ≡ holds (length fw) 136 → limit ≡ 0 → r ≡ endedAt (Stopped Frames) 0 (entryState goal) → Ran (wordRun f T m rs fw ps l) r m rs fw ps
+  frameless limit goal r el z er = rw (← none (omega arith), er) (none-ran goal)
+
+module _ (f : List ℕ) (T : Tables) (l : ℕ) (m₀ rs₀ fw₀ ps₀ : List ℕ) (o : Outcome) where
+  abbrev K : Room
+  K = roomIn (lentWords m₀ rs₀ fw₀ ps₀ l)
+
+  arrived : (n : ℕ) (W U : Words) → U ≡ settled f T W → runOn f T K (l - n) (settled f T W .goal) n (settled f T W) ≡ o → runOn f T K (l - n) (U .goal) n U ≡ o
+  arrived n W U e g = rw e g
+
+  pub arrives : (n : ℕ) (h : Heap) (m rs fw fy ps : List ℕ) (s u : State) → Going f T l m₀ rs₀ fw₀ ps₀ o n h m rs fw ps s
+      → ((h : Heap) (m rs ps : List ℕ) → wordsOf h m rs fy ps u ≡ settled f T (wordsOf h m rs fw ps s)) → length fy ≡ length fw
+      → Settled f T l m₀ rs₀ fw₀ ps₀ o n h m rs fy ps u
+  unfolding wordsOf
+  arrives n h m rs fw fy ps s u G e lf = record { rest = arrived n (wordsOf h m rs fw ps s) (wordsOf h m rs fy ps u) (e h m rs ps) (G .rest); cells = G .cells; regions = G .regions; frames = lf ∙ G .frames; prints = G .prints }
+
+  -- ---- one turn
+  module _ (n : ℕ) (h : Heap) (m rs fw ps : List ℕ) (s : State) (G : Settled f T l m₀ rs₀ fw₀ ps₀ o n h m rs fw ps s) where
+    abbrev W : Words
+    W = wordsOf h m rs fw ps s
+
+    on : (X : Words) → (s .goal ≡ 0 → ⊥) → n < l → steps f T K (s .goal) (recordAt f (s .goal)) W ≡ went X
+        → runOn f T K (l - (n + 1)) (settled f T X .goal) (n + 1) (settled f T X) ≡ o
+    on X z q es =
+        let a : suc (l - suc n) ≡ l - n = omega arith in
+        let b : n + 1 ≡ suc n = omega arith in
+        rw b (sym (turned f T K W X n (l - suc n) (s .goal) z es) ∙ ap (λ j. runOn f T K j (s .goal) n W) a ∙ G .rest)
+
+    -- a goal that leaves the heap alone
+    room-frames : K .frames ≡ holds (length fw) 136
+    unfolding roomIn lentWords
+    room-frames = rw (G .frames)
+
+    room-prints : K .prints ≡ holds (length ps) 1
+    unfolding roomIn lentWords
+    room-prints = rw (G .prints)
+
+    pub went-on : (fx px : List ℕ) (v : State) (r : Step) → (s .goal ≡ 0 → ⊥) → n < l → Goes f T s m fw ps r fx px → r ≡ WentTo v
+        → length fx ≡ length fw → length px ≡ length ps → Going f T l m₀ rs₀ fw₀ ps₀ o (n + 1) h m rs fx px v
+    unfolding cameTo
+    went-on fx px v r z q g er lf lp = record {
+      rest = on (wordsOf h m rs fx px v) z q (sym (g .comes K h rs room-frames room-prints) ∙ ap (λ t. cameTo t h m rs fx px) er);
+      cells = G .cells;
+      regions = G .regions;
+      frames = lf ∙ G .frames;
+      prints = lp ∙ G .prints;
+    }
+
+    -- a goal that changes it
+    pub kept-on : (h₁ : Heap) (m₁ rs₁ fx : List ℕ) (next : ℕ) (v : State) (r : Kept) → (s .goal ≡ 0 → ⊥) → n < l → Keeps f T s h m rs fw r m₁ rs₁ fx → r ≡ Left h₁
+        → next ≡ T .successor (s .goal) → v ≡ onwardTo s next → length m₁ ≡ length m → length rs₁ ≡ length rs → length fx ≡ length fw
+        → Going f T l m₀ rs₀ fw₀ ps₀ o (n + 1) h₁ m₁ rs₁ fx ps v
+    unfolding keptTo
+    kept-on h₁ m₁ rs₁ fx next v r z q g er en ev lm lr lf = record {
+      rest = on (wordsOf h₁ m₁ rs₁ fx ps v) z q
+          (sym (g .comes K ps next en) ∙ ap (λ t. keptTo t m₁ rs₁ fx ps (onwardTo s next)) er ∙ ap (λ t. went (wordsOf h₁ m₁ rs₁ fx ps t)) (sym ev));
+      cells = lm ∙ G .cells;
+      regions = lr ∙ G .regions;
+      frames = lf ∙ G .frames;
+      prints = G .prints;
+    }
+
+    -- no goal
+    pub past-on : Formed f → (s .goal ≡ 0 → ⊥) → n < l → recordCount f ≤ s .goal → Going f T l m₀ rs₀ fw₀ ps₀ o (n + 1) h m rs fw ps s
+    past-on F z q p =
+        record { rest = on W z q (past-step f T K W (s .goal) F p); cells = G .cells; regions = G .regions; frames = G .frames; prints = G .prints }
+
+    -- ---- the end
+    pub run-finished : (r : Answer) → s .goal ≡ 0 → r ≡ endedAt Finished n s → Ran o r m rs fw ps
+    run-finished r z er = ran-as Finished n h m rs fw ps s o r (sym (finished f T K W n (l - n)) ∙ ap (λ i. runOn f T K (l - n) i n W) (sym z) ∙ G .rest) er
+
+    pub run-spent : (r : Answer) → (s .goal ≡ 0 → ⊥) → l ≤ n → r ≡ endedAt (Stopped Steps) n s → Ran o r m rs fw ps
+    run-spent r z q er =
+        let a : 0 ≡ l - n = omega arith in
+        ran-as (Stopped Steps) n h m rs fw ps s o r (sym (spent f T K W n (s .goal) z) ∙ ap (λ j. runOn f T K j (s .goal) n W) a ∙ G .rest) er
+
+    stopped : (c : Stop) (r : Answer) → (s .goal ≡ 0 → ⊥) → n < l → steps f T K (s .goal) (recordAt f (s .goal)) W ≡ stops c → r ≡ endedAt (Stopped c) n s → Ran o r m rs fw ps
+    stopped c r z q es er =
+        let a : suc (l - suc n) ≡ l - n = omega arith in
+        ran-as (Stopped c) n h m rs fw ps s o r (sym (halted f T K W c n (l - suc n) (s .goal) z es) ∙ ap (λ j. runOn f T K j (s .goal) n W) a ∙ G .rest) er
+
+    pub went-stopped : (fx px : List ℕ) (c : Stop) (a : Step) (r : Answer) → (s .goal ≡ 0 → ⊥) → n < l → Goes f T s m fw ps a fx px → a ≡ Stops c → r ≡ endedAt (Stopped c) n s
+        → Ran o r m rs fx px
+    unfolding cameTo
+    went-stopped fx px c a r z q g ea er =
+        let e = g .kept c ea in
+        rw (e .0, e .1) (stopped c r z q (sym (g .comes K h rs room-frames room-prints) ∙ ap (λ t. cameTo t h m rs fx px) ea) er)
+
+    pub kept-stopped : (m₁ rs₁ fx : List ℕ) (c : Stop) (a : Kept) (r : Answer) → (s .goal ≡ 0 → ⊥) → n < l → Keeps f T s h m rs fw a m₁ rs₁ fx → a ≡ Lacks c
+        → r ≡ endedAt (Stopped c) n s → Ran o r m₁ rs₁ fx ps
+    unfolding keptTo
+    kept-stopped m₁ rs₁ fx c a r z q g ea er =
+        let e = g .kept c ea in
+        rw (e .0, e .1, e .2) (stopped c r z q (sym (g .comes K ps (T .successor (s .goal)) refl) ∙ ap (λ t. keptTo t m₁ rs₁ fx ps (onwardTo s (T .successor (s .goal)))) ea) er)

@@ -1,0 +1,88 @@
+// One step: the goals that change the heap.
+use crate::Kept;
+use crate::State;
+use crate::places::construct;
+use crate::places::drop_region;
+use crate::places::make_region;
+use language::Stop;
+use language::format::CONSTRUCT;
+use language::format::CREATE;
+use language::format::KIND;
+use language::format::REMOVE;
+use memory::Heap;
+use memory::Made;
+use plans::PLAN;
+use records::word_in;
+ghost use mathlib.Core.Bool.{true};
+ghost use mathlib.Core.List.{List};
+ghost use Prim.Native.Nat.{ℕ, _<_};
+ghost use Rattle.language.specs.File.{word, recordCount};
+ghost use Rattle.chains.specs.Formed.{Formed};
+ghost use Rattle.plans.specs.Plan.{tablesIn};
+ghost use Rattle.machine.specs.Words.{Changes, Keeps};
+
+// Whether goals of a kind change the heap.
+pub fn changes_heap(kind: usize) -> bool
+    ensures { λ b. ⌜ Changes kind b ⌝ }
+{
+    match kind {
+        CONSTRUCT => true,
+        CREATE => true,
+        REMOVE => true,
+        _ => false,
+    }
+}
+
+// A construct, "11 no free cell"; a create, "12 no free region"; a remove.
+pub fn keep(
+    file: &[u8],
+    plan: &[usize; PLAN],
+    state: State,
+    heap: Heap,
+    cells: &mut [u32],
+    regions: &mut [u32],
+    frames: &mut [u32],
+) -> Kept
+    requires { ⌜ Formed (now file) ⌝ }
+    requires { ⌜ state .goal < recordCount (now file) ⌝ }
+    requires { ⌜ Changes (word (now file) (state .goal) 0) true ⌝ }
+    ensures { λ r. ⌜ ((images table : List ℕ) → Keeps (now (file .entry)) (tablesIn (now (file .entry)) (now (plan .entry)) images table) state heap
+        (now (cells .entry)) (now (regions .entry)) (now (frames .entry)) r (now (cells .exit)) (now (regions .exit)) (now (frames .exit))) ⌝ }
+{
+    let i = state.goal;
+    let top = state.top;
+    match word_in(file, i, KIND) {
+        CONSTRUCT => {
+            let made = construct(
+                file,
+                plan,
+                i,
+                top,
+                heap,
+                &mut cells[..],
+                &mut regions[..],
+                &mut frames[..],
+            );
+            let Made::At(cell, left) = made else {
+                return Kept::Lacks(Stop::Cells);
+            };
+            Kept::Left(left)
+        }
+        CREATE => {
+            let made = make_region(file, i, top, heap, &mut regions[..], &mut frames[..]);
+            let Made::At(place, left) = made else {
+                return Kept::Lacks(Stop::Places);
+            };
+            Kept::Left(left)
+        }
+        _ => Kept::Left(drop_region(
+            file,
+            i,
+            top,
+            heap,
+            &mut cells[..],
+            &mut regions[..],
+            &frames[..],
+        )),
+    }
+}

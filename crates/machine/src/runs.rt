@@ -1,0 +1,123 @@
+// A whole run.
+use crate::Kept;
+use crate::Outcome;
+use crate::State;
+use crate::Step;
+use crate::calls::settle;
+use crate::calls::size_of;
+use crate::goals::successor;
+use crate::heaps::changes_heap;
+use crate::heaps::keep;
+use crate::steps::FRAME_WORDS;
+use crate::steps::go;
+use crate::steps::onward;
+use frames::clear;
+use language::Ending;
+use language::Stop;
+use language::format::KIND;
+use language::format::RECORD_BYTES;
+use memory::empty;
+use memory::room;
+use plans::PLAN;
+use records::word_in;
+use tables::body_of;
+ghost use Rattle.chains.specs.Formed.{Formed};
+ghost use Rattle.plans.specs.Plan.{tablesIn};
+ghost use Rattle.word_machine.specs.Machine.{wordRun};
+ghost use Rattle.machine.specs.Words.{Narrow};
+ghost use Rattle.machine.specs.Runs.{endedAt, Ran};
+ghost use mathlib.Core.Path.{_≡_};
+
+// A run that ends at a state, after so many steps.
+fn ended(ending: Ending, steps: usize, state: State) -> Outcome
+    ensures { λ r. ⌜ r ≡ endedAt ending steps state ⌝ }
+{
+    Outcome {
+        ending,
+        steps,
+        printed: state.printed,
+    }
+}
+
+// "An ended run is finished before 10 is looked at."
+pub fn run_words(
+    file: &[u8],
+    plan: &[usize; PLAN],
+    images: &[u8],
+    table: &[u64],
+    cells: &mut [u32],
+    regions: &mut [u32],
+    frames: &mut [u32],
+    prints: &mut [u32],
+    steps: usize,
+) -> Outcome
+    requires { ⌜ Formed (now file) ⌝ }
+    requires { ⌜ Narrow (now plan) ⌝ }
+    ensures { λ r. ⌜ Ran (wordRun (now (file .entry)) (tablesIn (now (file .entry)) (now (plan .entry)) (now (images .entry)) (now (table .entry)))
+        (now (cells .entry)) (now (regions .entry)) (now (frames .entry)) (now (prints .entry)) steps)
+        r (now (cells .exit)) (now (regions .exit)) (now (frames .exit)) (now (prints .exit)) ⌝ }
+{
+    let mut state = State {
+        top: 0,
+        goal: body_of(table, 0),
+        printed: 0,
+    };
+    if room(frames.len(), FRAME_WORDS) == 0 {
+        return ended(Ending::Stopped(Stop::Frames), 0, state);
+    }
+    clear(&mut frames[..], 1, size_of(table, 0));
+    let mut heap = empty(&cells[..], &regions[..]);
+    let mut done = 0;
+    loop {
+        let here = settle(file, plan, images, table, state, &mut frames[..]);
+        let i = here.goal;
+        if i == 0 {
+            return ended(Ending::Finished, done, here);
+        }
+        if steps <= done {
+            return ended(Ending::Stopped(Stop::Steps), done, here);
+        }
+        if file.len() / RECORD_BYTES <= i {
+            state = here;
+            done += 1;
+            continue;
+        }
+        if changes_heap(word_in(file, i, KIND)) {
+            let kept = keep(
+                file,
+                plan,
+                here,
+                heap,
+                &mut cells[..],
+                &mut regions[..],
+                &mut frames[..],
+            );
+            match kept {
+                Kept::Left(left) => {
+                    heap = left;
+                    state = onward(here, successor(file, plan, i));
+                    done += 1;
+                    continue;
+                }
+                Kept::Lacks(stop) => return ended(Ending::Stopped(stop), done, here),
+            }
+        }
+        let went = go(
+            file,
+            plan,
+            images,
+            table,
+            here,
+            &cells[..],
+            &mut frames[..],
+            &mut prints[..],
+        );
+        match went {
+            Step::Went(next) => {
+                state = next;
+                done += 1;
+            }
+            Step::Stops(stop) => return ended(Ending::Stopped(stop), done, here),
+        }
+    }
+}
