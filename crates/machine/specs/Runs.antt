@@ -4,7 +4,7 @@ use native.Mathlib.Omega.{arith}
 use mathlib.Core.Path.{_≡_, refl, sym, ap, _∙_}
 use mathlib.Core.List.{List}
 use borrow.Author.Tests.{lt-ltb, le-ltb}
-use lib.ListN.{length}
+use lib.ListN.{length, getD}
 use Rattle.language.specs.File.{word, recordCount, kinds, kindOf}
 use Rattle.language.specs.Lists.{nth}
 use Rattle.language.specs.Machine.{Room, holds, roomIn}
@@ -17,6 +17,8 @@ use Rattle.chains.specs.Formed.{Formed}
 use Rattle.memory.specs.declared.Heap.{Heap}
 use Rattle.memory.specs.Memory.{emptyHeap}
 use Rattle.frames.specs.Strays.{past-word}
+use Rattle.tables.specs.Window.{bodyPlace}
+use Rattle.tables.specs.Starts.{windowIn}
 use Rattle.word_machine.specs.Tables.{Tables}
 use Rattle.word_machine.specs.Machine.{Words, Went, went, stops, Outcome, endedWith, afterStep, cleared, steps, settledFrom, settled, settledIf, stepped, runOn, runFrom, startWords, noFrame, lentWords, wordRun}
 use Rattle.machine.specs.declared.State.{State}
@@ -100,6 +102,14 @@ runFirst f T l h m rs fw ps s = runOn f T (roomIn (lentWords m rs fw ps l)) l (s
 abbrev entryState : ℕ → State
 entryState goal = record { top = 0; goal = goal; printed = 0 }
 
+-- the entry's frame, at its first goal
+unfoldable pub firstState : List ℕ → State
+firstState table = entryState (getD (windowIn table 0) bodyPlace 0)
+
+pub first-state : (table : List ℕ) (g : ℕ) → g ≡ getD (windowIn table 0) bodyPlace 0 → entryState g ≡ firstState table
+unfolding firstState
+first-state table g e = rw e
+
 module _ (f : List ℕ) (T : Tables) (l : ℕ) (m rs fw ps : List ℕ) where
   settled-entry : (h : Heap) (fx : List ℕ) (goal : ℕ) → settled f T (wordsOf h m rs fx ps (entryState goal)) ≡ wordsOf h m rs fx ps (entryState goal)
   unfolding settled settledFrom wordsOf
@@ -111,8 +121,16 @@ module _ (f : List ℕ) (T : Tables) (l : ℕ) (m rs fw ps : List ℕ) where
   unfolding runFirst wordsOf
   first-rest h fx goal = let o : l - 0 ≡ l = omega arith in rw (o, settled-entry h fx goal)
 
-  pub first : (h : Heap) (fx : List ℕ) (goal : ℕ) → Going f T l m rs fx ps (runFirst f T l h m rs fx ps (entryState goal)) 0 h m rs fx ps (entryState goal)
-  first h fx goal = record { rest = first-rest h fx goal; cells = refl; regions = refl; frames = refl; prints = refl }
+  going-first : (h : Heap) (fx : List ℕ) (goal : ℕ) → Going f T l m rs fx ps (runFirst f T l h m rs fx ps (entryState goal)) 0 h m rs fx ps (entryState goal)
+  going-first h fx goal = record { rest = first-rest h fx goal; cells = refl; regions = refl; frames = refl; prints = refl }
+
+  pub first : (h : Heap) (table : List ℕ) (s : State) → s ≡ firstState table → Going f T l m rs fw ps (runFirst f T l h m rs fw ps s) 0 h m rs fw ps s
+  unfolding firstState
+  first h table s e = rw e (going-first h fw (getD (windowIn table 0) bodyPlace 0))
+
+  pub first-as : (h g : Heap) (s u : State) (r : Answer) (m₁ rs₁ fw₁ ps₁ : List ℕ) → h ≡ g → s ≡ u → Ran (runFirst f T l h m rs fw ps s) r m₁ rs₁ fw₁ ps₁
+      → Ran (runFirst f T l g m rs fw ps u) r m₁ rs₁ fw₁ ps₁
+  first-as h g s u r m₁ rs₁ fw₁ ps₁ eh es R = rw (← eh, ← es) R
 
   -- the words of the entry's frame are cleared; there is room for it
   started : (size goal : ℕ) (h : Heap) (fx : List ℕ) → goal ≡ T .body 0 → size ≡ T .size 0 → fx ≡ cleared 1 size fw → h ≡ emptyHeap (holds (length m) 8) (holds (length rs) 2)
@@ -120,10 +138,11 @@ module _ (f : List ℕ) (T : Tables) (l : ℕ) (m rs fw ps : List ℕ) where
   unfolding runFirst wordRun runFrom startWords roomIn lentWords wordsOf
   started size goal h fx eg es ef eh e q = rw (lt-ltb 0 (holds (length fw) 136) q, e, ef, es, eh, eg)
 
-  pub from-start : (limit size goal : ℕ) (h : Heap) (fx m₁ rs₁ fw₁ ps₁ : List ℕ) (r : Answer) → limit ≡ holds (length fw) 136 → (limit ≡ 0 → ⊥) → goal ≡ T .body 0 → size ≡ T .size 0
-      → fx ≡ cleared 1 size fw → h ≡ emptyHeap (holds (length m) 8) (holds (length rs) 2) → length fx ≡ length fw
-      → Ran (runFirst f T l h m rs fx ps (entryState goal)) r m₁ rs₁ fw₁ ps₁ → Ran (wordRun f T m rs fw ps l) r m₁ rs₁ fw₁ ps₁
-  from-start limit size goal h fx m₁ rs₁ fw₁ ps₁ r el z eg es ef eh e R = rw (← started size goal h fx eg es ef eh e (omega arith)) R
+  pub from-start : (table : List ℕ) (limit size : ℕ) (fx m₁ rs₁ fw₁ ps₁ : List ℕ) (r : Answer) → limit ≡ holds (length fw) 136 → (limit ≡ 0 → ⊥)
+      → getD (windowIn table 0) bodyPlace 0 ≡ T .body 0 → size ≡ T .size 0 → fx ≡ cleared 1 size fw → length fx ≡ length fw
+      → Ran (runFirst f T l (emptyHeap (holds (length m) 8) (holds (length rs) 2)) m rs fx ps (firstState table)) r m₁ rs₁ fw₁ ps₁ → Ran (wordRun f T m rs fw ps l) r m₁ rs₁ fw₁ ps₁
+  unfolding firstState
+  from-start table limit size fx m₁ rs₁ fw₁ ps₁ r el z eg es ef e R = rw (← started size (getD (windowIn table 0) bodyPlace 0) _ fx eg es ef refl e (omega arith)) R
 
   none : holds (length fw) 136 ≤ 0 → endedWith (Stopped Frames) 0 (noFrame f T m rs fw ps) ≡ wordRun f T m rs fw ps l
   unfolding wordRun runFrom roomIn lentWords
@@ -133,8 +152,10 @@ module _ (f : List ℕ) (T : Tables) (l : ℕ) (m rs fw ps : List ℕ) where
   unfolding endedWith noFrame endedAt
   none-ran goal = record { ending = refl; steps = refl; printed = refl; cells = refl; regions = refl; frames = refl; prints = refl }
 
-  pub frameless : (limit goal : ℕ) (r : Answer) → limit ≡ holds (length fw) 136 → limit ≡ 0 → r ≡ endedAt (Stopped Frames) 0 (entryState goal) → Ran (wordRun f T m rs fw ps l) r m rs fw ps
-  frameless limit goal r el z er = rw (← none (omega arith), er) (none-ran goal)
+  pub frameless : (table : List ℕ) (limit : ℕ) (s : State) (r : Answer) → limit ≡ holds (length fw) 136 → limit ≡ 0 → s ≡ firstState table → r ≡ endedAt (Stopped Frames) 0 s
+      → Ran (wordRun f T m rs fw ps l) r m rs fw ps
+  unfolding firstState
+  frameless table limit s r el z es er = rw (← none (omega arith), er, es) (none-ran (getD (windowIn table 0) bodyPlace 0))
 
 module _ (f : List ℕ) (T : Tables) (l : ℕ) (m₀ rs₀ fw₀ ps₀ : List ℕ) (o : Outcome) where
   abbrev K : Room

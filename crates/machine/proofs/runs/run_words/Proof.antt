@@ -1,317 +1,81 @@
--- `run_words` meets its contract: what is done so far and the steps still to come make the whole.
+use mathlib.Core.Path.{refl}
+use Rattle.machine.specs.Calls.{body-as, size-as}
+use Rattle.machine.specs.Runs.{from-start, frameless}
 use borrow.Author.Needs.{needs}
-use Prim.Native.Nat.{_-_}
-use native.Mathlib.Omega.{arith}
-use mathlib.Core.Path.{_∙_}
-use Rattle.plans.specs.Plan.{tablesIn}
-use Rattle.frames.specs.Strays.{whole, in-length, past-length}
-use Rattle.machine.specs.Calls.{successor-as, body-as, size-as}
-use Rattle.machine.specs.Runs.{Going, runFirst, first, from-start, frameless, arrives, past-on, kept-on, went-on, run-finished, run-spent, kept-stopped, went-stopped}
-use Rattle.machine.specs.Heaps.{changed, unchanged}
-use native.Mathlib.Omega.{arith}
 use Rattle.machine.proofs.runs.run_words.Statement.{statement}
 use Rattle.machine.proofs.runs.run_words.Tie as tie
 use Rattle.machine.proofs.runs.run_words.Reads as reads
 use Rattle.machine.proofs.runs.run_words.Lts as lts
 use Rattle.frames.proofs.clear.Reads as clear-reads
-use Rattle.machine.proofs.calls.settle.Reads as settle-reads
 use Rattle.machine.proofs.calls.size_of.Reads as size-of-reads
-use Rattle.machine.proofs.goals.successor.Reads as successor-reads
-use Rattle.machine.proofs.heaps.changes_heap.Reads as changes-heap-reads
-use Rattle.machine.proofs.heaps.keep.Reads as keep-reads
 use Rattle.machine.proofs.runs.ended.Reads as ended-reads
-use Rattle.machine.proofs.steps.go.Reads as go-reads
-use Rattle.machine.proofs.steps.onward.Reads as onward-reads
-use Rattle.memory.proofs.empty.Reads as empty-reads
+use Rattle.machine.proofs.runs.first_state.Reads as first-state-reads
+use Rattle.machine.proofs.runs.run_on.Reads as run-on-reads
 use Rattle.memory.proofs.room.Reads as room-reads
-use Rattle.records.proofs.word_in.Reads as word-in-reads
-use Rattle.tables.proofs.body_of.Reads as body-of-reads
 
-abbrev Inv-loop : tie.InvT-loop
-Inv-loop file plan images table cells₀ regions₀ frames₀ prints₀ steps state₀ heap₀ done₀ cells regions frames prints state heap done =
-    Going file (tablesIn file plan images table) steps cells₀ regions₀ frames₀ prints₀ (runFirst file (tablesIn file plan images table) steps heap₀ cells₀ regions₀ frames₀ prints₀ state₀) done heap cells regions frames prints state
-
-abbrev μ-loop : tie.MeasureT-loop
-μ-loop file plan images table cells₀ regions₀ frames₀ prints₀ steps state₀ heap₀ done₀ cells regions frames prints state heap done =
-    steps - done
-
--- src/runs.rt:62:15
-body-of-requires : tie.Need-body-of-requires Inv-loop μ-loop
-body-of-requires c κs = search needs
-
--- src/runs.rt:65:8
-room-requires : tie.Need-room-requires Inv-loop μ-loop
+-- src/runs.rt:133:8
+room-requires : tie.Need-room-requires
 room-requires c κs = search needs
 
--- src/runs.rt:66:9
-ended-requires : tie.Need-ended-requires Inv-loop μ-loop
+-- src/runs.rt:134:56
+first-state-requires : tie.Need-first-state-requires
+first-state-requires c κs = search needs
+
+-- src/runs.rt:134:9
+ended-requires : tie.Need-ended-requires
 ended-requires c κs = search needs
 
--- src/runs.rt:66:9
-returns : tie.Need-returns Inv-loop μ-loop
-returns c = frameless _ _ _ _ _ _ _ _ _ _ (c .before .before .room .ensures) (c .before .if1 .taken) (c .ended .ensures)
+-- src/runs.rt:134:9
+returns : tie.Need-returns
+returns c = frameless _ _ _ _ _ _ _ (c .before .before .before .before .before .before .before .before .before .before .before .args .table .now) _ _ _ (c .before .before .before .room .ensures) (c .before .before .if1 .taken) (c .before .first-state .ensures) (c .ended .ensures)
 
--- src/runs.rt:68:31
-size-of-requires : tie.Need-size-of-requires Inv-loop μ-loop
+-- src/runs.rt:136:22
+size-of-requires : tie.Need-size-of-requires
 size-of-requires c κs = search needs
 
--- src/runs.rt:68:5
-clear-requires : tie.Need-clear-requires Inv-loop μ-loop
+-- src/runs.rt:136:5
+clear-requires : tie.Need-clear-requires
 clear-requires c κs = search needs
 
--- src/runs.rt:69:9
-empty-requires : tie.Need-empty-requires Inv-loop μ-loop
-empty-requires c κs = search needs
+-- src/runs.rt:137:5
+run-on-requires : tie.Need-run-on-requires
+run-on-requires c κs = search needs
 
--- src/runs.rt:71:5
-loop-holds : tie.Need-loop-holds Inv-loop μ-loop
-loop-holds c = first _ _ _ _ _ (c .before .before .before .before .before .before .before .before .before .before .before .before .before .before .before .before .before .before .args .frames .now) _ _ _ _
+-- src/runs.rt:116:1
+same-length : tie.Need-same-length
+same-length c = search needs
 
--- src/runs.rt:72:13
-settle-requires : tie.Need-settle-requires Inv-loop μ-loop
-settle-requires c κs = search needs
+-- src/runs.rt:116:1
+same-length-2 : tie.Need-same-length-2
+same-length-2 c = search needs
 
--- src/runs.rt:75:13
-ended-requires-2 : tie.Need-ended-requires-2 Inv-loop μ-loop
-ended-requires-2 c κs = search needs
+-- src/runs.rt:116:1
+same-length-3 : tie.Need-same-length-3
+same-length-3 c = search needs
 
--- src/runs.rt:75:13
-same-length : tie.Need-same-length Inv-loop μ-loop
-same-length c = c .before .before .before .before .before .before .loop .inv .cells
+-- src/runs.rt:116:1
+same-length-4 : tie.Need-same-length-4
+same-length-4 c = search needs
 
--- src/runs.rt:75:13
-same-length-2 : tie.Need-same-length-2 Inv-loop μ-loop
-same-length-2 c = c .before .before .before .before .before .before .loop .inv .regions
-
--- src/runs.rt:75:13
-same-length-3 : tie.Need-same-length-3 Inv-loop μ-loop
-same-length-3 c = c .before .before .before .before .settle .kept .1 .1 .1 .1 .1 .0 ∙ c .before .before .before .before .before .before .loop .inv .frames ∙ c .before .before .before .before .before .before .before .before .before .before .before .before .clear .kept .0
-
--- src/runs.rt:75:13
-same-length-4 : tie.Need-same-length-4 Inv-loop μ-loop
-same-length-4 c = c .before .before .before .before .before .before .loop .inv .prints
-
--- src/runs.rt:75:13
-returns-2 : tie.Need-returns-2 Inv-loop μ-loop
+-- src/runs.rt:116:1
+returns-2 : tie.Need-returns-2
 returns-2 c =
-    from-start _ _ _ _ _ (c .before .before .before .before .before .before .before .before .before .before .before .before .before .before .before .before .before .before .before .before .before .before .before .before .before .args .frames .now) _ _ _ _ _ _ _ _ _ _ _ (c .before .before .before .before .before .before .before .before .before .before .before .before .before .before .before .before .room .ensures) (c .before .before .before .before .before .before .before .before .before .before .before .before .before .before .before .if1 .left) (body-as _ _ _ _ _ _ (c .before .before .before .before .before .before .before .before .before .before .before .before .before .before .before .before .before .body-of .ensures)) (size-as _ _ _ _ _ _ (c .before .before .before .before .before .before .before .before .before .before .before .before .before .size-of .ensures)) (c .before .before .before .before .before .before .before .before .before .before .before .before .clear .ensures)
-    (c .before .before .before .before .before .before .before .empty .ensures) (c .before .before .before .before .before .before .before .before .before .before .before .before .clear .kept .0)
-    (run-finished _ _ _ _ _ _ _ _ _ _ _ _ _ _ _ (arrives _ _ _ _ _ _ _ _ _ _ _ _ _ _ _ _ _ (c .before .before .before .before .before .before .loop .inv) (c .before .before .before .before .settle .ensures) (c .before .before .before .before .settle .kept .1 .1 .1 .1 .1 .0)) _ (c .before .if2 .taken) (c .ended2 .ensures))
-
--- src/runs.rt:78:13
-ended-requires-3 : tie.Need-ended-requires-3 Inv-loop μ-loop
-ended-requires-3 c κs = search needs
-
--- src/runs.rt:78:13
-same-length-5 : tie.Need-same-length-5 Inv-loop μ-loop
-same-length-5 c = c .before .before .before .before .before .before .before .loop .inv .cells
-
--- src/runs.rt:78:13
-same-length-6 : tie.Need-same-length-6 Inv-loop μ-loop
-same-length-6 c = c .before .before .before .before .before .before .before .loop .inv .regions
-
--- src/runs.rt:78:13
-same-length-7 : tie.Need-same-length-7 Inv-loop μ-loop
-same-length-7 c = c .before .before .before .before .before .settle .kept .1 .1 .1 .1 .1 .0 ∙ c .before .before .before .before .before .before .before .loop .inv .frames ∙ c .before .before .before .before .before .before .before .before .before .before .before .before .before .clear .kept .0
-
--- src/runs.rt:78:13
-same-length-8 : tie.Need-same-length-8 Inv-loop μ-loop
-same-length-8 c = c .before .before .before .before .before .before .before .loop .inv .prints
-
--- src/runs.rt:78:13
-returns-3 : tie.Need-returns-3 Inv-loop μ-loop
-returns-3 c =
-    from-start _ _ _ _ _ (c .before .before .before .before .before .before .before .before .before .before .before .before .before .before .before .before .before .before .before .before .before .before .before .before .before .before .args .frames .now) _ _ _ _ _ _ _ _ _ _ _ (c .before .before .before .before .before .before .before .before .before .before .before .before .before .before .before .before .before .room .ensures) (c .before .before .before .before .before .before .before .before .before .before .before .before .before .before .before .before .if1 .left) (body-as _ _ _ _ _ _ (c .before .before .before .before .before .before .before .before .before .before .before .before .before .before .before .before .before .before .body-of .ensures)) (size-as _ _ _ _ _ _ (c .before .before .before .before .before .before .before .before .before .before .before .before .before .before .size-of .ensures)) (c .before .before .before .before .before .before .before .before .before .before .before .before .before .clear .ensures)
-    (c .before .before .before .before .before .before .before .before .empty .ensures) (c .before .before .before .before .before .before .before .before .before .before .before .before .before .clear .kept .0)
-    (run-spent _ _ _ _ _ _ _ _ _ _ _ _ _ _ _ (arrives _ _ _ _ _ _ _ _ _ _ _ _ _ _ _ _ _ (c .before .before .before .before .before .before .before .loop .inv) (c .before .before .before .before .before .settle .ensures) (c .before .before .before .before .before .settle .kept .1 .1 .1 .1 .1 .0)) _ (c .before .before .if2 .left) (c .before .if3 .taken) (c .ended3 .ensures))
-
--- src/runs.rt:82:13
-add-done : tie.Need-add-done Inv-loop μ-loop
-add-done c = let a = c .before .if3 .left in let b = c .before .before .before .before .before .before .before .before .before .before .before .before .before .before .before .before .before .before .before .before .before .before .before .before .before .before .fits .steps .fits in search needs
-
--- src/runs.rt:71:5
-loop-less : tie.Need-loop-less Inv-loop μ-loop
-loop-less c = omega (arith, c .before .if3 .left)
-
--- src/runs.rt:71:5
-loop-again : tie.Need-loop-again Inv-loop μ-loop
-loop-again c = past-on _ _ _ _ _ _ _ _ _ _ _ _ _ _ _ (arrives _ _ _ _ _ _ _ _ _ _ _ _ _ _ _ _ _ (c .before .before .before .before .before .before .before .loop .inv) (c .before .before .before .before .before .settle .ensures) (c .before .before .before .before .before .settle .kept .1 .1 .1 .1 .1 .0)) (c .before .before .before .before .before .before .before .before .before .before .before .before .before .before .before .before .before .before .before .before .before .before .before .before .before .before .pre .0) (c .before .before .if2 .left) (c .before .if3 .left) (past-length (c .before .before .before .before .before .before .before .before .before .before .before .before .before .before .before .before .before .before .before .before .before .before .before .before .before .before .pre .0) _ (c .if4 .taken))
-
--- src/runs.rt:85:25
-word-in-requires : tie.Need-word-in-requires Inv-loop μ-loop
-word-in-requires c κs = let w = whole (c .before .before .before .before .before .before .before .before .before .before .before .before .before .before .before .before .before .before .before .before .before .before .before .before .before .before .pre .0) _ (in-length (c .before .before .before .before .before .before .before .before .before .before .before .before .before .before .before .before .before .before .before .before .before .before .before .before .before .before .pre .0) _ (c .if4 .left)) in search needs
-
--- src/runs.rt:85:12
-changes-heap-requires : tie.Need-changes-heap-requires Inv-loop μ-loop
-changes-heap-requires c κs = search needs
-
--- src/runs.rt:86:17
-keep-requires : tie.Need-keep-requires Inv-loop μ-loop
-keep-requires c κs = (c .before .before .before .before .before .before .before .before .before .before .before .before .before .before .before .before .before .before .before .before .before .before .before .before .before .before .before .before .before .before .before .before .pre .0, ((in-length (c .before .before .before .before .before .before .before .before .before .before .before .before .before .before .before .before .before .before .before .before .before .before .before .before .before .before .before .before .before .before .before .before .pre .0) _ (c .before .before .before .before .before .before .if4 .left)), changed _ _ _ (c .before .before .before .before .before .word-in .ensures .0) (c .before .before .before .before .changes-heap .ensures) (c .before .before .before .if5 .taken)))
-
--- src/runs.rt:88:28
-enum-known-kept : tie.Need-enum-known-kept Inv-loop μ-loop
-enum-known-kept c = search needs
-
--- src/runs.rt:90:42
-successor-requires : tie.Need-successor-requires Inv-loop μ-loop
-successor-requires c κs = let w = whole (c .before .before .before .before .before .before .before .before .before .before .before .before .before .before .before .before .before .before .before .before .before .before .before .before .before .before .before .before .before .before .before .before .before .before .before .before .before .before .before .before .before .before .pre .0) _ (in-length (c .before .before .before .before .before .before .before .before .before .before .before .before .before .before .before .before .before .before .before .before .before .before .before .before .before .before .before .before .before .before .before .before .before .before .before .before .before .before .before .before .before .before .pre .0) _ (c .before .before .before .before .before .before .before .before .before .before .before .before .before .before .before .before .if4 .left)) in search needs
-
--- src/runs.rt:90:21
-onward-requires : tie.Need-onward-requires Inv-loop μ-loop
-onward-requires c κs = search needs
-
--- src/runs.rt:91:21
-add-done-2 : tie.Need-add-done-2 Inv-loop μ-loop
-add-done-2 c = let a = c .before .before .before .before .before .before .before .before .before .before .before .before .before .before .before .before .before .before .before .if3 .left in let b = c .before .before .before .before .before .before .before .before .before .before .before .before .before .before .before .before .before .before .before .before .before .before .before .before .before .before .before .before .before .before .before .before .before .before .before .before .before .before .before .before .before .before .before .before .fits .steps .fits in search needs
-
--- src/runs.rt:71:5
-loop-less-2 : tie.Need-loop-less-2 Inv-loop μ-loop
-loop-less-2 c = omega (arith, c .before .before .before .before .before .before .before .before .before .before .before .before .before .before .before .before .before .before .before .if3 .left)
-
--- src/runs.rt:71:5
-loop-again-2 : tie.Need-loop-again-2 Inv-loop μ-loop
-loop-again-2 c =
-    kept-on _ _ _ _ _ _ _ _ _ _ _ _ _ _ _ (arrives _ _ _ _ _ _ _ _ _ _ _ _ _ _ _ _ _ (c .before .before .before .before .before .before .before .before .before .before .before .before .before .before .before .before .before .before .before .before .before .before .before .before .before .loop .inv) (c .before .before .before .before .before .before .before .before .before .before .before .before .before .before .before .before .before .before .before .before .before .before .before .settle .ensures) (c .before .before .before .before .before .before .before .before .before .before .before .before .before .before .before .before .before .before .before .before .before .before .before .settle .kept .1 .1 .1 .1 .1 .0)) _ _ _ _ _ _ _ (c .before .before .before .before .before .before .before .before .before .before .before .before .before .before .before .before .before .before .before .before .if2 .left) (c .before .before .before .before .before .before .before .before .before .before .before .before .before .before .before .before .before .before .before .if3 .left) (c .before .before .before .before .before .before .before .before .before .before .before .keep .ensures _ _) (c .before .before .before .kept .given .1) (successor-as _ _ _ _ _ _ (c .before .successor .ensures .0)) (c .onward .ensures)
-    (c .before .before .before .before .before .before .before .before .before .before .before .keep .kept .1 .1 .1 .1 .0) (c .before .before .before .before .before .before .before .before .before .before .before .keep .kept .1 .1 .1 .1 .1 .0) (c .before .before .before .before .before .before .before .before .before .before .before .keep .kept .1 .1 .1 .1 .1 .1 .0)
-
--- src/runs.rt:94:29
-enum-known-kept-2 : tie.Need-enum-known-kept-2 Inv-loop μ-loop
-enum-known-kept-2 c = search needs
-
--- src/runs.rt:94:38
-ended-requires-4 : tie.Need-ended-requires-4 Inv-loop μ-loop
-ended-requires-4 c κs = search needs
-
--- src/runs.rt:94:38
-same-length-9 : tie.Need-same-length-9 Inv-loop μ-loop
-same-length-9 c = c .before .before .before .before .before .before .before .before .before .before .keep .kept .1 .1 .1 .1 .0 ∙ c .before .before .before .before .before .before .before .before .before .before .before .before .before .before .before .before .before .before .before .before .before .before .before .before .loop .inv .cells
-
--- src/runs.rt:94:38
-same-length-10 : tie.Need-same-length-10 Inv-loop μ-loop
-same-length-10 c = c .before .before .before .before .before .before .before .before .before .before .keep .kept .1 .1 .1 .1 .1 .0 ∙ c .before .before .before .before .before .before .before .before .before .before .before .before .before .before .before .before .before .before .before .before .before .before .before .before .loop .inv .regions
-
--- src/runs.rt:94:38
-same-length-11 : tie.Need-same-length-11 Inv-loop μ-loop
-same-length-11 c = c .before .before .before .before .before .before .before .before .before .before .keep .kept .1 .1 .1 .1 .1 .1 .0 ∙ c .before .before .before .before .before .before .before .before .before .before .before .before .before .before .before .before .before .before .before .before .before .before .settle .kept .1 .1 .1 .1 .1 .0 ∙ c .before .before .before .before .before .before .before .before .before .before .before .before .before .before .before .before .before .before .before .before .before .before .before .before .loop .inv .frames ∙ c .before .before .before .before .before .before .before .before .before .before .before .before .before .before .before .before .before .before .before .before .before .before .before .before .before .before .before .before .before .before .clear .kept .0
-
--- src/runs.rt:94:38
-same-length-12 : tie.Need-same-length-12 Inv-loop μ-loop
-same-length-12 c = c .before .before .before .before .before .before .before .before .before .before .before .before .before .before .before .before .before .before .before .before .before .before .before .before .loop .inv .prints
-
--- src/runs.rt:94:38
-returns-4 : tie.Need-returns-4 Inv-loop μ-loop
-returns-4 c =
-    from-start _ _ _ _ _ (c .before .before .before .before .before .before .before .before .before .before .before .before .before .before .before .before .before .before .before .before .before .before .before .before .before .before .before .before .before .before .before .before .before .before .before .before .before .before .before .before .before .before .before .args .frames .now) _ _ _ _ _ _ _ _ _ _ _ (c .before .before .before .before .before .before .before .before .before .before .before .before .before .before .before .before .before .before .before .before .before .before .before .before .before .before .before .before .before .before .before .before .before .before .room .ensures) (c .before .before .before .before .before .before .before .before .before .before .before .before .before .before .before .before .before .before .before .before .before .before .before .before .before .before .before .before .before .before .before .before .before .if1 .left) (body-as _ _ _ _ _ _ (c .before .before .before .before .before .before .before .before .before .before .before .before .before .before .before .before .before .before .before .before .before .before .before .before .before .before .before .before .before .before .before .before .before .before .before .body-of .ensures)) (size-as _ _ _ _ _ _ (c .before .before .before .before .before .before .before .before .before .before .before .before .before .before .before .before .before .before .before .before .before .before .before .before .before .before .before .before .before .before .before .size-of .ensures)) (c .before .before .before .before .before .before .before .before .before .before .before .before .before .before .before .before .before .before .before .before .before .before .before .before .before .before .before .before .before .before .clear .ensures)
-    (c .before .before .before .before .before .before .before .before .before .before .before .before .before .before .before .before .before .before .before .before .before .before .before .before .before .empty .ensures) (c .before .before .before .before .before .before .before .before .before .before .before .before .before .before .before .before .before .before .before .before .before .before .before .before .before .before .before .before .before .before .clear .kept .0)
-    (kept-stopped _ _ _ _ _ _ _ _ _ _ _ _ _ _ _ (arrives _ _ _ _ _ _ _ _ _ _ _ _ _ _ _ _ _ (c .before .before .before .before .before .before .before .before .before .before .before .before .before .before .before .before .before .before .before .before .before .before .before .before .loop .inv) (c .before .before .before .before .before .before .before .before .before .before .before .before .before .before .before .before .before .before .before .before .before .before .settle .ensures) (c .before .before .before .before .before .before .before .before .before .before .before .before .before .before .before .before .before .before .before .before .before .before .settle .kept .1 .1 .1 .1 .1 .0)) _ _ _ _ _ _ (c .before .before .before .before .before .before .before .before .before .before .before .before .before .before .before .before .before .before .before .if2 .left) (c .before .before .before .before .before .before .before .before .before .before .before .before .before .before .before .before .before .before .if3 .left) (c .before .before .before .before .before .before .before .before .before .before .keep .ensures _ _) (c .before .before .kept2 .given .1) (c .ended4 .ensures))
-
--- src/runs.rt:97:13
-go-requires : tie.Need-go-requires Inv-loop μ-loop
-go-requires c κs = (c .before .before .before .before .before .before .before .before .before .before .before .before .before .before .before .before .before .before .before .before .before .before .before .before .before .before .before .before .before .before .before .before .pre .0, (c .before .before .before .before .before .before .before .before .before .before .before .before .before .before .before .before .before .before .before .before .before .before .before .before .before .before .before .before .before .before .before .before .pre .1, ((in-length (c .before .before .before .before .before .before .before .before .before .before .before .before .before .before .before .before .before .before .before .before .before .before .before .before .before .before .before .before .before .before .before .before .pre .0) _ (c .before .before .before .before .before .before .if4 .left)), unchanged _ _ _ (c .before .before .before .before .before .word-in .ensures .0) (c .before .before .before .before .changes-heap .ensures) (c .before .before .before .if5 .left))))
-
--- src/runs.rt:99:24
-enum-known-went : tie.Need-enum-known-went Inv-loop μ-loop
-enum-known-went c = search needs
-
--- src/runs.rt:101:17
-add-done-3 : tie.Need-add-done-3 Inv-loop μ-loop
-add-done-3 c = let a = c .before .before .before .before .before .before .before .before .before .before .before .before .before .before .before .if3 .left in let b = c .before .before .before .before .before .before .before .before .before .before .before .before .before .before .before .before .before .before .before .before .before .before .before .before .before .before .before .before .before .before .before .before .before .before .before .before .before .before .before .before .fits .steps .fits in search needs
-
--- src/runs.rt:71:5
-loop-less-3 : tie.Need-loop-less-3 Inv-loop μ-loop
-loop-less-3 c = omega (arith, c .before .before .before .before .before .before .before .before .before .before .before .before .before .before .before .if3 .left)
-
--- src/runs.rt:71:5
-loop-again-3 : tie.Need-loop-again-3 Inv-loop μ-loop
-loop-again-3 c = went-on _ _ _ _ _ _ _ _ _ _ _ _ _ _ _ (arrives _ _ _ _ _ _ _ _ _ _ _ _ _ _ _ _ _ (c .before .before .before .before .before .before .before .before .before .before .before .before .before .before .before .before .before .before .before .before .before .loop .inv) (c .before .before .before .before .before .before .before .before .before .before .before .before .before .before .before .before .before .before .before .settle .ensures) (c .before .before .before .before .before .before .before .before .before .before .before .before .before .before .before .before .before .before .before .settle .kept .1 .1 .1 .1 .1 .0)) _ _ _ _ (c .before .before .before .before .before .before .before .before .before .before .before .before .before .before .before .before .if2 .left) (c .before .before .before .before .before .before .before .before .before .before .before .before .before .before .before .if3 .left) (c .before .before .before .before .before .before .before .go .ensures) (c .before .went .given .1) (c .before .before .before .before .before .before .before .go .kept .1 .1 .1 .1 .1 .1 .0) (c .before .before .before .before .before .before .before .go .kept .1 .1 .1 .1 .1 .1 .1 .0)
-
--- src/runs.rt:103:25
-enum-known-went-2 : tie.Need-enum-known-went-2 Inv-loop μ-loop
-enum-known-went-2 c = search needs
-
--- src/runs.rt:103:34
-ended-requires-5 : tie.Need-ended-requires-5 Inv-loop μ-loop
-ended-requires-5 c κs = search needs
-
--- src/runs.rt:103:34
-same-length-13 : tie.Need-same-length-13 Inv-loop μ-loop
-same-length-13 c = c .before .before .before .before .before .before .before .before .before .before .before .before .before .before .before .before .before .before .before .before .before .before .loop .inv .cells
-
--- src/runs.rt:103:34
-same-length-14 : tie.Need-same-length-14 Inv-loop μ-loop
-same-length-14 c = c .before .before .before .before .before .before .before .before .before .before .before .before .before .before .before .before .before .before .before .before .before .before .loop .inv .regions
-
--- src/runs.rt:103:34
-same-length-15 : tie.Need-same-length-15 Inv-loop μ-loop
-same-length-15 c = c .before .before .before .before .before .before .before .before .go .kept .1 .1 .1 .1 .1 .1 .0 ∙ c .before .before .before .before .before .before .before .before .before .before .before .before .before .before .before .before .before .before .before .before .settle .kept .1 .1 .1 .1 .1 .0 ∙ c .before .before .before .before .before .before .before .before .before .before .before .before .before .before .before .before .before .before .before .before .before .before .loop .inv .frames ∙ c .before .before .before .before .before .before .before .before .before .before .before .before .before .before .before .before .before .before .before .before .before .before .before .before .before .before .before .before .clear .kept .0
-
--- src/runs.rt:103:34
-same-length-16 : tie.Need-same-length-16 Inv-loop μ-loop
-same-length-16 c = c .before .before .before .before .before .before .before .before .go .kept .1 .1 .1 .1 .1 .1 .1 .0 ∙ c .before .before .before .before .before .before .before .before .before .before .before .before .before .before .before .before .before .before .before .before .before .before .loop .inv .prints
-
--- src/runs.rt:103:34
-returns-5 : tie.Need-returns-5 Inv-loop μ-loop
-returns-5 c =
-    from-start _ _ _ _ _ (c .before .before .before .before .before .before .before .before .before .before .before .before .before .before .before .before .before .before .before .before .before .before .before .before .before .before .before .before .before .before .before .before .before .before .before .before .before .before .before .before .before .args .frames .now) _ _ _ _ _ _ _ _ _ _ _ (c .before .before .before .before .before .before .before .before .before .before .before .before .before .before .before .before .before .before .before .before .before .before .before .before .before .before .before .before .before .before .before .before .room .ensures) (c .before .before .before .before .before .before .before .before .before .before .before .before .before .before .before .before .before .before .before .before .before .before .before .before .before .before .before .before .before .before .before .if1 .left) (body-as _ _ _ _ _ _ (c .before .before .before .before .before .before .before .before .before .before .before .before .before .before .before .before .before .before .before .before .before .before .before .before .before .before .before .before .before .before .before .before .before .body-of .ensures)) (size-as _ _ _ _ _ _ (c .before .before .before .before .before .before .before .before .before .before .before .before .before .before .before .before .before .before .before .before .before .before .before .before .before .before .before .before .before .size-of .ensures)) (c .before .before .before .before .before .before .before .before .before .before .before .before .before .before .before .before .before .before .before .before .before .before .before .before .before .before .before .before .clear .ensures)
-    (c .before .before .before .before .before .before .before .before .before .before .before .before .before .before .before .before .before .before .before .before .before .before .before .empty .ensures) (c .before .before .before .before .before .before .before .before .before .before .before .before .before .before .before .before .before .before .before .before .before .before .before .before .before .before .before .before .clear .kept .0)
-    (went-stopped _ _ _ _ _ _ _ _ _ _ _ _ _ _ _ (arrives _ _ _ _ _ _ _ _ _ _ _ _ _ _ _ _ _ (c .before .before .before .before .before .before .before .before .before .before .before .before .before .before .before .before .before .before .before .before .before .before .loop .inv) (c .before .before .before .before .before .before .before .before .before .before .before .before .before .before .before .before .before .before .before .before .settle .ensures) (c .before .before .before .before .before .before .before .before .before .before .before .before .before .before .before .before .before .before .before .before .settle .kept .1 .1 .1 .1 .1 .0)) _ _ _ _ _ (c .before .before .before .before .before .before .before .before .before .before .before .before .before .before .before .before .before .if2 .left) (c .before .before .before .before .before .before .before .before .before .before .before .before .before .before .before .before .if3 .left) (c .before .before .before .before .before .before .before .before .go .ensures) (c .before .before .went2 .given .1) (c .ended5 .ensures))
+    from-start _ _ _ _ _ (c .before .before .before .before .before .before .before .before .before .before .before .before .before .before .before .before .before .before .before .before .before .before .before .before .before .before .before .args .frames .now) _ (c .before .before .before .before .before .before .before .before .before .before .before .before .before .before .before .before .before .before .before .before .before .before .before .before .before .before .before .args .table .now) _ _ _ _ _ _ _ _ (c .before .before .before .before .before .before .before .before .before .before .before .before .before .before .before .before .before .before .before .room .ensures) (c .before .before .before .before .before .before .before .before .before .before .before .before .before .before .before .before .before .before .if1 .left) (body-as _ _ _ _ _ _ refl) (size-as _ _ _ _ _ _ (c .before .before .before .before .before .before .before .before .before .before .before .before .before .before .before .before .size-of .ensures)) (c .before .before .before .before .before .before .before .before .before .before .before .before .before .before .before .clear .ensures)
+    (c .before .before .before .before .before .before .before .before .before .before .before .before .before .before .before .clear .kept .0) (c .before .before .before .before .before .before .before .before .run-on .ensures)
 
 pub run-words-spec : {M : Type 1} → statement M
 run-words-spec =
     tie.close
     (tie.spec
-    Inv-loop
-    μ-loop
-    body-of-requires
     room-requires
+    first-state-requires
     ended-requires
     returns
     size-of-requires
     clear-requires
-    empty-requires
-    loop-holds
-    settle-requires
-    ended-requires-2
+    run-on-requires
     same-length
     same-length-2
     same-length-3
     same-length-4
-    returns-2
-    ended-requires-3
-    same-length-5
-    same-length-6
-    same-length-7
-    same-length-8
-    returns-3
-    add-done
-    loop-less
-    loop-again
-    word-in-requires
-    changes-heap-requires
-    keep-requires
-    enum-known-kept
-    successor-requires
-    onward-requires
-    add-done-2
-    loop-less-2
-    loop-again-2
-    enum-known-kept-2
-    ended-requires-4
-    same-length-9
-    same-length-10
-    same-length-11
-    same-length-12
-    returns-4
-    go-requires
-    enum-known-went
-    add-done-3
-    loop-less-3
-    loop-again-3
-    enum-known-went-2
-    ended-requires-5
-    same-length-13
-    same-length-14
-    same-length-15
-    same-length-16
-    returns-5)
+    returns-2)
