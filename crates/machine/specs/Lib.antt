@@ -5,3 +5,4 @@ pub mod Calls
 pub mod Steps
 pub mod Heaps
 pub mod Runs
+pub mod Joining
