@@ -1,0 +1,69 @@
+-- `left_is_accepted` meets its contract.
+use mathlib.Core.Path.{refl, sym, _∙_}
+use lib.Seq.{length-take-le}
+use Rattle.rules.specs.Stages.{not-accepted}
+use Rattle.agreement.specs.Agreement.{leaves-sound, check-accepts, written-within}
+use borrow.Author.Needs.{needs}
+use Rattle.agreement.proofs.left_is_accepted.Statement.{statement}
+use Rattle.agreement.proofs.left_is_accepted.Tie as tie
+
+annotate-requires : tie.Need-annotate-requires
+annotate-requires c κs = search needs
+
+enum-known-n : tie.Need-enum-known-n
+enum-known-n c = search needs
+
+enum-told : tie.Need-enum-told
+enum-told c = search needs
+
+same-length : tie.Need-same-length
+same-length c = search needs
+
+returns : tie.Need-returns
+returns c = (refl, leaves-sound _ (c .before .before .before .before .before .before .before .before .args .out .now) (c .before .before .before .before .annotate .ensures))
+
+slice-reshare-prefix-check : tie.Need-slice-reshare-prefix-check
+slice-reshare-prefix-check c = written-within _ (c .before .before .before .before .before .before .before .before .before .args .out .now) (c .before .before .before .before .before .annotate .ensures) (c .before .n .given .1)
+
+slice-aggregate-check : tie.Need-slice-aggregate-check
+slice-aggregate-check c = sym (length-take-le _ _ (written-within _ (c .before .before .before .before .before .before .before .before .before .before .args .out .now) (c .before .before .before .before .before .before .annotate .ensures) (c .before .before .n .given .1)))
+
+check-requires : tie.Need-check-requires
+check-requires c κs = search needs
+
+enum-told-2 : tie.Need-enum-told-2
+enum-told-2 c = search needs
+
+enum-told-3 : tie.Need-enum-told-3
+enum-told-3 c = search needs
+
+same-length-2 : tie.Need-same-length-2
+same-length-2 c = search needs
+
+returns-2 : tie.Need-returns-2
+returns-2 c = not-accepted (sym (c .enum-told3 .given .1) ∙ check-accepts _ (c .before .before .before .before .before .before .before .before .before .before .before .before .before .args .out .now) (c .before .before .before .before .before .before .before .before .before .annotate .ensures) (c .before .before .before .before .before .n .given .1) (c .before .before .check .ensures))
+
+same-length-3 : tie.Need-same-length-3
+same-length-3 c = search needs
+
+returns-3 : tie.Need-returns-3
+returns-3 c = (refl, leaves-sound _ (c .before .before .before .before .before .before .before .before .before .before .before .before .before .args .out .now) (c .before .before .before .before .before .before .before .before .before .annotate .ensures))
+
+pub left-is-accepted-spec : {M : Type 1} → statement M
+left-is-accepted-spec =
+    tie.close
+    (tie.spec
+    annotate-requires
+    enum-known-n
+    enum-told
+    same-length
+    returns
+    slice-reshare-prefix-check
+    slice-aggregate-check
+    check-requires
+    enum-told-2
+    enum-told-3
+    same-length-2
+    returns-2
+    same-length-3
+    returns-3)

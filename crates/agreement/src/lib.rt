@@ -1,0 +1,24 @@
+// Demand 3 about the code: the annotator and the checker as they run, joined with the theorem about the definitions.
+use annotation::Annotated;
+use annotation::annotate;
+use checking::check;
+use language::Verdict;
+ghost use mathlib.Core.Path.{_≡_};
+ghost use mathlib.Core.Bool.{true};
+ghost use lib.ListN.{length};
+ghost use Rattle.language.specs.Answers.{annotated};
+ghost use Rattle.agreement.specs.Agreement.{LeavesSound};
+
+// Annotates, then checks the bytes that were left. Whatever the file and the memory, the checker accepts them: the answer is never false.
+pub fn left_is_accepted(file: &[u8], out: &mut [u8]) -> bool
+    ensures { λ b. ⌜ b ≡ true ⌝ }
+    ensures { λ _. ⌜ LeavesSound (annotated (now (file .entry)) (length (now (out .entry)))) (now (out .exit)) ⌝ }
+{
+    let Annotated::Written(n) = annotate(file, out) else {
+        return true;
+    };
+    let Verdict::Accepted = check(&out[..n]) else {
+        return false;
+    };
+    true
+}
