@@ -1,7 +1,9 @@
-// Puts the jobs of each pack that an argument names to the checker, and prints the name of each and the checker's line.
+// Puts the jobs of each pack that an argument names to the checker and to the annotator, and prints the name of each, the checker's line, and what the
+// annotator writes.
 //
 // A pack is jobs one behind the other, as tools/pack-jobs writes them: the length of the name in one byte, the name, the length of the file in three
 // bytes, low byte first, and the file.
+use answering::print_annotated;
 use answering::print_checked;
 use libc::STDOUT_FILENO;
 ghost use Prim.Native.Nat.{_≤_};
@@ -55,6 +57,7 @@ fn try_file(fd: i32, n: usize) {
     let mut file = memory();
     let k = next_bytes(fd, &mut file, n);
     print_checked(&file[..k]);
+    print_annotated(&file[..k]);
 }
 
 // Whether there was a job.
