@@ -1,11 +1,13 @@
 // Answers on standard output. The programs and `vectors` write by the same functions, so that the gate sees what each writes for files of every answer.
 mod annotated;
+mod ran;
 
 pub use annotated::print_annotated;
 use checking::check;
 use libc::STDERR_FILENO;
 use libc::STDOUT_FILENO;
 use lines::checker_output;
+pub use ran::print_run;
 ghost use Rattle.language.specs.Answers.{checked};
 ghost use Rattle.language.specs.Output.{checkerOutput};
 ghost use Rattle.lines.specs.Put.{Front};

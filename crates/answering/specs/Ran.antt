@@ -1,0 +1,74 @@
+-- What the runner program lends, and what it prints.
+use Prim.Native.Nat.{ℕ, _+_, _*_, _≤_}
+use native.Mathlib.Omega.{arith}
+use mathlib.Core.Path.{_≡_, refl, sym, ap, subst, _∙_}
+use mathlib.Core.List.{List, _++_, map}
+use lib.ListN.{length, take}
+use lib.Seq.{length-take-le}
+use mir.Syntax.{w32}
+use mir.Val.{toZ}
+use Rattle.language.specs.declared.Refusal.{Refusal}
+use Rattle.language.specs.declared.Verdict.the-variants.{Refused}
+use Rattle.language.specs.Machine.{Lent, runnerLent}
+use Rattle.language.specs.Answers.{checked, runFor, ran}
+use Rattle.language.specs.Output.{numberLines, refusalLine, endingLine, runnerOutput}
+use Rattle.lines.specs.Put.{Put, Front, put-front}
+use Rattle.lines.specs.Answers.{refusal-length}
+use Rattle.word_machine.specs.Machine.{lentWords}
+use Rattle.machine.specs.declared.Outcome.{Outcome}
+use Rattle.machine.specs.Joining.{RanAs}
+
+-- words for 1,024 cells, 1,024 regions, 100 frames and 1,024 printed numbers; steps; bytes of the lines
+abbrev pub cellWords : ℕ
+cellWords = 8192
+
+abbrev pub regionWords : ℕ
+regionWords = 2048
+
+abbrev pub frameWords : ℕ
+frameWords = 13600
+
+abbrev pub printWords : ℕ
+printWords = 1024
+
+abbrev pub stepsLent : ℕ
+stepsLent = 1000000
+
+abbrev pub outputBytes : ℕ
+outputBytes = 12320
+
+lent : ℕ → ℕ → ℕ → ℕ → Lent
+lent a b c d = record { cellWords = a; regionWords = b; frameWords = c; printWords = d; steps = stepsLent }
+
+-- they are what the definition lends
+pub lent-is : (m rs fw ps : List ℕ) → cellWords ≡ length m → regionWords ≡ length rs → frameWords ≡ length fw → printWords ≡ length ps
+    → lentWords m rs fw ps stepsLent ≡ runnerLent
+unfolding lentWords runnerLent lent
+lent-is m rs fw ps a b c d =
+    ap (λ k. lent k (length rs) (length fw) (length ps)) (sym a) ∙ ap (λ k. lent cellWords k (length fw) (length ps)) (sym b)
+    ∙ ap (λ k. lent cellWords regionWords k (length ps)) (sym c) ∙ ap (λ k. lent cellWords regionWords frameWords k) (sym d)
+
+-- ---- the lines
+pub prints-run : {f m rs fw ps px b e : List ℕ} {r : Outcome} {k : ℕ} → lentWords m rs fw ps stepsLent ≡ runnerLent → RanAs f m rs fw ps stepsLent r px
+    → Front (numberLines (map (toZ w32) (take (r .printed) px)) ++ endingLine (r .ending) (r .steps)) b e k → Front (runnerOutput (ran f runnerLent)) b e k
+unfolding runnerOutput
+prints-run {f} {m} {rs} {fw} {ps} {b = b} {e = e} {r = r} {k = k} l h p =
+    let R = ran f (lentWords m rs fw ps stepsLent) in
+    subst (λ s. Front s b e k)
+    (ap (λ zs. numberLines zs ++ endingLine (r .ending) (r .steps)) (h .printed .front)
+    ∙ ap (λ x. numberLines (R .printed) ++ endingLine x (r .steps)) (h .ending)
+    ∙ ap (λ n. numberLines (R .printed) ++ endingLine (R .ending) n) (h .steps)
+    ∙ ap (λ n. runnerOutput (ran f n)) l) p
+
+pub prints-refusal : (f : List ℕ) {b e : List ℕ} {k : ℕ} {v : Refusal} → checked f ≡ Refused v → outputBytes ≡ length b → Put b 0 (refusalLine v) e k
+    → Front (runnerOutput (ran f runnerLent)) b e k
+unfolding runnerOutput ran runFor numberLines endingLine
+prints-refusal f {b} {e} {k} {v} c l p =
+    subst (λ s. Front s b e k) (sym (ap (λ w. runnerOutput (runFor w f runnerLent)) c)) (put-front p (omega (arith, refusal-length v, l)))
+
+-- ---- room for them
+pub printed-fit : {f m rs fw ps px : List ℕ} {r : Outcome} → RanAs f m rs fw ps stepsLent r px → r .printed ≡ length (take (r .printed) px)
+printed-fit {px = px} {r = r} h = sym (length-take-le (r .printed) px (h .printed .room))
+
+pub few-printed : {f m rs fw px : List ℕ} (ps : List ℕ) {r : Outcome} → printWords ≡ length ps → RanAs f m rs fw ps stepsLent r px → r .printed ≤ printWords
+few-printed ps d h = omega (arith, d, h .printed .long, h .printed .room)

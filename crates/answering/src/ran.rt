@@ -1,0 +1,94 @@
+// The runner's answer on standard output.
+use checking::check;
+use language::Verdict;
+use libc::STDERR_FILENO;
+use libc::STDOUT_FILENO;
+use lines::put_refusal;
+use lines::runner_output;
+use running::run_accepted;
+ghost use mathlib.Core.Path.{_≡_};
+ghost use lib.ListN.{length};
+ghost use Rattle.language.specs.declared.Verdict.the-variants.{Accepted};
+ghost use Rattle.language.specs.Machine.{runnerLent};
+ghost use Rattle.language.specs.Answers.{checked, ran};
+ghost use Rattle.language.specs.Output.{runnerOutput};
+ghost use Rattle.lines.specs.Put.{Front};
+ghost use Rattle.answering.specs.Ran.{cellWords, regionWords, frameWords, printWords, outputBytes};
+
+// "The runner program has 1,024 cells, 1,024 regions, 100 frames, 1,024 prints, 1,000,000 steps": 8, 2, 136 words and 1 each.
+fn cell_words() -> [u32; 8192]
+    ensures { λ r. ⌜ cellWords ≡ length r ⌝ }
+{
+    [0; 8192]
+}
+
+fn region_words() -> [u32; 2048]
+    ensures { λ r. ⌜ regionWords ≡ length r ⌝ }
+{
+    [0; 2048]
+}
+
+fn frame_words() -> [u32; 13600]
+    ensures { λ r. ⌜ frameWords ≡ length r ⌝ }
+{
+    [0; 13600]
+}
+
+fn print_words() -> [u32; 1024]
+    ensures { λ r. ⌜ printWords ≡ length r ⌝ }
+{
+    [0; 1024]
+}
+
+const STEPS: usize = 1000000;
+
+// Room for the lines: 12 bytes for each number printed, 32 for the ending.
+fn output() -> [u8; 12320]
+    ensures { λ r. ⌜ outputBytes ≡ length r ⌝ }
+{
+    [0; 12320]
+}
+
+// What the runner prints for an accepted file, at the front of `out`. Answers how many bytes that are. The memory is lent here, where the stack of
+// the checker's walks is given back.
+fn accepted_answer(file: &[u8], out: &mut [u8]) -> usize
+    requires { ⌜ checked (now file) ≡ Accepted ⌝ }
+    requires { ⌜ outputBytes ≡ length (now out) ⌝ }
+    ensures { λ n. ⌜ Front (runnerOutput (ran (now (file .entry)) runnerLent)) (now (out .entry)) (now (out .exit)) n ⌝ }
+{
+    let mut cells = cell_words();
+    let mut regions = region_words();
+    let mut frames = frame_words();
+    let mut prints = print_words();
+    let r = run_accepted(
+        file,
+        &mut cells,
+        &mut regions,
+        &mut frames,
+        &mut prints,
+        STEPS,
+    );
+    let n = r.printed;
+    let ending = r.ending;
+    runner_output(&prints[..n], ending, r.steps as u64, out)
+}
+
+// What the runner prints for any bytes.
+fn runner_answer(file: &[u8], out: &mut [u8]) -> usize
+    requires { ⌜ outputBytes ≡ length (now out) ⌝ }
+    ensures { λ n. ⌜ Front (runnerOutput (ran (now (file .entry)) runnerLent)) (now (out .entry)) (now (out .exit)) n ⌝ }
+{
+    if let Verdict::Refused(r) = check(file) {
+        return put_refusal(out, 0, r);
+    }
+    accepted_answer(file, out)
+}
+
+// Writes that and nothing else; where it cannot be written, a message to standard error.
+pub fn print_run(file: &[u8]) {
+    let mut out = output();
+    let n = runner_answer(file, &mut out);
+    if !io::write_all(STDOUT_FILENO, &out[..n]) {
+        io::write_all(STDERR_FILENO, b"the answer could not be written\n");
+    }
+}
