@@ -6,7 +6,6 @@ mod stages;
 pub use answer::annotate;
 pub use front::annotated_front;
 use language::Refusal;
-pub use stages::check_annotatable;
 
 // The cause of a refusal, or how many bytes of the lent memory are the annotated file.
 pub enum Annotated {

@@ -48,7 +48,8 @@ fn run_tabled(
     )
 }
 
-// A run in lent words for cells, regions, frames and printed numbers. The tables that it reads are filled first.
+// A run in lent words for cells, regions, frames and printed numbers. The tables that it reads are filled first. The words lent for cells, regions and
+// frames are free afterwards.
 pub fn run_accepted(
     file: &[u8],
     cells: &mut [u32],
