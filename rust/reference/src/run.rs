@@ -1,0 +1,271 @@
+//! "The machine": the accepted file's run in lent memory.
+
+use crate::file::{arguments, Arm, Goal, Program};
+use crate::regions::{mapping, Facts};
+use crate::values::members;
+
+/// Lent 32-bit words for each sort, and steps.
+#[derive(Clone, Copy, Debug)]
+pub struct Lent {
+    pub cells: usize,
+    pub regions: usize,
+    pub frames: usize,
+    pub prints: usize,
+    pub steps: u64,
+}
+
+impl Lent {
+    /// "The runner program has 1,024 cells, 1,024 regions, 100 frames, 1,024 prints, 1,000,000 steps."
+    pub fn program() -> Lent {
+        Lent { cells: 8 * 1024, regions: 2 * 1024, frames: 136 * 100, prints: 1024, steps: 1_000_000 }
+    }
+}
+
+#[derive(Clone, Copy, Debug, PartialEq)]
+pub enum Ending {
+    Refused(u8),
+    Finished,
+    Stopped(u8),
+}
+
+/// The most of each sort held at once.
+#[derive(Clone, Copy, Debug, Default, PartialEq)]
+pub struct Most {
+    pub cells: usize,
+    pub regions: usize,
+    pub frames: usize,
+}
+
+#[derive(Clone, Debug, PartialEq)]
+pub struct Run {
+    pub ending: Ending,
+    pub steps: u64,
+    pub printed: Vec<i32>,
+    pub most: Most,
+    /// Regions made in all.
+    pub made: usize,
+}
+
+impl Run {
+    pub fn refused(number: u8) -> Run {
+        Run { ending: Ending::Refused(number), steps: 0, printed: Vec::new(), most: Most::default(), made: 0 }
+    }
+
+    /// The lines that the runner program writes.
+    pub fn lines(&self) -> String {
+        let numbers: String = self.printed.iter().map(|n| format!("{n}\n")).collect();
+        numbers
+            + &match self.ending {
+                Ending::Refused(n) => format!("refused {n}\n"),
+                Ending::Finished => format!("finished {}\n", self.steps),
+                Ending::Stopped(n) => format!("stopped {n} {}\n", self.steps),
+            }
+    }
+}
+
+#[derive(Clone, Copy)]
+enum Value {
+    Number(i32),
+    Cell(usize),
+}
+
+struct Cell {
+    functor: usize,
+    values: Vec<Value>,
+    region: usize,
+}
+
+struct Frame<'a> {
+    procedure: usize,
+    /// The goals still to do: slices, the one to go on with last.
+    goals: Vec<&'a [Goal]>,
+    values: Vec<Value>,
+    regions: Vec<usize>,
+    call: &'a [usize],
+}
+
+struct Machine<'a> {
+    program: &'a Program,
+    facts: Vec<Facts>,
+    frames: Vec<Frame<'a>>,
+    cells: Vec<Cell>,
+    /// Cells of each region ever made; none once it is removed.
+    alive: Vec<Option<usize>>,
+    cells_held: usize,
+    regions_held: usize,
+    printed: Vec<i32>,
+    most: Most,
+}
+
+fn holds(words: usize, each: usize) -> usize {
+    (words / each).min(65535)
+}
+
+impl<'a> Machine<'a> {
+    fn frame(&mut self, procedure: usize, call: &'a [usize]) -> Frame<'a> {
+        let p = &self.program.procedures[procedure];
+        Frame {
+            procedure,
+            goals: vec![&p.goals],
+            values: vec![Value::Number(0); p.variables.len() + 1],
+            regions: vec![0; p.regions.len() + 1],
+            call,
+        }
+    }
+
+    /// "Whenever the newest frame has no goals left, it goes at once."
+    fn settle(&mut self) {
+        while let Some(f) = self.frames.last_mut() {
+            while f.goals.last().is_some_and(|g| g.is_empty()) {
+                f.goals.pop();
+            }
+            if !f.goals.is_empty() {
+                return;
+            }
+            let gone = self.frames.pop().unwrap();
+            let Some(caller) = self.frames.last_mut() else { return };
+            let callee = &self.program.procedures[gone.procedure];
+            let images = mapping(&self.program.procedures[caller.procedure], callee, gone.call).unwrap();
+            for (&p, &a) in callee.parameters().iter().zip(gone.call) {
+                if callee.mode(p) == 2 {
+                    caller.values[a] = gone.values[p];
+                }
+            }
+            for r in members(self.facts[gone.procedure].born) {
+                caller.regions[images[r]] = gone.regions[r];
+            }
+        }
+    }
+
+    fn note_most(&mut self) {
+        self.most.cells = self.most.cells.max(self.cells_held);
+        self.most.regions = self.most.regions.max(self.regions_held);
+        self.most.frames = self.most.frames.max(self.frames.len());
+    }
+
+    /// What the next step lacks.
+    fn lacks(&self, goal: &Goal, lent: &Lent) -> Option<u8> {
+        match goal {
+            Goal::Construct(..) if self.cells_held >= holds(lent.cells, 8) => Some(11),
+            Goal::Create(_) if self.regions_held >= holds(lent.regions, 2) => Some(12),
+            Goal::Call(..) if self.frames.len() >= holds(lent.frames, 136) => Some(13),
+            Goal::Print(_) if self.printed.len() >= holds(lent.prints, 1) => Some(14),
+            _ => None,
+        }
+    }
+
+    fn number(&self, x: usize) -> i32 {
+        match self.frames.last().unwrap().values[x] {
+            Value::Number(n) => n,
+            Value::Cell(_) => unreachable!("number 3 has passed"),
+        }
+    }
+
+    fn step(&mut self, goal: &'a Goal) {
+        let top = self.frames.len() - 1;
+        match goal {
+            Goal::Literal(x, v) => self.frames[top].values[*x] = Value::Number(*v as i16 as i32),
+            Goal::Sum(x, o, y, z) => {
+                let (a, b) = (self.number(*y), self.number(*z));
+                let n = if *o == 0 { a.wrapping_add(b) } else { a.wrapping_sub(b) };
+                self.frames[top].values[*x] = Value::Number(n);
+            }
+            Goal::Assign(x, y) => self.frames[top].values[*x] = self.frames[top].values[*y],
+            Goal::Construct(x, f, a) => {
+                let frame = &mut self.frames[top];
+                let region = frame.regions[self.program.procedures[frame.procedure].home(*x)];
+                let values = arguments(a).iter().map(|&y| frame.values[y]).collect();
+                frame.values[*x] = Value::Cell(self.cells.len());
+                self.cells.push(Cell { functor: *f, values, region });
+                *self.alive[region].as_mut().expect("builds in a living region") += 1;
+                self.cells_held += 1;
+            }
+            Goal::Switch(x, arms) => {
+                let Value::Cell(c) = self.frames[top].values[*x] else { unreachable!("number 3 has passed") };
+                let cell = &self.cells[c];
+                assert!(self.alive[cell.region].is_some(), "reads in a living region");
+                let arm: &Arm = &arms[cell.functor];
+                for (&y, &v) in arguments(&arm.arguments).iter().zip(&cell.values) {
+                    self.frames[top].values[y] = v;
+                }
+                self.frames[top].goals.push(&arm.goals);
+            }
+            Goal::If(y, z, a, b) => {
+                let part = if self.number(*y) < self.number(*z) { a } else { b };
+                self.frames[top].goals.push(part);
+            }
+            Goal::Call(q, names) => {
+                let mut callee = self.frame(*q, names);
+                let caller = &self.frames[top];
+                let p = &self.program.procedures[*q];
+                let images = mapping(&self.program.procedures[caller.procedure], p, names).unwrap();
+                for (&p_, &a) in p.parameters().iter().zip(names) {
+                    if p.mode(p_) == 1 {
+                        callee.values[p_] = caller.values[a];
+                    }
+                }
+                for r in members(self.facts[*q].dead | self.facts[*q].kept) {
+                    callee.regions[r] = caller.regions[images[r]];
+                }
+                self.frames.push(callee);
+            }
+            Goal::Print(y) => {
+                let n = self.number(*y);
+                self.printed.push(n);
+            }
+            Goal::Create(r) => {
+                self.frames[top].regions[*r] = self.alive.len();
+                self.alive.push(Some(0));
+                self.regions_held += 1;
+            }
+            Goal::Remove(r) => {
+                let region = self.frames[top].regions[*r];
+                self.cells_held -= self.alive[region].take().expect("removes a living region");
+                self.regions_held -= 1;
+            }
+        }
+    }
+}
+
+/// The run of an accepted program.
+pub fn run(program: &Program, lent: &Lent) -> Run {
+    let facts = program.procedures.iter().map(Facts::new).collect();
+    let mut m = Machine {
+        program,
+        facts,
+        frames: Vec::new(),
+        cells: Vec::new(),
+        alive: vec![None],
+        cells_held: 0,
+        regions_held: 0,
+        printed: Vec::new(),
+        most: Most::default(),
+    };
+    let mut steps = 0;
+    let ending = 'run: {
+        if holds(lent.frames, 136) == 0 {
+            break 'run Ending::Stopped(13);
+        }
+        let entry = m.frame(0, &[]);
+        m.frames.push(entry);
+        m.note_most();
+        m.settle();
+        while let Some(frame) = m.frames.last() {
+            if steps == lent.steps {
+                break 'run Ending::Stopped(10);
+            }
+            let goal = &frame.goals.last().unwrap()[0];
+            if let Some(number) = m.lacks(goal, lent) {
+                break 'run Ending::Stopped(number);
+            }
+            let rest = m.frames.last_mut().unwrap().goals.last_mut().unwrap();
+            *rest = &rest[1..];
+            m.step(goal);
+            steps += 1;
+            m.note_most();
+            m.settle();
+        }
+        Ending::Finished
+    };
+    Run { ending, steps, printed: m.printed, most: m.most, made: m.alive.len() - 1 }
+}
