@@ -6,13 +6,14 @@ use language::Verdict;
 ghost use mathlib.Core.Path.{_≡_};
 ghost use mathlib.Core.Bool.{true};
 ghost use lib.ListN.{length};
-ghost use Rattle.language.specs.Answers.{annotated};
+ghost use Rattle.language.specs.Answers.{annotated, annotatorMemory};
 ghost use Rattle.agreement.specs.Agreement.{LeavesSound};
 
-// Annotates, then checks the bytes that were left. Whatever the file and the memory, the checker accepts them: the answer is never false.
+// Annotates, then checks the bytes that were left, in memory that stands as the annotator leaves it. Whatever the file and the memory, the checker accepts them: the answer is never false.
 pub fn left_is_accepted(file: &[u8], out: &mut [u8]) -> bool
     ensures { λ b. ⌜ b ≡ true ⌝ }
     ensures { λ _. ⌜ LeavesSound (annotated (now (file .entry)) (length (now (out .entry)))) (now (out .exit)) ⌝ }
+    ensures { λ _. ⌜ now (out .exit) ≡ annotatorMemory (annotated (now (file .entry)) (length (now (out .entry)))) (now (out .entry)) ⌝ }
 {
     let Annotated::Written(n) = annotate(file, out) else {
         return true;

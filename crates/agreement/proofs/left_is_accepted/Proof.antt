@@ -20,7 +20,9 @@ same-length : tie.Need-same-length
 same-length c = search needs
 
 returns : tie.Need-returns
-returns c = (refl, leaves-sound _ (c .before .before .before .before .before .before .before .before .args .out .now) (c .before .before .before .before .annotate .ensures))
+returns c =
+    let h = c .before .before .before .before .annotate .ensures in
+    (refl, (leaves-sound _ (c .before .before .before .before .before .before .before .before .args .out .now) h, h .1))
 
 slice-reshare-prefix-check : tie.Need-slice-reshare-prefix-check
 slice-reshare-prefix-check c = written-within _ (c .before .before .before .before .before .before .before .before .before .args .out .now) (c .before .before .before .before .before .annotate .ensures) (c .before .n .given .1)
@@ -47,7 +49,9 @@ same-length-3 : tie.Need-same-length-3
 same-length-3 c = search needs
 
 returns-3 : tie.Need-returns-3
-returns-3 c = (refl, leaves-sound _ (c .before .before .before .before .before .before .before .before .before .before .before .before .before .args .out .now) (c .before .before .before .before .before .before .before .before .before .annotate .ensures))
+returns-3 c =
+    let h = c .before .before .before .before .before .before .before .before .before .annotate .ensures in
+    (refl, (leaves-sound _ (c .before .before .before .before .before .before .before .before .before .before .before .before .before .args .out .now) h, h .1))
 
 pub left-is-accepted-spec : {M : Type 1} → statement M
 left-is-accepted-spec =
