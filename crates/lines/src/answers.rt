@@ -17,7 +17,8 @@ use crate::numbers::put_decimal;
 use crate::numbers::put_signed;
 use crate::text::put_text;
 
-fn refusal_number(r: Refusal) -> u64
+// The table's numbers.
+pub fn refusal_number(r: Refusal) -> u64
     ensures { λ n. ⌜ n ≡ refusalNumber r ⌝ }
 {
     match r {
@@ -33,7 +34,7 @@ fn refusal_number(r: Refusal) -> u64
     }
 }
 
-fn stop_number(c: Stop) -> u64
+pub fn stop_number(c: Stop) -> u64
     ensures { λ n. ⌜ n ≡ stopNumber c ⌝ }
 {
     match c {
