@@ -17,6 +17,15 @@ class Fault(Exception):
     """What is wrong with a text or a file, with the place."""
 
 
+def read(path):
+    """The bytes of a file."""
+    try:
+        with open(path, 'rb') as source:
+            return source.read()
+    except OSError as error:
+        raise Fault(f'{path}: {error.strerror}')
+
+
 # ---- a file's records in written order
 class Node:
     """A record: its kind, and words 2 to 7, each a number or the list of nodes of the chain that it leads to."""
@@ -180,17 +189,19 @@ class Reader:
                 types.append(self.type(self.joined(line)))
             else:
                 starts.append((line, self.at))
-                self.skip()
+                self.skip(line)
         for line, self.at in starts:
             procedures.append(self.procedure(line))
         if not procedures:
             raise Fault(f'{self.source}: the text has no procedure')
         return written(procedures, types)
 
-    def skip(self):
+    def skip(self, start):
         """To the end of a procedure: every switch and every if has an end of its own."""
         still = 1
         while still:
+            if self.at == len(self.lines) or self.lines[self.at].peek() in ('type', 'procedure'):
+                start.fail(start.peek(), 'starts here and has no "end"; every switch and every if needs one of its own too')
             word = self.next().peek()
             still += (word in ('switch', 'if')) - (word == 'end')
 
@@ -361,6 +372,17 @@ def assemble(source, text):
     return Reader(source, text).read()
 
 
+def assemble_bytes(source, data):
+    """.. of what stands in a file."""
+    try:
+        text = data.decode('utf-8')
+    except UnicodeDecodeError:
+        text = '\0'
+    if '\0' in text:
+        raise Fault(f'{source}: is no text')
+    return assemble(source, text)
+
+
 # ---- file to text
 class Lister:
     """A file that passes number 3, as text."""
@@ -494,5 +516,8 @@ class Lister:
         self.put('end')
 
 
-def listing(data):
-    return Lister(data).text()
+def listing(data, source='file'):
+    try:
+        return Lister(data).text()
+    except Fault as fault:
+        raise Fault(f'{source}: {fault}')
