@@ -1,10 +1,8 @@
 //! Puts generated and damaged job files to the proved programs and to the reference, and compares the answers.
 //!
 //!     cargo run --release -p compare -- FOLDER FILES [SEED]     FOLDER has the programs annotator, checker and runner, as target/bin
-mod generate;
-mod random;
-
-use random::Random;
+use compare::generate;
+use compare::random::Random;
 use reference::Lent;
 use std::collections::BTreeMap;
 use std::io::Write;

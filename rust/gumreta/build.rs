@@ -1,0 +1,16 @@
+//! Links the proved static library, `target/staticlib/liblibrary.a` of the repository, or of the folder that GUMRETA_LIBRARY names.
+use std::path::PathBuf;
+
+fn main() {
+    println!("cargo:rerun-if-env-changed=GUMRETA_LIBRARY");
+    let folder = std::env::var_os("GUMRETA_LIBRARY")
+        .map_or_else(|| PathBuf::from(std::env::var_os("CARGO_MANIFEST_DIR").unwrap()).join("../../target/staticlib"), PathBuf::from);
+    let archive = folder.join("liblibrary.a");
+    if !archive.is_file() {
+        eprintln!("{} is missing: `rt staticlib library`, at the root of the repository, proves and writes it", archive.display());
+        std::process::exit(1);
+    }
+    println!("cargo:rerun-if-changed={}", archive.display());
+    println!("cargo:rustc-link-search=native={}", folder.display());
+    println!("cargo:rustc-link-lib=static=library");
+}

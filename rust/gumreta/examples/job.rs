@@ -1,0 +1,33 @@
+//! Annotates a job file, checks and runs it, and prints its log and how it ended: cargo run --release -p gumreta --example job -- FILE
+use gumreta::{annotate, check, run, Ending, Memory, MAX_BYTES};
+use std::error::Error;
+
+fn job(path: &str) -> Result<(), Box<dyn Error>> {
+    let file = std::fs::read(path).map_err(|e| format!("{path}: {e}"))?;
+    let mut out = vec![0; MAX_BYTES];
+    let annotated = annotate(&file, &mut out)?;
+    println!("annotated: {} records", annotated.len() / 16);
+    check(annotated)?;
+    println!("accepted");
+    let mut memory = Memory::program();
+    let ran = run(annotated, memory.lent(), 1_000_000)?;
+    for n in ran.printed() {
+        println!("{n}");
+    }
+    match ran.ending {
+        Ending::Finished => println!("finished after {} steps", ran.steps),
+        Ending::Stopped(stop) => return Err(stop.to_string().into()),
+    }
+    Ok(())
+}
+
+fn main() {
+    let Some(path) = std::env::args().nth(1) else {
+        eprintln!("usage: job FILE (a job file without creates and removes)");
+        std::process::exit(2);
+    };
+    if let Err(error) = job(&path) {
+        eprintln!("{error}");
+        std::process::exit(1);
+    }
+}
