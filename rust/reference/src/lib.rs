@@ -9,7 +9,7 @@ mod run;
 mod typing;
 mod values;
 
-pub use run::{Ending, Lent, Most, Run};
+pub use run::{Ending, Held, Lent, Most, Run};
 
 use file::Program;
 
@@ -37,8 +37,13 @@ pub fn check(bytes: &[u8]) -> Result<(), u8> {
 
 /// The runner in lent memory.
 pub fn run(bytes: &[u8], lent: &Lent) -> Run {
+    run_watched(bytes, lent, &mut |_| {})
+}
+
+/// .. with what is held at the start and after each step.
+pub fn run_watched(bytes: &[u8], lent: &Lent, watch: &mut dyn FnMut(Held)) -> Run {
     match accepted(bytes) {
-        Ok(program) => run::run(&program, lent),
+        Ok(program) => run::run(&program, lent, watch),
         Err(number) => Run::refused(number),
     }
 }

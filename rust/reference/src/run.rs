@@ -36,6 +36,16 @@ pub struct Most {
     pub frames: usize,
 }
 
+/// What is held after so many steps, and the procedure at work: the newest frame's.
+#[derive(Clone, Copy, Debug, PartialEq)]
+pub struct Held {
+    pub steps: u64,
+    pub cells: usize,
+    pub regions: usize,
+    pub frames: usize,
+    pub procedure: usize,
+}
+
 #[derive(Clone, Debug, PartialEq)]
 pub struct Run {
     pub ending: Ending,
@@ -137,7 +147,10 @@ impl<'a> Machine<'a> {
         }
     }
 
-    fn note_most(&mut self) {
+    /// What is held once a step is done, before frames without goals go.
+    fn note(&mut self, steps: u64, watch: &mut dyn FnMut(Held)) {
+        let procedure = self.frames.last().map_or(0, |f| f.procedure);
+        watch(Held { steps, cells: self.cells_held, regions: self.regions_held, frames: self.frames.len(), procedure });
         self.most.cells = self.most.cells.max(self.cells_held);
         self.most.regions = self.most.regions.max(self.regions_held);
         self.most.frames = self.most.frames.max(self.frames.len());
@@ -227,8 +240,8 @@ impl<'a> Machine<'a> {
     }
 }
 
-/// The run of an accepted program.
-pub fn run(program: &Program, lent: &Lent) -> Run {
+/// The run of an accepted program; `watch` sees what is held at the start and after each step.
+pub fn run(program: &Program, lent: &Lent, watch: &mut dyn FnMut(Held)) -> Run {
     let facts = program.procedures.iter().map(Facts::new).collect();
     let mut m = Machine {
         program,
@@ -248,7 +261,7 @@ pub fn run(program: &Program, lent: &Lent) -> Run {
         }
         let entry = m.frame(0, &[]);
         m.frames.push(entry);
-        m.note_most();
+        m.note(0, watch);
         m.settle();
         while let Some(frame) = m.frames.last() {
             if steps == lent.steps {
@@ -262,7 +275,7 @@ pub fn run(program: &Program, lent: &Lent) -> Run {
             *rest = &rest[1..];
             m.step(goal);
             steps += 1;
-            m.note_most();
+            m.note(steps, watch);
             m.settle();
         }
         Ending::Finished

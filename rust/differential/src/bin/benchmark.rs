@@ -3,8 +3,8 @@
 //!     cargo run --release -p differential --bin benchmark -- FOLDER ..     folders of job files, as tools/worst-cases and tools/long-runs write them
 //!
 //! A job without creates and removes goes to the annotator; the checker and the runner get what the annotator writes, or the job itself where it writes
-//! nothing. The runner has the runner program's memory and steps. Milliseconds are the least of several calls. Instructions are counted by valgrind where that is
-//! installed: the program calls itself for one call and for two, and the difference is one call's.
+//! nothing. The runner has the runner program's memory and steps. Milliseconds are the least of several calls. Instructions are counted by valgrind, where that is
+//! installed and a call takes less than 50 ms: the program calls itself for one call and for two, and the difference is one call's.
 use std::hint::black_box;
 use std::path::{Path, PathBuf};
 use std::process::{exit, Command};
@@ -13,7 +13,7 @@ use std::time::{Duration, Instant};
 const LENT: usize = 65536;
 const STEPS: u64 = 1_000_000;
 /// A call is repeated until this time is spent on it, at least thrice.
-const ENOUGH: Duration = Duration::from_millis(200);
+const ENOUGH: Duration = Duration::from_millis(100);
 
 #[derive(Clone, Copy, PartialEq)]
 enum Whose {
@@ -118,11 +118,17 @@ fn row(name: &str, program: (&str, Program), file: &[u8], copy: &Path) -> bool {
     let (ours, answer) = bench.milliseconds(Whose::Ours, program.1, file);
     let (theirs, right) = bench.milliseconds(Whose::Reference, program.1, file);
     std::fs::write(copy, file).expect("a copy of the file");
-    let counts = BOTH.map(|(whose, _)| instructions(whose, program.0, copy));
-    let slower = if ours > theirs { "  slower" } else { "" };
+    let counts = [(BOTH[0].0, ours), (BOTH[1].0, theirs)].map(|(whose, ms)| if ms < 50.0 { instructions(whose, program.0, copy) } else { None });
+    let more = counts[0].zip(counts[1]).is_some_and(|(a, b)| a > b);
+    let note = match (ours > theirs, more) {
+        (false, false) => "",
+        (true, false) => " slower",
+        (false, true) => " more instructions",
+        (true, true) => " slower, more instructions",
+    };
     let said = format!("{}{}", answer.0, if answer.1 == 0 { String::new() } else { format!(" {}", answer.1) });
     println!(
-        "| {:<9} | {:<22} | {:>5} | {:<11} | {:>9.3} | {:>9.3} | {:>6.1} | {:>9} | {:>9} |{slower}",
+        "| {:<9} | {:<22} | {:>5} | {:<11} | {:>9.3} | {:>9.3} | {:>6.1} | {:>9} | {:>9} |{note} |",
         program.0,
         name,
         file.len() / 16,
@@ -144,15 +150,15 @@ fn jobs(folder: &str) -> Vec<PathBuf> {
         eprintln!("{folder}: {e}");
         exit(2)
     });
-    let mut found: Vec<PathBuf> = listed.map(|f| f.unwrap().path()).filter(|p| p.extension().is_some_and(|e| e == "job")).collect();
+    let mut found: Vec<PathBuf> = listed.map(|f| f.unwrap().path()).filter(|p| p.is_file() && p.extension().is_none_or(|e| e == "job")).collect();
     found.sort();
     found
 }
 
 fn table(folders: Vec<String>) -> bool {
     println!("answer: document 01's number, 0 if done, and the bytes written or the steps done\n");
-    println!("| program   | file                   | recs  | answer      | ours, ms  | Rust, ms  | ratio  | ours, I   | Rust, I   |");
-    println!("|---|---|---|---|---|---|---|---|---|");
+    println!("| program   | file                   | recs  | answer      | ours, ms  | Rust, ms  | ratio  | ours, I   | Rust, I   | |");
+    println!("|---|---|---|---|---|---|---|---|---|---|");
     let copy = std::env::temp_dir().join(format!("benchmark-{}.job", std::process::id()));
     let mut alike = true;
     for program in PROGRAMS {
