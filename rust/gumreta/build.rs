@@ -3,11 +3,16 @@ use std::path::PathBuf;
 
 fn main() {
     println!("cargo:rerun-if-env-changed=GUMRETA_LIBRARY");
-    let folder = std::env::var_os("GUMRETA_LIBRARY")
-        .map_or_else(|| PathBuf::from(std::env::var_os("CARGO_MANIFEST_DIR").unwrap()).join("../../target/staticlib"), PathBuf::from);
+    let folder = std::env::var_os("GUMRETA_LIBRARY").map_or_else(
+        || PathBuf::from(std::env::var_os("CARGO_MANIFEST_DIR").unwrap()).join("../../target/staticlib"),
+        PathBuf::from,
+    );
     let archive = folder.join("liblibrary.a");
     if !archive.is_file() {
-        eprintln!("{} is missing: `rt staticlib library`, at the root of the repository, proves and writes it", archive.display());
+        eprintln!(
+            "{} is missing: `rt staticlib library`, at the root of the repository, proves and writes it",
+            archive.display()
+        );
         std::process::exit(1);
     }
     println!("cargo:rerun-if-changed={}", archive.display());

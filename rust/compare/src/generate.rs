@@ -209,12 +209,8 @@ impl Generator<'_> {
         let q = self.random.below(self.procedures.len());
         let families = self.procedures[self.own].families;
         let onto: Vec<usize> = (0..self.procedures[q].families).map(|_| self.random.below(families)).collect();
-        let parameters: Vec<(u16, u16, usize)> = self.procedures[q]
-            .variables
-            .iter()
-            .filter(|v| v.mode != 0)
-            .map(|v| (v.mode, v.ty, onto[v.family]))
-            .collect();
+        let parameters: Vec<(u16, u16, usize)> =
+            self.procedures[q].variables.iter().filter(|v| v.mode != 0).map(|v| (v.mode, v.ty, onto[v.family])).collect();
         let mut names = Vec::new();
         let mut given = Vec::new();
         for (mode, ty, family) in parameters {
@@ -254,12 +250,8 @@ impl Generator<'_> {
         for family in 0..self.procedures[q].families {
             let reached = |mode: u16, p: &Procedure, types: &Vec<Vec<Vec<u16>>>| {
                 let mut seen = vec![false; n + 1];
-                let mut waiting: Vec<u16> = p
-                    .variables
-                    .iter()
-                    .filter(|v| v.mode == mode && v.ty != 0 && v.family == family)
-                    .map(|v| v.ty)
-                    .collect();
+                let mut waiting: Vec<u16> =
+                    p.variables.iter().filter(|v| v.mode == mode && v.ty != 0 && v.family == family).map(|v| v.ty).collect();
                 while let Some(t) = waiting.pop() {
                     if t != 0 && !seen[t as usize] {
                         seen[t as usize] = true;

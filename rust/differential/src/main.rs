@@ -62,11 +62,14 @@ impl Tally {
 
     fn run(&mut self, file: &[u8], lent: &reference::Lent) {
         let right = reference::run(file, lent);
-        self.counted("runner", &match right.ending {
-            Ending::Refused(n) => format!("refused {n}"),
-            Ending::Finished => "finished".into(),
-            Ending::Stopped(n) => format!("stopped {n}"),
-        });
+        self.counted(
+            "runner",
+            &match right.ending {
+                Ending::Refused(n) => format!("refused {n}"),
+                Ending::Finished => "finished".into(),
+                Ending::Stopped(n) => format!("stopped {n}"),
+            },
+        );
         let (mut cells, mut regions) = (vec![OLD_WORD; lent.cells], vec![OLD_WORD; lent.regions]);
         let (mut frames, mut prints) = (vec![OLD_WORD; lent.frames], vec![OLD_WORD; lent.prints]);
         let memory = gumreta::Lent { cells: &mut cells, regions: &mut regions, frames: &mut frames, prints: &mut prints };
@@ -159,7 +162,10 @@ fn work(files: usize, seed: u64, tables: Vec<String>) -> bool {
     for (answer, n) in &tally.answers {
         println!("{n:8}  {answer}");
     }
-    println!("{} files ({known} of the gate and of tables), {} calls, differences {}", tally.files, tally.calls, tally.differences);
+    println!(
+        "{} files ({known} of the gate and of tables), {} calls, differences {}",
+        tally.files, tally.calls, tally.differences
+    );
     tally.differences == 0
 }
 

@@ -22,12 +22,10 @@ fn live_along(program: &Program, goals: &[Goal], after: Set) -> Vec<Set> {
 
 fn live_before(program: &Program, goal: &Goal, after: Set) -> Set {
     match goal {
-        Goal::Switch(x, arms) => arms.iter().fold(of(*x), |s, a| {
-            s | (live_along(program, &a.goals, after)[0] & !all_of(arguments(&a.arguments)))
-        }),
-        Goal::If(y, z, a, b) => {
-            of(*y) | of(*z) | live_along(program, a, after)[0] | live_along(program, b, after)[0]
+        Goal::Switch(x, arms) => {
+            arms.iter().fold(of(*x), |s, a| s | (live_along(program, &a.goals, after)[0] & !all_of(arguments(&a.arguments))))
         }
+        Goal::If(y, z, a, b) => of(*y) | of(*z) | live_along(program, a, after)[0] | live_along(program, b, after)[0],
         _ => {
             let (reads, gives) = access(program, goal);
             (after & !all_of(&gives)) | all_of(&reads)

@@ -30,9 +30,7 @@ impl Checker<'_> {
     /// "Arms end with equal held regions; sound afterwards is sound after every arm."
     fn join(&self, ends: Vec<State>) -> Option<State> {
         let first = *ends.first()?;
-        ends.iter().try_fold(first, |m, e| {
-            (m.held == e.held).then_some(State { held: m.held, sound: m.sound & e.sound })
-        })
+        ends.iter().try_fold(first, |m, e| (m.held == e.held).then_some(State { held: m.held, sound: m.sound & e.sound }))
     }
 
     fn goal(&self, goal: &Goal, s: State) -> Option<State> {
@@ -41,10 +39,8 @@ impl Checker<'_> {
                 if s.sound & of(*x) == 0 {
                     return None;
                 }
-                let ends: Option<Vec<State>> = arms
-                    .iter()
-                    .map(|a| self.goals(&a.goals, self.give(all_of(arguments(&a.arguments)), s)))
-                    .collect();
+                let ends: Option<Vec<State>> =
+                    arms.iter().map(|a| self.goals(&a.goals, self.give(all_of(arguments(&a.arguments)), s))).collect();
                 self.join(ends?)
             }
             Goal::If(y, z, a, b) => {
@@ -76,7 +72,6 @@ pub fn rules_ok(program: &Program) -> bool {
     program.procedures.iter().all(|p| {
         let c = Checker { program, procedure: p, facts: Facts::new(p) };
         let start = State { held: c.facts.dead | c.facts.kept, sound: of_mode(p, 1) };
-        c.goals(&p.goals, start)
-            .is_some_and(|s| s.held == c.facts.born | c.facts.kept && of_mode(p, 2) & !s.sound == 0)
+        c.goals(&p.goals, start).is_some_and(|s| s.held == c.facts.born | c.facts.kept && of_mode(p, 2) & !s.sound == 0)
     })
 }

@@ -101,13 +101,10 @@ pub fn arguments(words: &[usize; 4]) -> &[usize] {
 
 /// Number 1.
 pub fn words(bytes: &[u8]) -> Option<Words> {
-    if bytes.len() < 16 || bytes.len() > 65536 || bytes.len() % 16 != 0 {
+    if bytes.len() < 16 || bytes.len() > 65536 || !bytes.len().is_multiple_of(16) {
         return None;
     }
-    let words: Words = bytes
-        .chunks(16)
-        .map(|r| std::array::from_fn(|k| u16::from_le_bytes([r[2 * k], r[2 * k + 1]])))
-        .collect();
+    let words: Words = bytes.chunks(16).map(|r| std::array::from_fn(|k| u16::from_le_bytes([r[2 * k], r[2 * k + 1]]))).collect();
     (words[0][0] == 1 && words[0][3] as usize == words.len()).then_some(words)
 }
 

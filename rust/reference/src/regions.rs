@@ -28,8 +28,7 @@ pub struct Facts {
 
 impl Facts {
     pub fn new(p: &Procedure) -> Facts {
-        let reach: Vec<Set> =
-            std::iter::once(0).chain((1..=p.variables.len()).map(|x| reach_from(p, p.home(x)))).collect();
+        let reach: Vec<Set> = std::iter::once(0).chain((1..=p.variables.len()).map(|x| reach_from(p, p.home(x)))).collect();
         let all = |vars: Set| members(vars).fold(0, |s, x| s | reach[x]);
         let inputs = all(of_mode(p, 1));
         let outputs = all(of_mode(p, 2));
@@ -82,9 +81,7 @@ fn goals_ok(program: &Program, p: &Procedure, goals: &[Goal]) -> bool {
     goals.iter().all(|g| match g {
         Goal::Assign(x, y) => p.home(*x) == p.home(*y),
         Goal::Construct(x, f, a) => term_ok(p, *x, *f, a),
-        Goal::Switch(x, arms) => {
-            arms.iter().all(|a| term_ok(p, *x, a.functor, &a.arguments) && goals_ok(program, p, &a.goals))
-        }
+        Goal::Switch(x, arms) => arms.iter().all(|a| term_ok(p, *x, a.functor, &a.arguments) && goals_ok(program, p, &a.goals)),
         Goal::If(_, _, a, b) => goals_ok(program, p, a) && goals_ok(program, p, b),
         Goal::Call(q, names) => mapping(p, &program.procedures[*q], names).is_some(),
         _ => true,

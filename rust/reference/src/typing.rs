@@ -107,9 +107,8 @@ impl Scope<'_> {
 
 pub fn typing_ok(program: &Program) -> bool {
     let types = program.types.len();
-    let functor_ok = |f: &Functor| {
-        f.arity <= 4 && f.types.iter().enumerate().all(|(k, &t)| if k < f.arity { t <= types } else { t == 0 })
-    };
+    let functor_ok =
+        |f: &Functor| f.arity <= 4 && f.types.iter().enumerate().all(|(k, &t)| if k < f.arity { t <= types } else { t == 0 });
     types <= 64
         && program.types.iter().all(|t| !t.is_empty() && t.len() <= 32 && t.iter().all(functor_ok))
         && !program.procedures.is_empty()

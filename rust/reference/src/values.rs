@@ -31,9 +31,8 @@ pub fn access(program: &Program, goal: &Goal) -> (Vec<usize>, Vec<usize>) {
         Goal::Print(y) => (vec![*y], vec![]),
         Goal::Call(q, names) => {
             let callee = &program.procedures[*q];
-            let of_mode = |m| {
-                callee.parameters().iter().zip(names).filter(|(&p, _)| callee.mode(p) == m).map(|(_, &a)| a).collect()
-            };
+            let of_mode =
+                |m| callee.parameters().iter().zip(names).filter(|(&p, _)| callee.mode(p) == m).map(|(_, &a)| a).collect();
             (of_mode(1), of_mode(2))
         }
         _ => (vec![], vec![]),

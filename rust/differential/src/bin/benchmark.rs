@@ -28,7 +28,8 @@ enum Program {
     Runner,
 }
 
-const PROGRAMS: [(&str, Program); 3] = [("annotator", Program::Annotator), ("checker", Program::Checker), ("runner", Program::Runner)];
+const PROGRAMS: [(&str, Program); 3] =
+    [("annotator", Program::Annotator), ("checker", Program::Checker), ("runner", Program::Runner)];
 const BOTH: [(&str, Whose); 2] = [("ours", Whose::Ours), ("reference", Whose::Reference)];
 
 /// What a call answers, in a few words; the two must agree.
@@ -46,7 +47,9 @@ impl Bench {
 
     fn ours(&mut self, program: Program, file: &[u8]) -> Answer {
         match program {
-            Program::Annotator => gumreta::annotate(file, &mut self.out).map_or_else(|r| (r.number() as u64, 0), |a| (0, a.len() as u64)),
+            Program::Annotator => {
+                gumreta::annotate(file, &mut self.out).map_or_else(|r| (r.number() as u64, 0), |a| (0, a.len() as u64))
+            }
             Program::Checker => gumreta::check(file).map_or_else(|r| (r.number() as u64, 0), |_| (0, 0)),
             Program::Runner => match gumreta::run(file, self.memory.lent(), STEPS as usize) {
                 Err(r) => (r.number() as u64, 0),
@@ -118,7 +121,9 @@ fn row(name: &str, program: (&str, Program), file: &[u8], copy: &Path) -> bool {
     let (ours, answer) = bench.milliseconds(Whose::Ours, program.1, file);
     let (theirs, right) = bench.milliseconds(Whose::Reference, program.1, file);
     std::fs::write(copy, file).expect("a copy of the file");
-    let counts = [(BOTH[0].0, ours), (BOTH[1].0, theirs)].map(|(whose, ms)| if ms < 50.0 { instructions(whose, program.0, copy) } else { None });
+    let counts =
+        [(BOTH[0].0, ours), (BOTH[1].0, theirs)]
+            .map(|(whose, ms)| if ms < 50.0 { instructions(whose, program.0, copy) } else { None });
     let more = counts[0].zip(counts[1]).is_some_and(|(a, b)| a > b);
     let note = match (ours > theirs, more) {
         (false, false) => "",
@@ -150,14 +155,17 @@ fn jobs(folder: &str) -> Vec<PathBuf> {
         eprintln!("{folder}: {e}");
         exit(2)
     });
-    let mut found: Vec<PathBuf> = listed.map(|f| f.unwrap().path()).filter(|p| p.is_file() && p.extension().is_none_or(|e| e == "job")).collect();
+    let mut found: Vec<PathBuf> =
+        listed.map(|f| f.unwrap().path()).filter(|p| p.is_file() && p.extension().is_none_or(|e| e == "job")).collect();
     found.sort();
     found
 }
 
 fn table(folders: Vec<String>) -> bool {
     println!("answer: document 01's number, 0 if done, and the bytes written or the steps done\n");
-    println!("| program   | file                   | recs  | answer      | ours, ms  | Rust, ms  | ratio  | ours, I   | Rust, I   | |");
+    println!(
+        "| program   | file                   | recs  | answer      | ours, ms  | Rust, ms  | ratio  | ours, I   | Rust, I   | |"
+    );
     println!("|---|---|---|---|---|---|---|---|---|---|");
     let copy = std::env::temp_dir().join(format!("benchmark-{}.job", std::process::id()));
     let mut alike = true;

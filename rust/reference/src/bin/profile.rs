@@ -15,16 +15,18 @@ fn profile(path: &str) -> Result<(), String> {
     };
     let mut out = BufWriter::new(std::io::stdout().lock());
     let mut failed = false;
-    let mut line = |h: Held| failed |= writeln!(out, "{} {} {} {} p{}", h.steps, h.cells, h.regions, h.frames, h.procedure).is_err();
+    let mut line =
+        |h: Held| failed |= writeln!(out, "{} {} {} {} p{}", h.steps, h.cells, h.regions, h.frames, h.procedure).is_err();
     let run = run_watched(&file, &Lent::program(), &mut line);
     if out.flush().is_err() || failed {
         return Err("the lines could not be written".into());
     }
     match run.ending {
-        Ending::Refused(n) => Err(format!("{path}: refused {n}")),
-        Ending::Finished => Ok(eprintln!("finished after {} steps", run.steps)),
-        Ending::Stopped(n) => Ok(eprintln!("stopped {n} after {} steps", run.steps)),
+        Ending::Refused(n) => return Err(format!("{path}: refused {n}")),
+        Ending::Finished => eprintln!("finished after {} steps", run.steps),
+        Ending::Stopped(n) => eprintln!("stopped {n} after {} steps", run.steps),
     }
+    Ok(())
 }
 
 fn main() {
