@@ -72,6 +72,29 @@ def written(procedures, types):
     return b''.join(rows)
 
 
+class Names:
+    """What a file's numbers are called: by a text's own names, or t1, f0, p0, V1 and R1."""
+
+    def __init__(self):
+        self.types, self.functors, self.procedures, self.scopes = {'int': 0}, {}, {}, []
+
+    def called(self, table, number, letter):
+        return next((name for name, n in table.items() if n == number), f'{letter}{number}')
+
+    def type(self, number):
+        return self.called(self.types, number, 't')
+
+    def functor(self, kind, number):
+        return self.called(self.functors.get(kind, {}), number, 'f')
+
+    def procedure(self, number):
+        return self.called(self.procedures, number, 'p')
+
+    def of(self, procedure):
+        """The tables of a procedure's variables and regions."""
+        return self.scopes[procedure] if procedure < len(self.scopes) else ({}, {})
+
+
 # ---- text to file
 NAME = re.compile(r'[a-z]\w*$')
 LARGE = re.compile(r'[A-Z]\w*$')
@@ -146,8 +169,8 @@ class Reader:
         self.lines = [Line(source, n, t) for n, t in enumerate(text.split('\n'), 1)]
         self.lines = [line for line in self.lines if line.more()]
         self.source, self.at = source, 0
-        self.types, self.procedures = {'int': 0}, {}
-        self.functors = {}
+        self.names = Names()
+        self.types, self.procedures, self.functors = self.names.types, self.names.procedures, self.names.functors
 
     def next(self):
         if self.at == len(self.lines):
@@ -226,6 +249,7 @@ class Reader:
         line.name(NAME, 'procedure')
         line.end()
         self.variables, self.kinds, self.regions, self.region_types = {}, [0], {}, [0]
+        self.names.scopes.append((self.variables, self.regions))
         variables, regions, late = [], [], []
         while self.lines[self.at].peek() in ('in', 'out', 'local', 'region'):
             line = self.next()
@@ -373,21 +397,23 @@ def assemble(source, text):
 
 
 def assemble_bytes(source, data):
-    """.. of what stands in a file."""
+    """The job file of the text that stands in a file, and the text's names."""
     try:
         text = data.decode('utf-8')
     except UnicodeDecodeError:
         text = '\0'
     if '\0' in text:
         raise Fault(f'{source}: is no text')
-    return assemble(source, text)
+    reader = Reader(source, text)
+    return reader.read(), reader.names
 
 
 # ---- file to text
 class Lister:
     """A file that passes number 3, as text."""
 
-    def __init__(self, data):
+    def __init__(self, data, names):
+        self.called = names
         if len(data) < 16 or len(data) % 16 or len(data) > 16 * LIMIT:
             raise Fault(f'the file has {len(data)} bytes: no job file')
         self.w = [struct.unpack_from('<8H', data, at) for at in range(0, len(data), 16)]
@@ -416,35 +442,36 @@ class Lister:
     def text(self):
         types = self.chain(0, self.w[0][2], TYPE)
         procedures = self.chain(0, self.w[0][1], PROCEDURE)
-        self.type_names = ['int'] + [f't{n}' for n in range(1, len(types) + 1)]
-        self.procedure_names = [f'p{n}' for n in range(len(procedures))]
+        self.type_names = [self.called.type(n) for n in range(len(types) + 1)]
+        self.procedure_names = [self.called.procedure(n) for n in range(len(procedures))]
         self.functors = [[]] + [self.chain(t, self.w[t][2], FUNCTOR) for t in types]
         for n, t in enumerate(types, 1):
             shapes = []
             for k, f in enumerate(self.functors[n]):
                 names = [self.pick(f, self.type_names, a) for a in self.w[f][3:3 + min(self.w[f][2], 4)]]
-                shapes.append(f'f{k}' + (f'({", ".join(names)})' if names else ''))
-            self.put(f'type t{n} = ' + ' | '.join(shapes), t)
+                shapes.append(self.called.functor(n, k) + (f'({", ".join(names)})' if names else ''))
+            self.put(f'type {self.type_names[n]} = ' + ' | '.join(shapes), t)
         for n, p in enumerate(procedures):
             self.lines.append('')
             self.procedure(n, p)
         return '\n'.join(self.lines).strip('\n') + '\n'
 
     def procedure(self, n, p):
-        self.put(f'procedure p{n}', p)
+        self.put(f'procedure {self.procedure_names[n]}', p)
         self.deep = 1
         variables = self.chain(p, self.w[p][2], VARIABLE)
         regions = self.chain(p, self.w[p][3], REGION)
         self.kinds = [0] + [self.w[v][3] for v in variables]
-        self.names = [''] + [f'V{k}' for k in range(1, len(variables) + 1)]
-        self.homes = [''] + [f'R{k}' for k in range(1, len(regions) + 1)]
+        own_variables, own_regions = self.called.of(n)
+        self.names = [''] + [self.called.called(own_variables, k, 'V') for k in range(1, len(variables) + 1)]
+        self.homes = [''] + [self.called.called(own_regions, k, 'R') for k in range(1, len(regions) + 1)]
         for k, v in enumerate(variables, 1):
             mode, kind, home = self.w[v][2:5]
             at = f' at {self.pick(v, self.homes, home)}' if home else ''
-            self.put(f'{self.pick(v, MODES, mode)} V{k} : {self.pick(v, self.type_names, kind)}{at}', v)
+            self.put(f'{self.pick(v, MODES, mode)} {self.names[k]} : {self.pick(v, self.type_names, kind)}{at}', v)
         for k, r in enumerate(regions, 1):
             kind, state = self.w[r][2:4]
-            words = [f'region R{k} : {self.pick(r, self.type_names, kind)} {self.pick(r, CLASSES, state)}'.rstrip()]
+            words = [f'region {self.homes[k]} : {self.pick(r, self.type_names, kind)} {self.pick(r, CLASSES, state)}'.rstrip()]
             for e in self.chain(r, self.w[r][4], EDGE):
                 f, position, target = self.w[e][2:5]
                 words.append(f'{self.functor(e, kind, f)}.{position} -> {self.pick(e, self.homes, target)}')
@@ -455,7 +482,7 @@ class Lister:
 
     def functor(self, record, kind, f):
         self.pick(record, self.pick(record, self.functors, kind), f)
-        return f'f{f}'
+        return self.called.functor(kind, f)
 
     def value(self, record, x):
         if x == 0:
@@ -465,7 +492,7 @@ class Lister:
     def term(self, record, kind, f, words):
         arity = self.w[self.pick(record, self.pick(record, self.functors, kind), f)][2]
         names = [self.value(record, a) for a in words[:arity]]
-        return f'f{f}' + (f'({", ".join(names)})' if names else '')
+        return self.called.functor(kind, f) + (f'({", ".join(names)})' if names else '')
 
     def goals(self, owner, first):
         for i in self.chain(owner, first, LITERAL, SUM, ASSIGN, CONSTRUCT, SWITCH, IF, CALL, PRINT, CREATE, REMOVE):
@@ -516,8 +543,8 @@ class Lister:
         self.put('end')
 
 
-def listing(data, source='file'):
+def listing(data, source='file', names=None):
     try:
-        return Lister(data).text()
+        return Lister(data, names or Names()).text()
     except Fault as fault:
         raise Fault(f'{source}: {fault}')
