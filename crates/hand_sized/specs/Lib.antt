@@ -1,0 +1,3 @@
+pub mod Files
+pub mod Wraps
+pub mod Joined

@@ -1,0 +1,246 @@
+// Document 01's table of hand-sized files ("Proved by hand-sized files"), about the code: each function puts a file to `annotate`, `check` or `run`, and its
+// contract states the answer outright. `language`'s Table has the same of the definitions.
+mod files;
+mod wraps;
+
+use annotation::Annotated;
+use annotation::annotate;
+use checking::check;
+use files::a;
+use files::past_arity;
+use files::removed_early;
+use files::removed_twice;
+use files::u;
+use files::unused_word;
+use language::Verdict;
+use machine::Outcome;
+use running::run;
+use wraps::wraps;
+ghost use mathlib.Core.Path.{_≡_};
+ghost use mathlib.Core.List.{map};
+ghost use lib.ListN.{take, drop};
+ghost use mir.Syntax.{w32};
+ghost use mir.Val.{toZ};
+ghost use Rattle.language.specs.declared.Refusal.the-variants.{Header, Form, Typing, Annotated as Marked, Rules, Room};
+ghost use Rattle.language.specs.declared.Verdict.the-variants.{Refused, Accepted};
+ghost use Rattle.language.specs.declared.Stop.the-variants.{Steps, Cells, Frames};
+ghost use Rattle.language.specs.declared.Ending.the-variants.{Finished, Stopped};
+ghost use Rattle.language.specs.Answers.{refusalNumber, stopNumber};
+ghost use Rattle.language.specs.Table.{A as fileA};
+ghost use Rattle.annotation.specs.declared.Annotated.the-variants.{Refused as NotAnnotated, Written};
+ghost use Rattle.hand_sized.specs.Joined.{quiet, refusedBy, Untouched, IfAllRefuse};
+ghost use Rattle.hand_sized.specs.Wraps.{ends};
+
+// What the annotator program has.
+const BYTES: usize = 65536;
+
+// What the runner program has: 1,024 cells, 1,024 regions, 100 frames, 1,024 prints, 1,000,000 steps.
+const CELLS: usize = 8 * 1024;
+
+const REGIONS: usize = 2 * 1024;
+
+const FRAMES: usize = 136 * 100;
+
+const PRINTS: usize = 1024;
+
+const STEPS: usize = 1000000;
+
+// What the annotator, the checker and the runner answer to one file.
+pub struct Answers {
+    pub annotated: Annotated,
+    pub checked: Verdict,
+    pub ran: Outcome,
+}
+
+// "U annotated with 144 bytes is A".
+pub fn annotate_u_in_144(out: &mut [u8; 144]) -> Annotated
+    ensures { λ r. ⌜ r ≡ Written 144 ⌝ }
+    ensures { λ _. ⌜ now (out .exit) ≡ fileA ⌝ }
+{
+    annotate(&u(), out)
+}
+
+// ".. with 143, refusal 9".
+pub fn annotate_u_in_143(out: &mut [u8; 143]) -> Annotated
+    ensures { λ r. ⌜ r ≡ NotAnnotated Room ⌝ }
+    ensures { λ _. ⌜ refusalNumber Room ≡ 9 ⌝ }
+    ensures { λ _. ⌜ now (out .exit) ≡ now (out .entry) ⌝ }
+{
+    annotate(&u(), out)
+}
+
+// "A to the annotator: 6".
+pub fn annotate_a(out: &mut [u8; BYTES]) -> Annotated
+    ensures { λ r. ⌜ r ≡ NotAnnotated Marked ⌝ }
+    ensures { λ _. ⌜ refusalNumber Marked ≡ 6 ⌝ }
+    ensures { λ _. ⌜ now (out .exit) ≡ now (out .entry) ⌝ }
+{
+    annotate(&a(), out)
+}
+
+// "A checked: accepted".
+pub fn check_a() -> Verdict
+    ensures { λ r. ⌜ r ≡ Accepted ⌝ }
+{
+    check(&a())
+}
+
+// "U checked: 8".
+pub fn check_u() -> Verdict
+    ensures { λ r. ⌜ r ≡ Refused Rules ⌝ }
+    ensures { λ _. ⌜ refusalNumber Rules ≡ 8 ⌝ }
+{
+    check(&u())
+}
+
+// "A with create, remove, construct: 8".
+pub fn check_removed_early() -> Verdict
+    ensures { λ r. ⌜ r ≡ Refused Rules ⌝ }
+    ensures { λ _. ⌜ refusalNumber Rules ≡ 8 ⌝ }
+{
+    check(&removed_early())
+}
+
+// "A with a second remove: 8".
+pub fn check_removed_twice() -> Verdict
+    ensures { λ r. ⌜ r ≡ Refused Rules ⌝ }
+    ensures { λ _. ⌜ refusalNumber Rules ≡ 8 ⌝ }
+{
+    check(&removed_twice())
+}
+
+// "A run: "finished 3"".
+pub fn run_a(
+    cells: &mut [u32; CELLS],
+    regions: &mut [u32; REGIONS],
+    frames: &mut [u32; FRAMES],
+    prints: &mut [u32; PRINTS],
+) -> Outcome
+    ensures { λ r. ⌜ r ≡ quiet Finished 3 ⌝ }
+    ensures { λ _. ⌜ now (prints .exit) ≡ now (prints .entry) ⌝ }
+{
+    run(&a(), cells, regions, frames, prints, STEPS)
+}
+
+// ".. with 2 steps: stop 10 after 2".
+pub fn run_a_two_steps(
+    cells: &mut [u32; CELLS],
+    regions: &mut [u32; REGIONS],
+    frames: &mut [u32; FRAMES],
+    prints: &mut [u32; PRINTS],
+) -> Outcome
+    ensures { λ r. ⌜ r ≡ quiet (Stopped Steps) 2 ⌝ }
+    ensures { λ _. ⌜ stopNumber Steps ≡ 10 ⌝ }
+    ensures { λ _. ⌜ now (prints .exit) ≡ now (prints .entry) ⌝ }
+{
+    run(&a(), cells, regions, frames, prints, 2)
+}
+
+// ".. with no cells: stop 11 after 1".
+pub fn run_a_no_cells(
+    cells: &mut [u32; 0],
+    regions: &mut [u32; REGIONS],
+    frames: &mut [u32; FRAMES],
+    prints: &mut [u32; PRINTS],
+) -> Outcome
+    ensures { λ r. ⌜ r ≡ quiet (Stopped Cells) 1 ⌝ }
+    ensures { λ _. ⌜ stopNumber Cells ≡ 11 ⌝ }
+    ensures { λ _. ⌜ now (prints .exit) ≡ now (prints .entry) ⌝ }
+{
+    run(&a(), cells, regions, frames, prints, STEPS)
+}
+
+// ".. no frame and no steps: stop 13 after 0".
+pub fn run_a_no_frame(
+    cells: &mut [u32; CELLS],
+    regions: &mut [u32; REGIONS],
+    frames: &mut [u32; 0],
+    prints: &mut [u32; PRINTS],
+) -> Outcome
+    ensures { λ r. ⌜ r ≡ quiet (Stopped Frames) 0 ⌝ }
+    ensures { λ _. ⌜ stopNumber Frames ≡ 13 ⌝ }
+    ensures { λ _. ⌜ now (prints .exit) ≡ now (prints .entry) ⌝ }
+{
+    run(&a(), cells, regions, frames, prints, 0)
+}
+
+// "2,147,483,647 + 1 is −2,147,483,648": a run that prints both.
+pub fn run_wraps(
+    cells: &mut [u32; CELLS],
+    regions: &mut [u32; REGIONS],
+    frames: &mut [u32; FRAMES],
+    prints: &mut [u32; PRINTS],
+) -> Outcome
+    ensures { λ r. ⌜ (r .ending ≡ Finished) × (r .printed ≡ 2) ⌝ }
+    ensures { λ _. ⌜ map (toZ w32) (take 2 (now (prints .exit))) ≡ ends ⌝ }
+    ensures { λ _. ⌜ drop 2 (now (prints .exit)) ≡ drop 2 (now (prints .entry)) ⌝ }
+{
+    run(&wraps(), cells, regions, frames, prints, STEPS)
+}
+
+// One file put to all three.
+fn put_to_all(
+    file: &[u8],
+    out: &mut [u8; BYTES],
+    cells: &mut [u32; CELLS],
+    regions: &mut [u32; REGIONS],
+    frames: &mut [u32; FRAMES],
+    prints: &mut [u32; PRINTS],
+) -> Answers
+    ensures { λ r. ⌜ IfAllRefuse (now (file .entry)) r (Untouched (now (out .entry)) (now (cells .entry)) (now (regions .entry)) (now (frames .entry)) (now (prints .entry))
+        (now (out .exit)) (now (cells .exit)) (now (regions .exit)) (now (frames .exit)) (now (prints .exit))) ⌝ }
+{
+    Answers {
+        annotated: annotate(file, out),
+        checked: check(file),
+        ran: run(file, cells, regions, frames, prints, STEPS),
+    }
+}
+
+// "Empty file: 1".
+pub fn empty_file(
+    out: &mut [u8; BYTES],
+    cells: &mut [u32; CELLS],
+    regions: &mut [u32; REGIONS],
+    frames: &mut [u32; FRAMES],
+    prints: &mut [u32; PRINTS],
+) -> Answers
+    ensures { λ r. ⌜ r ≡ refusedBy Header ⌝ }
+    ensures { λ _. ⌜ refusalNumber Header ≡ 1 ⌝ }
+    ensures { λ _. ⌜ Untouched (now (out .entry)) (now (cells .entry)) (now (regions .entry)) (now (frames .entry)) (now (prints .entry))
+        (now (out .exit)) (now (cells .exit)) (now (regions .exit)) (now (frames .exit)) (now (prints .exit)) ⌝ }
+{
+    put_to_all(&[], out, cells, regions, frames, prints)
+}
+
+// "U with w7 = 1 in record 5: 2".
+pub fn unused_word_not_0(
+    out: &mut [u8; BYTES],
+    cells: &mut [u32; CELLS],
+    regions: &mut [u32; REGIONS],
+    frames: &mut [u32; FRAMES],
+    prints: &mut [u32; PRINTS],
+) -> Answers
+    ensures { λ r. ⌜ r ≡ refusedBy Form ⌝ }
+    ensures { λ _. ⌜ refusalNumber Form ≡ 2 ⌝ }
+    ensures { λ _. ⌜ Untouched (now (out .entry)) (now (cells .entry)) (now (regions .entry)) (now (frames .entry)) (now (prints .entry))
+        (now (out .exit)) (now (cells .exit)) (now (regions .exit)) (now (frames .exit)) (now (prints .exit)) ⌝ }
+{
+    put_to_all(&unused_word(), out, cells, regions, frames, prints)
+}
+
+// ".. in record 6: 3".
+pub fn word_past_arity(
+    out: &mut [u8; BYTES],
+    cells: &mut [u32; CELLS],
+    regions: &mut [u32; REGIONS],
+    frames: &mut [u32; FRAMES],
+    prints: &mut [u32; PRINTS],
+) -> Answers
+    ensures { λ r. ⌜ r ≡ refusedBy Typing ⌝ }
+    ensures { λ _. ⌜ refusalNumber Typing ≡ 3 ⌝ }
+    ensures { λ _. ⌜ Untouched (now (out .entry)) (now (cells .entry)) (now (regions .entry)) (now (frames .entry)) (now (prints .entry))
+        (now (out .exit)) (now (cells .exit)) (now (regions .exit)) (now (frames .exit)) (now (prints .exit)) ⌝ }
+{
+    put_to_all(&past_arity(), out, cells, regions, frames, prints)
+}
