@@ -347,7 +347,7 @@ class Reader:
         line.take('=')
         word = line.peek()
         if re.match(r'-?\d+$', word):
-            return Node(LITERAL, x, line.number_word(-32768, 65535) & 65535)
+            return Node(LITERAL, x, line.number_word(-32768, 32767) & 65535)
         if NAME.match(word):
             f = self.functor(line, self.kinds[x], line.take())
             return Node(CONSTRUCT, x, f, *self.four(line))
