@@ -13,6 +13,15 @@ DEEPEST = 20  # deeper goals are not indented further
 sys.setrecursionlimit(max(sys.getrecursionlimit(), 8 * LIMIT))
 
 
+# the words of a kind that lead to chains, in word order
+REFERENCES = {1: (2,), TYPE: (2,), PROCEDURE: (2, 3, 4), REGION: (4,), SWITCH: (3,), ARM: (2,), IF: (4, 5), CALL: (3,)}
+
+
+def reference_words(row):
+    """Which words of a record lead to others, in the order in which those are written: w1 last."""
+    return (*REFERENCES.get(row[0], ()), 1)
+
+
 class Fault(Exception):
     """What is wrong with a text or a file, with the place."""
 
@@ -408,6 +417,14 @@ def assemble_bytes(source, data):
     return reader.read(), reader.names
 
 
+def open_job(path):
+    """The bytes of a job file and no names, or of the job that a text stands for and its names. A job file has zero bytes, its header's second at least; a text has none."""
+    data = read(path)
+    if path.endswith('.text') or data and 0 not in data:
+        return assemble_bytes(path, data)
+    return data, None
+
+
 # ---- file to text
 class Lister:
     """A file that passes number 3, as text."""
@@ -541,6 +558,22 @@ class Lister:
             self.goals(i, no)
             self.deep -= 1
         self.put('end')
+
+
+def procedures(data, source, names=None):
+    """The name of the procedure that each record of a file belongs to."""
+    try:
+        lister = Lister(data, names or Names())
+        owners = {}
+        for n, p in enumerate(lister.chain(0, lister.w[0][1], PROCEDURE)):
+            waiting = [p]
+            while waiting:
+                i = waiting.pop()
+                owners[i] = lister.called.procedure(n)
+                waiting += [lister.w[i][k] for k in reference_words(lister.w[i]) if i < lister.w[i][k] < len(lister.w) and not (i == p and k == 1)]
+        return owners
+    except Fault as fault:
+        raise Fault(f'{source}: {fault}')
 
 
 def listing(data, source='file', names=None):
