@@ -2,7 +2,7 @@
  *
  * Each function answers 0 or one of document 01's numbers. It reads and writes nothing but what it is lent, allocates nothing and keeps no state, so that
  * several threads may call it at once. A pointer must point to as many elements as the length beside it says (or the length is 0 and the pointer is not
- * NULL), 32-bit words lie at addresses that are multiples of 4, and no two of the lent memories overlap. A call takes up to 2 MiB of stack.
+ * NULL), 32-bit words lie at addresses that are multiples of 4, and no two of the lent memories overlap. A call takes up to 1.5 MiB of stack.
  */
 #ifndef GUMRETA_H
 #define GUMRETA_H
