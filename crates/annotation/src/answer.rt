@@ -6,6 +6,8 @@ use insertion::write;
 use language::Refusal;
 use language::Verdict;
 use language::format::MAX_RECORDS;
+use liveness::POINTS;
+use liveness::blank_points;
 use records::blank::blank_file_table;
 use records::blank::blank_rows;
 use rules::check_typing;
@@ -17,6 +19,7 @@ ghost use lib.ListN.{length};
 ghost use Rattle.language.specs.Typing.{typingOk};
 ghost use Rattle.language.specs.Answers.{program, annotated};
 ghost use Rattle.chains.specs.Formed.{Formed};
+ghost use Rattle.liveness.specs.Done.{pointWords};
 ghost use Rattle.insertion.specs.Procedures.{Given};
 ghost use Rattle.annotation.specs.Answer.{Annotates, roomAnswer, typedAnswer};
 
@@ -25,12 +28,14 @@ fn write_annotated(
     file: &[u8],
     table: &[u64; TABLE],
     rows: &[u64; ROWS],
+    points: &mut [u64; POINTS],
     out: &mut [u8],
 ) -> Annotated
     requires { ⌜ Given (now file) (now table) (now rows) ⌝ }
+    requires { ⌜ length (now points) ≡ pointWords ⌝ }
     ensures { λ r. ⌜ Annotates (roomAnswer (now (file .entry)) (length (now (out .entry)))) (now (out .entry)) (now (out .exit)) r ⌝ }
 {
-    let records = measure(file, table, rows);
+    let records = measure(file, table, rows, points);
     if records > MAX_RECORDS {
         return Annotated::Refused(Refusal::Room);
     }
@@ -38,7 +43,7 @@ fn write_annotated(
     if out.len() < bytes {
         return Annotated::Refused(Refusal::Room);
     }
-    write(file, table, rows, out);
+    write(file, table, rows, points, out);
     Annotated::Written(bytes)
 }
 
@@ -50,10 +55,11 @@ fn annotate_typed(file: &[u8], out: &mut [u8]) -> Annotated
 {
     let mut table = blank_file_table();
     let mut rows = blank_rows();
-    if let Verdict::Refused(r) = check_annotatable(file, &mut table, &mut rows) {
+    let mut points = blank_points();
+    if let Verdict::Refused(r) = check_annotatable(file, &mut table, &mut rows, &mut points) {
         return Annotated::Refused(r);
     }
-    write_annotated(file, &table, &rows, out)
+    write_annotated(file, &table, &rows, &mut points, out)
 }
 
 // Writes the annotated file as the front part of `out`; "bytes behind it keep their contents". After a refusal all of them do.

@@ -1,6 +1,7 @@
 // Numbers 4 to 7 of a file that passed number 3, in the order of the table.
 use language::Refusal;
 use language::Verdict;
+use liveness::POINTS;
 use liveness::call_classes_ok;
 use owners::is_unannotated;
 use rules::check_classes;
@@ -18,6 +19,7 @@ ghost use Rattle.language.specs.Answers.{lowest, program};
 ghost use Rattle.records.specs.Blank.{fileWords, rowWords};
 ghost use Rattle.chains.specs.Formed.{Formed};
 ghost use Rattle.tables.specs.Filled.{Prepared};
+ghost use Rattle.liveness.specs.Done.{pointWords};
 ghost use Rattle.annotation.specs.Stages.{sooner, markStages};
 
 // Number 6 stands before number 7: "a create or remove in the input".
@@ -48,11 +50,18 @@ fn lower(file: &[u8], r: Refusal) -> Refusal
     }
 }
 
-// Fills the file's table and the rows; after a refusal both are free.
-pub fn check_annotatable(file: &[u8], table: &mut [u64; TABLE], rows: &mut [u64; ROWS]) -> Verdict
+// Fills the file's table and the rows; after a refusal both are free, as the points are in any case.
+pub fn check_annotatable(
+    file: &[u8],
+    table: &mut [u64; TABLE],
+    rows: &mut [u64; ROWS],
+    points: &mut [u64; POINTS],
+) -> Verdict
     requires { ⌜ Formed (now file) ⌝ }
     requires { ⌜ typingOk (program (now file)) ≡ true ⌝ }
     requires { ⌜ (fileWords ≤ length (now table)) × (rowWords ≤ length (now rows)) ⌝ }
+    requires { ⌜ length (now points) ≡ pointWords ⌝ }
+    ensures { λ _. ⌜ length (now (points .exit)) ≡ pointWords ⌝ }
     ensures { λ r. ⌜ r ≡ lowest (markStages (now (file .entry))) ⌝ }
     ensures { λ r. ⌜ (r ≡ Accepted → Prepared (now (file .entry)) (now (table .exit)) (now (rows .exit))) ⌝ }
 {
@@ -63,7 +72,7 @@ pub fn check_annotatable(file: &[u8], table: &mut [u64; TABLE], rows: &mut [u64;
     if !is_unannotated(file) {
         return Verdict::Refused(Refusal::Annotated);
     }
-    if !call_classes_ok(file, table, rows) {
+    if !call_classes_ok(file, table, rows, points) {
         return Verdict::Refused(Refusal::Classes);
     }
     Verdict::Accepted

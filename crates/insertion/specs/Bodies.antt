@@ -1,9 +1,9 @@
 -- The goals of a procedure, by its window: the points that are filled for them, and what is laid.
 use Prim.Native.Nat.{ℕ, _+_, _≤_}
 use native.Mathlib.Omega.{arith}
-use mathlib.Core.List.{List, _++_}
+use mathlib.Core.List.{List}
 use mathlib.Core.Path.{_≡_, refl, ap, _∙_}
-use lib.ListN.{length, getD, take, drop, length-append, length-take, length-drop}
+use lib.ListN.{length, getD}
 use Rattle.sets.specs.Sets.{_∪_, _∖_}
 use Rattle.sets.specs.Members.{members}
 use Rattle.sets.specs.declared.Set.{Set}
@@ -18,8 +18,7 @@ use Rattle.language.specs.Answers.{program}
 use Rattle.placement.specs.Local.{removesTo, localGoals}
 use Rattle.chains.specs.Formed.{Formed, Stands, goalsAt}
 use Rattle.tables.specs.Window.{Window, setIn, bodyPlace, outsPlace, deadPlace, keptPlace}
-use Rattle.liveness.specs.Points.{Point, points, words, words-length}
-use Rattle.liveness.specs.Table.{Written, written-whole}
+use Rattle.liveness.specs.Points.{points}
 use Rattle.liveness.specs.Holds.{written-holds}
 use Rattle.liveness.specs.Done.{pointWords, ListDone}
 use Rattle.insertion.specs.Lays.{Lays}
@@ -47,26 +46,18 @@ BodyLaid f rows own a b c r =
     → Lays a b c r (lay (goalsTree (bodyOf f (signatureOf (program f) q) (getD own bodyPlace 0))) c))
 
 -- ---- points
-written-same : {t u : List ℕ} {s e : ℕ} {ps : List Point} → length t ≡ e → Written t u s e ps → length u ≡ e
-written-same {t} {u} {s} {e} {ps} n w =
-    ap length (written-whole w)
-    ∙ omega (arith, n, length-append (take s t) (words ps ++ drop e t), length-append (words ps) (drop e t), length-take s t, length-drop e t, words-length ps, w .place)
-
-module _ (f own t u : List ℕ) (body s : ℕ) (outs l : Set) (n : length t ≡ pointWords) (eb : body ≡ getD own bodyPlace 0) (eo : outs ≡ setIn own outsPlace)
+module _ (f own t u : List ℕ) (body s : ℕ) (outs l : Set) (n : length u ≡ pointWords) (eb : body ≡ getD own bodyPlace 0) (eo : outs ≡ setIn own outsPlace)
     (D : ListDone f body outs t u s l) where
-  pub points-long : length u ≡ pointWords
-  points-long = written-same n (D .1)
-
   pub points-start : s ≤ pointWords
-  points-start = omega (arith, D .1 .place, n)
+  points-start = omega (arith, D .1 .place)
 
   pub points-filled : {v : List ℕ} → Turned own u v s pointWords → PointsFilled f own v s l
   points-filled {v} T = (
-    T .same ∙ points-long,
+    T .same ∙ n,
     λ S W.
         let e : outs ≡ outsOf S = eo ∙ W .outs in
         let k : l ≡ live (program f) (goalsAt f (getD own bodyPlace 0)) (outsOf S) = rw (eb, e) at (D .0) in
-        let h : Wants S v s (points (program f) (goalsAt f body) outs) = turned-wants T points-long S W _ s (omega arith) (written-holds (D .1)) in
+        let h : Wants S v s (points (program f) (goalsAt f body) outs) = turned-wants T n S W _ s (omega arith) (written-holds (D .1)) in
         (k, rw (eb, e) at h),
   )
 

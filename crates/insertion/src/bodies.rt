@@ -1,11 +1,11 @@
 // The goals of a procedure, by its window.
-use crate::POINTS;
 use crate::marks::lay_marks;
 use crate::points::list_wanted;
 use crate::walk::goals;
 use language::format::REMOVE;
 use lifetimes::wanted_in;
 use liveness::Filled;
+use liveness::POINTS;
 use liveness::list_live;
 use sets::Set;
 use tables::BODY;

@@ -18,6 +18,3 @@ pub struct Cursor {
     pub record: usize,
     pub point: usize,
 }
-
-// Words of the points of 4,096 goals.
-pub const POINTS: usize = 8192;

@@ -1,6 +1,6 @@
 // The points of a procedure's goals, each with what is wanted before its goal and after it.
-use crate::POINTS;
 use lifetimes::wanted_in;
+use liveness::POINTS;
 use liveness::live_after;
 use liveness::live_before;
 use sets::Set;

@@ -1,5 +1,4 @@
 // Procedures: their variables and regions as they are, their goals annotated.
-use crate::POINTS;
 use crate::bodies::lay_body;
 use crate::copies::lay_chain;
 use crate::heads::store_procedure;
@@ -7,6 +6,7 @@ use language::format::HEADER_PROCEDURES;
 use language::format::NEXT;
 use language::format::PROCEDURE_REGIONS;
 use language::format::PROCEDURE_VARIABLES;
+use liveness::POINTS;
 use records::word;
 use tables::ROWS;
 use tables::TABLE;
@@ -22,13 +22,6 @@ ghost use Rattle.chains.specs.Turns.{Turn};
 ghost use Rattle.liveness.specs.Done.{pointWords};
 ghost use Rattle.insertion.specs.Lays.{Lays};
 ghost use Rattle.insertion.specs.Procedures.{Given, placedBody, procedureHead, proceduresTree};
-
-// Room for the points of a procedure's goals.
-fn blank_points() -> [u64; POINTS]
-    ensures { λ r. ⌜ pointWords ≡ length r ⌝ }
-{
-    [0; POINTS]
-}
 
 // Lays the goals of procedure q.
 fn lay_goals(
@@ -81,18 +74,20 @@ pub fn lay_procedures(
     file: &[u8],
     table: &[u64; TABLE],
     rows: &[u64; ROWS],
+    points: &mut [u64; POINTS],
     out: &mut [u8],
     first: usize,
 ) -> usize
     requires { ⌜ Given (now file) (now table) (now rows) ⌝ }
+    requires { ⌜ length (now points) ≡ pointWords ⌝ }
+    ensures { λ _. ⌜ length (now (points .exit)) ≡ pointWords ⌝ }
     ensures { λ r. ⌜ Lays (now (out .entry)) (now (out .exit)) first r (lay (proceduresTree (program (now (file .entry))) (program (now (file .entry)) .procedures)) first) ⌝ }
 {
-    let mut points = blank_points();
     let mut i = word(file, 0, HEADER_PROCEDURES);
     let mut q = 0;
     let mut record = first;
     while i != 0 {
-        record = lay_procedure(file, table, rows, &mut points, out, i, q, record);
+        record = lay_procedure(file, table, rows, points, out, i, q, record);
         q += 1;
         i = word(file, i, NEXT);
     }

@@ -1,6 +1,5 @@
 // A step with the creates before it and the removes after it.
 use crate::Cursor;
-use crate::POINTS;
 use crate::copies::lay_record;
 use crate::marks::follows;
 use crate::marks::lay_marks;
@@ -10,6 +9,7 @@ use language::format::NEXT;
 use language::format::REMOVE;
 use lifetimes::created_for;
 use lifetimes::removed_after;
+use liveness::POINTS;
 use liveness::live_after;
 use liveness::live_before;
 use records::word;

@@ -1,6 +1,5 @@
 // The walk over goals that lays them with the creates and removes of "Annotator".
 use crate::Cursor;
-use crate::POINTS;
 use crate::heads::store_arm;
 use crate::heads::store_if;
 use crate::heads::store_switch;
@@ -17,6 +16,7 @@ use language::format::NEXT;
 use language::format::REMOVE;
 use language::format::SWITCH;
 use language::format::SWITCH_ARMS;
+use liveness::POINTS;
 use records::word;
 use tables::ROWS;
 use writer::behind;

@@ -6,6 +6,7 @@ use crate::place::store;
 use crate::procedures::lay_procedures;
 use language::format::HEADER;
 use language::format::HEADER_TYPES;
+use liveness::POINTS;
 use records::word;
 use tables::ROWS;
 use tables::TABLE;
@@ -18,6 +19,7 @@ ghost use Rattle.language.specs.Layout.{size, lay};
 ghost use Rattle.language.specs.Records.{programTree};
 ghost use Rattle.language.specs.Annotation.{annotate};
 ghost use Rattle.language.specs.Answers.{program, fileOf};
+ghost use Rattle.liveness.specs.Done.{pointWords};
 ghost use Rattle.insertion.specs.Lays.{Lays};
 ghost use Rattle.insertion.specs.Procedures.{Given};
 ghost use Rattle.insertion.specs.Whole.{HeaderStored};
@@ -33,13 +35,21 @@ fn store_header(out: &mut [u8], procedures: usize, end: usize)
 }
 
 // Lays the whole file, as far as the slice has room for it.
-fn lay_file(file: &[u8], table: &[u64; TABLE], rows: &[u64; ROWS], out: &mut [u8]) -> usize
+fn lay_file(
+    file: &[u8],
+    table: &[u64; TABLE],
+    rows: &[u64; ROWS],
+    points: &mut [u64; POINTS],
+    out: &mut [u8],
+) -> usize
     requires { ⌜ Given (now file) (now table) (now rows) ⌝ }
+    requires { ⌜ length (now points) ≡ pointWords ⌝ }
+    ensures { λ _. ⌜ length (now (points .exit)) ≡ pointWords ⌝ }
     ensures { λ r. ⌜ Lays (now (out .entry)) (now (out .exit)) 0 r (lay (programTree (annotate (program (now (file .entry))))) 0) ⌝ }
 {
     let types = word(file, 0, HEADER_TYPES);
     let procedures = lay_chain(file, out, types, 1);
-    let end = lay_procedures(file, table, rows, out, procedures);
+    let end = lay_procedures(file, table, rows, points, out, procedures);
     store_header(out, procedures, end);
     end
 }
@@ -51,21 +61,35 @@ fn no_room() -> [u8; 1]
 }
 
 // How many records the annotated file has; some number above 4,096 where it has more than that.
-pub fn measure(file: &[u8], table: &[u64; TABLE], rows: &[u64; ROWS]) -> usize
+pub fn measure(
+    file: &[u8],
+    table: &[u64; TABLE],
+    rows: &[u64; ROWS],
+    points: &mut [u64; POINTS],
+) -> usize
     requires { ⌜ Given (now file) (now table) (now rows) ⌝ }
+    requires { ⌜ length (now points) ≡ pointWords ⌝ }
+    ensures { λ _. ⌜ length (now (points .exit)) ≡ pointWords ⌝ }
     ensures { λ r. ⌜ (size (programTree (annotate (program (now (file .entry))))) ≤ maxRecords → r ≡ size (programTree (annotate (program (now (file .entry)))))) ⌝ }
     ensures { λ r. ⌜ (maxRecords < size (programTree (annotate (program (now (file .entry))))) → maxRecords < r) ⌝ }
 {
     let mut none = no_room();
-    lay_file(file, table, rows, &mut none)
+    lay_file(file, table, rows, points, &mut none)
 }
 
 // Writes the annotated file as the front part of the slice, which has room for it. Bytes behind it stay as they are.
-pub fn write(file: &[u8], table: &[u64; TABLE], rows: &[u64; ROWS], out: &mut [u8])
+pub fn write(
+    file: &[u8],
+    table: &[u64; TABLE],
+    rows: &[u64; ROWS],
+    points: &mut [u64; POINTS],
+    out: &mut [u8],
+)
     requires { ⌜ Given (now file) (now table) (now rows) ⌝ }
+    requires { ⌜ length (now points) ≡ pointWords ⌝ }
     requires { ⌜ size (programTree (annotate (program (now file)))) ≤ maxRecords ⌝ }
     requires { ⌜ recordBytes * size (programTree (annotate (program (now file)))) ≤ length (now out) ⌝ }
     ensures { λ _. ⌜ now (out .exit) ≡ frontWritten (fileOf (annotate (program (now (file .entry))))) (now (out .entry)) ⌝ }
 {
-    lay_file(file, table, rows, out);
+    lay_file(file, table, rows, points, out);
 }

@@ -9,6 +9,7 @@ mod whole;
 
 pub use classes::call_classes_ok;
 use sets::Set;
+pub use table::blank_points;
 pub use table::live_after;
 pub use table::live_before;
 pub use whole::list_live;

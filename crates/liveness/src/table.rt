@@ -1,9 +1,19 @@
 // The table of points: two words each, what is live before the goal and what is live after it.
+use crate::POINTS;
 use sets::Set;
 ghost use mathlib.Core.Path.{_≡_};
 ghost use mathlib.Core.List.{_∷_, []};
+ghost use lib.ListN.{length};
 ghost use Rattle.liveness.specs.Points.{point};
 ghost use Rattle.liveness.specs.Table.{Fills, beforeAt, afterAt};
+ghost use Rattle.liveness.specs.Done.{pointWords};
+
+// Room for the points of a procedure's goals.
+pub fn blank_points() -> [u64; POINTS]
+    ensures { λ r. ⌜ pointWords ≡ length r ⌝ }
+{
+    [0; POINTS]
+}
 
 // Writes a point in front of place end, and answers where it stands. Where it has no room there, the table stays as it is.
 pub fn note(before: Set, after: Set, end: usize, table: &mut [u64]) -> usize

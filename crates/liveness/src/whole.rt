@@ -13,7 +13,6 @@ use sets::Set;
 use tables::ROWS;
 ghost use mathlib.Core.Path.{_≡_};
 ghost use mathlib.Core.List.{_∷_, []};
-ghost use Prim.Native.Nat.{_≤_};
 ghost use lib.ListN.{length};
 ghost use Rattle.language.specs.File.{goals};
 ghost use Rattle.chains.specs.Formed.{Formed, Stands};
@@ -48,7 +47,8 @@ pub fn list_live(
     requires { ⌜ Formed (now file) ⌝ }
     requires { ⌜ Accessed (now file) (now rows) ⌝ }
     requires { ⌜ Stands (now file) goals body ⌝ }
-    requires { ⌜ pointWords ≤ length (now table) ⌝ }
+    requires { ⌜ length (now table) ≡ pointWords ⌝ }
+    ensures { λ _. ⌜ length (now (table .exit)) ≡ pointWords ⌝ }
     ensures { λ r. ⌜ ListDone (now (file .entry)) body outs (now (table .entry)) (now (table .exit)) (r .start) (r .live) ⌝ }
     ensures { λ r. ⌜ ListClasses (now (file .entry)) (now (rows .entry)) (now (own .entry)) body outs (r .classes) ⌝ }
 {

@@ -3,6 +3,7 @@ use Rattle.records.specs.Blank.{fileWords, rowWords}
 use Rattle.annotation.specs.Stages.{marks-found}
 use Rattle.annotation.specs.Answer.{refusal-told, stage-refuses, stage-goes, answer-moved, blank-fits}
 use borrow.Author.Needs.{needs}
+use mathlib.Core.Path.{sym}
 use Rattle.annotation.proofs.answer.annotate_typed.Statement.{statement}
 use Rattle.annotation.proofs.answer.annotate_typed.Tie as tie
 
@@ -12,26 +13,29 @@ blank-file-table-requires c κs = search needs
 blank-rows-requires : tie.Need-blank-rows-requires
 blank-rows-requires c κs = search needs
 
+blank-points-requires : tie.Need-blank-points-requires
+blank-points-requires c κs = search needs
+
 check-annotatable-requires : tie.Need-check-annotatable-requires
-check-annotatable-requires c κs = let p = c .before .before .before .before .before .before .pre in (p .0, (p .1, (blank-fits fileWords (c .before .before .before .blank-file-table .ensures), blank-fits rowWords (c .before .before .blank-rows .ensures))))
+check-annotatable-requires c κs = let p = c .before .before .before .before .before .before .before .before .pre in (p .0, (p .1, ((blank-fits fileWords (c .before .before .before .before .before .blank-file-table .ensures), blank-fits rowWords (c .before .before .before .before .blank-rows .ensures)), sym (c .before .before .before .blank-points .ensures))))
 
 enum-known-r : tie.Need-enum-known-r
 enum-known-r c = search needs
 
 returns : tie.Need-returns
-returns c = refusal-told _ (stage-refuses _ _ _ (c .before .before .before .check-annotatable .ensures .0) (c .before .r .given .1))
+returns c = refusal-told _ (stage-refuses _ _ _ (c .before .before .before .check-annotatable .ensures .1 .0) (c .before .r .given .1))
 
 enum-told : tie.Need-enum-told
 enum-told c = search needs
 
 write-annotated-requires : tie.Need-write-annotated-requires
-write-annotated-requires c κs = let p = c .before .before .before .before .before .before .before .before .before .before .before .before .pre in let e = c .before .before .before .before .before .check-annotatable .ensures in let g = c .before .before .before .enum-told .given .1 in record { formed = p .0; prepared = e .1 g; annotatable = marks-found _ (p .1) (e .0) g }
+write-annotated-requires c κs = let p = c .before .before .before .before .before .before .before .before .before .before .before .before .before .before .before .pre in let e = c .before .before .before .before .before .before .check-annotatable .ensures in let g = c .before .before .before .before .enum-told .given .1 in (record { formed = p .0; prepared = e .1 .1 g; annotatable = marks-found _ (p .1) (e .1 .0) g }, e .0)
 
 same-length : tie.Need-same-length
 same-length c = search needs
 
 returns-2 : tie.Need-returns-2
-returns-2 c = answer-moved _ (stage-goes _ _ _ (c .before .before .before .before .before .before .before .before .check-annotatable .ensures .0) (c .before .before .before .before .before .before .enum-told .given .1)) (c .before .before .write-annotated .ensures)
+returns-2 c = answer-moved _ (stage-goes _ _ _ (c .before .before .before .before .before .before .before .before .before .check-annotatable .ensures .1 .0) (c .before .before .before .before .before .before .before .enum-told .given .1)) (c .before .before .write-annotated .ensures)
 
 pub annotate-typed-spec : {M : Type 1} → statement M
 annotate-typed-spec =
@@ -39,6 +43,7 @@ annotate-typed-spec =
     (tie.spec
     blank-file-table-requires
     blank-rows-requires
+    blank-points-requires
     check-annotatable-requires
     enum-known-r
     returns

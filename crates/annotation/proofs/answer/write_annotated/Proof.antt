@@ -9,22 +9,22 @@ measure-requires : tie.Need-measure-requires
 measure-requires c κs = search needs
 
 returns : tie.Need-returns
-returns c = refusal-told _ (too-large _ _ _ (c .before .measure .ensures .0) (c .before .measure .ensures .1) (c .if1 .taken))
+returns c = refusal-told _ (too-large _ _ _ (c .before .measure .ensures .1 .0) (c .before .measure .ensures .1 .1) (c .if1 .taken))
 
 mul-bytes : tie.Need-mul-bytes
 mul-bytes c = search needs
 
 returns-2 : tie.Need-returns-2
-returns-2 c = refusal-told _ (too-long _ _ _ (c .before .before .measure .ensures .0) (c .before .before .measure .ensures .1) (c .before .if1 .left) (c .if2 .taken))
+returns-2 c = refusal-told _ (too-long _ _ _ (c .before .before .measure .ensures .1 .0) (c .before .before .measure .ensures .1 .1) (c .before .if1 .left) (c .if2 .taken))
 
 write-requires : tie.Need-write-requires
-write-requires c κs = let e = sized _ 0 _ (c .before .before .before .measure .ensures .0) (c .before .before .before .measure .ensures .1) (c .before .before .if1 .left) in (c .before .before .before .before .before .before .pre, (omega arith, omega arith))
+write-requires c κs = let e = sized _ 0 _ (c .before .before .before .before .measure .ensures .1 .0) (c .before .before .before .before .measure .ensures .1 .1) (c .before .before .before .if1 .left) in (c .before .before .before .before .before .before .before .before .pre .0, (c .before .before .before .before .measure .ensures .0, (omega arith, omega arith)))
 
 same-length : tie.Need-same-length
 same-length c = search needs
 
 returns-3 : tie.Need-returns-3
-returns-3 c = file-told _ _ _ (c .before .before .before .before .before .before .measure .ensures .0) (c .before .before .before .before .before .before .measure .ensures .1) (c .before .before .before .before .before .if1 .left) _ (c .before .before .before .before .if2 .left) (c .before .before .write .ensures)
+returns-3 c = file-told _ _ _ (c .before .before .before .before .before .before .before .measure .ensures .1 .0) (c .before .before .before .before .before .before .before .measure .ensures .1 .1) (c .before .before .before .before .before .before .if1 .left) _ (c .before .before .before .before .before .if2 .left) (c .before .before .write .ensures)
 
 pub write-annotated-spec : {M : Type 1} → statement M
 write-annotated-spec =

@@ -17,7 +17,7 @@ lower-requires : tie.Need-lower-requires
 lower-requires c κs = search needs
 
 returns : tie.Need-returns
-returns c = (refused-before _ (c .before .before .before .before .check-classes .ensures .0) (c .before .before .answer .given .1) (c .lower .ensures), not-accepted)
+returns c = (c .before .before .before .before .before .before .before .before .pre .1 .1 .1, (refused-before _ (c .before .before .before .before .check-classes .ensures .0) (c .before .before .answer .given .1) (c .lower .ensures), not-accepted))
 
 enum-told : tie.Need-enum-told
 enum-told c = search needs
@@ -26,16 +26,16 @@ is-unannotated-requires : tie.Need-is-unannotated-requires
 is-unannotated-requires c κs = search needs
 
 returns-2 : tie.Need-returns-2
-returns-2 c = (annotated-refused _ (c .before .before .before .before .check-classes .ensures .0) (c .before .before .enum-told .given .1) (c .before .is-unannotated .ensures) (not-true _ (c .if1 .taken)), not-accepted)
+returns-2 c = (c .before .before .before .before .before .before .before .before .pre .1 .1 .1, (annotated-refused _ (c .before .before .before .before .check-classes .ensures .0) (c .before .before .enum-told .given .1) (c .before .is-unannotated .ensures) (not-true _ (c .if1 .taken)), not-accepted))
 
 call-classes-ok-requires : tie.Need-call-classes-ok-requires
-call-classes-ok-requires c κs = (c .before .before .before .before .before .before .before .before .before .before .pre .0, c .before .before .before .before .before .before .check-classes .ensures .1 .0 (c .before .before .before .before .enum-told .given .1))
+call-classes-ok-requires c κs = (c .before .before .before .before .before .before .before .before .before .before .before .pre .0, (c .before .before .before .before .before .before .before .check-classes .ensures .1 .0 (c .before .before .before .before .before .enum-told .given .1), c .before .before .before .before .before .before .before .before .before .before .before .pre .1 .1 .1))
 
 returns-3 : tie.Need-returns-3
-returns-3 c = (calls-refused _ (c .before .before .before .before .before .before .before .before .check-classes .ensures .0) (c .before .before .before .before .before .before .enum-told .given .1) (c .before .before .before .before .before .is-unannotated .ensures) (not-false _ (c .before .before .before .before .if1 .left)) (c .before .call-classes-ok .ensures) (not-true _ (c .if2 .taken)), not-accepted)
+returns-3 c = (c .before .call-classes-ok .ensures .0, (calls-refused _ (c .before .before .before .before .before .before .before .before .before .check-classes .ensures .0) (c .before .before .before .before .before .before .before .enum-told .given .1) (c .before .before .before .before .before .before .is-unannotated .ensures) (not-false _ (c .before .before .before .before .before .if1 .left)) (c .before .call-classes-ok .ensures .1) (not-true _ (c .if2 .taken)), not-accepted))
 
 returns-4 : tie.Need-returns-4
-returns-4 c = (marks-passed _ (c .before .before .before .before .before .before .before .before .check-classes .ensures .0) (c .before .before .before .before .before .before .enum-told .given .1) (c .before .before .before .before .before .is-unannotated .ensures) (not-false _ (c .before .before .before .before .if1 .left)) (c .before .call-classes-ok .ensures) (not-false _ (c .if2 .left)), λ _. c .before .before .before .before .before .before .before .before .check-classes .ensures .1 .0 (c .before .before .before .before .before .before .enum-told .given .1))
+returns-4 c = (c .before .call-classes-ok .ensures .0, (marks-passed _ (c .before .before .before .before .before .before .before .before .before .check-classes .ensures .0) (c .before .before .before .before .before .before .before .enum-told .given .1) (c .before .before .before .before .before .before .is-unannotated .ensures) (not-false _ (c .before .before .before .before .before .if1 .left)) (c .before .call-classes-ok .ensures .1) (not-false _ (c .if2 .left)), λ _. c .before .before .before .before .before .before .before .before .before .check-classes .ensures .1 .0 (c .before .before .before .before .before .before .before .enum-told .given .1)))
 
 pub check-annotatable-spec : {M : Type 1} → statement M
 check-annotatable-spec =

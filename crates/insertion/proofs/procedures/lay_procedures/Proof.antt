@@ -1,7 +1,7 @@
 -- `lay_procedures` meets its contract: the procedures in turn.
 use borrow.Author.Needs.{needs}
 use native.Mathlib.Omega.{arith}
-use mathlib.Core.Path.{_≡_, sym}
+use mathlib.Core.Path.{_≡_}
 use lib.ListN.{length}
 use Rattle.chains.specs.Formed.{ahead}
 use Rattle.liveness.specs.Done.{pointWords}
@@ -10,21 +10,16 @@ use Rattle.insertion.proofs.procedures.lay_procedures.Statement.{statem
 use Rattle.insertion.proofs.procedures.lay_procedures.Tie as tie
 use Rattle.insertion.proofs.procedures.lay_procedures.Reads as reads
 use Rattle.insertion.proofs.procedures.lay_procedures.Lts as lts
-use Rattle.insertion.proofs.procedures.blank_points.Reads as blank-points-reads
 use Rattle.insertion.proofs.procedures.lay_procedure.Reads as lay-procedure-reads
 use Rattle.records.proofs.word.Reads as word-reads
 
 abbrev Inv-loop : tie.InvT-loop
-Inv-loop file table rows out₀ first points₀ i₀ q₀ record₀ out points i q «record» =
+Inv-loop file table rows points₀ out₀ first i₀ q₀ record₀ points out i q «record» =
     Laying file out₀ out first i q «record» × (length points ≡ pointWords)
 
 abbrev μ-loop : tie.MeasureT-loop
-μ-loop file table rows out₀ first points₀ i₀ q₀ record₀ out points i q «record» =
+μ-loop file table rows points₀ out₀ first i₀ q₀ record₀ points out i q «record» =
     ahead file i
-
-blank-points-requires : tie.Need-blank-points-requires Inv-loop μ-loop
-blank-points-requires c κs =
-    search needs
 
 word-requires : tie.Need-word-requires Inv-loop μ-loop
 word-requires c κs =
@@ -32,18 +27,18 @@ word-requires c κs =
 
 loop-holds : tie.Need-loop-holds Inv-loop μ-loop
 loop-holds c =
-    (laying-first _ _ (c .before .before .before .before .pre .formed) (c .word .ensures .0), sym (c .before .blank-points .ensures))
+    (laying-first _ _ (c .before .before .before .pre .0 .formed) (c .word .ensures .0), c .before .before .before .pre .1)
 
 lay-procedure-requires : tie.Need-lay-procedure-requires Inv-loop μ-loop
 lay-procedure-requires c κs =
     let v = c .before .before .before .before .loop .inv in
-    (c .before .before .before .before .before .before .before .before .before .pre, ((v .0 .turn, c .before .before .before .loop-test .taken), v .1))
+    (c .before .before .before .before .before .before .before .before .pre .0, ((v .0 .turn, c .before .before .before .loop-test .taken), v .1))
 
 add-q : tie.Need-add-q Inv-loop μ-loop
 add-q c =
     let v = c .before .before .before .before .before .before .before .loop .inv in
-    let l = here-below (c .before .before .before .before .before .before .before .before .before .before .before .before .pre .formed) (v .0 .turn) (c .before .before .before .before .before .before .loop-test .taken) in
-    omega (arith, l, c .before .before .before .before .before .before .before .before .before .before .before .before .pre .prepared .few)
+    let l = here-below (c .before .before .before .before .before .before .before .before .before .before .before .pre .0 .formed) (v .0 .turn) (c .before .before .before .before .before .before .loop-test .taken) in
+    omega (arith, l, c .before .before .before .before .before .before .before .before .before .before .before .pre .0 .prepared .few)
 
 word-requires-2 : tie.Need-word-requires-2 Inv-loop μ-loop
 word-requires-2 c κs =
@@ -51,11 +46,11 @@ word-requires-2 c κs =
 
 loop-less : tie.Need-loop-less Inv-loop μ-loop
 loop-less c =
-    laying-falls (c .before .before .before .before .before .before .before .before .loop .inv .0) (c .before .before .before .before .before .before .before .before .before .before .before .before .before .pre .formed) (c .before .before .before .before .before .before .before .loop-test .taken) (c .word2 .ensures .0)
+    laying-falls (c .before .before .before .before .before .before .before .before .loop .inv .0) (c .before .before .before .before .before .before .before .before .before .before .before .before .pre .0 .formed) (c .before .before .before .before .before .before .before .loop-test .taken) (c .word2 .ensures .0)
 
 loop-again : tie.Need-loop-again Inv-loop μ-loop
 loop-again c =
-    (laying-next (c .before .before .before .before .before .before .before .before .loop .inv .0) (c .before .before .before .before .before .before .before .before .before .before .before .before .before .pre .formed) (c .before .before .before .before .before .before .before .loop-test .taken) (c .before .before .before .lay-procedure .ensures .1) (c .word2 .ensures .0), c .before .before .before .lay-procedure .ensures .0)
+    (laying-next (c .before .before .before .before .before .before .before .before .loop .inv .0) (c .before .before .before .before .before .before .before .before .before .before .before .before .pre .0 .formed) (c .before .before .before .before .before .before .before .loop-test .taken) (c .before .before .before .lay-procedure .ensures .1) (c .word2 .ensures .0), c .before .before .before .lay-procedure .ensures .0)
 
 same-length : tie.Need-same-length Inv-loop μ-loop
 same-length c =
@@ -63,7 +58,7 @@ same-length c =
 
 returns : tie.Need-returns Inv-loop μ-loop
 returns c =
-    laying-last (c .before .loop .inv .0) (c .loop-test .left)
+    (c .before .loop .inv .1, laying-last (c .before .loop .inv .0) (c .loop-test .left))
 
 pub lay-procedures-spec : {M : Type 1} → statement M
 lay-procedures-spec =
@@ -71,7 +66,6 @@ lay-procedures-spec =
     (tie.spec
     Inv-loop
     μ-loop
-    blank-points-requires
     word-requires
     loop-holds
     lay-procedure-requires

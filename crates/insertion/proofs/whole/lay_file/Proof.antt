@@ -17,7 +17,7 @@ word-requires c κs = search needs
 
 lay-chain-requires : tie.Need-lay-chain-requires
 lay-chain-requires c κs =
-    (c .before .before .before .before .pre .formed, types-below (c .before .before .before .before .pre .formed) (c .before .word .ensures .0))
+    (c .before .before .before .before .pre .0 .formed, types-below (c .before .before .before .before .pre .0 .formed) (c .before .word .ensures .0))
 
 lay-procedures-requires : tie.Need-lay-procedures-requires
 lay-procedures-requires c κs = search needs
@@ -27,11 +27,11 @@ store-header-requires c κs = search needs
 
 same-length : tie.Need-same-length
 same-length c =
-    c .before .before .store-header .ensures .stored .same ∙ c .before .before .before .before .before .before .lay-procedures .ensures .same ∙ c .before .before .before .before .before .before .before .before .before .before .lay-chain .ensures .same
+    c .before .before .store-header .ensures .stored .same ∙ c .before .before .before .before .before .before .lay-procedures .ensures .1 .same ∙ c .before .before .before .before .before .before .before .before .before .before .before .lay-chain .ensures .same
 
 returns : tie.Need-returns
 returns c =
-    file-laid (c .before .before .before .before .before .before .before .before .before .before .before .before .before .before .before .pre .formed) (c .before .before .before .before .before .before .before .before .before .before .before .before .word .ensures .0) (c .before .before .before .before .before .before .before .before .before .before .lay-chain .ensures) (c .before .before .before .before .before .before .lay-procedures .ensures) (c .before .before .store-header .ensures)
+    (c .before .before .before .before .before .before .lay-procedures .ensures .0, file-laid (c .before .before .before .before .before .before .before .before .before .before .before .before .before .before .before .before .pre .0 .formed) (c .before .before .before .before .before .before .before .before .before .before .before .before .before .word .ensures .0) (c .before .before .before .before .before .before .before .before .before .before .before .lay-chain .ensures) (c .before .before .before .before .before .before .lay-procedures .ensures .1) (c .before .before .store-header .ensures))
 
 pub lay-file-spec : {M : Type 1} → statement M
 lay-file-spec =

@@ -20,7 +20,7 @@ lay-file-requires c κs = search needs
 
 returns : tie.Need-returns
 returns c =
-    (measured-fits _ (c .before .lay-file .ensures), measured-over _ (c .before .lay-file .ensures))
+    (c .before .lay-file .ensures .0, (measured-fits _ (c .before .lay-file .ensures .1), measured-over _ (c .before .lay-file .ensures .1)))
 
 pub measure-spec : {M : Type 1} → statement M
 measure-spec =

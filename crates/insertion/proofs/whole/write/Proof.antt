@@ -16,7 +16,7 @@ same-length c = search needs
 
 returns : tie.Need-returns
 returns c =
-    file-written _ (λ j. c .slice-known2 .given j .fits) (c .before .before .before .before .before .before .pre .1 .0) (c .before .before .before .before .before .before .pre .1 .1) (c .before .before .lay-file .ensures)
+    file-written _ (λ j. c .slice-known2 .given j .fits) (c .before .before .before .before .before .before .before .pre .1 .1 .0) (c .before .before .before .before .before .before .before .pre .1 .1 .1) (c .before .before .lay-file .ensures .1)
 
 pub write-spec : {M : Type 1} → statement M
 write-spec = tie.close (tie.spec lay-file-requires same-length returns)

@@ -20,10 +20,10 @@ part-window-ok-end : tie.Need-part-window-ok-end
 part-window-ok-end c = search needs
 
 window-ok-requires : tie.Need-window-ok-requires
-window-ok-requires c κs = let p = c .before .before .before .before .pre in (p .0, (p .1 .0 .accessed, body-stands (p .1 .0) _ (p .1 .1) (c .before .start-of .ensures .0)))
+window-ok-requires c κs = let p = c .before .before .before .before .before .pre in (p .0, (p .1 .0 .accessed, (body-stands (p .1 .0) _ (p .1 .1 .0) (c .before .before .start-of .ensures .0), p .1 .1 .1)))
 
 returns : tie.Need-returns
-returns c = let p = c .before .before .before .before .before .pre in procedure-classes (p .1 .0) _ (p .1 .1) (c .before .before .start-of .ensures .0) (c .window-ok .ensures)
+returns c = let p = c .before .before .before .before .before .before .pre in (c .window-ok .ensures .0, procedure-classes (p .1 .0) _ (p .1 .1 .0) (c .before .before .before .start-of .ensures .0) (c .window-ok .ensures .1))
 
 pub procedure-ok-spec : {M : Type 1} → statement M
 procedure-ok-spec =

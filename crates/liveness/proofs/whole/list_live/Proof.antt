@@ -1,6 +1,8 @@
 -- `list_live` meets its contract: there is room for all points.
 use Rattle.liveness.proofs.Walking.{list-done, list-classes}
 use borrow.Author.Needs.{needs}
+use native.Mathlib.Omega.{arith}
+use mathlib.Core.Path.{_∙_}
 use Rattle.liveness.proofs.whole.list_live.Statement.{statement}
 use Rattle.liveness.proofs.whole.list_live.Tie as tie
 
@@ -35,7 +37,7 @@ classes-in-requires : tie.Need-classes-in-requires
 classes-in-requires c κs = search needs
 
 returns : tie.Need-returns
-returns c = let p = c .before .before .before .before .before .before .before .before .before .before .before .before .before .before .before .before .before .before .before .before .pre in (list-done _ (c .before .before .before .before .before .before .before .before .before .before .before .before .before .at-end .ensures) (c .before .before .before .before .before .before .before .before .before .before .before .put-live .ensures) (c .before .before .before .before .before .before .goals .ensures) (p .0) (p .1 .1 .0) (p .1 .1 .1) (c .before .before .before .before .live-in .ensures) (c .before .before .place-in .ensures), list-classes _ (c .before .before .before .before .before .before .before .before .before .before .before .before .before .at-end .ensures) (c .before .before .before .before .before .before .before .before .before .before .before .put-live .ensures) (c .before .before .before .before .before .before .goals .ensures) (c .before .before .before .before .before .before .before .before .before .before .before .before .before .before .before .list-wants .ensures) (c .classes-in .ensures))
+returns c = let p = c .before .before .before .before .before .before .before .before .before .before .before .before .before .before .before .before .before .before .before .before .pre in (c .before .before .before .before .before .before .goals .ensures .fills .same ∙ p .1 .1 .1, (list-done _ (c .before .before .before .before .before .before .before .before .before .before .before .before .before .at-end .ensures) (c .before .before .before .before .before .before .before .before .before .before .before .put-live .ensures) (c .before .before .before .before .before .before .goals .ensures) (p .0) (p .1 .1 .0) (omega (arith, p .1 .1 .1)) (c .before .before .before .before .live-in .ensures) (c .before .before .place-in .ensures), list-classes _ (c .before .before .before .before .before .before .before .before .before .before .before .before .before .at-end .ensures) (c .before .before .before .before .before .before .before .before .before .before .before .put-live .ensures) (c .before .before .before .before .before .before .goals .ensures) (c .before .before .before .before .before .before .before .before .before .before .before .before .before .before .before .list-wants .ensures) (c .classes-in .ensures)))
 
 pub list-live-spec : {M : Type 1} → statement M
 list-live-spec =
