@@ -23,15 +23,15 @@ use Rattle.chains.specs.Shapes.{IsSwitch, IsIf, switch-here, if-here, arm-here}
 use Rattle.liveness.specs.Points.{points, armsPoints}
 use Rattle.liveness.specs.Counts.{goalsCount, goalCount, armsCount}
 use Rattle.liveness.specs.Table.{beforeAt, afterAt}
-use Rattle.liveness.specs.Done.{pointWords}
+use Rattle.liveness.specs.Done.{pointWords, Ready, Belongs}
 use Rattle.writer.specs.Laid.{linked}
 use Rattle.writer.specs.Skips.{Behind}
-use Rattle.insertion.specs.Lays.{Lays, Goes, lays-end, lays-node}
-use Rattle.insertion.specs.Marks.{marks}
+use Rattle.laying.specs.Lays.{Lays, Goes, lays-end, lays-node}
+use Rattle.laying.specs.Marks.{marks}
 use Rattle.insertion.specs.Chains.{Fronts, fronts-head, chain-goes, lays-first, lays-part}
 use Rattle.insertion.specs.Wants.{Wants, goal-wants, first-wants, start-wants, switch-wants, branches-want, arms-want}
-use Rattle.insertion.specs.Heads.{SwitchStored, IfStored, ArmStored, switch-head, if-head, arm-head}
-use Rattle.insertion.specs.Done.{Ready, Belongs, partOf, GoalsLaid, GoalLaid, PartLaid, ArmLaid, ArmsLaid}
+use Rattle.laying.specs.Heads.{SwitchStored, IfStored, ArmStored, switch-head, if-head, arm-head}
+use Rattle.insertion.specs.Done.{partOf, GoalsLaid, GoalLaid, PartLaid, ArmLaid, ArmsLaid}
 
 -- ---- along a chain: the goals from record start on were to be laid from place first on; what is left are those from record i on, from place c on
 module _ (f rows t : List ℕ) (start at₀ : ℕ) (a b : List ℕ) (first i at c : ℕ) where

@@ -20,12 +20,12 @@ use Rattle.chains.specs.Formed.{Formed, Stands, goalsAt}
 use Rattle.tables.specs.Window.{Window, setIn, bodyPlace, outsPlace, deadPlace, keptPlace}
 use Rattle.liveness.specs.Points.{points}
 use Rattle.liveness.specs.Holds.{written-holds}
-use Rattle.liveness.specs.Done.{pointWords, ListDone}
-use Rattle.insertion.specs.Lays.{Lays}
-use Rattle.insertion.specs.Marks.{marks}
+use Rattle.liveness.specs.Done.{pointWords, Ready, Belongs, ListDone}
+use Rattle.laying.specs.Lays.{Lays}
+use Rattle.laying.specs.Marks.{marks}
 use Rattle.insertion.specs.Chains.{chain-goes, lays-part}
 use Rattle.insertion.specs.Wants.{Wants, Turned, turned-wants}
-use Rattle.insertion.specs.Done.{Ready, Belongs, GoalsLaid}
+use Rattle.insertion.specs.Done.{GoalsLaid}
 
 -- from place s on the table has what is wanted at the points of the procedure's goals; l is live before them
 abbrev pub PointsFilled : List ℕ → List ℕ → List ℕ → ℕ → Set → Type 0

@@ -22,8 +22,8 @@ use Rattle.chains.specs.Is.{goals-step}
 use Rattle.writer.specs.Laid.{linked}
 use Rattle.writer.specs.Ready.{treeAt, wordsAt, frontTo, tree-is}
 use Rattle.writer.specs.Trees.{goals-tree}
-use Rattle.insertion.specs.Lays.{Lays, Goes, headOf, lays-node}
-use Rattle.insertion.specs.Marks.{moreOf, marks, marksTree, marks-goes, lays-marks}
+use Rattle.laying.specs.Lays.{Lays, Goes, headOf, lays-node}
+use Rattle.laying.specs.Marks.{moreOf, marks, marksTree, marks-goes, lays-marks}
 
 -- goals in front of a tree
 unfoldable pub onto : Goals → Tree → Tree

@@ -13,22 +13,13 @@ use Rattle.language.specs.Answers.{program}
 use Rattle.placement.specs.Local.{removesTo, localGoals, localGoal, localArms}
 use Rattle.sets.specs.declared.Set.{Set}
 use Rattle.chains.specs.Formed.{goalsAt, goalAt, armsAt}
-use Rattle.tables.specs.Filled.{Effected, Owning}
 use Rattle.liveness.specs.Points.{points, goalPoints, armsPoints}
 use Rattle.liveness.specs.Counts.{goalsCount, goalCount, armsCount}
 use Rattle.liveness.specs.Table.{beforeAt, afterAt}
-use Rattle.insertion.specs.Lays.{Lays, headOf}
+use Rattle.liveness.specs.Done.{Ready, Belongs}
+use Rattle.laying.specs.Lays.{Lays, headOf}
 use Rattle.insertion.specs.Chains.{Fronts}
 use Rattle.insertion.specs.Wants.{Wants}
-
--- the rows are those of the file
-pub record Ready (f rows : List ℕ) (o : ℕ → ℕ) : Type 0 where
-  pub effected : Effected f o rows
-  pub owning : Owning f o
-
--- record i belongs to procedure q, if there is such a record
-abbrev pub Belongs : (ℕ → ℕ) → ℕ → ℕ → Type 0
-Belongs o q i = (i ≡ 0 → ⊥) → o i ≡ q
 
 -- a part of the goal whose point is at `whole`: the removes at its start, then its goals
 unfoldable pub partOf : List ℕ → List ℕ → ℕ → ℕ → ℕ → Set → Goals

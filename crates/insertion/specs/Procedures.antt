@@ -23,8 +23,8 @@ use Rattle.writer.specs.Laid.{linked}
 use Rattle.writer.specs.Ready.{treeAt}
 use Rattle.writer.specs.Skips.{Behind}
 use Rattle.writer.specs.Trees.{variables-tree, regions-tree}
-use Rattle.insertion.specs.Lays.{Lays, Goes, headOf, lays-end, lays-node}
-use Rattle.insertion.specs.Heads.{ProcedureStored, procedure-head}
+use Rattle.laying.specs.Lays.{Lays, Goes, headOf, lays-end, lays-node}
+use Rattle.laying.specs.Heads.{ProcedureStored, procedure-head}
 use Rattle.insertion.specs.Bodies.{bodyOf, BodyLaid}
 
 -- a file that the annotator does not refuse, with its tables

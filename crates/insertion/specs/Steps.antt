@@ -21,8 +21,8 @@ use Rattle.liveness.specs.Counts.{goalCount}
 use Rattle.liveness.specs.Table.{beforeAt, afterAt}
 use Rattle.liveness.specs.Done.{pointWords}
 use Rattle.writer.specs.Ready.{frontTo}
-use Rattle.insertion.specs.Lays.{Lays}
-use Rattle.insertion.specs.Marks.{moreOf, marks}
+use Rattle.laying.specs.Lays.{Lays}
+use Rattle.laying.specs.Marks.{moreOf, marks}
 use Rattle.insertion.specs.Chains.{fronts-copy, fronts-step}
 use Rattle.insertion.specs.Wants.{goal-wants}
 use Rattle.insertion.specs.Done.{GoalLaid}

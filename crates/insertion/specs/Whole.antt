@@ -21,8 +21,8 @@ use Rattle.writer.specs.Ready.{treeAt}
 use Rattle.writer.specs.Skips.{Behind}
 use Rattle.writer.specs.Trees.{types-tree}
 use Rattle.writer.specs.Whole.{laid-written}
-use Rattle.insertion.specs.Lays.{Lays, lays-then, Stored, lays-before, lays-number, lays-leads, Refers, Spans, lays-span}
-use Rattle.insertion.specs.Heads.{lays-low, lays-zeros}
+use Rattle.laying.specs.Lays.{Lays, lays-then, Stored, lays-before, lays-number, lays-leads, Refers, Spans, lays-span}
+use Rattle.laying.specs.Heads.{lays-low, lays-zeros}
 use Rattle.insertion.specs.Procedures.{proceduresTree}
 
 -- the header of a file whose types were laid from 1 to m and whose procedures from m to e

@@ -1,8 +1,8 @@
 // The goals of a procedure, by its window.
-use crate::marks::lay_marks;
 use crate::points::list_wanted;
 use crate::walk::goals;
 use language::format::REMOVE;
+use laying::lay_marks;
 use lifetimes::wanted_in;
 use liveness::Filled;
 use liveness::POINTS;

@@ -1,9 +1,5 @@
 // The annotated file, laid into a lent slice: the file's records with creates and removes between them.
 mod bodies;
-mod copies;
-mod heads;
-mod marks;
-mod place;
 mod points;
 mod procedures;
 mod step;

@@ -1,11 +1,11 @@
 // Procedures: their variables and regions as they are, their goals annotated.
 use crate::bodies::lay_body;
-use crate::copies::lay_chain;
-use crate::heads::store_procedure;
 use language::format::HEADER_PROCEDURES;
 use language::format::NEXT;
 use language::format::PROCEDURE_REGIONS;
 use language::format::PROCEDURE_VARIABLES;
+use laying::lay_chain;
+use laying::store_procedure;
 use liveness::POINTS;
 use records::word;
 use tables::ROWS;
@@ -20,7 +20,7 @@ ghost use Rattle.language.specs.Records.{goalsTree};
 ghost use Rattle.language.specs.Answers.{program};
 ghost use Rattle.chains.specs.Turns.{Turn};
 ghost use Rattle.liveness.specs.Done.{pointWords};
-ghost use Rattle.insertion.specs.Lays.{Lays};
+ghost use Rattle.laying.specs.Lays.{Lays};
 ghost use Rattle.insertion.specs.Procedures.{Given, placedBody, procedureHead, proceduresTree};
 
 // Lays the goals of procedure q.

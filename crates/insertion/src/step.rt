@@ -1,12 +1,12 @@
 // A step with the creates before it and the removes after it.
 use crate::Cursor;
-use crate::copies::lay_record;
-use crate::marks::follows;
-use crate::marks::lay_marks;
 use crate::points::past;
 use language::format::CREATE;
 use language::format::NEXT;
 use language::format::REMOVE;
+use laying::follows;
+use laying::lay_marks;
+use laying::lay_record;
 use lifetimes::created_for;
 use lifetimes::removed_after;
 use liveness::POINTS;

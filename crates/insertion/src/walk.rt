@@ -1,9 +1,5 @@
 // The walk over goals that lays them with the creates and removes of "Annotator".
 use crate::Cursor;
-use crate::heads::store_arm;
-use crate::heads::store_if;
-use crate::heads::store_switch;
-use crate::marks::lay_marks;
 use crate::points::left_over;
 use crate::points::past;
 use crate::step::step;
@@ -16,6 +12,10 @@ use language::format::NEXT;
 use language::format::REMOVE;
 use language::format::SWITCH;
 use language::format::SWITCH_ARMS;
+use laying::lay_marks;
+use laying::store_arm;
+use laying::store_if;
+use laying::store_switch;
 use liveness::POINTS;
 use records::word;
 use tables::ROWS;

@@ -1,11 +1,11 @@
 // The annotated file: how many records it has, and its bytes.
-use crate::copies::lay_chain;
-use crate::place::refer;
-use crate::place::span;
-use crate::place::store;
 use crate::procedures::lay_procedures;
 use language::format::HEADER;
 use language::format::HEADER_TYPES;
+use laying::lay_chain;
+use laying::refer;
+use laying::span;
+use laying::store;
 use liveness::POINTS;
 use records::word;
 use tables::ROWS;
@@ -20,7 +20,7 @@ ghost use Rattle.language.specs.Records.{programTree};
 ghost use Rattle.language.specs.Annotation.{annotate};
 ghost use Rattle.language.specs.Answers.{program, fileOf};
 ghost use Rattle.liveness.specs.Done.{pointWords};
-ghost use Rattle.insertion.specs.Lays.{Lays};
+ghost use Rattle.laying.specs.Lays.{Lays};
 ghost use Rattle.insertion.specs.Procedures.{Given};
 ghost use Rattle.insertion.specs.Whole.{HeaderStored};
 

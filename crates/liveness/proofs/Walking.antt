@@ -154,7 +154,7 @@ module _ (f rows w : List ℕ) where
         fills = then-points (program f) after e (h .live-is) (h .fills) (k .fills);
         classes-are = λ o q y b.
             then-classes (program f) (signatureOf (program f) q) after x e (h .live-is)
-            (h .classes-are o q y (λ n. y .owning .to-next i s z _ refl n ∙ b z)) (k .classes-are o q y (b z));
+            (h .classes-are o q y (λ n. y .ready .owning .to-next i s z _ refl n ∙ b z)) (k .classes-are o q y (b z));
       }
 
   -- ---- a step
@@ -178,7 +178,7 @@ module _ (f rows w : List ℕ) where
           classes-are = λ o k y h.
               n .classes-is
               ∙ ap (λ (v : Bool). classesIn c & v)
-              (classes-are A step-stands w (y .effected) (y .wants) h (liveIn c) ∙ step-classes (program f) (signatureOf (program f) k) (liveIn c) step-goal);
+              (classes-are A step-stands w (y .ready .effected) (y .wants) h (liveIn c) ∙ step-classes (program f) (signatureOf (program f) k) (liveIn c) step-goal);
         }
 
   -- ---- a switch
@@ -192,7 +192,7 @@ module _ (f rows w : List ℕ) where
           live-is = n .live-is ∙ l;
           fills = own-point (program f) (goalAt f i) after _ (switch-parts (program f) after (switch-at f i F k .goal)) l (rw ew at (h .fills)) (rw ea at (n .fills));
           classes-are = λ o q y g.
-              n .classes-is ∙ h .classes-are o q y (λ z. y .owning .to-arms i k _ ew z ∙ g)
+              n .classes-is ∙ h .classes-are o q y (λ z. y .ready .owning .to-arms i k _ ew z ∙ g)
               ∙ ap (λ (v : Bool). x & v) (rw ew (switch-classes (program f) (signatureOf (program f) q) after (switch-at f i F k .goal)));
         }
 
@@ -224,7 +224,7 @@ module _ (f rows w : List ℕ) where
           classes-are = λ o q y b.
               n .classes-is
               ∙ if-classes (program f) (signatureOf (program f) q) after x (if-at f i F k .goal)
-              (h .classes-are o q y (λ z. y .owning .to-else i k _ refl z ∙ b)) (j′ .classes-are o q y (λ z. y .owning .to-then i k _ refl z ∙ b));
+              (h .classes-are o q y (λ z. y .ready .owning .to-else i k _ refl z ∙ b)) (j′ .classes-are o q y (λ z. y .ready .owning .to-then i k _ refl z ∙ b));
         }
 
   -- ---- arms
@@ -263,8 +263,8 @@ module _ (f rows w : List ℕ) where
           classes-are = λ o q y b.
               n .classes-is
               ∙ arms-classes (program f) (signatureOf (program f) q) after x (arm-here f i F S z .view)
-              (rw ew at (h .classes-are o q y (λ k. y .owning .arm-next i S z _ ew k ∙ b z)))
-              (j′ .classes-are o q y (λ k. y .owning .arm-goals i S z _ refl k ∙ b z));
+              (rw ew at (h .classes-are o q y (λ k. y .ready .owning .arm-next i S z _ ew k ∙ b z)))
+              (j′ .classes-are o q y (λ k. y .ready .owning .arm-goals i S z _ refl k ∙ b z));
         }
 
   -- ---- the goals that a word leads to
@@ -284,4 +284,4 @@ module _ {f rows w : List ℕ} (i : ℕ) {outs : Set} {c₀ c t d u : List ℕ} 
 
   pub list-classes : {own : List ℕ} {b : Bool} → Wants own w → b ≡ classesIn d → ListClasses f rows own i outs b
   unfolding _&_
-  list-classes k eb o q E O W B = eb ∙ from-end .classes-are o q (record { effected = E; owning = O; wants = wants-are W k }) B
+  list-classes k eb o q E O W B = eb ∙ from-end .classes-are o q (record { ready = record { effected = E; owning = O }; wants = wants-are W k }) B

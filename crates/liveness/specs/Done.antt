@@ -25,10 +25,14 @@ pointWords = 8192
 abbrev pub Belongs : (ℕ → ℕ) → ℕ → ℕ → Type 0
 Belongs o q i = (i ≡ 0 → ⊥) → o i ≡ q
 
--- the rows have what steps do to regions, and w has what procedure q wants
-pub record Ready (f rows w : List ℕ) (o : ℕ → ℕ) (q : ℕ) : Type 0 where
+-- the rows have what steps do to regions
+pub record Ready (f rows : List ℕ) (o : ℕ → ℕ) : Type 0 where
   pub effected : Effected f o rows
   pub owning : Owning f o
+
+-- and w has what procedure q wants
+pub record Wanting (f rows w : List ℕ) (o : ℕ → ℕ) (q : ℕ) : Type 0 where
+  pub ready : Ready f rows o
   pub wants : (live : Set) → wantedIn w live ≡ wanted (signatureOf (program f) q) live
 
 -- what was live behind, the place then, number 7 till then
@@ -37,19 +41,19 @@ module _ (f rows w : List ℕ) (i : ℕ) (after : Set) (end : ℕ) (x : Bool) (t
   pub record GoalsFrom : Type 0 where
     pub live-is : liveIn d ≡ live (program f) (goalsAt f i) after
     pub fills : Fills t u (placeIn d) end (points (program f) (goalsAt f i) after)
-    pub classes-are : (o : ℕ → ℕ) (q : ℕ) → Ready f rows w o q → Belongs o q i
+    pub classes-are : (o : ℕ → ℕ) (q : ℕ) → Wanting f rows w o q → Belongs o q i
         → classesIn d ≡ (x & goalsClasses (program f) (signatureOf (program f) q) (goalsAt f i) after)
 
   pub record GoalFrom : Type 0 where
     pub live-is : liveIn d ≡ liveGoal (program f) (goalAt f i) after
     pub fills : Fills t u (placeIn d) end (goalPoints (program f) (goalAt f i) after)
-    pub classes-are : (o : ℕ → ℕ) (q : ℕ) → Ready f rows w o q → o i ≡ q
+    pub classes-are : (o : ℕ → ℕ) (q : ℕ) → Wanting f rows w o q → o i ≡ q
         → classesIn d ≡ (x & goalClasses (program f) (signatureOf (program f) q) (goalAt f i) after)
 
   pub record ArmsFrom : Type 0 where
     pub live-is : liveIn d ≡ liveArms (program f) (armsAt f i) after
     pub fills : Fills t u (placeIn d) end (armsPoints (program f) (armsAt f i) after)
-    pub classes-are : (o : ℕ → ℕ) (q : ℕ) → Ready f rows w o q → Belongs o q i
+    pub classes-are : (o : ℕ → ℕ) (q : ℕ) → Wanting f rows w o q → Belongs o q i
         → classesIn d ≡ (x & armsClasses (program f) (signatureOf (program f) q) (armsAt f i) after)
 
 -- from c carried

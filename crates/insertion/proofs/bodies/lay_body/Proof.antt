@@ -7,7 +7,7 @@ use Rattle.insertion.proofs.bodies.lay_body.Reads as reads
 use Rattle.insertion.proofs.bodies.lay_body.Lts as lts
 use Rattle.insertion.proofs.bodies.fill_points.Reads as fill-points-reads
 use Rattle.insertion.proofs.bodies.start_removed.Reads as start-removed-reads
-use Rattle.insertion.proofs.marks.lay_marks.Reads as lay-marks-reads
+use Rattle.laying.proofs.lay_marks.Reads as lay-marks-reads
 use Rattle.insertion.proofs.walk.goals.Reads as goals-reads
 use Rattle.tables.proofs.word_at.Reads as word-at-reads
 

@@ -7,8 +7,8 @@ use Rattle.insertion.proofs.procedures.lay_procedure.Statement.{stateme
 use Rattle.insertion.proofs.procedures.lay_procedure.Tie as tie
 use Rattle.insertion.proofs.procedures.lay_procedure.Reads as reads
 use Rattle.insertion.proofs.procedures.lay_procedure.Lts as lts
-use Rattle.insertion.proofs.copies.lay_chain.Reads as lay-chain-reads
-use Rattle.insertion.proofs.heads.store_procedure.Reads as store-procedure-reads
+use Rattle.laying.proofs.lay_chain.Reads as lay-chain-reads
+use Rattle.laying.proofs.store_procedure.Reads as store-procedure-reads
 use Rattle.insertion.proofs.procedures.lay_goals.Reads as lay-goals-reads
 use Rattle.records.proofs.word.Reads as word-reads
 use Rattle.writer.proofs.behind.Reads as behind-reads

@@ -7,9 +7,9 @@ use Rattle.insertion.proofs.step.step.Statement.{statement}
 use Rattle.insertion.proofs.step.step.Tie as tie
 use Rattle.insertion.proofs.step.step.Reads as reads
 use Rattle.insertion.proofs.step.step.Lts as lts
-use Rattle.insertion.proofs.copies.lay_record.Reads as lay-record-reads
-use Rattle.insertion.proofs.marks.follows.Reads as follows-reads
-use Rattle.insertion.proofs.marks.lay_marks.Reads as lay-marks-reads
+use Rattle.laying.proofs.lay_record.Reads as lay-record-reads
+use Rattle.laying.proofs.follows.Reads as follows-reads
+use Rattle.laying.proofs.lay_marks.Reads as lay-marks-reads
 use Rattle.insertion.proofs.points.past.Reads as past-reads
 use Rattle.insertion.proofs.step.created_at.Reads as created-at-reads
 use Rattle.insertion.proofs.step.removed_at.Reads as removed-at-reads

@@ -30,10 +30,10 @@ use Rattle.insertion.proofs.walk.+arm+arms+branches+goal+goals+part+swi
 use Rattle.insertion.proofs.walk.switch.Reads as switch
 use Rattle.insertion.proofs.walk.switch.Kinds as switch-kinds
 use Rattle.insertion.proofs.walk.+arm+arms+branches+goal+goals+part+switch.Lts-switch as switch-lts
-use Rattle.insertion.proofs.heads.store_arm.Reads as store-arm-reads
-use Rattle.insertion.proofs.heads.store_if.Reads as store-if-reads
-use Rattle.insertion.proofs.heads.store_switch.Reads as store-switch-reads
-use Rattle.insertion.proofs.marks.lay_marks.Reads as lay-marks-reads
+use Rattle.laying.proofs.store_arm.Reads as store-arm-reads
+use Rattle.laying.proofs.store_if.Reads as store-if-reads
+use Rattle.laying.proofs.store_switch.Reads as store-switch-reads
+use Rattle.laying.proofs.lay_marks.Reads as lay-marks-reads
 use Rattle.insertion.proofs.points.left_over.Reads as left-over-reads
 use Rattle.insertion.proofs.points.past.Reads as past-reads
 use Rattle.insertion.proofs.step.step.Reads as step-reads

@@ -7,7 +7,7 @@ use Rattle.insertion.proofs.whole.lay_file.Statement.{statement}
 use Rattle.insertion.proofs.whole.lay_file.Tie as tie
 use Rattle.insertion.proofs.whole.lay_file.Reads as reads
 use Rattle.insertion.proofs.whole.lay_file.Lts as lts
-use Rattle.insertion.proofs.copies.lay_chain.Reads as lay-chain-reads
+use Rattle.laying.proofs.lay_chain.Reads as lay-chain-reads
 use Rattle.insertion.proofs.procedures.lay_procedures.Reads as lay-procedures-reads
 use Rattle.insertion.proofs.whole.store_header.Reads as store-header-reads
 use Rattle.records.proofs.word.Reads as word-reads

@@ -1,0 +1,47 @@
+-- `store_switch` meets its contract.
+use native.Mathlib.Omega.{arith}
+use Rattle.laying.specs.Heads.{switch-stored}
+use borrow.Author.Needs.{needs}
+use Rattle.laying.proofs.heads.store_switch.Statement.{statement}
+use Rattle.laying.proofs.heads.store_switch.Tie as tie
+use Rattle.laying.proofs.heads.store_switch.Reads as reads
+use Rattle.laying.proofs.heads.store_switch.Lts as lts
+use Rattle.laying.proofs.place.refer.Reads as refer-reads
+use Rattle.laying.proofs.place.span.Reads as span-reads
+use Rattle.laying.proofs.place.store.Reads as store-reads
+use Rattle.records.proofs.word.Reads as word-reads
+
+word-requires : tie.Need-word-requires
+word-requires c κs = search needs
+
+refer-requires : tie.Need-refer-requires
+refer-requires c κs = search needs
+
+word-requires-2 : tie.Need-word-requires-2
+word-requires-2 c κs = search needs
+
+span-requires : tie.Need-span-requires
+span-requires c κs = search needs
+
+store-requires : tie.Need-store-requires
+store-requires c κs =
+    (omega arith, (omega (arith, c .before .before .before .refer .ensures .small), (c .before .before .word2 .ensures .1, (omega (arith, c .before .span .ensures .small), (omega arith, (omega arith, (omega arith, (omega arith, tt))))))))
+
+same-length : tie.Need-same-length
+same-length c = search needs
+
+returns : tie.Need-returns
+returns c =
+    switch-stored _ _ (c .before .before .before .before .before .before .before .word .ensures .0) (c .before .before .before .before .before .before .refer .ensures) (c .before .before .before .before .before .word2 .ensures .0) (c .before .before .before .before .span .ensures) (c .before .before .store .ensures)
+
+pub store-switch-spec : {M : Type 1} → statement M
+store-switch-spec =
+    tie.close
+    (tie.spec
+    word-requires
+    refer-requires
+    word-requires-2
+    span-requires
+    store-requires
+    same-length
+    returns)

@@ -1,0 +1,136 @@
+-- Records whose words lead to what was laid behind them: a switch, an if, an arm, a procedure, the header.
+use Prim.Native.Nat.{ℕ, zero, suc, _+_, _≤_, _<_}
+use native.Mathlib.Omega.{arith}
+use native.Mathlib.Decide.{decLt}
+use mathlib.Core.List.{List, [], _∷_}
+use mathlib.Core.Path.{_≡_, ap₂, sym}
+use lib.ListN.{length}
+use Rattle.language.specs.Format.{maxRecords, switchKind, ifKind, armKind, procedureKind}
+use Rattle.language.specs.File.{kSwitch, kIf, kProcedure, kArm, kGoal, word}
+use Rattle.language.specs.Tree.{Tree, noWords, plain, leads}
+use Rattle.language.specs.Layout.{wordList, lay, layWords}
+use Rattle.language.specs.Records.{zeros, fourPlain}
+use Rattle.language.specs.Program.{four}
+use Rattle.chains.specs.Layout.{all-rows}
+use Rattle.writer.specs.Skips.{Behind}
+use Rattle.laying.specs.Lays.{Lays, lays-none, Stored, headOf, lays-number, lays-no-words, lays-leads, lays-head, Refers, Spans, lays-span}
+
+-- what ends below 4,096 starts there
+pub lays-low : {a b : List ℕ} {c r : ℕ} {rs : List (List ℕ)} → Lays a b c r rs → r ≤ maxRecords → c ≤ maxRecords
+lays-low {c = c} {r = r} {rs = rs} L l = go (decLt maxRecords (c + length rs))
+  where
+    go : Dec (maxRecords < c + length rs) → c ≤ maxRecords
+    go (yes h) = absurd (omega (arith, L .place .over h))
+    go (no h) = omega arith
+
+pub lays-zeros : (a : List ℕ) (c : ℕ) (n : ℕ) → Lays a a c c (layWords (zeros n) c)
+unfolding zeros
+lays-zeros a c zero = lays-no-words a c
+lays-zeros a c (suc n) = lays-number 0 (zeros n) (lays-zeros a c n)
+
+module _ (f : List ℕ) (i : ℕ) (a b : List ℕ) (c : ℕ) where
+  -- a switch whose arms were laid from s to e
+  pub record SwitchStored (s e : ℕ) : Type 0 where
+    pub next : ℕ
+    pub link : ℕ
+    pub refers : Refers (word f i 1) e next
+    pub spans : Spans s e link
+    pub stored : Stored a b c (switchKind ∷ next ∷ word f i 2 ∷ link ∷ 0 ∷ 0 ∷ 0 ∷ 0 ∷ [])
+
+  -- an if whose parts were laid from s to m and from m to e
+  pub record IfStored (s m e : ℕ) : Type 0 where
+    pub next : ℕ
+    pub yes-link : ℕ
+    pub no-link : ℕ
+    pub refers : Refers (word f i 1) e next
+    pub yes-spans : Spans s m yes-link
+    pub no-spans : Spans m e no-link
+    pub stored : Stored a b c (ifKind ∷ next ∷ word f i 2 ∷ word f i 3 ∷ yes-link ∷ no-link ∷ 0 ∷ 0 ∷ [])
+
+  -- an arm whose goals were laid from s to e
+  pub record ArmStored (s e : ℕ) : Type 0 where
+    pub next : ℕ
+    pub link : ℕ
+    pub refers : Refers (word f i 1) e next
+    pub spans : Spans s e link
+    pub stored : Stored a b c (armKind ∷ next ∷ link ∷ word f i 3 ∷ word f i 4 ∷ word f i 5 ∷ word f i 6 ∷ word f i 7 ∷ [])
+
+  -- a procedure whose variables, regions and goals were laid from s to m, to n, to e
+  pub record ProcedureStored (s m n e : ℕ) : Type 0 where
+    pub next : ℕ
+    pub first-link : ℕ
+    pub second-link : ℕ
+    pub third-link : ℕ
+    pub refers : Refers (word f i 1) e next
+    pub first-spans : Spans s m first-link
+    pub second-spans : Spans m n second-link
+    pub third-spans : Spans n e third-link
+    pub stored : Stored a b c (procedureKind ∷ next ∷ first-link ∷ second-link ∷ third-link ∷ 0 ∷ 0 ∷ 0 ∷ [])
+
+-- ---- as the code stores them
+module _ (f : List ℕ) (i : ℕ) {e w x : ℕ} (ew : w ≡ word f i 1) (R : Refers w e x) where
+  refers-next : Refers (word f i 1) e x
+  refers-next = rw ew at R
+
+  pub switch-stored : {a b : List ℕ} {c s y l : ℕ} → y ≡ word f i 2 → Spans s e l → Stored a b c (switchKind ∷ x ∷ y ∷ l ∷ 0 ∷ 0 ∷ 0 ∷ 0 ∷ []) → SwitchStored f i a b c s e
+  switch-stored p q o = record { next = _; link = _; refers = refers-next; spans = q; stored = rw p at o }
+
+  pub if-stored : {a b : List ℕ} {c s m y z k l : ℕ} → y ≡ word f i 2 → z ≡ word f i 3 → Spans s m k → Spans m e l → Stored a b c (ifKind ∷ x ∷ y ∷ z ∷ k ∷ l ∷ 0 ∷ 0 ∷ [])
+      → IfStored f i a b c s m e
+  if-stored p q u v o = record { next = _; yes-link = _; no-link = _; refers = refers-next; yes-spans = u; no-spans = v; stored = rw (p, q) at o }
+
+  pub arm-stored : {a b : List ℕ} {c s l w3 w4 w5 w6 w7 : ℕ} → Spans s e l → w3 ≡ word f i 3 → w4 ≡ word f i 4 → w5 ≡ word f i 5 → w6 ≡ word f i 6 → w7 ≡ word f i 7
+      → Stored a b c (armKind ∷ x ∷ l ∷ w3 ∷ w4 ∷ w5 ∷ w6 ∷ w7 ∷ []) → ArmStored f i a b c s e
+  arm-stored q e3 e4 e5 e6 e7 o = record { next = _; link = _; refers = refers-next; spans = q; stored = rw (e3, e4, e5, e6, e7) at o }
+
+  pub procedure-stored : {a b : List ℕ} {c s m n j k l : ℕ} → Spans s m j → Spans m n k → Spans n e l → Stored a b c (procedureKind ∷ x ∷ j ∷ k ∷ l ∷ 0 ∷ 0 ∷ 0 ∷ [])
+      → ProcedureStored f i a b c s m n e
+  procedure-stored p q u o =
+      record { next = _; first-link = _; second-link = _; third-link = _; refers = refers-next; first-spans = p; second-spans = q; third-spans = u; stored = o }
+
+-- ---- laid
+module _ {f : List ℕ} {i : ℕ} {a b d : List ℕ} {c s e : ℕ} (B : Behind c 1 s) where
+  pub switch-head : (t : Tree) → Lays a b s e (lay t s) → SwitchStored f i b d c s e
+      → Lays a d c e (headOf (kGoal kSwitch) (word f i 1) (plain (word f i 2) (leads t (zeros 4))) c)
+  unfolding all-rows wordList zeros
+  switch-head t L H =
+      lays-head (kGoal kSwitch) (word f i 1) (plain (word f i 2) (leads t (zeros 4))) B
+      (lays-number (word f i 2) (leads t (zeros 4)) (lays-leads t (zeros 4) L (lays-zeros b e 4))) (H .stored)
+      (λ l n. ap₂ (λ u v. switchKind ∷ u ∷ word f i 2 ∷ v ∷ 0 ∷ 0 ∷ 0 ∷ 0 ∷ []) (H .refers .is l) (lays-span t (H .spans) L l .0))
+
+  pub arm-head : (t : Tree) → Lays a b s e (lay t s) → ArmStored f i b d c s e
+      → Lays a d c e (headOf kArm (word f i 1) (leads t (plain (word f i 3) (fourPlain (four (word f i 4) (word f i 5) (word f i 6) (word f i 7)) noWords))) c)
+  unfolding all-rows wordList fourPlain layWords
+  arm-head t L H =
+      lays-head kArm (word f i 1) (leads t (plain (word f i 3) (fourPlain (four (word f i 4) (word f i 5) (word f i 6) (word f i 7)) noWords))) B
+      (lays-leads t (plain (word f i 3) (fourPlain (four (word f i 4) (word f i 5) (word f i 6) (word f i 7)) noWords)) L (lays-none b e)) (H .stored)
+      (λ l n. ap₂ (λ u v. armKind ∷ u ∷ v ∷ word f i 3 ∷ word f i 4 ∷ word f i 5 ∷ word f i 6 ∷ word f i 7 ∷ []) (H .refers .is l) (lays-span t (H .spans) L l .0))
+
+module _ {f : List ℕ} {i : ℕ} {a b d g : List ℕ} {c s m e : ℕ} (B : Behind c 1 s) where
+  pub if-head : (t u : Tree) → Lays a b s m (lay t s) → Lays b d m e (lay u m) → IfStored f i d g c s m e
+      → Lays a g c e (headOf (kGoal kIf) (word f i 1) (plain (word f i 2) (plain (word f i 3) (leads t (leads u (zeros 2))))) c)
+  unfolding all-rows wordList zeros
+  if-head t u L K H =
+      lays-head (kGoal kIf) (word f i 1) (plain (word f i 2) (plain (word f i 3) (leads t (leads u (zeros 2))))) B
+      (lays-number (word f i 2) (plain (word f i 3) (leads t (leads u (zeros 2))))
+      (lays-number (word f i 3) (leads t (leads u (zeros 2))) (lays-leads t (leads u (zeros 2)) L (lays-leads u (zeros 2) K (lays-zeros d e 2))))) (H .stored)
+      (λ l n.
+      let p = lays-span t (H .yes-spans) L (lays-low K l) in
+      let q = lays-span u (H .no-spans) K l in
+      rw (sym (p .1)) (ap₂ (λ v w. ifKind ∷ v ∷ word f i 2 ∷ word f i 3 ∷ w) (H .refers .is l) (ap₂ (λ v w. v ∷ w ∷ 0 ∷ 0 ∷ []) (p .0) (q .0))))
+
+module _ {f : List ℕ} {i : ℕ} {a b d g h : List ℕ} {c s m n e : ℕ} (B : Behind c 1 s) where
+  pub procedure-head : (t u v : Tree) → Lays a b s m (lay t s) → Lays b d m n (lay u m) → Lays d g n e (lay v n) → ProcedureStored f i g h c s m n e
+      → Lays a h c e (headOf kProcedure (word f i 1) (leads t (leads u (leads v (zeros 3)))) c)
+  unfolding all-rows wordList zeros
+  procedure-head t u v L K J H =
+      lays-head kProcedure (word f i 1) (leads t (leads u (leads v (zeros 3)))) B
+      (lays-leads t (leads u (leads v (zeros 3))) L (lays-leads u (leads v (zeros 3)) K (lays-leads v (zeros 3) J (lays-zeros g e 3)))) (H .stored)
+      (λ l o.
+      let z = lays-low J l in
+      let p = lays-span t (H .first-spans) L (lays-low K z) in
+      let q = lays-span u (H .second-spans) K z in
+      let r = lays-span v (H .third-spans) J l in
+      rw (sym (p .1), sym (q .1))
+      (ap₂ (λ x w. procedureKind ∷ x ∷ w) (H .refers .is l)
+      (ap₂ (λ x w. x ∷ w) (p .0) (ap₂ (λ x y. x ∷ y ∷ 0 ∷ 0 ∷ 0 ∷ []) (q .0) (r .0)))))

@@ -1,0 +1,4 @@
+pub mod Lays
+pub mod Marks
+pub mod Copies
+pub mod Heads

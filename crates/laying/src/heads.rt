@@ -1,0 +1,79 @@
+// Records whose words lead to what was laid behind them.
+use crate::place::refer;
+use crate::place::span;
+use crate::place::store;
+use language::format::ARM;
+use language::format::GOAL_X;
+use language::format::IF;
+use language::format::IF_Y;
+use language::format::IF_Z;
+use language::format::NEXT;
+use language::format::PROCEDURE;
+use language::format::SWITCH;
+use language::format::TERM_FUNCTOR;
+use records::word;
+ghost use Rattle.laying.specs.Heads.{SwitchStored, IfStored, ArmStored, ProcedureStored};
+
+// Stores the switch of record i as record at; its arms were laid from start to end.
+pub fn store_switch(file: &[u8], out: &mut [u8], i: usize, at: usize, start: usize, end: usize)
+    ensures { λ _. ⌜ SwitchStored (now (file .entry)) i (now (out .entry)) (now (out .exit)) at start end ⌝ }
+{
+    let next = refer(word(file, i, NEXT), end);
+    let x = word(file, i, GOAL_X);
+    let arms = span(start, end);
+    store(out, at, SWITCH, next, x, arms, 0, 0, 0, 0);
+}
+
+// The same for an if, whose parts were laid from start to middle and from there to end.
+pub fn store_if(
+    file: &[u8],
+    out: &mut [u8],
+    i: usize,
+    at: usize,
+    start: usize,
+    middle: usize,
+    end: usize,
+)
+    ensures { λ _. ⌜ IfStored (now (file .entry)) i (now (out .entry)) (now (out .exit)) at start middle end ⌝ }
+{
+    let next = refer(word(file, i, NEXT), end);
+    let y = word(file, i, IF_Y);
+    let z = word(file, i, IF_Z);
+    let yes = span(start, middle);
+    let no = span(middle, end);
+    store(out, at, IF, next, y, z, yes, no, 0, 0);
+}
+
+// The same for an arm, whose goals were laid from start to end.
+pub fn store_arm(file: &[u8], out: &mut [u8], i: usize, at: usize, start: usize, end: usize)
+    ensures { λ _. ⌜ ArmStored (now (file .entry)) i (now (out .entry)) (now (out .exit)) at start end ⌝ }
+{
+    let next = refer(word(file, i, NEXT), end);
+    let goals = span(start, end);
+    let functor = word(file, i, TERM_FUNCTOR);
+    let w4 = word(file, i, 4);
+    let w5 = word(file, i, 5);
+    let w6 = word(file, i, 6);
+    let w7 = word(file, i, 7);
+    store(out, at, ARM, next, goals, functor, w4, w5, w6, w7);
+}
+
+// The same for a procedure, whose variables, regions and goals were laid from start to regions, from there to body, from there to end.
+pub fn store_procedure(
+    file: &[u8],
+    out: &mut [u8],
+    i: usize,
+    at: usize,
+    start: usize,
+    regions: usize,
+    body: usize,
+    end: usize,
+)
+    ensures { λ _. ⌜ ProcedureStored (now (file .entry)) i (now (out .entry)) (now (out .exit)) at start regions body end ⌝ }
+{
+    let next = refer(word(file, i, NEXT), end);
+    let w2 = span(start, regions);
+    let w3 = span(regions, body);
+    let w4 = span(body, end);
+    store(out, at, PROCEDURE, next, w2, w3, w4, 0, 0, 0);
+}
