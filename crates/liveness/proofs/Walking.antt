@@ -19,12 +19,12 @@ use Rattle.chains.specs.Shapes.{StepAt as Stepped, step-here, switch-here, if-h
 use Rattle.tables.specs.Filled.{StepAt, Accessed}
 use Rattle.liveness.specs.Points.{Point, point, points, partPoints, goalPoints, armsPoints}
 use Rattle.liveness.specs.Table.{Fills, fills-none, fills-more}
-use Rattle.liveness.specs.Carried.{liveIn, placeIn, classesIn, Carries}
+use Rattle.liveness.specs.Carried.{liveIn, placeIn, classesIn, wantsOf, Carries}
 use Rattle.liveness.specs.Noted.{Noted}
 use Rattle.liveness.specs.Room.{points-room}
-use Rattle.liveness.specs.Wants.{Wants, wants-are}
+use Rattle.liveness.specs.Wants.{Listed, wants-are}
 use Rattle.liveness.specs.Step.{StepNoted, and-right, live-is, classes-are}
-use Rattle.liveness.specs.Done.{GoalsFrom, GoalFrom, ArmsFrom, GoalsDone, GoalDone, ArmsDone, pointWords, ListDone, ListClasses}
+use Rattle.liveness.specs.Done.{GoalsFrom, GoalFrom, ArmsFrom, GoalsDone, GoalDone, ArmsDone, pointWords, AtEnd, ListDone, ListClasses}
 
 -- what is walked later stands in front
 later-first : (x a b : Bool) → ((x & b) & a) ≡ (x & (a & b))
@@ -134,23 +134,26 @@ module _ (f : List ℕ) (i : ℕ) where
   arm-here F S z = arm-at F refl (arm-is S z)
 
 -- ---- over the records
-module _ (f rows w : List ℕ) where
+module _ (f rows : List ℕ) where
   -- ---- a chain
-  pub goals-last : (i : ℕ) (c t : List ℕ) → i ≡ 0 → GoalsDone f rows w i c t c t
+  pub goals-last : (i : ℕ) (c t : List ℕ) → i ≡ 0 → GoalsDone f rows i c t c t
   unfolding live points goalsClasses
   goals-last i c t z =
       record {
         live-is = rw (goals-none f z) refl;
+        wants-is = refl;
         fills = rw (goals-none f z) (fills-none t (placeIn c));
         classes-are = λ o q y b. rw (goals-none f z) (sym (and-right (classesIn c)));
       }
 
-  pub goals-more : (i : ℕ) {after : Set} {end : ℕ} {x : Bool} {t d u e v : List ℕ} → Formed f → Stands f goals i → (i ≡ 0 → ⊥)
-      → GoalsFrom f rows w (word f i 1) after end x t d u → GoalDone f rows w i d u e v → GoalsFrom f rows w i after end x t e v
-  goals-more i {after} {x = x} F s z h k =
+  pub goals-more : (i : ℕ) {after : Set} {end : ℕ} {x : Bool} {t d u e v w : List ℕ} → Formed f → Stands f goals i → (i ≡ 0 → ⊥)
+      → GoalsFrom f rows w (word f i 1) after end x t d u → GoalDone f rows i d u e v → GoalsFrom f rows w i after end x t e v
+  goals-more i {after} {x = x} F s z h m =
       let e = goals-step F s z refl in
+      let k = rw (h .wants-is) at m in
       record {
         live-is = then-live (program f) after e (h .live-is) (k .live-is);
+        wants-is = k .wants-is;
         fills = then-points (program f) after e (h .live-is) (h .fills) (k .fills);
         classes-are = λ o q y b.
             then-classes (program f) (signatureOf (program f) q) after x e (h .live-is)
@@ -169,40 +172,47 @@ module _ (f rows w : List ℕ) where
     step-stands : StepAt f i (step-at .one)
     step-stands = record { stands = S; some = z; view = step-goal }
 
-    pub step-done : (c : List ℕ) {t d u : List ℕ} → Accessed f rows → StepNoted rows w i c t d u → GoalDone f rows w i c t d u
+    pub step-done : (c : List ℕ) {t d u : List ℕ} → Accessed f rows → StepNoted rows i c t d u → GoalDone f rows i c t d u
     step-done c {t} A n =
         let b = live-is A step-stands (liveIn c) ∙ step-live (program f) (liveIn c) step-goal in
         record {
           live-is = n .live-is ∙ b;
+          wants-is = n .wants-is;
           fills = own-point (program f) (goalAt f i) (liveIn c) [] (step-parts (program f) (liveIn c) step-goal) b (fills-none t (placeIn c)) (n .fills);
           classes-are = λ o k y h.
               n .classes-is
               ∙ ap (λ (v : Bool). classesIn c & v)
-              (classes-are A step-stands w (y .ready .effected) (y .wants) h (liveIn c) ∙ step-classes (program f) (signatureOf (program f) k) (liveIn c) step-goal);
+              (classes-are A step-stands (wantsOf c) (y .ready .effected) (y .wants) h (liveIn c) ∙ step-classes (program f) (signatureOf (program f) k) (liveIn c) step-goal);
         }
 
   -- ---- a switch
   module _ (i : ℕ) (F : Formed f) (k : word f i 0 ≡ 12) where
-    pub switch-done : {after now : Set} {end first m : ℕ} {x : Bool} {t d u e v : List ℕ} {o n b : Set} → now ≡ after → first ≡ word f i 3
+    pub switch-done : {after now : Set} {end first m : ℕ} {x : Bool} {t d u e v w : List ℕ} {o n b : Set} → now ≡ after → first ≡ word f i 3
         → ArmsFrom f rows w first after end x t d u → m ≡ word f i 2 → o ≡ single m → n ≡ liveIn d → b ≡ o ∪ n
         → Noted d u e v b now (classesIn d) → GoalFrom f rows w i after end x t e v
     switch-done {after} {now} {x = x} {b = b} ea ew h em eo en eb n =
         let l : b ≡ liveGoal (program f) (goalAt f i) after = eb ∙ cc (eo, em, en, ew, h .live-is) ∙ switch-live (program f) after (switch-at f i F k .goal) in
         record {
           live-is = n .live-is ∙ l;
+          wants-is = n .wants-is ∙ h .wants-is;
           fills = own-point (program f) (goalAt f i) after _ (switch-parts (program f) after (switch-at f i F k .goal)) l (rw ew at (h .fills)) (rw ea at (n .fills));
           classes-are = λ o q y g.
               n .classes-is ∙ h .classes-are o q y (λ z. y .ready .owning .to-arms i k _ ew z ∙ g)
               ∙ ap (λ (v : Bool). x & v) (rw ew (switch-classes (program f) (signatureOf (program f) q) after (switch-at f i F k .goal)));
         }
 
+  carries-on : {c v w : List ℕ} {s : Set} {end : ℕ} {x : Bool} → v ≡ w → Carries c v s end x → Carries c w s end x
+  carries-on e h = rw e at h
+
   -- ---- the goals of a part, where what is live behind the whole goal was put back
-  pub part-from : (i : ℕ) {after now : Set} {end : ℕ} {x : Bool} {c t d u : List ℕ} → now ≡ after → Carries c now end x → GoalsDone f rows w i c t d u
+  pub part-from : (i : ℕ) {after now : Set} {end : ℕ} {x : Bool} {c t d u w : List ℕ} → now ≡ after → Carries c w now end x → GoalsDone f rows i c t d u
       → GoalsFrom f rows w i after end x t d u
-  part-from i {after} {now} {end} {x} {c} {t} {d} {u} ea h k =
+  part-from i {after} {now} {end} {x} {c} {t} {d} {u} ea h m =
       let a : liveIn c ≡ after = h .live-is ∙ ea in
+      let k = rw (h .wants-is) at m in
       record {
         live-is = rw a at (k .live-is);
+        wants-is = k .wants-is;
         fills = rw (a, h .place-is) at (k .fills);
         classes-are = λ o q y b. rw (a, h .classes-is) at (k .classes-are o q y b);
       }
@@ -210,16 +220,17 @@ module _ (f rows w : List ℕ) where
   -- ---- an if
   module _ (i : ℕ) (F : Formed f) (k : word f i 0 ≡ 14) where
     -- the points of the second part stand behind those of the first
-    pub if-done : {after now : Set} {end m n : ℕ} {x : Bool} {t c u c′ d v e v′ : List ℕ} {other one a b p q r : Set} → now ≡ after
-        → GoalsFrom f rows w (word f i 5) after end x t c u → other ≡ liveIn c → Carries c′ now (placeIn c) (classesIn c)
-        → GoalsDone f rows w (word f i 4) c′ u d v → one ≡ liveIn d → m ≡ word f i 2 → a ≡ single m → n ≡ word f i 3 → b ≡ single n
+    pub if-done : {after now : Set} {end m n : ℕ} {x : Bool} {t c u c′ d v e v′ w : List ℕ} {other one a b p q r : Set} → now ≡ after
+        → GoalsFrom f rows w (word f i 5) after end x t c u → other ≡ liveIn c → Carries c′ (wantsOf c) now (placeIn c) (classesIn c)
+        → GoalsDone f rows (word f i 4) c′ u d v → one ≡ liveIn d → m ≡ word f i 2 → a ≡ single m → n ≡ word f i 3 → b ≡ single n
         → p ≡ a ∪ b → q ≡ one ∪ other → r ≡ p ∪ q → Noted d v e v′ r now (classesIn d) → GoalFrom f rows w i after end x t e v′
     if-done {after} {now} {x = x} {r = r} ea h eo g j ep p₁ p₂ p₃ p₄ p₅ p₆ p₇ n =
-        let j′ = part-from (word f i 4) ea g j in
+        let j′ = part-from (word f i 4) ea (carries-on (h .wants-is) g) j in
         let l : r ≡ liveGoal (program f) (goalAt f i) after =
         p₇ ∙ cc (h .live-is, eo, ep, j′ .live-is, p₁, p₂, p₃, p₄, p₅, p₆) ∙ if-live (program f) after (if-at f i F k .goal) in
         record {
           live-is = n .live-is ∙ l;
+          wants-is = n .wants-is ∙ j′ .wants-is;
           fills = own-point (program f) (goalAt f i) after _ (if-parts (program f) after (if-at f i F k .goal)) l (fills-more (h .fills) (j′ .fills)) (rw ea at (n .fills));
           classes-are = λ o q y b.
               n .classes-is
@@ -228,11 +239,12 @@ module _ (f rows w : List ℕ) where
         }
 
   -- ---- arms
-  pub arms-last : (i : ℕ) {after : Set} {end : ℕ} {x : Bool} {d : List ℕ} (t : List ℕ) → i ≡ 0 → Carries d emptySet end x → ArmsFrom f rows w i after end x t d t
+  pub arms-last : (i : ℕ) {after : Set} {end : ℕ} {x : Bool} {d w : List ℕ} (t : List ℕ) → i ≡ 0 → Carries d w emptySet end x → ArmsFrom f rows w i after end x t d t
   unfolding liveArms armsPoints armsClasses
   arms-last i {end = end} {x = x} t z h =
       record {
         live-is = rw (arms-none f z) (h .live-is);
+        wants-is = h .wants-is;
         fills = rw (arms-none f z, h .place-is) (fills-none t end);
         classes-are = λ o q y b. rw (arms-none f z) (h .classes-is ∙ sym (and-right x));
       }
@@ -250,14 +262,15 @@ module _ (f rows w : List ℕ) where
     unfolding armsPoints
     arms-points after h = rw (arm-here f i F S z .view) h
 
-    pub arms-more : {after now : Set} {end next : ℕ} {x : Bool} {t c u c′ d v e : List ℕ} {other own bound p r : Set} → now ≡ after → next ≡ word f i 1
-        → ArmsFrom f rows w next after end x t c u → other ≡ liveIn c → Carries c′ now (placeIn c) (classesIn c)
-        → GoalsDone f rows w (word f i 2) c′ u d v → own ≡ liveIn d
+    pub arms-more : {after now : Set} {end next : ℕ} {x : Bool} {t c u c′ d v e w : List ℕ} {other own bound p r : Set} → now ≡ after → next ≡ word f i 1
+        → ArmsFrom f rows w next after end x t c u → other ≡ liveIn c → Carries c′ (wantsOf c) now (placeIn c) (classesIn c)
+        → GoalsDone f rows (word f i 2) c′ u d v → own ≡ liveIn d
         → bound ≡ setOf (argumentsOf (four (word f i 4) (word f i 5) (word f i 6) (word f i 7))) → p ≡ own ∖ bound → r ≡ p ∪ other
-        → Carries e r (placeIn d) (classesIn d) → ArmsFrom f rows w i after end x t e v
+        → Carries e (wantsOf d) r (placeIn d) (classesIn d) → ArmsFrom f rows w i after end x t e v
     arms-more {after} {now} {x = x} {r = r} ea ew h eo g j ep eb p₁ p₂ n =
-        let j′ = part-from (word f i 2) ea g j in
+        let j′ = part-from (word f i 2) ea (carries-on (h .wants-is) g) j in
         record {
+          wants-is = n .wants-is ∙ j′ .wants-is;
           live-is = n .live-is ∙ arms-live after (p₂ ∙ cc (ew, h .live-is, eo, ep, j′ .live-is, eb, p₁));
           fills = rw (n .place-is) (arms-points after (fills-more (rw ew at (h .fills)) (j′ .fills)));
           classes-are = λ o q y b.
@@ -268,20 +281,19 @@ module _ (f rows w : List ℕ) where
         }
 
   -- ---- the goals that a word leads to
-  pub part-done : (i k : ℕ) {after : Set} {end : ℕ} {x : Bool} {t d u : List ℕ} {n : ℕ} → n ≡ word f i k → GoalsFrom f rows w n after end x t d u
+  pub part-done : (i k : ℕ) {after : Set} {end : ℕ} {x : Bool} {t d u w : List ℕ} {n : ℕ} → n ≡ word f i k → GoalsFrom f rows w n after end x t d u
       → GoalsFrom f rows w (word f i k) after end x t d u
   part-done i k e h = rw e at h
 
 -- ---- a whole procedure: nothing is behind its last goal
-module _ {f rows w : List ℕ} (i : ℕ) {outs : Set} {c₀ c t d u : List ℕ} (e : c₀ ≡ 0 ∷ pointWords ∷ 1 ∷ [])
-    (h : Carries c outs (placeIn c₀) (classesIn c₀)) (g : GoalsDone f rows w i c t d u) where
-  from-end : GoalsFrom f rows w i outs pointWords true t d u
-  unfolding placeIn classesIn
-  from-end = rw e at (part-from f rows w i refl h g)
+module _ {f rows : List ℕ} (i : ℕ) {own : List ℕ} {outs : Set} {c₀ c₁ c t d u : List ℕ} (e : AtEnd c₀) (k : Listed own c₀ c₁)
+    (h : Carries c (wantsOf c₁) outs (placeIn c₁) (classesIn c₁)) (g : GoalsDone f rows i c t d u) where
+  from-end : GoalsFrom f rows (wantsOf c₁) i outs pointWords true t d u
+  from-end = rw (k .place-is ∙ e .place-is, k .classes-is ∙ e .classes-is) at (part-from f rows i refl h g)
 
   pub list-done : {r : Set} {s : ℕ} → Formed f → Stands f goals i → pointWords ≤ length t → r ≡ liveIn d → s ≡ placeIn d → ListDone f i outs t u s r
   list-done F S l er es = (er ∙ from-end .live-is, rw es (from-end .fills .room (points-room F i outs (S .below)) l))
 
-  pub list-classes : {own : List ℕ} {b : Bool} → Wants own w → b ≡ classesIn d → ListClasses f rows own i outs b
+  pub list-classes : {b : Bool} → b ≡ classesIn d → ListClasses f rows own i outs b
   unfolding _&_
-  list-classes k eb o q E O W B = eb ∙ from-end .classes-are o q (record { ready = record { effected = E; owning = O }; wants = wants-are W k }) B
+  list-classes eb o q E O W B = eb ∙ from-end .classes-are o q (record { ready = record { effected = E; owning = O }; wants = wants-are W (k .wants) }) B

@@ -11,7 +11,7 @@ use Rattle.language.specs.Lifetimes.{wanted, liveStep, stepClasses}
 use Rattle.language.specs.Answers.{program}
 use Rattle.tables.specs.Rows.{readsIn, givesIn, bearsIn, endsIn, markIn}
 use Rattle.tables.specs.Filled.{StepAt, Accessed, Effected}
-use Rattle.liveness.specs.Carried.{liveIn, placeIn, classesIn, Carries}
+use Rattle.liveness.specs.Carried.{liveIn, placeIn, classesIn, wantsOf, Carries}
 use Rattle.liveness.specs.Noted.{Noted}
 use Rattle.liveness.specs.Wants.{wantedIn}
 
@@ -45,9 +45,9 @@ module _ (rows w : List ℕ) (i : ℕ) (before after : Set) {e : Set} {a : Bool}
     none-shared q h = h ∙ rw (ended, p, borne, q) refl
 
 -- what `step` does
-abbrev pub StepNoted : List ℕ → List ℕ → ℕ → List ℕ → List ℕ → List ℕ → List ℕ → Type 0
-StepNoted rows w i c t d u =
-    Noted c t d u (liveAt rows i (liveIn c)) (liveIn c) (classesIn c & classesAt rows w i (liveAt rows i (liveIn c)) (liveIn c))
+abbrev pub StepNoted : List ℕ → ℕ → List ℕ → List ℕ → List ℕ → List ℕ → Type 0
+StepNoted rows i c t d u =
+    Noted c t d u (liveAt rows i (liveIn c)) (liveIn c) (classesIn c & classesAt rows (wantsOf c) i (liveAt rows i (liveIn c)) (liveIn c))
 
 -- ---- one law for each way through it
 pub and-right : (x : Bool) → (x & true) ≡ x
@@ -60,22 +60,24 @@ unfolding _&_
 and-broken true = refl
 and-broken false = refl
 
-module _ (rows w : List ℕ) (i : ℕ) (c : List ℕ) {before after : Set} (ea : after ≡ liveIn c) (eb : before ≡ liveAt rows i after) {b : Bool}
-    (e : b ≡ classesAt rows w i before after) where
-  right : classesAt rows w i (liveAt rows i (liveIn c)) (liveIn c) ≡ b
+module _ (rows : List ℕ) (i : ℕ) (c : List ℕ) {before after : Set} (ea : after ≡ liveIn c) (eb : before ≡ liveAt rows i after) {b : Bool}
+    (e : b ≡ classesAt rows (wantsOf c) i before after) where
+  right : classesAt rows (wantsOf c) i (liveAt rows i (liveIn c)) (liveIn c) ≡ b
   right = rw (sym ea, sym eb) (sym e)
 
-  pub step-keeps : {t d u : List ℕ} → b ≡ true → Noted c t d u before after (classesIn c) → StepNoted rows w i c t d u
+  pub step-keeps : {t d u : List ℕ} → b ≡ true → Noted c t d u before after (classesIn c) → StepNoted rows i c t d u
   step-keeps p n = record {
     live-is = n .live-is ∙ rw (sym ea, eb) refl;
     classes-is = n .classes-is ∙ sym (rw (right, p) (and-right (classesIn c)));
+    wants-is = n .wants-is;
     fills = rw (sym ea, sym eb) (n .fills);
   }
 
-  pub step-breaks : {k t d u : List ℕ} → b ≡ false → Carries k (liveIn c) (placeIn c) false → Noted k t d u before after (classesIn k) → StepNoted rows w i c t d u
+  pub step-breaks : {k t d u : List ℕ} → b ≡ false → Carries k (wantsOf c) (liveIn c) (placeIn c) false → Noted k t d u before after (classesIn k) → StepNoted rows i c t d u
   step-breaks p q n = record {
     live-is = n .live-is ∙ rw (sym ea, eb) refl;
     classes-is = n .classes-is ∙ q .classes-is ∙ sym (rw (right, p) (and-broken (classesIn c)));
+    wants-is = n .wants-is ∙ q .wants-is;
     fills = rw (sym ea, sym eb, sym (q .place-is)) (n .fills);
   }
 

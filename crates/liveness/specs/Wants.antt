@@ -6,9 +6,9 @@ use mathlib.Core.Bool.{Bool, true}
 use mathlib.Core.List.{List}
 use mathlib.Core.Path.{_≡_, refl, sym, ap, ap₂, _∙_, fun-ext}
 use borrow.Author.Tests.{lt-ltb, le-ltb}
-use lib.Dec.{ltb}
+use lib.Dec.{eqb, ltb}
 use lib.ListN.{length, getD, set, length-set}
-use lib.Seq.{getD-set-same, getD-set-other}
+use lib.Seq.{getD-set-same, getD-set-other, getD-drop}
 use Rattle.sets.specs.Tests.{clash}
 use Rattle.sets.specs.Sets.{emptySet, _∪_, _∩_, sameSet, same-eq, apart, stored, loaded, loaded-stored, member-empty}
 use Rattle.sets.specs.SetLaws.{apart-mk}
@@ -19,10 +19,8 @@ use Rattle.language.specs.Format.{places}
 use Rattle.language.specs.Program.{Signature}
 use Rattle.language.specs.Regions.{reachAll}
 use Rattle.language.specs.Lifetimes.{wanted}
+use Rattle.liveness.specs.Carried.{placeIn, classesIn, wantsOf, carriedWords}
 use Rattle.tables.specs.Window.{setIn, reachIn, keptPlace, number-past, reach-none, Window}
-
-abbrev pub wantsWords : ℕ
-wantsWords = 66
 
 abbrev pub wantsKept : ℕ
 wantsKept = 65
@@ -44,35 +42,61 @@ pub record Wants (own w : List ℕ) : Type 0 where
   pub kept-is : loaded (getD w wantsKept 0) ≡ setIn own keptPlace
   pub reach-is : (x : ℕ) → x < places → loaded (getD w x 0) ≡ reachIn own x
 
--- as far as variable n, where the words were v
-pub record Copying (own v w : List ℕ) (n : ℕ) : Type 0 where
-  pub same : length w ≡ length v
-  pub few : n ≤ places
-  pub reach-is : (x : ℕ) → x < n → loaded (getD w x 0) ≡ reachIn own x
+-- in what the walk carries, the first words are as they were
+pub record Listed (own c d : List ℕ) : Type 0 where
+  pub same : length d ≡ length c
+  pub place-is : placeIn d ≡ placeIn c
+  pub classes-is : classesIn d ≡ classesIn c
+  pub wants : Wants own (wantsOf d)
 
-copied : (own w : List ℕ) (n x a : ℕ) {s : Set} → n < length w → a ≡ stored s → s ≡ reachIn own n
-    → ((y : ℕ) → y < n → loaded (getD w y 0) ≡ reachIn own y) → x < n + 1 → loaded (getD (set w n a) x 0) ≡ reachIn own x
-copied own w n x a {s} l e g h p =
-    elim (ℕ-discrete x n) [
-      | yes z ↦ rw z (ap loaded (getD-set-same w n a 0 l ∙ e) ∙ loaded-stored s ∙ g)
-      | no z ↦ ap loaded (getD-set-other w n x a 0 z) ∙ h x (omega arith)
+-- as far as variable n
+pub record Copying (own c d : List ℕ) (n : ℕ) : Type 0 where
+  pub same : length d ≡ length c
+  pub few : n ≤ places
+  pub place-is : placeIn d ≡ placeIn c
+  pub classes-is : classesIn d ≡ classesIn c
+  pub reach-is : (x : ℕ) → x < n → loaded (getD (wantsOf d) x 0) ≡ reachIn own x
+
+-- the words of what is wanted are the carried ones from the fourth on
+pub wants-at : (c : List ℕ) (x : ℕ) → getD (wantsOf c) x 0 ≡ getD c (3 + x) 0
+unfolding wantsOf
+wants-at c x = getD-drop 3 c x 0
+
+copied : (own c : List ℕ) (n x a : ℕ) {s : Set} → 3 + n < length c → a ≡ stored s → s ≡ reachIn own n
+    → ((y : ℕ) → y < n → loaded (getD (wantsOf c) y 0) ≡ reachIn own y) → x < n + 1 → loaded (getD (wantsOf (set c (3 + n) a)) x 0) ≡ reachIn own x
+copied own c n x a {s} l e g h p =
+    ap loaded (wants-at (set c (3 + n) a) x)
+    ∙ elim (ℕ-discrete x n) [
+      | yes z ↦ rw z (ap loaded (getD-set-same c (3 + n) a 0 l ∙ e) ∙ loaded-stored s ∙ g)
+      | no z ↦ ap loaded (getD-set-other c (3 + n) (3 + x) a 0 (λ y. z (omega arith)) ∙ sym (wants-at c x)) ∙ h x (omega arith)
     ]
 
-module _ (own : List ℕ) {v : List ℕ} (long : wantsWords ≤ length v) where
-  pub copying-first : Copying own v v 0
-  copying-first = record { same = refl; few = omega arith; reach-is = λ x p. absurd (omega arith) }
+module _ (own : List ℕ) {c : List ℕ} (long : carriedWords ≤ length c) where
+  pub copying-first : Copying own c c 0
+  copying-first = record { same = refl; few = omega arith; place-is = refl; classes-is = refl; reach-is = λ x p. absurd (omega arith) }
 
-  pub copying-next : {w : List ℕ} {n a : ℕ} {s : Set} → Copying own v w n → n < places → s ≡ reachIn own n → a ≡ stored s → Copying own v (set w n a) (n + 1)
-  copying-next {w} {n} {a} h l g e = record {
-    same = length-set w n a ∙ h .same;
+  pub copying-next : {d : List ℕ} {n a : ℕ} {s : Set} → Copying own c d n → n < places → s ≡ reachIn own n → a ≡ stored s → Copying own c (set d (3 + n) a) (n + 1)
+  unfolding placeIn classesIn
+  copying-next {d} {n} {a} h l g e = record {
+    same = length-set d (3 + n) a ∙ h .same;
     few = omega arith;
-    reach-is = λ x p. copied own w n x a (omega (arith, h .same)) e g (h .reach-is) p;
+    place-is = getD-set-other d (3 + n) 1 a 0 (λ z. omega arith) ∙ h .place-is;
+    classes-is = ap (λ (k : ℕ). eqb k 1) (getD-set-other d (3 + n) 2 a 0 (λ z. omega arith)) ∙ h .classes-is;
+    reach-is = λ x p. copied own d n x a (omega (arith, h .same)) e g (h .reach-is) p;
   }
 
-  pub copying-last : {w : List ℕ} {n a : ℕ} {s : Set} → Copying own v w n → places ≤ n → s ≡ setIn own keptPlace → a ≡ stored s → Wants own (set w wantsKept a)
-  copying-last {w} {n} {a} {s} h l g e = record {
-    kept-is = ap loaded (getD-set-same w wantsKept a 0 (omega (arith, h .same)) ∙ e) ∙ loaded-stored s ∙ g;
-    reach-is = λ x p. ap loaded (getD-set-other w wantsKept x a 0 (λ z. omega arith)) ∙ h .reach-is x (omega arith);
+  pub copying-last : {d : List ℕ} {n a : ℕ} {s : Set} → Copying own c d n → places ≤ n → s ≡ setIn own keptPlace → a ≡ stored s → Listed own c (set d (3 + wantsKept) a)
+  unfolding placeIn classesIn
+  copying-last {d} {n} {a} {s} h l g e = record {
+    same = length-set d (3 + wantsKept) a ∙ h .same;
+    place-is = getD-set-other d (3 + wantsKept) 1 a 0 (λ z. omega arith) ∙ h .place-is;
+    classes-is = ap (λ (k : ℕ). eqb k 1) (getD-set-other d (3 + wantsKept) 2 a 0 (λ z. omega arith)) ∙ h .classes-is;
+    wants = record {
+      kept-is = ap loaded (wants-at (set d (3 + wantsKept) a) wantsKept ∙ getD-set-same d (3 + wantsKept) a 0 (omega (arith, h .same)) ∙ e) ∙ loaded-stored s ∙ g;
+      reach-is = λ x p.
+          ap loaded (wants-at (set d (3 + wantsKept) a) x ∙ getD-set-other d (3 + wantsKept) (3 + x) a 0 (λ z. omega arith) ∙ sym (wants-at d x))
+          ∙ h .reach-is x (omega arith);
+    };
   }
 
 -- ---- it says what the definition says

@@ -6,7 +6,7 @@ ghost use mathlib.Core.Path.{_≡_};
 ghost use mathlib.Core.Bool.{true, false};
 ghost use Prim.Native.Nat.{_≤_};
 ghost use lib.ListN.{length};
-ghost use Rattle.liveness.specs.Carried.{liveIn, placeIn, classesIn, carriedWords, Carries};
+ghost use Rattle.liveness.specs.Carried.{liveIn, placeIn, classesIn, wantsOf, carriedWords, Carries};
 ghost use Rattle.liveness.specs.Noted.{Noted};
 
 pub fn live_in(carried: &[u64; CARRIED]) -> Set
@@ -29,14 +29,14 @@ pub fn classes_in(carried: &[u64; CARRIED]) -> bool
 
 pub fn put_live(carried: &mut [u64], live: Set)
     requires { ⌜ carriedWords ≤ length (now carried) ⌝ }
-    ensures { λ _. ⌜ Carries (now (carried .exit)) live (placeIn (now (carried .entry))) (classesIn (now (carried .entry))) ⌝ }
+    ensures { λ _. ⌜ Carries (now (carried .exit)) (wantsOf (now (carried .entry))) live (placeIn (now (carried .entry))) (classesIn (now (carried .entry))) ⌝ }
 {
     carried[0] = live.stored();
 }
 
 pub fn put_place(carried: &mut [u64], place: usize)
     requires { ⌜ carriedWords ≤ length (now carried) ⌝ }
-    ensures { λ _. ⌜ Carries (now (carried .exit)) (liveIn (now (carried .entry))) place (classesIn (now (carried .entry))) ⌝ }
+    ensures { λ _. ⌜ Carries (now (carried .exit)) (wantsOf (now (carried .entry))) (liveIn (now (carried .entry))) place (classesIn (now (carried .entry))) ⌝ }
 {
     carried[1] = place as u64;
 }
@@ -44,7 +44,7 @@ pub fn put_place(carried: &mut [u64], place: usize)
 // A step broke number 7.
 pub fn put_broken(carried: &mut [u64])
     requires { ⌜ carriedWords ≤ length (now carried) ⌝ }
-    ensures { λ _. ⌜ Carries (now (carried .exit)) (liveIn (now (carried .entry))) (placeIn (now (carried .entry))) false ⌝ }
+    ensures { λ _. ⌜ Carries (now (carried .exit)) (wantsOf (now (carried .entry))) (liveIn (now (carried .entry))) (placeIn (now (carried .entry))) false ⌝ }
 {
     carried[2] = 0;
 }

@@ -17,13 +17,13 @@ pub use whole::list_live;
 // Words of the points of 4,096 goals.
 pub const POINTS: usize = 8192;
 
-// Words of what is wanted: the reach of each variable, at the place of its number, then the kept regions.
-pub const WANTS: usize = 66;
+// Words that the walk carries: what is live, the place that the next point is written in front of, 1 unless a step broke number 7; then what is
+// wanted: the reach of each variable, by its number, and the kept regions.
+pub const CARRIED: usize = 69;
 
-pub const WANTS_KEPT: usize = 65;
+pub const REACHES: usize = 3;
 
-// Words that the walk carries: what is live, the place that the next point is written in front of, and 1 unless a step broke number 7.
-pub const CARRIED: usize = 3;
+pub const WANTS_KEPT: usize = 68;
 
 // What is live before the goals whose points were written, the place of the first of them in the table, and whether their steps keep number 7.
 pub struct Filled {

@@ -2,7 +2,6 @@
 // a chain first, then the goal's parts, then the goal's own point.
 use crate::CARRIED;
 use crate::POINTS;
-use crate::WANTS;
 use crate::carried::live_in;
 use crate::carried::put_live;
 use crate::carried::put_point;
@@ -34,7 +33,6 @@ ghost use Rattle.liveness.specs.Done.{GoalsDone, GoalDone, ArmsDone};
 pub fn goals(
     file: &[u8],
     rows: &[u64; ROWS],
-    wants: &[u64; WANTS],
     i: usize,
     carried: &mut [u64; CARRIED],
     table: &mut [u64; POINTS],
@@ -42,20 +40,19 @@ pub fn goals(
     requires { ⌜ Formed (now file) ⌝ }
     requires { ⌜ Accessed (now file) (now rows) ⌝ }
     requires { ⌜ Stands (now file) goals i ⌝ }
-    ensures { λ _. ⌜ GoalsDone (now (file .entry)) (now (rows .entry)) (now (wants .entry)) i (now (carried .entry)) (now (table .entry)) (now (carried .exit)) (now (table .exit)) ⌝ }
+    ensures { λ _. ⌜ GoalsDone (now (file .entry)) (now (rows .entry)) i (now (carried .entry)) (now (table .entry)) (now (carried .exit)) (now (table .exit)) ⌝ }
 {
     if i == 0 {
         return;
     }
-    part(file, rows, wants, i, NEXT, carried, table);
-    goal(file, rows, wants, i, carried, table);
+    part(file, rows, i, NEXT, carried, table);
+    goal(file, rows, i, carried, table);
 }
 
 // The same for the goals that word k of record i leads to. Every call back into the walk goes through here, which keeps a level's stack small.
 fn part(
     file: &[u8],
     rows: &[u64; ROWS],
-    wants: &[u64; WANTS],
     i: usize,
     k: usize,
     carried: &mut [u64; CARRIED],
@@ -64,16 +61,15 @@ fn part(
     requires { ⌜ Formed (now file) ⌝ }
     requires { ⌜ Accessed (now file) (now rows) ⌝ }
     requires { ⌜ (k < 8) × Stands (now file) goals (word (now file) i k) ⌝ }
-    ensures { λ _. ⌜ GoalsDone (now (file .entry)) (now (rows .entry)) (now (wants .entry)) (word (now (file .entry)) i k) (now (carried .entry)) (now (table .entry)) (now (carried .exit)) (now (table .exit)) ⌝ }
+    ensures { λ _. ⌜ GoalsDone (now (file .entry)) (now (rows .entry)) (word (now (file .entry)) i k) (now (carried .entry)) (now (table .entry)) (now (carried .exit)) (now (table .exit)) ⌝ }
 {
-    goals(file, rows, wants, word(file, i, k), carried, table);
+    goals(file, rows, word(file, i, k), carried, table);
 }
 
 // Writes the points of the goal at record i.
 fn goal(
     file: &[u8],
     rows: &[u64; ROWS],
-    wants: &[u64; WANTS],
     i: usize,
     carried: &mut [u64; CARRIED],
     table: &mut [u64; POINTS],
@@ -81,12 +77,12 @@ fn goal(
     requires { ⌜ Formed (now file) ⌝ }
     requires { ⌜ Accessed (now file) (now rows) ⌝ }
     requires { ⌜ Stands (now file) goals i × (i ≡ 0 → ⊥) ⌝ }
-    ensures { λ _. ⌜ GoalDone (now (file .entry)) (now (rows .entry)) (now (wants .entry)) i (now (carried .entry)) (now (table .entry)) (now (carried .exit)) (now (table .exit)) ⌝ }
+    ensures { λ _. ⌜ GoalDone (now (file .entry)) (now (rows .entry)) i (now (carried .entry)) (now (table .entry)) (now (carried .exit)) (now (table .exit)) ⌝ }
 {
     match word(file, i, KIND) {
-        SWITCH => switch(file, rows, wants, i, carried, table),
-        IF => branches(file, rows, wants, i, carried, table),
-        _ => step(rows, wants, i, carried, table),
+        SWITCH => switch(file, rows, i, carried, table),
+        IF => branches(file, rows, i, carried, table),
+        _ => step(rows, i, carried, table),
     }
 }
 
@@ -94,7 +90,6 @@ fn goal(
 fn switch(
     file: &[u8],
     rows: &[u64; ROWS],
-    wants: &[u64; WANTS],
     i: usize,
     carried: &mut [u64; CARRIED],
     table: &mut [u64; POINTS],
@@ -102,11 +97,11 @@ fn switch(
     requires { ⌜ Formed (now file) ⌝ }
     requires { ⌜ Accessed (now file) (now rows) ⌝ }
     requires { ⌜ word (now file) i kindWord ≡ switchKind ⌝ }
-    ensures { λ _. ⌜ GoalDone (now (file .entry)) (now (rows .entry)) (now (wants .entry)) i (now (carried .entry)) (now (table .entry)) (now (carried .exit)) (now (table .exit)) ⌝ }
+    ensures { λ _. ⌜ GoalDone (now (file .entry)) (now (rows .entry)) i (now (carried .entry)) (now (table .entry)) (now (carried .exit)) (now (table .exit)) ⌝ }
 {
     let after = live_in(carried);
     let first = word(file, i, SWITCH_ARMS);
-    arms(file, rows, wants, first, carried, table);
+    arms(file, rows, first, carried, table);
     let x = Set::of(word(file, i, GOAL_X));
     let needed = live_in(carried);
     put_point(x.union(needed), after, carried, table);
@@ -116,7 +111,6 @@ fn switch(
 fn branches(
     file: &[u8],
     rows: &[u64; ROWS],
-    wants: &[u64; WANTS],
     i: usize,
     carried: &mut [u64; CARRIED],
     table: &mut [u64; POINTS],
@@ -124,13 +118,13 @@ fn branches(
     requires { ⌜ Formed (now file) ⌝ }
     requires { ⌜ Accessed (now file) (now rows) ⌝ }
     requires { ⌜ word (now file) i kindWord ≡ ifKind ⌝ }
-    ensures { λ _. ⌜ GoalDone (now (file .entry)) (now (rows .entry)) (now (wants .entry)) i (now (carried .entry)) (now (table .entry)) (now (carried .exit)) (now (table .exit)) ⌝ }
+    ensures { λ _. ⌜ GoalDone (now (file .entry)) (now (rows .entry)) i (now (carried .entry)) (now (table .entry)) (now (carried .exit)) (now (table .exit)) ⌝ }
 {
     let after = live_in(carried);
-    part(file, rows, wants, i, IF_ELSE, carried, table);
+    part(file, rows, i, IF_ELSE, carried, table);
     let other = live_in(carried);
     put_live(carried, after);
-    part(file, rows, wants, i, IF_THEN, carried, table);
+    part(file, rows, i, IF_THEN, carried, table);
     let one = live_in(carried);
     let y = Set::of(word(file, i, IF_Y));
     let z = Set::of(word(file, i, IF_Z));
@@ -141,7 +135,6 @@ fn branches(
 fn arms(
     file: &[u8],
     rows: &[u64; ROWS],
-    wants: &[u64; WANTS],
     i: usize,
     carried: &mut [u64; CARRIED],
     table: &mut [u64; POINTS],
@@ -149,7 +142,7 @@ fn arms(
     requires { ⌜ Formed (now file) ⌝ }
     requires { ⌜ Accessed (now file) (now rows) ⌝ }
     requires { ⌜ Stands (now file) arms i ⌝ }
-    ensures { λ _. ⌜ ArmsDone (now (file .entry)) (now (rows .entry)) (now (wants .entry)) i (now (carried .entry)) (now (table .entry)) (now (carried .exit)) (now (table .exit)) ⌝ }
+    ensures { λ _. ⌜ ArmsDone (now (file .entry)) (now (rows .entry)) i (now (carried .entry)) (now (table .entry)) (now (carried .exit)) (now (table .exit)) ⌝ }
 {
     if i == 0 {
         put_live(carried, Set::EMPTY);
@@ -157,10 +150,10 @@ fn arms(
     }
     let after = live_in(carried);
     let next = word(file, i, NEXT);
-    arms(file, rows, wants, next, carried, table);
+    arms(file, rows, next, carried, table);
     let other = live_in(carried);
     put_live(carried, after);
-    part(file, rows, wants, i, ARM_GOALS, carried, table);
+    part(file, rows, i, ARM_GOALS, carried, table);
     let live = live_in(carried);
     let bound = gives_at(rows, i);
     put_live(carried, live.difference(bound).union(other));

@@ -2,7 +2,6 @@
 use crate::CARRIED;
 use crate::Filled;
 use crate::POINTS;
-use crate::WANTS;
 use crate::carried::classes_in;
 use crate::carried::live_in;
 use crate::carried::place_in;
@@ -12,26 +11,27 @@ use crate::wants::list_wants;
 use sets::Set;
 use tables::ROWS;
 ghost use mathlib.Core.Path.{_≡_};
-ghost use mathlib.Core.List.{_∷_, []};
 ghost use lib.ListN.{length};
 ghost use Rattle.language.specs.File.{goals};
 ghost use Rattle.chains.specs.Formed.{Formed, Stands};
 ghost use Rattle.tables.specs.Filled.{Accessed};
-ghost use Rattle.liveness.specs.Wants.{wantsWords};
-ghost use Rattle.liveness.specs.Done.{pointWords, ListDone, ListClasses};
+ghost use Rattle.liveness.specs.Carried.{carriedWords};
+ghost use Rattle.liveness.specs.Done.{pointWords, AtEnd, ListDone, ListClasses};
 
-// Room for what is wanted.
-fn blank_wants() -> [u64; WANTS]
-    ensures { λ r. ⌜ wantsWords ≡ length r ⌝ }
+fn blank_carried() -> [u64; CARRIED]
+    ensures { λ r. ⌜ carriedWords ≡ length r ⌝ }
 {
-    [0; WANTS]
+    [0; CARRIED]
 }
 
-// Nothing live, the table's end, and no step yet that breaks number 7.
+// The table's end, and no step yet that breaks number 7.
 fn at_end() -> [u64; CARRIED]
-    ensures { λ r. ⌜ r ≡ 0 ∷ pointWords ∷ 1 ∷ [] ⌝ }
+    ensures { λ r. ⌜ AtEnd r ⌝ }
 {
-    [0, POINTS as u64, 1]
+    let mut carried = blank_carried();
+    carried[1] = POINTS as u64;
+    carried[2] = 1;
+    carried
 }
 
 // Writes the points of a procedure's goals, from record body on, at the end of the table; own is the procedure's window. "After the last goal, the
@@ -52,11 +52,10 @@ pub fn list_live(
     ensures { λ r. ⌜ ListDone (now (file .entry)) body outs (now (table .entry)) (now (table .exit)) (r .start) (r .live) ⌝ }
     ensures { λ r. ⌜ ListClasses (now (file .entry)) (now (rows .entry)) (now (own .entry)) body outs (r .classes) ⌝ }
 {
-    let mut wants = blank_wants();
-    list_wants(own, &mut wants);
     let mut carried = at_end();
+    list_wants(own, &mut carried);
     put_live(&mut carried, outs);
-    goals(file, rows, &wants, body, &mut carried, table);
+    goals(file, rows, body, &mut carried, table);
     Filled {
         live: live_in(&carried),
         start: place_in(&carried),

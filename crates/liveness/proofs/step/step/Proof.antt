@@ -20,7 +20,7 @@ same-length : tie.Need-same-length
 same-length c = c .before .before .put-point .ensures .fills .same
 
 returns : tie.Need-returns
-returns c = step-keeps _ _ _ _ (c .before .before .before .before .before .before .before .before .live-in .ensures) (c .before .before .before .before .before .before .before .live-step .ensures) (c .before .before .before .before .before .before .classes-kept .ensures) (c .before .before .before .before .before .if1 .taken) (c .before .before .put-point .ensures)
+returns c = step-keeps _ _ _ (c .before .before .before .before .before .before .before .before .before .live-in .ensures) (c .before .before .before .before .before .before .before .before .live-step .ensures) (c .before .before .before .before .before .before .classes-kept .ensures) (c .before .before .before .before .before .if1 .taken) (c .before .before .put-point .ensures)
 
 put-broken-requires : tie.Need-put-broken-requires
 put-broken-requires c κs = search needs
@@ -32,7 +32,7 @@ same-length-2 : tie.Need-same-length-2
 same-length-2 c = c .before .before .put-point2 .ensures .fills .same
 
 returns-2 : tie.Need-returns-2
-returns-2 c = step-breaks _ _ _ _ (c .before .before .before .before .before .before .before .before .before .before .live-in .ensures) (c .before .before .before .before .before .before .before .before .before .live-step .ensures) (c .before .before .before .before .before .before .before .before .classes-kept .ensures) (c .before .before .before .before .before .before .before .if1 .left) (c .before .before .before .before .before .put-broken .ensures) (c .before .before .put-point2 .ensures)
+returns-2 c = step-breaks _ _ _ (c .before .before .before .before .before .before .before .before .before .before .before .live-in .ensures) (c .before .before .before .before .before .before .before .before .before .before .live-step .ensures) (c .before .before .before .before .before .before .before .before .classes-kept .ensures) (c .before .before .before .before .before .before .before .if1 .left) (c .before .before .before .before .before .put-broken .ensures) (c .before .before .put-point2 .ensures)
 
 pub step-spec : {M : Type 1} → statement M
 step-spec =

@@ -39,60 +39,60 @@ use Rattle.tables.proofs.gives_at.Reads as gives-at-reads
 use Rattle.liveness.proofs.walk.+arms+branches+goal+goals+part+switch.{statement}
 use Rattle.liveness.proofs.walk.+arms+branches+goal+goals+part+switch.Tie.{close}
 
-abbrev μ-arms : Measures 5 arms-kinds.ps ℕ
-μ-arms κs a = 5 * ahead (a .0 .now) (a .1 .1 .1 .0) + 3
+abbrev μ-arms : Measures 4 arms-kinds.ps ℕ
+μ-arms κs a = 5 * ahead (a .0 .now) (a .1 .1 .0) + 3
 
-abbrev μ-branches : Measures 5 branches-kinds.ps ℕ
-μ-branches κs a = 5 * ahead (a .0 .now) (a .1 .1 .1 .0) + 1
+abbrev μ-branches : Measures 4 branches-kinds.ps ℕ
+μ-branches κs a = 5 * ahead (a .0 .now) (a .1 .1 .0) + 1
 
-abbrev μ-goal : Measures 5 goal-kinds.ps ℕ
-μ-goal κs a = 5 * ahead (a .0 .now) (a .1 .1 .1 .0) + 2
+abbrev μ-goal : Measures 4 goal-kinds.ps ℕ
+μ-goal κs a = 5 * ahead (a .0 .now) (a .1 .1 .0) + 2
 
-abbrev μ-goals : Measures 5 goals-kinds.ps ℕ
-μ-goals κs a = 5 * ahead (a .0 .now) (a .1 .1 .1 .0) + 3
+abbrev μ-goals : Measures 4 goals-kinds.ps ℕ
+μ-goals κs a = 5 * ahead (a .0 .now) (a .1 .1 .0) + 3
 
-abbrev μ-part : Measures 5 part-kinds.ps ℕ
-μ-part κs a = 5 * ahead (a .0 .now) (word (a .0 .now) (a .1 .1 .1 .0) (a .1 .1 .1 .1 .0)) + 4
+abbrev μ-part : Measures 4 part-kinds.ps ℕ
+μ-part κs a = 5 * ahead (a .0 .now) (word (a .0 .now) (a .1 .1 .0) (a .1 .1 .1 .0)) + 4
 
-abbrev μ-switch : Measures 5 switch-kinds.ps ℕ
-μ-switch κs a = 5 * ahead (a .0 .now) (a .1 .1 .1 .0) + 1
+abbrev μ-switch : Measures 4 switch-kinds.ps ℕ
+μ-switch κs a = 5 * ahead (a .0 .now) (a .1 .1 .0) + 1
 
-abbrev arms-at : ℕ → In 5 arms-kinds.ps
-arms-at t = and 5 arms-kinds.ps (is 5 arms-kinds.ps μ-arms t) arms.Pre
+abbrev arms-at : ℕ → In 4 arms-kinds.ps
+arms-at t = and 4 arms-kinds.ps (is 4 arms-kinds.ps μ-arms t) arms.Pre
 
-abbrev arms-below : ℕ → In 5 arms-kinds.ps
-arms-below t = and 5 arms-kinds.ps (falls 5 arms-kinds.ps _<_ μ-arms t) arms.Pre
+abbrev arms-below : ℕ → In 4 arms-kinds.ps
+arms-below t = and 4 arms-kinds.ps (falls 4 arms-kinds.ps _<_ μ-arms t) arms.Pre
 
-abbrev branches-at : ℕ → In 5 branches-kinds.ps
-branches-at t = and 5 branches-kinds.ps (is 5 branches-kinds.ps μ-branches t) branches.Pre
+abbrev branches-at : ℕ → In 4 branches-kinds.ps
+branches-at t = and 4 branches-kinds.ps (is 4 branches-kinds.ps μ-branches t) branches.Pre
 
-abbrev branches-below : ℕ → In 5 branches-kinds.ps
+abbrev branches-below : ℕ → In 4 branches-kinds.ps
 branches-below t =
-    and 5 branches-kinds.ps (falls 5 branches-kinds.ps _<_ μ-branches t) branches.Pre
+    and 4 branches-kinds.ps (falls 4 branches-kinds.ps _<_ μ-branches t) branches.Pre
 
-abbrev goal-at : ℕ → In 5 goal-kinds.ps
-goal-at t = and 5 goal-kinds.ps (is 5 goal-kinds.ps μ-goal t) goal.Pre
+abbrev goal-at : ℕ → In 4 goal-kinds.ps
+goal-at t = and 4 goal-kinds.ps (is 4 goal-kinds.ps μ-goal t) goal.Pre
 
-abbrev goal-below : ℕ → In 5 goal-kinds.ps
-goal-below t = and 5 goal-kinds.ps (falls 5 goal-kinds.ps _<_ μ-goal t) goal.Pre
+abbrev goal-below : ℕ → In 4 goal-kinds.ps
+goal-below t = and 4 goal-kinds.ps (falls 4 goal-kinds.ps _<_ μ-goal t) goal.Pre
 
-abbrev goals-at : ℕ → In 5 goals-kinds.ps
-goals-at t = and 5 goals-kinds.ps (is 5 goals-kinds.ps μ-goals t) goals.Pre
+abbrev goals-at : ℕ → In 4 goals-kinds.ps
+goals-at t = and 4 goals-kinds.ps (is 4 goals-kinds.ps μ-goals t) goals.Pre
 
-abbrev goals-below : ℕ → In 5 goals-kinds.ps
-goals-below t = and 5 goals-kinds.ps (falls 5 goals-kinds.ps _<_ μ-goals t) goals.Pre
+abbrev goals-below : ℕ → In 4 goals-kinds.ps
+goals-below t = and 4 goals-kinds.ps (falls 4 goals-kinds.ps _<_ μ-goals t) goals.Pre
 
-abbrev part-at : ℕ → In 5 part-kinds.ps
-part-at t = and 5 part-kinds.ps (is 5 part-kinds.ps μ-part t) part.Pre
+abbrev part-at : ℕ → In 4 part-kinds.ps
+part-at t = and 4 part-kinds.ps (is 4 part-kinds.ps μ-part t) part.Pre
 
-abbrev part-below : ℕ → In 5 part-kinds.ps
-part-below t = and 5 part-kinds.ps (falls 5 part-kinds.ps _<_ μ-part t) part.Pre
+abbrev part-below : ℕ → In 4 part-kinds.ps
+part-below t = and 4 part-kinds.ps (falls 4 part-kinds.ps _<_ μ-part t) part.Pre
 
-abbrev switch-at : ℕ → In 5 switch-kinds.ps
-switch-at t = and 5 switch-kinds.ps (is 5 switch-kinds.ps μ-switch t) switch.Pre
+abbrev switch-at : ℕ → In 4 switch-kinds.ps
+switch-at t = and 4 switch-kinds.ps (is 4 switch-kinds.ps μ-switch t) switch.Pre
 
-abbrev switch-below : ℕ → In 5 switch-kinds.ps
-switch-below t = and 5 switch-kinds.ps (falls 5 switch-kinds.ps _<_ μ-switch t) switch.Pre
+abbrev switch-below : ℕ → In 4 switch-kinds.ps
+switch-below t = and 4 switch-kinds.ps (falls 4 switch-kinds.ps _<_ μ-switch t) switch.Pre
 
 abbrev arms-calls : ℕ → arms-lts.Claims
 arms-calls t =
@@ -122,7 +122,7 @@ arms-put-live-requires : (t : ℕ) → arms-lts.Need-put-live-requires (arms-cal
 arms-put-live-requires t c κs = search needs
 
 arms-returns : (t : ℕ) → arms-lts.Need-returns (arms-calls t) (arms-at t) arms.Post
-arms-returns t c = arms-last _ _ _ _ _ (c .before .before .if1 .taken) (c .put-live .ensures)
+arms-returns t c = arms-last _ _ _ _ (c .before .before .if1 .taken) (c .put-live .ensures)
 
 arms-live-in-requires : (t : ℕ) → arms-lts.Need-live-in-requires (arms-calls t) (arms-at t) arms.Post
 arms-live-in-requires t c κs = search needs
@@ -169,7 +169,7 @@ arms-returns-2 : (t : ℕ) → arms-lts.Need-returns-2 (arms-calls t) (arms-at t
 arms-returns-2 t c =
     let start = c .before .before .before .before .before .before .before .before .before .before .before .before .before .before .before .before .before .before .before .before .before .before in
     let p = start .pre .1 in
-    arms-more _ _ _ _ (p .0) (p .1 .1) (c .before .before .before .before .before .before .before .before .before .before .before .before .before .before .before .before .before .before .before .before .if1 .left) (c .before .before .before .before .before .before .before .before .before .before .before .before .before .before .before .before .before .before .live-in .ensures) (c .before .before .before .before .before .before .before .before .before .before .before .before .before .before .before .before .before .word .ensures .0) (c .before .before .before .before .before .before .before .before .before .before .before .before .before .before .arms .ensures) (c .before .before .before .before .before .before .before .before .before .before .before .before .live-in2 .ensures) (c .before .before .before .before .before .before .before .before .before .before .put-live2 .ensures)
+    arms-more _ _ _ (p .0) (p .1 .1) (c .before .before .before .before .before .before .before .before .before .before .before .before .before .before .before .before .before .before .before .before .if1 .left) (c .before .before .before .before .before .before .before .before .before .before .before .before .before .before .before .before .before .before .live-in .ensures) (c .before .before .before .before .before .before .before .before .before .before .before .before .before .before .before .before .before .word .ensures .0) (c .before .before .before .before .before .before .before .before .before .before .before .before .before .before .arms .ensures) (c .before .before .before .before .before .before .before .before .before .before .before .before .live-in2 .ensures) (c .before .before .before .before .before .before .before .before .before .before .put-live2 .ensures)
     (c .before .before .before .before .before .before .before .part .ensures) (c .before .before .before .before .before .live-in3 .ensures) (c .before .before .before .before .gives-at .ensures ∙ p .1 .0 .arm-gives _ (p .1 .1) (c .before .before .before .before .before .before .before .before .before .before .before .before .before .before .before .before .before .before .before .before .if1 .left)) (c .before .before .difference .ensures) (c .before .union .ensures) (c .put-live3 .ensures)
 
 branches-live-in-requires : (t : ℕ) → branches-lts.Need-live-in-requires (branches-calls t) (branches-at t) branches.Post
@@ -226,7 +226,7 @@ branches-returns : (t : ℕ) → branches-lts.Need-returns (branches-calls t) (b
 branches-returns t c =
     let start = c .before .before .before .before .before .before .before .before .before .before .before .before .before .before .before .before .before .before .before .before .before .before .before .before .before in
     let p = start .pre .1 in
-    if-done _ _ _ _ (p .0) (p .1 .1) (c .before .before .before .before .before .before .before .before .before .before .before .before .before .before .before .before .before .before .before .before .before .before .live-in .ensures) (c .before .before .before .before .before .before .before .before .before .before .before .before .before .before .before .before .before .before .before .part .ensures) (c .before .before .before .before .before .before .before .before .before .before .before .before .before .before .before .before .before .live-in2 .ensures) (c .before .before .before .before .before .before .before .before .before .before .before .before .before .before .before .put-live .ensures) (c .before .before .before .before .before .before .before .before .before .before .before .before .part2 .ensures) (c .before .before .before .before .before .before .before .before .before .before .live-in3 .ensures)
+    if-done _ _ _ (p .0) (p .1 .1) (c .before .before .before .before .before .before .before .before .before .before .before .before .before .before .before .before .before .before .before .before .before .before .live-in .ensures) (c .before .before .before .before .before .before .before .before .before .before .before .before .before .before .before .before .before .before .before .part .ensures) (c .before .before .before .before .before .before .before .before .before .before .before .before .before .before .before .before .before .live-in2 .ensures) (c .before .before .before .before .before .before .before .before .before .before .before .before .before .before .before .put-live .ensures) (c .before .before .before .before .before .before .before .before .before .before .before .before .part2 .ensures) (c .before .before .before .before .before .before .before .before .before .before .live-in3 .ensures)
     (c .before .before .before .before .before .before .before .before .before .word .ensures .0) (c .before .before .before .before .before .before .before .before .of .ensures) (c .before .before .before .before .before .before .before .word2 .ensures .0) (c .before .before .before .before .before .before .of2 .ensures) (c .before .before .before .before .before .union .ensures) (c .before .before .before .before .union2 .ensures) (c .before .before .before .union3 .ensures) (c .put-point .ensures)
 
 goal-word-requires : (t : ℕ) → goal-lts.Need-word-requires (goal-calls t) (goal-at t) goal.Post
@@ -257,10 +257,10 @@ goal-returns-3 : (t : ℕ) → goal-lts.Need-returns-3 (goal-calls t) (goal-at t
 goal-returns-3 t c =
     let start = c .before .before .before .before .before .before in
     let p = start .pre .1 in
-    step-done _ _ _ _ (p .0) (p .1 .1 .0) (p .1 .1 .1) (λ e. c .before .before .before .match .rest .0 .1 (c .before .before .before .before .word .ensures .0 ∙ e)) (λ e. c .before .before .before .match .rest .1 (c .before .before .before .before .word .ensures .0 ∙ e)) _ (p .1 .0) (c .step .ensures)
+    step-done _ _ _ (p .0) (p .1 .1 .0) (p .1 .1 .1) (λ e. c .before .before .before .match .rest .0 .1 (c .before .before .before .before .word .ensures .0 ∙ e)) (λ e. c .before .before .before .match .rest .1 (c .before .before .before .before .word .ensures .0 ∙ e)) _ (p .1 .0) (c .step .ensures)
 
 goals-returns : (t : ℕ) → goals-lts.Need-returns (goals-calls t) (goals-at t) goals.Post
-goals-returns t c = goals-last _ _ _ _ _ _ (c .if1 .taken)
+goals-returns t c = goals-last _ _ _ _ _ (c .if1 .taken)
 
 goals-part-requires : (t : ℕ) → goals-lts.Need-part-requires (goals-calls t) (goals-at t) goals.Post
 goals-part-requires t c κs =
@@ -279,7 +279,7 @@ goals-returns-2 : (t : ℕ) → goals-lts.Need-returns-2 (goals-calls t) (goals-
 goals-returns-2 t c =
     let start = c .before .before .before .before .before .before .before .before in
     let p = start .pre .1 in
-    goals-more _ _ _ _ (p .0) (p .1 .1) (c .before .before .before .before .before .before .if1 .left) (c .before .before .before .part .ensures) (c .goal .ensures)
+    goals-more _ _ _ (p .0) (p .1 .1) (c .before .before .before .before .before .before .if1 .left) (c .before .before .before .part .ensures) (c .goal .ensures)
 
 part-word-requires : (t : ℕ) → part-lts.Need-word-requires (part-calls t) (part-at t) part.Post
 part-word-requires t c κs = search needs
@@ -292,7 +292,7 @@ part-goals-requires t c κs =
     (omega (arith, ap (ahead (start .args .file .now)) e, start .pre .0), (p .0, (p .1 .0, part-stands _ _ _ e (p .1 .1 .1))))
 
 part-returns : (t : ℕ) → part-lts.Need-returns (part-calls t) (part-at t) part.Post
-part-returns t c = part-done _ _ _ _ _ (c .before .before .before .word .ensures .0) (c .goals .ensures)
+part-returns t c = part-done _ _ _ _ (c .before .before .before .word .ensures .0) (c .goals .ensures)
 
 switch-live-in-requires : (t : ℕ) → switch-lts.Need-live-in-requires (switch-calls t) (switch-at t) switch.Post
 switch-live-in-requires t c κs = search needs
@@ -326,7 +326,7 @@ switch-returns : (t : ℕ) → switch-lts.Need-returns (switch-calls t) (switch-
 switch-returns t c =
     let start = c .before .before .before .before .before .before .before .before .before .before .before .before .before .before .before in
     let p = start .pre .1 in
-    switch-done _ _ _ _ (p .0) (p .1 .1) (c .before .before .before .before .before .before .before .before .before .before .before .before .live-in .ensures) (c .before .before .before .before .before .before .before .before .before .before .before .word .ensures .0) (c .before .before .before .before .before .before .before .before .arms .ensures) (c .before .before .before .before .before .before .before .word2 .ensures .0) (c .before .before .before .before .before .before .of .ensures) (c .before .before .before .before .live-in2 .ensures) (c .before .before .before .union .ensures) (c .put-point .ensures)
+    switch-done _ _ _ (p .0) (p .1 .1) (c .before .before .before .before .before .before .before .before .before .before .before .before .live-in .ensures) (c .before .before .before .before .before .before .before .before .before .before .before .word .ensures .0) (c .before .before .before .before .before .before .before .before .arms .ensures) (c .before .before .before .before .before .before .before .word2 .ensures .0) (c .before .before .before .before .before .before .of .ensures) (c .before .before .before .before .live-in2 .ensures) (c .before .before .before .union .ensures) (c .put-point .ensures)
 
 pub +arms+branches+goal+goals+part+switch-spec : {M : Type 1} → statement M
 +arms+branches+goal+goals+part+switch-spec =

@@ -8,10 +8,10 @@ use Rattle.liveness.proofs.wants.list_wants.Statement.{statement}
 use Rattle.liveness.proofs.wants.list_wants.Tie as tie
 
 abbrev Inv-loop : tie.InvT-loop
-Inv-loop own wants₀ x₀ wants x = Copying own wants₀ wants x
+Inv-loop own carried₀ x₀ carried x = Copying own carried₀ carried x
 
 abbrev μ-loop : tie.MeasureT-loop
-μ-loop own wants₀ x₀ wants x = 65 - x
+μ-loop own carried₀ x₀ carried x = 65 - x
 
 loop-holds : tie.Need-loop-holds Inv-loop μ-loop
 loop-holds c = copying-first _ (c .before .before .pre)
@@ -22,11 +22,14 @@ reach-requires c κs = search needs
 stored-requires : tie.Need-stored-requires Inv-loop μ-loop
 stored-requires c κs = search needs
 
-mul-wants : tie.Need-mul-wants Inv-loop μ-loop
-mul-wants c = search needs
+add-carried : tie.Need-add-carried Inv-loop μ-loop
+add-carried c = search needs
 
-slice-write-wants : tie.Need-slice-write-wants Inv-loop μ-loop
-slice-write-wants c = omega (arith, c .before .before .before .loop .inv .same, c .before .before .before .before .before .before .pre)
+mul-carried : tie.Need-mul-carried Inv-loop μ-loop
+mul-carried c = search needs
+
+slice-write-carried : tie.Need-slice-write-carried Inv-loop μ-loop
+slice-write-carried c = omega (arith, c .before .before .before .loop .inv .same, c .before .before .before .before .before .before .pre)
 
 add-x : tie.Need-add-x Inv-loop μ-loop
 add-x c = search needs
@@ -43,8 +46,8 @@ set-at-requires c κs = search needs
 stored-requires-2 : tie.Need-stored-requires-2 Inv-loop μ-loop
 stored-requires-2 c κs = search needs
 
-slice-write-wants-2 : tie.Need-slice-write-wants-2 Inv-loop μ-loop
-slice-write-wants-2 c = omega (arith, c .before .before .before .loop .inv .same, c .before .before .before .before .before .before .pre)
+slice-write-carried-2 : tie.Need-slice-write-carried-2 Inv-loop μ-loop
+slice-write-carried-2 c = omega (arith, c .before .before .before .loop .inv .same, c .before .before .before .before .before .before .pre)
 
 same-length : tie.Need-same-length Inv-loop μ-loop
 same-length c = simp length-set (c .before .before .before .loop .inv .same)
@@ -61,13 +64,14 @@ list-wants-spec =
     loop-holds
     reach-requires
     stored-requires
-    mul-wants
-    slice-write-wants
+    add-carried
+    mul-carried
+    slice-write-carried
     add-x
     loop-less
     loop-again
     set-at-requires
     stored-requires-2
-    slice-write-wants-2
+    slice-write-carried-2
     same-length
     returns)

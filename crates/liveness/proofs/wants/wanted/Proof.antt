@@ -1,24 +1,28 @@
 -- `wanted` meets its contract: a walk over the members.
 use Prim.Native.Nat.{_-_}
-use mathlib.Core.Path.{ap₂, _∙_}
-use Rattle.sets.specs.Sets.{_∪_}
+use mathlib.Core.Path.{sym, ap, ap₂, _∙_}
+use Rattle.sets.specs.Sets.{_∪_, loaded}
 use Rattle.tables.specs.Walks.{Gathering, gather-first, gather-more, gather-last, next-falls}
-use Rattle.liveness.specs.Wants.{reachedIn, wantedIn, reached-some}
+use Rattle.liveness.specs.Wants.{reachedIn, wantedIn, reached-some, wants-at}
+use Rattle.liveness.specs.Carried.{wantsOf}
 use borrow.Author.Needs.{needs}
 use Rattle.liveness.proofs.wants.wanted.Statement.{statement}
 use Rattle.liveness.proofs.wants.wanted.Tie as tie
 
 abbrev Inv-loop : tie.InvT-loop
-Inv-loop wants live found₀ x₀ found x = Gathering (reachedIn wants) live found x
+Inv-loop carried live found₀ x₀ found x = Gathering (reachedIn (wantsOf carried)) live found x
 
 abbrev μ-loop : tie.MeasureT-loop
-μ-loop wants live found₀ x₀ found x = 65 - x
+μ-loop carried live found₀ x₀ found x = 65 - x
 
 after-requires : tie.Need-after-requires Inv-loop μ-loop
 after-requires c κs = search needs
 
 loop-holds : tie.Need-loop-holds Inv-loop μ-loop
 loop-holds c = gather-first _ _ (c .after .ensures)
+
+add-loaded : tie.Need-add-loaded Inv-loop μ-loop
+add-loaded c = search needs
 
 mul-loaded : tie.Need-mul-loaded Inv-loop μ-loop
 mul-loaded c = search needs
@@ -39,7 +43,7 @@ loop-less : tie.Need-loop-less Inv-loop μ-loop
 loop-less c = next-falls _ (c .before .before .before .before .loop-test .taken) (c .after2 .ensures)
 
 loop-again : tie.Need-loop-again Inv-loop μ-loop
-loop-again c = gather-more _ _ (c .before .before .before .before .before .loop .inv) (c .before .before .before .before .loop-test .taken) (reached-some _ (c .before .before .before .before .loop-test .taken) (c .before .before .loaded .ensures)) (c .before .union .ensures) (c .after2 .ensures)
+loop-again c = gather-more _ _ (c .before .before .before .before .before .loop .inv) (c .before .before .before .before .loop-test .taken) (reached-some _ (c .before .before .before .before .loop-test .taken) (c .before .before .loaded .ensures ∙ ap loaded (sym (wants-at _ _)))) (c .before .union .ensures) (c .after2 .ensures)
 
 element-copy-out-loaded-2 : tie.Need-element-copy-out-loaded-2 Inv-loop μ-loop
 element-copy-out-loaded-2 c = search needs
@@ -52,7 +56,7 @@ union-requires-2 c κs = search needs
 
 returns : tie.Need-returns Inv-loop μ-loop
 unfolding wantedIn
-returns c = c .union2 .ensures ∙ ap₂ _∪_ (c .before .loaded2 .ensures) (gather-last _ _ (c .before .before .before .before .loop .inv) (c .before .before .before .loop-test .left))
+returns c = c .union2 .ensures ∙ ap₂ _∪_ (c .before .loaded2 .ensures ∙ ap loaded (sym (wants-at _ 65))) (gather-last _ _ (c .before .before .before .before .loop .inv) (c .before .before .before .loop-test .left))
 
 pub wanted-spec : {M : Type 1} → statement M
 wanted-spec =
@@ -62,6 +66,7 @@ wanted-spec =
     μ-loop
     after-requires
     loop-holds
+    add-loaded
     mul-loaded
     element-copy-out-loaded
     loaded-requires

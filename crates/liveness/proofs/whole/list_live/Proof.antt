@@ -6,17 +6,14 @@ use mathlib.Core.Path.{_∙_}
 use Rattle.liveness.proofs.whole.list_live.Statement.{statement}
 use Rattle.liveness.proofs.whole.list_live.Tie as tie
 
-blank-wants-requires : tie.Need-blank-wants-requires
-blank-wants-requires c κs = search needs
+at-end-requires : tie.Need-at-end-requires
+at-end-requires c κs = search needs
 
 slice-aggregate-list-wants : tie.Need-slice-aggregate-list-wants
 slice-aggregate-list-wants c = search needs
 
 list-wants-requires : tie.Need-list-wants-requires
 list-wants-requires c κs = search needs
-
-at-end-requires : tie.Need-at-end-requires
-at-end-requires c κs = search needs
 
 slice-aggregate-put-live : tie.Need-slice-aggregate-put-live
 slice-aggregate-put-live c = search needs
@@ -37,16 +34,21 @@ classes-in-requires : tie.Need-classes-in-requires
 classes-in-requires c κs = search needs
 
 returns : tie.Need-returns
-returns c = let p = c .before .before .before .before .before .before .before .before .before .before .before .before .before .before .before .before .before .before .before .before .pre in (c .before .before .before .before .before .before .goals .ensures .fills .same ∙ p .1 .1 .1, (list-done _ (c .before .before .before .before .before .before .before .before .before .before .before .before .before .at-end .ensures) (c .before .before .before .before .before .before .before .before .before .before .before .put-live .ensures) (c .before .before .before .before .before .before .goals .ensures) (p .0) (p .1 .1 .0) (omega (arith, p .1 .1 .1)) (c .before .before .before .before .live-in .ensures) (c .before .before .place-in .ensures), list-classes _ (c .before .before .before .before .before .before .before .before .before .before .before .before .before .at-end .ensures) (c .before .before .before .before .before .before .before .before .before .before .before .put-live .ensures) (c .before .before .before .before .before .before .goals .ensures) (c .before .before .before .before .before .before .before .before .before .before .before .before .before .before .before .list-wants .ensures) (c .classes-in .ensures)))
+returns c =
+    let p = c .before .before .before .before .before .before .before .before .before .before .before .before .before .before .before .before .before .before .pre in
+    let e = c .before .before .before .before .before .before .before .before .before .before .before .before .before .before .before .at-end .ensures in
+    let k = c .before .before .before .before .before .before .before .before .before .before .before .before .before .list-wants .ensures in
+    let h = c .before .before .before .before .before .before .before .before .before .before .put-live .ensures in
+    let g = c .before .before .before .before .before .before .goals .ensures in
+    (g .fills .same ∙ p .1 .1 .1, (list-done _ e k h g (p .0) (p .1 .1 .0) (omega (arith, p .1 .1 .1)) (c .before .before .before .before .live-in .ensures) (c .before .before .place-in .ensures), list-classes _ e k h g (c .classes-in .ensures)))
 
 pub list-live-spec : {M : Type 1} → statement M
 list-live-spec =
     tie.close
     (tie.spec
-    blank-wants-requires
+    at-end-requires
     slice-aggregate-list-wants
     list-wants-requires
-    at-end-requires
     slice-aggregate-put-live
     put-live-requires
     goals-requires
