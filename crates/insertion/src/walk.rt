@@ -134,6 +134,9 @@ fn part(
 {
     let removed = left_over(points, whole, start, point);
     let record = lay_marks(out, REMOVE, removed, start, first);
+    if start == 0 {
+        return Cursor { record, point };
+    }
     goals(file, rows, points, out, start, record, point)
 }
 

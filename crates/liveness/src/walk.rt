@@ -63,7 +63,11 @@ fn part(
     requires { ⌜ (k < 8) × Stands (now file) goals (word (now file) i k) ⌝ }
     ensures { λ _. ⌜ GoalsDone (now (file .entry)) (now (rows .entry)) (word (now (file .entry)) i k) (now (carried .entry)) (now (table .entry)) (now (carried .exit)) (now (table .exit)) ⌝ }
 {
-    goals(file, rows, word(file, i, k), carried, table);
+    let start = word(file, i, k);
+    if start == 0 {
+        return;
+    }
+    goals(file, rows, start, carried, table);
 }
 
 // Writes the points of the goal at record i.

@@ -333,17 +333,28 @@ part-lay-marks-requires : (t : ℕ) → part-lts.Need-lay-marks-requires (part-c
 part-lay-marks-requires t c κs =
     omega arith
 
-part-goals-requires : (t : ℕ) → part-lts.Need-goals-requires (part-calls t) (part-at t) part.Post
-part-goals-requires t c κs =
-    (omega (arith, c .before .before .before .before .before .before .before .before .pre .0), (c .before .before .before .before .before .before .before .before .pre .1 .0, c .before .before .before .before .before .before .before .before .pre .1 .1))
-
 part-same-length : (t : ℕ) → part-lts.Need-same-length (part-calls t) (part-at t) part.Post
 part-same-length t c =
-    c .before .before .goals .ensures .0 ∙ c .before .before .before .before .before .before .lay-marks .ensures .same
+    c .before .before .before .lay-marks .ensures .same
 
 part-returns : (t : ℕ) → part-lts.Need-returns (part-calls t) (part-at t) part.Post
 part-returns t c =
-    part-laid _ _ _ _ (c .before .before .before .before .before .before .before .before .before .before .before .pre .1 .0) (c .before .before .before .before .before .before .before .before .before .before .before .pre .1 .1) (c .before .before .before .before .before .before .before .before .left-over .ensures .0) (c .before .before .before .before .before .before .before .before .left-over .ensures .1) (c .before .before .before .before .before .before .lay-marks .ensures) (c .before .before .goals .ensures)
+    let p = c .before .before .before .before .before .before .before .before .pre .1 in
+    part-laid _ _ _ _ (p .0) (p .1) (c .before .before .before .before .before .left-over .ensures .0) (c .before .before .before .before .before .left-over .ensures .1) (c .before .before .before .lay-marks .ensures) (along-last (along-first _ _ _ _ _ _ _ (p .1)) (c .if1 .taken))
+
+part-goals-requires : (t : ℕ) → part-lts.Need-goals-requires (part-calls t) (part-at t) part.Post
+part-goals-requires t c κs =
+    let p = c .before .before .before .before .before .before .before .before .before .pre in
+    (omega (arith, p .0), (p .1 .0, p .1 .1))
+
+part-same-length-2 : (t : ℕ) → part-lts.Need-same-length-2 (part-calls t) (part-at t) part.Post
+part-same-length-2 t c =
+    c .before .before .goals .ensures .0 ∙ c .before .before .before .before .before .before .before .lay-marks .ensures .same
+
+part-returns-2 : (t : ℕ) → part-lts.Need-returns-2 (part-calls t) (part-at t) part.Post
+part-returns-2 t c =
+    let p = c .before .before .before .before .before .before .before .before .before .before .before .before .pre .1 in
+    part-laid _ _ _ _ (p .0) (p .1) (c .before .before .before .before .before .before .before .before .before .left-over .ensures .0) (c .before .before .before .before .before .before .before .before .before .left-over .ensures .1) (c .before .before .before .before .before .before .before .lay-marks .ensures) (c .before .before .goals .ensures)
 
 switch-behind-requires : (t : ℕ) → switch-lts.Need-behind-requires (switch-calls t) (switch-at t) switch.Post
 switch-behind-requires t c κs =
@@ -443,9 +454,11 @@ pub +arm+arms+branches+goal+goals+part+switch-spec : {M : Type 1} → statement 
     part.Post
     (part-left-over-requires t)
     (part-lay-marks-requires t)
-    (part-goals-requires t)
     (part-same-length t)
-    (part-returns t))
+    (part-returns t)
+    (part-goals-requires t)
+    (part-same-length-2 t)
+    (part-returns-2 t))
     λ t. switch-lts.spec (switch-calls t)
     (switch-at t)
     switch.Post

@@ -284,15 +284,18 @@ goals-returns-2 t c =
 part-word-requires : (t : ℕ) → part-lts.Need-word-requires (part-calls t) (part-at t) part.Post
 part-word-requires t c κs = search needs
 
+part-returns : (t : ℕ) → part-lts.Need-returns (part-calls t) (part-at t) part.Post
+part-returns t c = goals-last _ _ _ _ _ (sym (c .before .word .ensures .0) ∙ c .if1 .taken)
+
 part-goals-requires : (t : ℕ) → part-lts.Need-goals-requires (part-calls t) (part-at t) part.Post
 part-goals-requires t c κs =
-    let start = c .before .before .before .before in
+    let start = c .before .before .before .before .before in
     let p = start .pre .1 in
-    let e = c .before .before .word .ensures .0 in
+    let e = c .before .before .before .word .ensures .0 in
     (omega (arith, ap (ahead (start .args .file .now)) e, start .pre .0), (p .0, (p .1 .0, part-stands _ _ _ e (p .1 .1 .1))))
 
-part-returns : (t : ℕ) → part-lts.Need-returns (part-calls t) (part-at t) part.Post
-part-returns t c = part-done _ _ _ _ (c .before .before .before .word .ensures .0) (c .goals .ensures)
+part-returns-2 : (t : ℕ) → part-lts.Need-returns-2 (part-calls t) (part-at t) part.Post
+part-returns-2 t c = part-done _ _ _ _ (c .before .before .before .before .word .ensures .0) (c .goals .ensures)
 
 switch-live-in-requires : (t : ℕ) → switch-lts.Need-live-in-requires (switch-calls t) (switch-at t) switch.Post
 switch-live-in-requires t c κs = search needs
@@ -388,8 +391,9 @@ pub +arms+branches+goal+goals+part+switch-spec : {M : Type 1} → statement M
     (part-at t)
     part.Post
     (part-word-requires t)
+    (part-returns t)
     (part-goals-requires t)
-    (part-returns t))
+    (part-returns-2 t))
     λ t. switch-lts.spec (switch-calls t)
     (switch-at t)
     switch.Post
