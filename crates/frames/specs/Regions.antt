@@ -17,10 +17,10 @@ next-falls s n r l e = let x = next-is s n in omega (arith, x .low)
 
 module _ (images : List ℕ) (at from to : ℕ) where
   unfoldable pub namedIn : List ℕ → List ℕ → List ℕ
-  namedIn rs fw = copied (λ r. to + r) (λ r. from + getD images (at + r) 0) rs fw
+  namedIn rs fw = copied (λ r. to + 64 + r) (λ r. from + 64 + getD images (at + r) 0) rs fw
 
   unfoldable pub namedOut : List ℕ → List ℕ → List ℕ
-  namedOut rs fw = copied (λ r. to + getD images (at + r) 0) (λ r. from + r) rs fw
+  namedOut rs fw = copied (λ r. to + 64 + getD images (at + r) 0) (λ r. from + 64 + r) rs fw
 
   pub in-length : (rs fw : List ℕ) → length (namedIn rs fw) ≡ length fw
   unfolding namedIn
@@ -30,8 +30,8 @@ module _ (images : List ℕ) (at from to : ℕ) where
   in-start s fw = ap (λ rs. namedIn rs fw) (above-start s)
 
   -- the next member r, as the code finds the words
-  pub in-more : (s : Set) (n r i v : ℕ) (fw fx : List ℕ) → r ≡ nextMember s n → r < 65 → i ≡ getD images (at + r) 0 → v ≡ getD fw (from + i) 0
-      → fx ≡ set fw (to + r) v → namedIn (above s r) fx ≡ namedIn (above s n) fw
+  pub in-more : (s : Set) (n r i v : ℕ) (fw fx : List ℕ) → r ≡ nextMember s n → r < 65 → i ≡ getD images (at + r) 0 → v ≡ getD fw (from + 64 + i) 0
+      → fx ≡ set fw (to + 64 + r) v → namedIn (above s r) fx ≡ namedIn (above s n) fw
   unfolding namedIn copied
   in-more s n r i v fw fx e l ei ev ef = rw (ef, ev, ei, above-next s n r (sym e) l)
 
@@ -47,8 +47,8 @@ module _ (images : List ℕ) (at from to : ℕ) where
   out-start s fw = ap (λ rs. namedOut rs fw) (above-start s)
 
   -- the next member r, as the code finds the words
-  pub out-more : (s : Set) (n r i v : ℕ) (fw fx : List ℕ) → r ≡ nextMember s n → r < 65 → i ≡ getD images (at + r) 0 → v ≡ getD fw (from + r) 0
-      → fx ≡ set fw (to + i) v → namedOut (above s r) fx ≡ namedOut (above s n) fw
+  pub out-more : (s : Set) (n r i v : ℕ) (fw fx : List ℕ) → r ≡ nextMember s n → r < 65 → i ≡ getD images (at + r) 0 → v ≡ getD fw (from + 64 + r) 0
+      → fx ≡ set fw (to + 64 + i) v → namedOut (above s r) fx ≡ namedOut (above s n) fw
   unfolding namedOut copied
   out-more s n r i v fw fx e l ei ev ef = rw (ef, ev, ei, above-next s n r (sym e) l)
 
@@ -58,10 +58,10 @@ module _ (images : List ℕ) (at from to : ℕ) where
 
 -- ---- the machine's, for tables that have these images at record i
 module _ (f : List ℕ) (T : Tables) (images : List ℕ) (at i : ℕ) (e : T .image i ≡ (λ r. getD images (at + r) 0)) where
-  pub named-in : (k : ℕ) (rs fw : List ℕ) → namedIn images at (136 * k + 64) (136 * suc k + 64) rs fw ≡ regionsIn f T k i rs fw
+  pub named-in : (k : ℕ) (rs fw : List ℕ) → namedIn images at (136 * k) (136 * suc k) rs fw ≡ regionsIn f T k i rs fw
   unfolding namedIn regionsIn
   named-in k rs fw = rw e
 
-  pub named-out : (k : ℕ) (rs fw : List ℕ) → namedOut images at (136 * suc k + 64) (136 * k + 64) rs fw ≡ regionsOut f T k i rs fw
+  pub named-out : (k : ℕ) (rs fw : List ℕ) → namedOut images at (136 * suc k) (136 * k) rs fw ≡ regionsOut f T k i rs fw
   unfolding namedOut regionsOut
   named-out k rs fw = rw e

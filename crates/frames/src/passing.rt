@@ -1,6 +1,8 @@
 // Along a chain of records: the arm of a functor, and the values that a call's arguments pass. Which of the callee's variables an argument matches,
 // and its mode, stands in the plan.
+use crate::words::give;
 use crate::words::put_from;
+use crate::words::value;
 use crate::words::word_from;
 use chains::entry;
 use language::format::ARGUMENT_VARIABLE;
@@ -51,15 +53,16 @@ fn value_in(
     frames: &mut [u32],
 )
     requires { ⌜ (at < maxRecords) × (16 * at + 16 ≤ length (now file)) ⌝ }
+    requires { ⌜ (from + 136 ≤ length (now frames)) × (to + 136 ≤ length (now frames)) ⌝ }
     ensures { λ _. ⌜ now (frames .exit) ≡ passedIn (now (file .entry)) (now (plan .entry)) from to (at ∷ []) (now (frames .entry)) ⌝ }
 {
     if plan[MODES + at] == MODE_IN {
-        let value = word_from(&frames[..], from, word_in(file, at, ARGUMENT_VARIABLE));
-        put_from(&mut frames[..], to, plan[SLOTS + at], value);
+        let v = value(&frames[..], from, word_in(file, at, ARGUMENT_VARIABLE));
+        give(&mut frames[..], to, plan[SLOTS + at], v);
     }
 }
 
-// "A call adds the callee's frame with its in values": from the words behind `from` to those behind `to`. The arguments' chain is at record start.
+// "A call adds the callee's frame with its in values": from the frame at `from` to the one at `to`. The arguments' chain is at record start.
 pub fn values_in(
     file: &[u8],
     plan: &[usize; PLAN],
@@ -70,6 +73,7 @@ pub fn values_in(
 )
     requires { ⌜ Formed (now file) ⌝ }
     requires { ⌜ start < recordCount (now file) ⌝ }
+    requires { ⌜ (from + 136 ≤ length (now frames)) × (to + 136 ≤ length (now frames)) ⌝ }
     ensures { λ _. ⌜ now (frames .exit) ≡ passedIn (now (file .entry)) (now (plan .entry)) from to
         (chainRecords (now (file .entry)) start) (now (frames .entry)) ⌝ }
 {
@@ -90,15 +94,16 @@ fn value_out(
     frames: &mut [u32],
 )
     requires { ⌜ (at < maxRecords) × (16 * at + 16 ≤ length (now file)) ⌝ }
+    requires { ⌜ (from + 136 ≤ length (now frames)) × (to + 136 ≤ length (now frames)) ⌝ }
     ensures { λ _. ⌜ now (frames .exit) ≡ passedOut (now (file .entry)) (now (plan .entry)) from to (at ∷ []) (now (frames .entry)) ⌝ }
 {
     if plan[MODES + at] == MODE_OUT {
-        let value = word_from(&frames[..], from, plan[SLOTS + at]);
-        put_from(
+        let v = value(&frames[..], from, plan[SLOTS + at]);
+        give(
             &mut frames[..],
             to,
             word_in(file, at, ARGUMENT_VARIABLE),
-            value,
+            v,
         );
     }
 }
@@ -125,6 +130,7 @@ pub fn values_out(
 )
     requires { ⌜ Formed (now file) ⌝ }
     requires { ⌜ start < 65536 ⌝ }
+    requires { ⌜ (from + 136 ≤ length (now frames)) × (to + 136 ≤ length (now frames)) ⌝ }
     ensures { λ _. ⌜ now (frames .exit) ≡ passedOut (now (file .entry)) (now (plan .entry)) from to
         (chainRecords (now (file .entry)) start) (now (frames .entry)) ⌝ }
 {

@@ -1,24 +1,16 @@
 // Words of a frame, for any number.
-use memory::put;
-use memory::word;
 ghost use mathlib.Core.Path.{_≡_};
-ghost use Prim.Native.Nat.{_+_, _*_, _<_};
-ghost use lib.ListN.{getD, set};
+ghost use Prim.Native.Nat.{_+_, _≤_};
+ghost use lib.ListN.{length, getD, set};
 ghost use Rattle.word_machine.specs.Machine.{cleared};
 
-// The first word of a frame: its next goal's record, behind which the values stand.
-pub fn base(frame: u32) -> usize
-    ensures { λ r. ⌜ r ≡ 136 * frame ⌝ }
-{
-    136 * (frame as usize)
-}
+// "136 a frame": its next goal's record, 64 values, the places of what 64 region numbers stand for, the call's record.
+pub const FRAME_WORDS: usize = 136;
 
-// The word before the places of a frame's regions.
-pub fn region_base(frame: u32) -> usize
-    ensures { λ r. ⌜ r ≡ 136 * frame + 64 ⌝ }
-{
-    136 * (frame as usize) + 64
-}
+// The words before the first region's, less one since regions count from 1, and those from there on.
+const VALUE_WORDS: usize = 64;
+
+const REGION_WORDS: usize = 72;
 
 // Word k behind a base; past the end it is 0.
 pub fn word_from(mem: &[u32], base: usize, k: usize) -> u32
@@ -43,34 +35,51 @@ pub fn put_from(mem: &mut [u32], base: usize, k: usize, value: u32)
     }
 }
 
-// The value of a frame's variable x.
-pub fn value(frames: &[u32], frame: u32, x: usize) -> u32
-    requires { ⌜ x < 65536 ⌝ }
-    ensures { λ r. ⌜ r ≡ getD (now (frames .entry)) (136 * frame + x) 0 ⌝ }
+// The value of variable x of the frame at a place. A variable's number is at most 64, so that its word is one of the frame's; any other word is
+// looked up.
+pub fn value(frames: &[u32], at: usize, x: usize) -> u32
+    requires { ⌜ at + 136 ≤ length (now frames) ⌝ }
+    ensures { λ r. ⌜ r ≡ getD (now (frames .entry)) (at + x) 0 ⌝ }
 {
-    word(&frames[..], 136 * (frame as usize) + x)
+    if x < FRAME_WORDS {
+        return frames[at + x];
+    }
+    word_from(&frames[..], at, x)
 }
 
 // Variable x of a frame gets a value.
-pub fn give(frames: &mut [u32], frame: u32, x: usize, value: u32)
-    requires { ⌜ x < 65536 ⌝ }
-    ensures { λ _. ⌜ now (frames .exit) ≡ set (now (frames .entry)) (136 * frame + x) value ⌝ }
+pub fn give(frames: &mut [u32], at: usize, x: usize, value: u32)
+    requires { ⌜ at + 136 ≤ length (now frames) ⌝ }
+    ensures { λ _. ⌜ now (frames .exit) ≡ set (now (frames .entry)) (at + x) value ⌝ }
 {
-    put(&mut frames[..], 136 * (frame as usize) + x, value);
+    if x < FRAME_WORDS {
+        frames[at + x] = value;
+        return;
+    }
+    put_from(&mut frames[..], at, x, value);
 }
 
 // The place of what a frame's region number r stands for.
-pub fn region(frames: &[u32], frame: u32, r: usize) -> u32
-    ensures { λ p. ⌜ p ≡ getD (now (frames .entry)) (136 * frame + 64 + r) 0 ⌝ }
+pub fn region(frames: &[u32], at: usize, r: usize) -> u32
+    requires { ⌜ at + 136 ≤ length (now frames) ⌝ }
+    ensures { λ p. ⌜ p ≡ getD (now (frames .entry)) (at + 64 + r) 0 ⌝ }
 {
-    word_from(&frames[..], region_base(frame), r)
+    if r < REGION_WORDS {
+        return frames[at + VALUE_WORDS + r];
+    }
+    word_from(&frames[..], at + VALUE_WORDS, r)
 }
 
 // Region number r of a frame stands for what is at a place.
-pub fn name_region(frames: &mut [u32], frame: u32, r: usize, place: u32)
-    ensures { λ _. ⌜ now (frames .exit) ≡ set (now (frames .entry)) (136 * frame + 64 + r) place ⌝ }
+pub fn name_region(frames: &mut [u32], at: usize, r: usize, place: u32)
+    requires { ⌜ at + 136 ≤ length (now frames) ⌝ }
+    ensures { λ _. ⌜ now (frames .exit) ≡ set (now (frames .entry)) (at + 64 + r) place ⌝ }
 {
-    put_from(&mut frames[..], region_base(frame), r, place);
+    if r < REGION_WORDS {
+        frames[at + VALUE_WORDS + r] = place;
+        return;
+    }
+    put_from(&mut frames[..], at + VALUE_WORDS, r, place);
 }
 
 // Zero in the n words from a place on, as far as there are any.

@@ -1,5 +1,5 @@
--- What the functions come to on each way through them, from what the functions that they call promise. P is the place before a frame's values.
-use Prim.Native.Nat.{ℕ, zero, suc, _+_, _*_, _<_}
+-- What the functions come to on each way through them, from what the functions that they call promise. P and k are the place of a frame's first word.
+use Prim.Native.Nat.{ℕ, zero, suc, _+_, _<_}
 use mathlib.Core.Path.{_≡_, refl, _∙_}
 use mathlib.Core.Bool.{Bool, true, false}
 use mathlib.Core.List.{List}
@@ -71,32 +71,32 @@ module _ (f plan : List ℕ) (i k : ℕ) (h : Heap) (m rs fw : List ℕ) (home :
     (eh : home ≡ homeFor plan i k fw) (ec : held ≡ termIn f i k fw) (e : made ≡ built h m) (em : m₁ ≡ builtCells h m rs home held) (er : rs₁ ≡ builtRegions h m rs home) where
   pub construct-none : made ≡ NoRoom
       → (NoRoom ≡ built h m) × ((m₁ ≡ builtCells h m rs (homeFor plan i k fw) (termIn f i k fw)) × ((rs₁ ≡ builtRegions h m rs (homeFor plan i k fw))
-      × (fw ≡ placed (136 * k + word f i 2) NoRoom fw)))
+      × (fw ≡ placed (k + word f i 2) NoRoom fw)))
   unfolding placed
   construct-none z = (rw (← e, z), (rw (em, eh, ec), (rw (er, eh), refl)))
 
-  pub construct-made : (x y : ℕ) (l : Heap) (fx : List ℕ) → made ≡ At y l → fx ≡ set fw (136 * k + x) y → x ≡ word f i 2
+  pub construct-made : (x y : ℕ) (l : Heap) (fx : List ℕ) → made ≡ At y l → fx ≡ set fw (k + x) y → x ≡ word f i 2
       → (At y l ≡ built h m) × ((m₁ ≡ builtCells h m rs (homeFor plan i k fw) (termIn f i k fw)) × ((rs₁ ≡ builtRegions h m rs (homeFor plan i k fw))
-      × (fx ≡ placed (136 * k + word f i 2) (At y l) fw)))
+      × (fx ≡ placed (k + word f i 2) (At y l) fw)))
   unfolding placed
   construct-made x y l fx z ex ey = (rw (← e, z), (rw (em, eh, ec), (rw (er, eh), rw (ex, ey))))
 
 -- ---- regions
 module _ (f : List ℕ) (i k : ℕ) (h : Heap) (rs fw : List ℕ) (made : Made) (rs₁ : List ℕ) (e : made ≡ created h rs) (er : rs₁ ≡ createdRegions h rs) where
-  pub create-none : made ≡ NoRoom → (NoRoom ≡ created h rs) × ((rs₁ ≡ createdRegions h rs) × (fw ≡ placed (136 * k + 64 + word f i 2) NoRoom fw))
+  pub create-none : made ≡ NoRoom → (NoRoom ≡ created h rs) × ((rs₁ ≡ createdRegions h rs) × (fw ≡ placed (k + 64 + word f i 2) NoRoom fw))
   unfolding placed
   create-none z = (rw (← e, z), (er, refl))
 
-  pub create-made : (x y : ℕ) (l : Heap) (fx : List ℕ) → made ≡ At y l → fx ≡ set fw (136 * k + 64 + x) y → x ≡ word f i 2
-      → (At y l ≡ created h rs) × ((rs₁ ≡ createdRegions h rs) × (fx ≡ placed (136 * k + 64 + word f i 2) (At y l) fw))
+  pub create-made : (x y : ℕ) (l : Heap) (fx : List ℕ) → made ≡ At y l → fx ≡ set fw (k + 64 + x) y → x ≡ word f i 2
+      → (At y l ≡ created h rs) × ((rs₁ ≡ createdRegions h rs) × (fx ≡ placed (k + 64 + word f i 2) (At y l) fw))
   unfolding placed
   create-made x y l fx z ex ey = (rw (← e, z), (er, rw (ex, ey)))
 
-pub home-as : (plan : List ℕ) (i k p a : ℕ) (fw : List ℕ) → p ≡ getD fw (136 * k + 64 + a) 0 → a ≡ getD plan (sidesFrom + i) 0 → p ≡ homeFor plan i k fw
+pub home-as : (plan : List ℕ) (i k p a : ℕ) (fw : List ℕ) → p ≡ getD fw (k + 64 + a) 0 → a ≡ getD plan (sidesFrom + i) 0 → p ≡ homeFor plan i k fw
 unfolding homeFor
 home-as plan i k p a fw e z = rw (e, z)
 
-pub region-as : (f : List ℕ) (i k p a : ℕ) (fw : List ℕ) → p ≡ getD fw (136 * k + 64 + a) 0 → a ≡ word f i 2 → p ≡ regionFor f i k fw
+pub region-as : (f : List ℕ) (i k p a : ℕ) (fw : List ℕ) → p ≡ getD fw (k + 64 + a) 0 → a ≡ word f i 2 → p ≡ regionFor f i k fw
 unfolding regionFor
 region-as f i k p a fw e z = rw (e, z)
 
@@ -106,16 +106,16 @@ remove-as h g m rs m₁ rs₁ p q e z = rw (← z) e
 
 -- ---- a switch
 pub arms-as : (f : List ℕ) (j p k : ℕ) (m f0 f1 f2 f3 f4 : List ℕ) (xa xb xc xd a b c d : ℕ) → a ≡ cellWord m p 1 → b ≡ cellWord m p 2 → c ≡ cellWord m p 3 → d ≡ cellWord m p 4
-    → f1 ≡ set f0 (136 * k + xa) a → xa ≡ word f j 4 → f2 ≡ set f1 (136 * k + xb) b → xb ≡ word f j 5 → f3 ≡ set f2 (136 * k + xc) c → xc ≡ word f j 6
-    → f4 ≡ set f3 (136 * k + xd) d → xd ≡ word f j 7 → f4 ≡ armValues f j p k m f0
+    → f1 ≡ set f0 (k + xa) a → xa ≡ word f j 4 → f2 ≡ set f1 (k + xb) b → xb ≡ word f j 5 → f3 ≡ set f2 (k + xc) c → xc ≡ word f j 6
+    → f4 ≡ set f3 (k + xd) d → xd ≡ word f j 7 → f4 ≡ armValues f j p k m f0
 unfolding armValues
 arms-as f j p k m f0 f1 f2 f3 f4 xa xb xc xd a b c d ea eb ec ed e1 za e2 zb e3 zc e4 zd = rw (e4, e3, e2, e1, ea, eb, ec, ed, za, zb, zc, zd)
 
-pub arm-as : (f : List ℕ) (i k x p n start j : ℕ) (m fw : List ℕ) → p ≡ getD fw (136 * k + x) 0 → x ≡ word f i 2 → start ≡ word f i 3 → n ≡ cellWord m p 0
+pub arm-as : (f : List ℕ) (i k x p n start j : ℕ) (m fw : List ℕ) → p ≡ getD fw (k + x) 0 → x ≡ word f i 2 → start ≡ word f i 3 → n ≡ cellWord m p 0
     → j ≡ armOf f n (chainRecords f start) → j ≡ armFor f i k m fw
 unfolding armFor
 arm-as f i k x p n start j m fw ep ex es en ej = rw (ej, en, ep, ex, es)
 
-pub arms-at : (f : List ℕ) (i k x p j : ℕ) (m fw fx : List ℕ) → fx ≡ armValues f j p k m fw → p ≡ getD fw (136 * k + x) 0 → x ≡ word f i 2
-    → fx ≡ armValues f j (getD fw (136 * k + word f i 2) 0) k m fw
+pub arms-at : (f : List ℕ) (i k x p j : ℕ) (m fw fx : List ℕ) → fx ≡ armValues f j p k m fw → p ≡ getD fw (k + x) 0 → x ≡ word f i 2
+    → fx ≡ armValues f j (getD fw (k + word f i 2) 0) k m fw
 arms-at f i k x p j m fw fx e ep ex = rw (e, ep, ex)

@@ -70,7 +70,7 @@ remaining w (inl e) n m = absurd (n e)
 remaining w (inr (inl e)) n m = absurd (m e)
 remaining w (inr (inr e)) n m = e
 
-module _ (f plan images table : List ℕ) (s : State) (h : Heap) (m rs fw : List ℕ) (w : ℕ) (ew : w ≡ word f (s .goal) 0) where
+module _ (f plan images table : List ℕ) (s : State) (h : Heap) (m rs fw : List ℕ) (D : s .at ≡ 136 * s .top) (w : ℕ) (ew : w ≡ word f (s .goal) 0) where
   abbrev T : Tables
   T = tablesIn f plan images table
 
@@ -78,12 +78,12 @@ module _ (f plan images table : List ℕ) (s : State) (h : Heap) (m rs fw : List
   Steps k ps = steps f T k (s .goal) (recordAt f (s .goal)) (wordsOf h m rs fw ps s)
 
   module _ (md : Made) (m₁ rs₁ fx : List ℕ) (z : w ≡ 11) (e : md ≡ built h m)
-      (em : m₁ ≡ builtCells h m rs (homeFor plan (s .goal) (s .top) fw) (termIn f (s .goal) (s .top) fw)) (er : rs₁ ≡ builtRegions h m rs (homeFor plan (s .goal) (s .top) fw))
-      (ex : fx ≡ placed (136 * s .top + word f (s .goal) 2) md fw) where
+      (em : m₁ ≡ builtCells h m rs (homeFor plan (s .goal) (s .at) fw) (termIn f (s .goal) (s .at) fw)) (er : rs₁ ≡ builtRegions h m rs (homeFor plan (s .goal) (s .at) fw))
+      (ex : fx ≡ placed (s .at + word f (s .goal) 2) md fw) where
     construct-left : (y : ℕ) (l : Heap) → md ≡ At y l → (k : Room) (ps : List ℕ) (next : ℕ) → next ≡ T .successor (s .goal)
         → went (wordsOf l m₁ rs₁ fx ps (onwardTo s next)) ≡ Steps k ps
     unfolding steps constructed constructedBy contentsOf valueOf regionFor wordsOf termIn homeFor placed tablesIn
-    construct-left y l d k ps next en = rw (construct-record f (s .goal) w ew z, en, em, er, ex, ← e, d)
+    construct-left y l d k ps next en = rw (construct-record f (s .goal) w ew z, en, em, er, ex, D, ← e, d)
 
     pub construct-keeps : (y : ℕ) (l : Heap) → md ≡ At y l → Keeps f T s h m rs fw (Left l) m₁ rs₁ fx
     unfolding keptTo
@@ -95,18 +95,18 @@ module _ (f plan images table : List ℕ) (s : State) (h : Heap) (m rs fw : List
 
     construct-same : md ≡ NoRoom → (m₁ ≡ m) × (rs₁ ≡ rs) × (fx ≡ fw)
     unfolding placed
-    construct-same d = let b = built-none h m rs (homeFor plan (s .goal) (s .top) fw) (termIn f (s .goal) (s .top) fw) (sym d ∙ e) in (em ∙ b .0, er ∙ b .1, rw (ex, d))
+    construct-same d = let b = built-none h m rs (homeFor plan (s .goal) (s .at) fw) (termIn f (s .goal) (s .at) fw) (sym d ∙ e) in (em ∙ b .0, er ∙ b .1, rw (ex, d))
 
     pub construct-lacks : md ≡ NoRoom → Keeps f T s h m rs fw (Lacks Cells) m₁ rs₁ fx
     unfolding keptTo
     construct-lacks d = record { comes = λ k ps next en. construct-stop d k ps; kept = λ c q. construct-same d }
 
   module _ (md : Made) (rs₁ fx : List ℕ) (z : w ≡ 18) (e : md ≡ created h rs) (er : rs₁ ≡ createdRegions h rs)
-      (ex : fx ≡ placed (136 * s .top + 64 + word f (s .goal) 2) md fw) where
+      (ex : fx ≡ placed (s .at + 64 + word f (s .goal) 2) md fw) where
     create-left : (y : ℕ) (l : Heap) → md ≡ At y l → (k : Room) (ps : List ℕ) (next : ℕ) → next ≡ T .successor (s .goal)
         → went (wordsOf l m rs₁ fx ps (onwardTo s next)) ≡ Steps k ps
     unfolding steps makesRegion createdBy wordsOf placed
-    create-left y l d k ps next en = rw (create-record f (s .goal) w ew z, en, er, ex, ← e, d)
+    create-left y l d k ps next en = rw (create-record f (s .goal) w ew z, en, er, ex, D, ← e, d)
 
     pub create-keeps : (y : ℕ) (l : Heap) → md ≡ At y l → Keeps f T s h m rs fw (Left l) m rs₁ fx
     unfolding keptTo
@@ -125,11 +125,11 @@ module _ (f plan images table : List ℕ) (s : State) (h : Heap) (m rs fw : List
     create-lacks d = record { comes = λ k ps next en. create-stop d k ps; kept = λ c q. create-same d }
 
   module _ (l : Heap) (m₁ rs₁ : List ℕ) (z : w ≡ 19)
-      (e : (l ≡ removed h rs (regionNamed f (s .goal) (s .top) fw)) × (m₁ ≡ removedCells h m rs (regionNamed f (s .goal) (s .top) fw))
-      × (rs₁ ≡ removedRegions h rs (regionNamed f (s .goal) (s .top) fw))) where
+      (e : (l ≡ removed h rs (regionNamed f (s .goal) (s .at) fw)) × (m₁ ≡ removedCells h m rs (regionNamed f (s .goal) (s .at) fw))
+      × (rs₁ ≡ removedRegions h rs (regionNamed f (s .goal) (s .at) fw))) where
     remove-left : (k : Room) (ps : List ℕ) (next : ℕ) → next ≡ T .successor (s .goal) → went (wordsOf l m₁ rs₁ fw ps (onwardTo s next)) ≡ Steps k ps
     unfolding steps dropsRegion regionFor wordsOf regionNamed
-    remove-left k ps next en = rw (remove-record f (s .goal) w ew z, en, e .0, e .1, e .2)
+    remove-left k ps next en = rw (remove-record f (s .goal) w ew z, en, e .0, e .1, e .2, D)
 
     pub remove-keeps : Keeps f T s h m rs fw (Left l) m₁ rs₁ fw
     unfolding keptTo

@@ -1,7 +1,7 @@
 -- A whole run: the steps that are done and those still to come make the whole.
 use Prim.Native.Nat.{ℕ, zero, suc, _+_, _-_, _*_, _≤_, _<_}
 use native.Mathlib.Omega.{arith}
-use mathlib.Core.Path.{_≡_, refl, sym, ap, _∙_}
+use mathlib.Core.Path.{_≡_, refl, sym, ap, _∙_, subst}
 use mathlib.Core.List.{List}
 use borrow.Author.Tests.{lt-ltb, le-ltb}
 use lib.ListN.{length, getD}
@@ -27,7 +27,7 @@ use Rattle.machine.specs.declared.Kept.the-variants.{Left, Lacks}
 use Rattle.machine.specs.declared.Step.{Step}
 use Rattle.machine.specs.declared.Step.the-variants.{Went as WentTo, Stops}
 use Rattle.machine.specs.declared.Outcome.{Outcome as Answer}
-use Rattle.machine.specs.Words.{wordsOf, onwardTo, cameTo, keptTo, Goes, Keeps}
+use Rattle.machine.specs.Words.{Placed, wordsOf, onwardTo, onward-placed, cameTo, keptTo, Goes, Keeps}
 
 -- What a run gives: its ending, its steps, how many numbers are printed, and every lent word afterwards.
 pub record Ran (o : Outcome) (r : Answer) (m rs fw ps : List ℕ) : Type 0 where
@@ -85,6 +85,7 @@ pub record Going (f : List ℕ) (T : Tables) (l : ℕ) (m₀ rs₀ fw₀ ps₀ :
   pub regions : length rs ≡ length rs₀
   pub frames : length fw ≡ length fw₀
   pub prints : length ps ≡ length ps₀
+  pub placed : Placed s (length fw)
 
 -- .. and after they went
 pub record Settled (f : List ℕ) (T : Tables) (l : ℕ) (m₀ rs₀ fw₀ ps₀ : List ℕ) (o : Outcome) (n : ℕ) (h : Heap) (m rs fw ps : List ℕ) (s : State) : Type 0 where
@@ -93,14 +94,23 @@ pub record Settled (f : List ℕ) (T : Tables) (l : ℕ) (m₀ rs₀ fw₀ ps₀
   pub regions : length rs ≡ length rs₀
   pub frames : length fw ≡ length fw₀
   pub prints : length ps ≡ length ps₀
+  pub placed : Placed s (length fw)
 
 -- what a run comes to from a first state on
 unfoldable pub runFirst : List ℕ → Tables → ℕ → Heap → List ℕ → List ℕ → List ℕ → List ℕ → State → Outcome
 runFirst f T l h m rs fw ps s = runOn f T (roomIn (lentWords m rs fw ps l)) l (s .goal) 0 (wordsOf h m rs fw ps s)
 
 -- ---- the start
+some-frame : (n : ℕ) → 136 ≤ n → 0 < holds n 136
+unfolding holds
+some-frame n q = omega arith
+
+no-frame : (n : ℕ) → n < 136 → holds n 136 ≤ 0
+unfolding holds
+no-frame n q = omega arith
+
 abbrev entryState : ℕ → State
-entryState goal = record { top = 0; goal = goal; printed = 0 }
+entryState goal = record { top = 0; at = 0; goal = goal; printed = 0 }
 
 -- the entry's frame, at its first goal
 unfoldable pub firstState : List ℕ → State
@@ -121,12 +131,12 @@ module _ (f : List ℕ) (T : Tables) (l : ℕ) (m rs fw ps : List ℕ) where
   unfolding runFirst wordsOf
   first-rest h fx goal = let o : l - 0 ≡ l = omega arith in rw (o, settled-entry h fx goal)
 
-  going-first : (h : Heap) (fx : List ℕ) (goal : ℕ) → Going f T l m rs fx ps (runFirst f T l h m rs fx ps (entryState goal)) 0 h m rs fx ps (entryState goal)
-  going-first h fx goal = record { rest = first-rest h fx goal; cells = refl; regions = refl; frames = refl; prints = refl }
+  going-first : (h : Heap) (fx : List ℕ) (goal : ℕ) → 136 ≤ length fx → Going f T l m rs fx ps (runFirst f T l h m rs fx ps (entryState goal)) 0 h m rs fx ps (entryState goal)
+  going-first h fx goal q = record { rest = first-rest h fx goal; cells = refl; regions = refl; frames = refl; prints = refl; placed = record { place = omega arith; fits = omega arith } }
 
-  pub first : (h : Heap) (table : List ℕ) (s : State) → s ≡ firstState table → Going f T l m rs fw ps (runFirst f T l h m rs fw ps s) 0 h m rs fw ps s
+  pub first : (h : Heap) (table : List ℕ) (s : State) → s ≡ firstState table → 136 ≤ length fw → Going f T l m rs fw ps (runFirst f T l h m rs fw ps s) 0 h m rs fw ps s
   unfolding firstState
-  first h table s e = rw e (going-first h fw (getD (windowIn table 0) bodyPlace 0))
+  first h table s e q = rw e (going-first h fw (getD (windowIn table 0) bodyPlace 0) q)
 
   pub first-as : (h g : Heap) (s u : State) (r : Answer) (m₁ rs₁ fw₁ ps₁ : List ℕ) → h ≡ g → s ≡ u → Ran (runFirst f T l h m rs fw ps s) r m₁ rs₁ fw₁ ps₁
       → Ran (runFirst f T l g m rs fw ps u) r m₁ rs₁ fw₁ ps₁
@@ -138,11 +148,11 @@ module _ (f : List ℕ) (T : Tables) (l : ℕ) (m rs fw ps : List ℕ) where
   unfolding runFirst wordRun runFrom startWords roomIn lentWords wordsOf
   started size goal h fx eg es ef eh e q = rw (lt-ltb 0 (holds (length fw) 136) q, e, ef, es, eh, eg)
 
-  pub from-start : (table : List ℕ) (limit size : ℕ) (fx m₁ rs₁ fw₁ ps₁ : List ℕ) (r : Answer) → limit ≡ holds (length fw) 136 → (limit ≡ 0 → ⊥)
+  pub from-start : (table : List ℕ) (size : ℕ) (fx m₁ rs₁ fw₁ ps₁ : List ℕ) (r : Answer) → 136 ≤ length fw
       → getD (windowIn table 0) bodyPlace 0 ≡ T .body 0 → size ≡ T .size 0 → fx ≡ cleared 1 size fw → length fx ≡ length fw
       → Ran (runFirst f T l (emptyHeap (holds (length m) 8) (holds (length rs) 2)) m rs fx ps (firstState table)) r m₁ rs₁ fw₁ ps₁ → Ran (wordRun f T m rs fw ps l) r m₁ rs₁ fw₁ ps₁
   unfolding firstState
-  from-start table limit size fx m₁ rs₁ fw₁ ps₁ r el z eg es ef e R = rw (← started size (getD (windowIn table 0) bodyPlace 0) _ fx eg es ef refl e (omega arith)) R
+  from-start table size fx m₁ rs₁ fw₁ ps₁ r q eg es ef e R = rw (← started size (getD (windowIn table 0) bodyPlace 0) _ fx eg es ef refl e (some-frame (length fw) q)) R
 
   none : holds (length fw) 136 ≤ 0 → endedWith (Stopped Frames) 0 (noFrame f T m rs fw ps) ≡ wordRun f T m rs fw ps l
   unfolding wordRun runFrom roomIn lentWords
@@ -152,10 +162,10 @@ module _ (f : List ℕ) (T : Tables) (l : ℕ) (m rs fw ps : List ℕ) where
   unfolding endedWith noFrame endedAt
   none-ran goal = record { ending = refl; steps = refl; printed = refl; cells = refl; regions = refl; frames = refl; prints = refl }
 
-  pub frameless : (table : List ℕ) (limit : ℕ) (s : State) (r : Answer) → limit ≡ holds (length fw) 136 → limit ≡ 0 → s ≡ firstState table → r ≡ endedAt (Stopped Frames) 0 s
+  pub frameless : (table : List ℕ) (s : State) (r : Answer) → length fw < 136 → s ≡ firstState table → r ≡ endedAt (Stopped Frames) 0 s
       → Ran (wordRun f T m rs fw ps l) r m rs fw ps
   unfolding firstState
-  frameless table limit s r el z es er = rw (← none (omega arith), er, es) (none-ran (getD (windowIn table 0) bodyPlace 0))
+  frameless table s r q es er = rw (← none (no-frame (length fw) q), er, es) (none-ran (getD (windowIn table 0) bodyPlace 0))
 
 module _ (f : List ℕ) (T : Tables) (l : ℕ) (m₀ rs₀ fw₀ ps₀ : List ℕ) (o : Outcome) where
   abbrev K : Room
@@ -165,10 +175,17 @@ module _ (f : List ℕ) (T : Tables) (l : ℕ) (m₀ rs₀ fw₀ ps₀ : List �
   arrived n W U e g = rw e g
 
   pub arrives : (n : ℕ) (h : Heap) (m rs fw fy ps : List ℕ) (s u : State) → Going f T l m₀ rs₀ fw₀ ps₀ o n h m rs fw ps s
-      → ((h : Heap) (m rs ps : List ℕ) → wordsOf h m rs fy ps u ≡ settled f T (wordsOf h m rs fw ps s)) → length fy ≡ length fw
+      → ((h : Heap) (m rs ps : List ℕ) → wordsOf h m rs fy ps u ≡ settled f T (wordsOf h m rs fw ps s)) → Placed u (length fy) → length fy ≡ length fw
       → Settled f T l m₀ rs₀ fw₀ ps₀ o n h m rs fy ps u
   unfolding wordsOf
-  arrives n h m rs fw fy ps s u G e lf = record { rest = arrived n (wordsOf h m rs fw ps s) (wordsOf h m rs fy ps u) (e h m rs ps) (G .rest); cells = G .cells; regions = G .regions; frames = lf ∙ G .frames; prints = G .prints }
+  arrives n h m rs fw fy ps s u G e d lf = record {
+    rest = arrived n (wordsOf h m rs fw ps s) (wordsOf h m rs fy ps u) (e h m rs ps) (G .rest);
+    cells = G .cells;
+    regions = G .regions;
+    frames = lf ∙ G .frames;
+    prints = G .prints;
+    placed = d;
+  }
 
   -- ---- one turn
   module _ (n : ℕ) (h : Heap) (m rs fw ps : List ℕ) (s : State) (G : Settled f T l m₀ rs₀ fw₀ ps₀ o n h m rs fw ps s) where
@@ -200,6 +217,7 @@ module _ (f : List ℕ) (T : Tables) (l : ℕ) (m₀ rs₀ fw₀ ps₀ : List �
       regions = G .regions;
       frames = lf ∙ G .frames;
       prints = lp ∙ G .prints;
+      placed = subst (Placed v) (sym lf) (g .stays v er);
     }
 
     -- a goal that changes it
@@ -214,12 +232,13 @@ module _ (f : List ℕ) (T : Tables) (l : ℕ) (m₀ rs₀ fw₀ ps₀ : List �
       regions = lr ∙ G .regions;
       frames = lf ∙ G .frames;
       prints = G .prints;
+      placed = subst (Placed v) (sym lf) (rw ev (onward-placed next (G .placed)));
     }
 
     -- no goal
     pub past-on : Formed f → (s .goal ≡ 0 → ⊥) → n < l → recordCount f ≤ s .goal → Going f T l m₀ rs₀ fw₀ ps₀ o (n + 1) h m rs fw ps s
     past-on F z q p =
-        record { rest = on W z q (past-step f T K W (s .goal) F p); cells = G .cells; regions = G .regions; frames = G .frames; prints = G .prints }
+        record { rest = on W z q (past-step f T K W (s .goal) F p); cells = G .cells; regions = G .regions; frames = G .frames; prints = G .prints; placed = G .placed }
 
     -- ---- the end
     pub run-finished : (r : Answer) → s .goal ≡ 0 → r ≡ endedAt Finished n s → Ran o r m rs fw ps

@@ -29,7 +29,7 @@ use Rattle.word_machine.specs.Machine
 use Rattle.machine.specs.declared.State.{State}
 use Rattle.machine.specs.declared.Step.{Step}
 use Rattle.machine.specs.declared.Step.the-variants.{Went as WentTo, Stops}
-use Rattle.machine.specs.Words.{wordsOf, cameTo, onwardTo, Goes}
+use Rattle.machine.specs.Words.{Placed, wordsOf, cameTo, onwardTo, onward-placed, Goes}
 use Rattle.machine.specs.Places.{valueIn, termIn, homeFor, regionFor, placed, armFor, armValues}
 
 -- ---- the record by the number of its kind, w
@@ -88,84 +88,102 @@ stopped-not s c e = apart (ap told e)
     apart : _≡_ {A = ℕ} 0 1 → ⊥
     apart z = omega arith
 
+-- what went on came to one state
+went-same : (v t : State) → WentTo v ≡ WentTo t → v ≡ t
+went-same v t e = cc
+
+-- the words have frame k whole, if they hold more than k
+pub room-for : (n k : ℕ) → k < holds n 136 → 136 * suc k ≤ n
+unfolding holds
+room-for n k l = omega arith
+
+-- .. and the callee's, if there is room for one frame more
+pub step-fits : (s : State) (n limit : ℕ) → Placed s n → limit ≡ holds n 136 → suc (s .top) < limit → s .at + 272 ≤ n
+step-fits s n limit D e l = omega (arith, D .place, room-for n (suc (s .top)) (rw (← e) l))
+
 module _ (f : List ℕ) (T : Tables) (s : State) (m fw ps : List ℕ) where
+  -- the state as a function gives it
+  pub goes-same : (u v : State) (fx px : List ℕ) → u ≡ v → Goes f T s m fw ps (WentTo v) fx px → Goes f T s m fw ps (WentTo u) fx px
+  goes-same u v fx px e g = rw e g
+
+module _ (f : List ℕ) (T : Tables) (s : State) (m fw ps : List ℕ) (D : Placed s (length fw)) where
   abbrev Steps : Room → Heap → List ℕ → Went
   Steps k h rs = steps f T k (s .goal) (recordAt f (s .goal)) (wordsOf h m rs fw ps s)
 
   -- it went on, whatever the heap is
   pub goes-on : (v : State) (fx px : List ℕ) → ((k : Room) (h : Heap) (rs : List ℕ) → went (wordsOf h m rs fx px v) ≡ Steps k h rs)
-      → Goes f T s m fw ps (WentTo v) fx px
+      → Placed v (length fw) → Goes f T s m fw ps (WentTo v) fx px
   unfolding cameTo
-  goes-on v fx px e = record { comes = λ k h rs a b. e k h rs; kept = λ c z. absurd (stopped-not v c z) }
-
-  -- the state as a function gives it
-  pub goes-same : (u v : State) (fx px : List ℕ) → u ≡ v → Goes f T s m fw ps (WentTo v) fx px → Goes f T s m fw ps (WentTo u) fx px
-  goes-same u v fx px e g = rw e g
+  goes-on v fx px e d = record { comes = λ k h rs a b. e k h rs; kept = λ c z. absurd (stopped-not v c z); stays = λ t z. rw (← went-same v t z) d }
 
   module _ (w next : ℕ) (ew : w ≡ word f (s .goal) 0) (en : next ≡ T .successor (s .goal)) where
-    literal-step : (k : Room) (h : Heap) (rs fx : List ℕ) → w ≡ 8 → fx ≡ set fw (136 * s .top + word f (s .goal) 2) (literalWord (word f (s .goal) 3))
+    literal-step : (k : Room) (h : Heap) (rs fx : List ℕ) → w ≡ 8 → fx ≡ set fw (s .at + word f (s .goal) 2) (literalWord (word f (s .goal) 3))
         → went (wordsOf h m rs fx ps (onwardTo s next)) ≡ Steps k h rs
     unfolding steps given withFrames wordsOf
-    literal-step k h rs fx z ex = rw (literal-record f (s .goal) w ew z, ex, en)
+    literal-step k h rs fx z ex = rw (literal-record f (s .goal) w ew z, ex, en, D .place)
 
-    pub literal-goes : (fx : List ℕ) → w ≡ 8 → fx ≡ set fw (136 * s .top + word f (s .goal) 2) (literalWord (word f (s .goal) 3))
+    pub literal-goes : (fx : List ℕ) → w ≡ 8 → fx ≡ set fw (s .at + word f (s .goal) 2) (literalWord (word f (s .goal) 3))
         → Goes f T s m fw ps (WentTo (onwardTo s next)) fx ps
-    literal-goes fx z ex = goes-on _ fx ps (λ k h rs. literal-step k h rs fx z ex)
+    literal-goes fx z ex = goes-on _ fx ps (λ k h rs. literal-step k h rs fx z ex) (onward-placed _ D)
 
     sum-step : (k : Room) (h : Heap) (rs fx : List ℕ) → w ≡ 9
-        → fx ≡ set fw (136 * s .top + word f (s .goal) 2) (sumWord (word f (s .goal) 3) (valueIn (s .top) fw (word f (s .goal) 4)) (valueIn (s .top) fw (word f (s .goal) 5)))
+        → fx ≡ set fw (s .at + word f (s .goal) 2) (sumWord (word f (s .goal) 3) (valueIn (s .at) fw (word f (s .goal) 4)) (valueIn (s .at) fw (word f (s .goal) 5)))
         → went (wordsOf h m rs fx ps (onwardTo s next)) ≡ Steps k h rs
     unfolding steps given withFrames wordsOf valueOf
-    sum-step k h rs fx z ex = rw (sum-record f (s .goal) w ew z, ex, en)
+    sum-step k h rs fx z ex = rw (sum-record f (s .goal) w ew z, ex, en, D .place)
 
     pub sum-goes : (fx : List ℕ) → w ≡ 9
-        → fx ≡ set fw (136 * s .top + word f (s .goal) 2) (sumWord (word f (s .goal) 3) (valueIn (s .top) fw (word f (s .goal) 4)) (valueIn (s .top) fw (word f (s .goal) 5)))
+        → fx ≡ set fw (s .at + word f (s .goal) 2) (sumWord (word f (s .goal) 3) (valueIn (s .at) fw (word f (s .goal) 4)) (valueIn (s .at) fw (word f (s .goal) 5)))
         → Goes f T s m fw ps (WentTo (onwardTo s next)) fx ps
-    sum-goes fx z ex = goes-on _ fx ps (λ k h rs. sum-step k h rs fx z ex)
+    sum-goes fx z ex = goes-on _ fx ps (λ k h rs. sum-step k h rs fx z ex) (onward-placed _ D)
 
-    assign-step : (k : Room) (h : Heap) (rs fx : List ℕ) → w ≡ 10 → fx ≡ set fw (136 * s .top + word f (s .goal) 2) (valueIn (s .top) fw (word f (s .goal) 3))
+    assign-step : (k : Room) (h : Heap) (rs fx : List ℕ) → w ≡ 10 → fx ≡ set fw (s .at + word f (s .goal) 2) (valueIn (s .at) fw (word f (s .goal) 3))
         → went (wordsOf h m rs fx ps (onwardTo s next)) ≡ Steps k h rs
     unfolding steps given withFrames wordsOf valueOf
-    assign-step k h rs fx z ex = rw (assign-record f (s .goal) w ew z, ex, en)
+    assign-step k h rs fx z ex = rw (assign-record f (s .goal) w ew z, ex, en, D .place)
 
-    pub assign-goes : (fx : List ℕ) → w ≡ 10 → fx ≡ set fw (136 * s .top + word f (s .goal) 2) (valueIn (s .top) fw (word f (s .goal) 3))
+    pub assign-goes : (fx : List ℕ) → w ≡ 10 → fx ≡ set fw (s .at + word f (s .goal) 2) (valueIn (s .at) fw (word f (s .goal) 3))
         → Goes f T s m fw ps (WentTo (onwardTo s next)) fx ps
-    assign-goes fx z ex = goes-on _ fx ps (λ k h rs. assign-step k h rs fx z ex)
+    assign-goes fx z ex = goes-on _ fx ps (λ k h rs. assign-step k h rs fx z ex) (onward-placed _ D)
 
-    switch-step : (k : Room) (h : Heap) (rs fx : List ℕ) (j g : ℕ) → w ≡ 12 → j ≡ armFor f (s .goal) (s .top) m fw
-        → fx ≡ armValues f j (valueIn (s .top) fw (word f (s .goal) 2)) (s .top) m fw → g ≡ onto (word f j 2) next
+    switch-step : (k : Room) (h : Heap) (rs fx : List ℕ) (j g : ℕ) → w ≡ 12 → j ≡ armFor f (s .goal) (s .at) m fw
+        → fx ≡ armValues f j (valueIn (s .at) fw (word f (s .goal) 2)) (s .at) m fw → g ≡ onto (word f j 2) next
         → went (wordsOf h m rs fx ps (onwardTo s g)) ≡ Steps k h rs
     unfolding steps switches entersArm armWords withFrames wordsOf valueOf armFor armValues
-    switch-step k h rs fx j g z ej ex eg = rw (switch-record f (s .goal) w ew z, eg, ex, ej, en)
+    switch-step k h rs fx j g z ej ex eg = rw (switch-record f (s .goal) w ew z, eg, ex, ej, en, D .place)
 
-    pub switch-goes : (fx : List ℕ) (j g : ℕ) → w ≡ 12 → j ≡ armFor f (s .goal) (s .top) m fw
-        → fx ≡ armValues f j (valueIn (s .top) fw (word f (s .goal) 2)) (s .top) m fw → g ≡ onto (word f j 2) next
+    pub switch-goes : (fx : List ℕ) (j g : ℕ) → w ≡ 12 → j ≡ armFor f (s .goal) (s .at) m fw
+        → fx ≡ armValues f j (valueIn (s .at) fw (word f (s .goal) 2)) (s .at) m fw → g ≡ onto (word f j 2) next
         → Goes f T s m fw ps (WentTo (onwardTo s g)) fx ps
-    switch-goes fx j g z ej ex eg = goes-on _ fx ps (λ k h rs. switch-step k h rs fx j g z ej ex eg)
+    switch-goes fx j g z ej ex eg = goes-on _ fx ps (λ k h rs. switch-step k h rs fx j g z ej ex eg) (onward-placed _ D)
 
     if-step : (k : Room) (h : Heap) (rs : List ℕ) (a g : ℕ) → w ≡ 14
-        → a ≡ choose (less (toZ w32 (valueIn (s .top) fw (word f (s .goal) 2))) (toZ w32 (valueIn (s .top) fw (word f (s .goal) 3)))) (word f (s .goal) 4) (word f (s .goal) 5)
+        → a ≡ choose (less (toZ w32 (valueIn (s .at) fw (word f (s .goal) 2))) (toZ w32 (valueIn (s .at) fw (word f (s .goal) 3)))) (word f (s .goal) 4) (word f (s .goal) 5)
         → g ≡ onto a next → went (wordsOf h m rs fw ps (onwardTo s g)) ≡ Steps k h rs
     unfolding steps withFrames wordsOf valueOf
-    if-step k h rs a g z ea eg = rw (if-record f (s .goal) w ew z, eg, ea, en)
+    if-step k h rs a g z ea eg = rw (if-record f (s .goal) w ew z, eg, ea, en, D .place)
 
     pub if-goes : (a g : ℕ) → w ≡ 14
-        → a ≡ choose (less (toZ w32 (valueIn (s .top) fw (word f (s .goal) 2))) (toZ w32 (valueIn (s .top) fw (word f (s .goal) 3)))) (word f (s .goal) 4) (word f (s .goal) 5)
+        → a ≡ choose (less (toZ w32 (valueIn (s .at) fw (word f (s .goal) 2))) (toZ w32 (valueIn (s .at) fw (word f (s .goal) 3)))) (word f (s .goal) 4) (word f (s .goal) 5)
         → g ≡ onto a next → Goes f T s m fw ps (WentTo (onwardTo s g)) fw ps
-    if-goes a g z ea eg = goes-on _ fw ps (λ k h rs. if-step k h rs a g z ea eg)
+    if-goes a g z ea eg = goes-on _ fw ps (λ k h rs. if-step k h rs a g z ea eg) (onward-placed _ D)
 
     -- ---- a print
-    print-step : (k : Room) (h : Heap) (rs px : List ℕ) (v : ℕ) → w ≡ 17 → v ≡ valueIn (s .top) fw (word f (s .goal) 2) → px ≡ set ps (s .printed) v
-        → s .printed < k .prints → went (wordsOf h m rs fw px (record { top = s .top; goal = next; printed = s .printed + 1 })) ≡ Steps k h rs
+    print-step : (k : Room) (h : Heap) (rs px : List ℕ) (v : ℕ) → w ≡ 17 → v ≡ valueIn (s .at) fw (word f (s .goal) 2) → px ≡ set ps (s .printed) v
+        → s .printed < k .prints → went (wordsOf h m rs fw px (record { top = s .top; at = s .at; goal = next; printed = s .printed + 1 })) ≡ Steps k h rs
     unfolding steps ifRoom printsWord wordsOf valueOf
     print-step k h rs px v z ev ex l =
-        let o : s .printed + 1 ≡ suc (s .printed) = omega arith in rw (print-record f (s .goal) w ew z, lt-ltb (s .printed) (k .prints) l, ex, ev, en, o)
+        let o : s .printed + 1 ≡ suc (s .printed) = omega arith in rw (print-record f (s .goal) w ew z, lt-ltb (s .printed) (k .prints) l, ex, ev, en, o, D .place)
 
-    pub print-goes : (px : List ℕ) (v limit : ℕ) → w ≡ 17 → v ≡ valueIn (s .top) fw (word f (s .goal) 2) → px ≡ set ps (s .printed) v → limit ≡ holds (length ps) 1
-        → s .printed < limit → Goes f T s m fw ps (WentTo (record { top = s .top; goal = next; printed = s .printed + 1 })) fw px
+    pub print-goes : (px : List ℕ) (v limit : ℕ) → w ≡ 17 → v ≡ valueIn (s .at) fw (word f (s .goal) 2) → px ≡ set ps (s .printed) v → limit ≡ holds (length ps) 1
+        → s .printed < limit → Goes f T s m fw ps (WentTo (record { top = s .top; at = s .at; goal = next; printed = s .printed + 1 })) fw px
     unfolding cameTo
     print-goes px v limit z ev ex el l =
-        record { comes = λ k h rs a b. print-step k h rs px v z ev ex (rw (b ∙ sym el) l); kept = λ c e. absurd (stopped-not _ c e) }
+        record {
+          comes = λ k h rs a b. print-step k h rs px v z ev ex (rw (b ∙ sym el) l);
+          kept = λ c e. absurd (stopped-not _ c e);
+          stays = λ t e. rw (← went-same _ t e) (record { place = D .place; fits = D .fits });
+        }
 
   module _ (w : ℕ) (ew : w ≡ word f (s .goal) 0) where
     print-stop : (k : Room) (h : Heap) (rs : List ℕ) → w ≡ 17 → k .prints ≤ s .printed → stops Prints ≡ Steps k h rs
@@ -174,21 +192,25 @@ module _ (f : List ℕ) (T : Tables) (s : State) (m fw ps : List ℕ) where
 
     pub print-stops : (limit : ℕ) → w ≡ 17 → limit ≡ holds (length ps) 1 → limit ≤ s .printed → Goes f T s m fw ps (Stops Prints) fw ps
     unfolding cameTo
-    print-stops limit z el l = record { comes = λ k h rs a b. print-stop k h rs z (rw (b ∙ sym el) l); kept = λ c e. (refl, refl) }
+    print-stops limit z el l = record { comes = λ k h rs a b. print-stop k h rs z (rw (b ∙ sym el) l); kept = λ c e. (refl, refl); stays = λ t e. absurd (stopped-not t _ (sym e)) }
 
     -- ---- a call
-    call-step : (k : Room) (h : Heap) (rs fx : List ℕ) (g t : ℕ) → w ≡ 15 → g ≡ T .body (word f (s .goal) 2)
+    call-step : (k : Room) (h : Heap) (rs fx : List ℕ) (g t p : ℕ) → w ≡ 15 → g ≡ T .body (word f (s .goal) 2)
         → fx ≡ calleeWords f T (s .top) (s .goal) (word f (s .goal) 2) (word f (s .goal) 3) fw → t ≡ suc (s .top) → suc (s .top) < k .frames
-        → went (wordsOf h m rs fx ps (record { top = t; goal = g; printed = s .printed })) ≡ Steps k h rs
+        → went (wordsOf h m rs fx ps (record { top = t; at = p; goal = g; printed = s .printed })) ≡ Steps k h rs
     unfolding steps ifRoom calls wordsOf
-    call-step k h rs fx g t z eg ex et l = rw (call-record f (s .goal) w ew z, lt-ltb (suc (s .top)) (k .frames) l, ex, eg, et)
+    call-step k h rs fx g t p z eg ex et l = rw (call-record f (s .goal) w ew z, lt-ltb (suc (s .top)) (k .frames) l, ex, eg, et)
 
-    pub call-goes : (fx : List ℕ) (g t limit : ℕ) → w ≡ 15 → g ≡ T .body (word f (s .goal) 2)
-        → fx ≡ calleeWords f T (s .top) (s .goal) (word f (s .goal) 2) (word f (s .goal) 3) fw → t ≡ suc (s .top) → limit ≡ holds (length fw) 136 → suc (s .top) < limit
-        → Goes f T s m fw ps (WentTo (record { top = t; goal = g; printed = s .printed })) fx ps
+    pub call-goes : (fx : List ℕ) (g t p limit : ℕ) → w ≡ 15 → g ≡ T .body (word f (s .goal) 2)
+        → fx ≡ calleeWords f T (s .top) (s .goal) (word f (s .goal) 2) (word f (s .goal) 3) fw → t ≡ suc (s .top) → p ≡ s .at + 136 → limit ≡ holds (length fw) 136 → suc (s .top) < limit
+        → Goes f T s m fw ps (WentTo (record { top = t; at = p; goal = g; printed = s .printed })) fx ps
     unfolding cameTo
-    call-goes fx g t limit z eg ex et el l =
-        record { comes = λ k h rs a b. call-step k h rs fx g t z eg ex et (rw (a ∙ sym el) l); kept = λ c e. absurd (stopped-not _ c e) }
+    call-goes fx g t p limit z eg ex et ep el l =
+        record {
+          comes = λ k h rs a b. call-step k h rs fx g t p z eg ex et (rw (a ∙ sym el) l);
+          kept = λ c e. absurd (stopped-not _ c e);
+          stays = λ v e. rw (← went-same _ v e) (record { place = omega (arith, D .place); fits = omega (arith, D .place, room-for (length fw) (suc (s .top)) (rw (← el) l)) });
+        }
 
     call-stop : (k : Room) (h : Heap) (rs : List ℕ) → w ≡ 15 → k .frames ≤ suc (s .top) → stops Frames ≡ Steps k h rs
     unfolding steps ifRoom wordsOf
@@ -196,7 +218,7 @@ module _ (f : List ℕ) (T : Tables) (s : State) (m fw ps : List ℕ) where
 
     pub call-stops : (limit : ℕ) → w ≡ 15 → limit ≡ holds (length fw) 136 → limit ≤ suc (s .top) → Goes f T s m fw ps (Stops Frames) fw ps
     unfolding cameTo
-    call-stops limit z el l = record { comes = λ k h rs a b. call-stop k h rs z (rw (a ∙ sym el) l); kept = λ c e. (refl, refl) }
+    call-stops limit z el l = record { comes = λ k h rs a b. call-stop k h rs z (rw (a ∙ sym el) l); kept = λ c e. (refl, refl); stays = λ t e. absurd (stopped-not t _ (sym e)) }
 
     -- ---- what is no goal: nothing changes
     else-step : (k : Room) (h : Heap) (rs : List ℕ) (K : Kind) → kindOf (word f (s .goal) 0) ≡ K → (w ≡ 8 → ⊥) → (w ≡ 9 → ⊥) → (w ≡ 10 → ⊥) → (w ≡ 11 → ⊥) → (w ≡ 12 → ⊥)
@@ -225,4 +247,4 @@ module _ (f : List ℕ) (T : Tables) (s : State) (m fw ps : List ℕ) where
 
     pub else-goes : (w ≡ 8 → ⊥) → (w ≡ 9 → ⊥) → (w ≡ 10 → ⊥) → (w ≡ 11 → ⊥) → (w ≡ 12 → ⊥) → (w ≡ 14 → ⊥) → (w ≡ 15 → ⊥) → (w ≡ 17 → ⊥) → (w ≡ 18 → ⊥) → (w ≡ 19 → ⊥)
         → Goes f T s m fw ps (WentTo s) fw ps
-    else-goes n8 n9 n10 n11 n12 n14 n15 n17 n18 n19 = goes-on s fw ps (λ k h rs. else-step k h rs _ refl n8 n9 n10 n11 n12 n14 n15 n17 n18 n19)
+    else-goes n8 n9 n10 n11 n12 n14 n15 n17 n18 n19 = goes-on s fw ps (λ k h rs. else-step k h rs _ refl n8 n9 n10 n11 n12 n14 n15 n17 n18 n19) D

@@ -1,5 +1,5 @@
 -- What the code keeps and answers, as the machine on lists of words has it.
-use Prim.Native.Nat.{ℕ, _<_}
+use Prim.Native.Nat.{ℕ, _+_, _*_, _≤_, _<_}
 use mathlib.Core.Path.{_≡_}
 use mathlib.Core.Bool.{Bool, true, false}
 use mathlib.Core.List.{List}
@@ -22,6 +22,11 @@ use Rattle.machine.specs.declared.Step.the-variants.{Went as WentTo, Sto
 abbrev pub Narrow : List ℕ → Type 0
 Narrow plan = (i : ℕ) → i < maxRecords → getD plan i 0 < 4294967296
 
+-- the newest frame's words start at their place, and n words have them all
+pub record Placed (s : State) (n : ℕ) : Type 0 where
+  pub place : s .at ≡ 136 * s .top
+  pub fits : s .at + 136 ≤ n
+
 -- h is the heap; m, rs, fw and ps are the words lent for cells, regions, frames and printed numbers
 unfoldable pub wordsOf : Heap → List ℕ → List ℕ → List ℕ → List ℕ → State → Words
 wordsOf h m rs fw ps s = record { heap = h; cells = m; regions = rs; frames = fw; prints = ps; top = s .top; goal = s .goal; printed = s .printed }
@@ -37,6 +42,7 @@ pub record Goes (f : List ℕ) (T : Tables) (s : State) (m fw ps : List ℕ) (r 
   pub comes : (k : Room) (h : Heap) (rs : List ℕ) → k .frames ≡ holds (length fw) 136 → k .prints ≡ holds (length ps) 1
       → cameTo r h m rs fx px ≡ steps f T k (s .goal) (recordAt f (s .goal)) (wordsOf h m rs fw ps s)
   pub kept : (c : Stop) → r ≡ Stops c → (fx ≡ fw) × (px ≡ ps)
+  pub stays : (v : State) → r ≡ WentTo v → Placed v (length fw)
 
 -- whether the goals of the kind w change the heap: constructs, creates and removes
 abbrev pub Changes : ℕ → Bool → Type 0
@@ -50,7 +56,7 @@ keptTo (Lacks c) m rs fw ps v = stops c
 
 -- the state after a goal that changes neither the newest frame nor what is printed
 abbrev pub onwardTo : State → ℕ → State
-onwardTo s i = record { top = s .top; goal = i; printed = s .printed }
+onwardTo s i = record { top = s .top; at = s .at; goal = i; printed = s .printed }
 
 -- Such a goal is carried out, whatever is printed: m, rs and fw are the words of cells, regions and frames before, those with ₁ afterwards; where it
 -- stops, nothing has changed.
@@ -58,3 +64,6 @@ pub record Keeps (f : List ℕ) (T : Tables) (s : State) (h : Heap) (m rs fw : L
   pub comes : (k : Room) (ps : List ℕ) (next : ℕ) → next ≡ T .successor (s .goal)
       → keptTo r m₁ rs₁ fw₁ ps (onwardTo s next) ≡ steps f T k (s .goal) (recordAt f (s .goal)) (wordsOf h m rs fw ps s)
   pub kept : (c : Stop) → r ≡ Lacks c → (m₁ ≡ m) × (rs₁ ≡ rs) × (fw₁ ≡ fw)
+
+pub onward-placed : {s : State} {n : ℕ} (i : ℕ) → Placed s n → Placed (onwardTo s i) n
+onward-placed i D = record { place = D .place; fits = D .fits }

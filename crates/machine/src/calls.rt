@@ -2,16 +2,14 @@
 use crate::State;
 use crate::goals::successor;
 use chains::entry;
-use frames::base;
+use frames::FRAME_WORDS;
 use frames::clear;
-use frames::region_base;
 use frames::regions_in;
 use frames::regions_out;
 use frames::values_in;
 use frames::values_out;
 use language::format::CALL_ARGUMENTS;
 use language::format::CALL_PROCEDURE;
-use memory::put;
 use plans::PLAN;
 use plans::SIDES;
 use records::word;
@@ -27,8 +25,8 @@ use tables::start_of;
 use tables::word_at;
 ghost use mathlib.Core.Path.{_≡_};
 ghost use mathlib.Core.List.{List};
-ghost use Prim.Native.Nat.{ℕ, suc, _+_, _*_, _<_};
-ghost use lib.ListN.{getD};
+ghost use Prim.Native.Nat.{ℕ, suc, _+_, _*_, _≤_, _<_};
+ghost use lib.ListN.{length, getD, set};
 ghost use Rattle.language.specs.File.{word, recordCount};
 ghost use Rattle.memory.specs.declared.Heap.{Heap};
 ghost use Rattle.chains.specs.Formed.{Formed};
@@ -37,8 +35,11 @@ ghost use Rattle.tables.specs.Window.{variablesPlace, bodyPlace, bornPlace, set
 ghost use Rattle.tables.specs.Starts.{windowIn};
 ghost use Rattle.plans.specs.Plan.{tablesIn};
 ghost use Rattle.word_machine.specs.Machine.{calleeWords, returnWords, settled};
-ghost use Rattle.machine.specs.Words.{Narrow, wordsOf};
+ghost use Rattle.machine.specs.Words.{Narrow, Placed, wordsOf};
 ghost use Rattle.machine.specs.Calls.{marked, opened, entered};
+
+// The word of a frame that has the record of the call that made it.
+const CALL_WORD: usize = 129;
 
 // How many variables procedure q has.
 pub fn size_of(table: &[u64], q: usize) -> usize
@@ -56,13 +57,26 @@ fn born_of(table: &[u64], q: usize) -> Set
     set_at(&table[start..], BORN)
 }
 
-// Where frame k goes on after its call, and in the callee's frame the call's record.
-fn mark(frames: &mut [u32], k: u32, next: u32, i: u32)
-    ensures { λ _. ⌜ now (frames .exit) ≡ marked k next i (now (frames .entry)) ⌝ }
+fn wide(x: u32) -> usize
+    ensures { λ r. ⌜ (r ≡ x) × (r < 4294967296) ⌝ }
 {
-    let from = base(k);
-    put(&mut frames[..], from, next);
-    put(&mut frames[..], from + 265, i);
+    x as usize
+}
+
+fn store(frames: &mut [u32], at: usize, value: u32)
+    requires { ⌜ at < length (now frames) ⌝ }
+    ensures { λ _. ⌜ now (frames .exit) ≡ set (now (frames .entry)) at value ⌝ }
+{
+    frames[at] = value;
+}
+
+// Where the frame at a place goes on after its call, and in the callee's frame the call's record.
+fn mark(frames: &mut [u32], at: usize, next: u32, i: u32)
+    requires { ⌜ at + 272 ≤ length (now frames) ⌝ }
+    ensures { λ _. ⌜ now (frames .exit) ≡ marked at next i (now (frames .entry)) ⌝ }
+{
+    store(&mut frames[..], at, next);
+    store(&mut frames[..], at + FRAME_WORDS + CALL_WORD, i);
 }
 
 // The callee's values: zero, and its in values.
@@ -70,18 +84,18 @@ fn open_values(
     file: &[u8],
     plan: &[usize; PLAN],
     arguments: usize,
-    k: u32,
+    at: usize,
     size: usize,
     frames: &mut [u32],
 )
     requires { ⌜ Formed (now file) ⌝ }
     requires { ⌜ arguments < recordCount (now file) ⌝ }
-    ensures { λ _. ⌜ now (frames .exit) ≡ opened (now (file .entry)) (now (plan .entry)) arguments k size (now (frames .entry)) ⌝ }
+    requires { ⌜ at + 272 ≤ length (now frames) ⌝ }
+    ensures { λ _. ⌜ now (frames .exit) ≡ opened (now (file .entry)) (now (plan .entry)) arguments at size (now (frames .entry)) ⌝ }
 {
-    let from = base(k);
-    let to = from + 136;
+    let to = at + FRAME_WORDS;
     clear(&mut frames[..], to + 1, size);
-    values_in(file, plan, arguments, from, to, &mut frames[..]);
+    values_in(file, plan, arguments, at, to, &mut frames[..]);
 }
 
 // The callee's frame, by its window.
@@ -91,33 +105,33 @@ fn enter(
     images: &[u8],
     own: &[u64],
     i: usize,
-    k: u32,
+    at: usize,
     frames: &mut [u32],
 )
     requires { ⌜ Formed (now file) ⌝ }
     requires { ⌜ (i < recordCount (now file)) × IsCall (now file) i ⌝ }
-    requires { ⌜ Narrow (now plan) ⌝ }
-    ensures { λ _. ⌜ now (frames .exit) ≡ entered (now (file .entry)) (now (plan .entry)) (now (images .entry)) (now (own .entry)) i k (now (frames .entry)) ⌝ }
+    requires { ⌜ Narrow (now plan) × (at + 272 ≤ length (now frames)) ⌝ }
+    ensures { λ _. ⌜ now (frames .exit) ≡ entered (now (file .entry)) (now (plan .entry)) (now (images .entry)) (now (own .entry)) i at (now (frames .entry)) ⌝ }
 {
+    let to = at + FRAME_WORDS;
     let next = successor(file, plan, i) as u32;
-    mark(&mut frames[..], k, next, i as u32);
+    mark(&mut frames[..], at, next, i as u32);
     let arguments = word_in(file, i, CALL_ARGUMENTS);
     open_values(
         file,
         plan,
         arguments,
-        k,
+        at,
         word_at(own, VARIABLES),
         &mut frames[..],
     );
-    let from = region_base(k);
     let held = set_at(own, DEAD).union(set_at(own, KEPT));
     regions_in(
         held,
         images,
         plan[SIDES + i],
-        from,
-        from + 136,
+        at,
+        to,
         &mut frames[..],
     );
 }
@@ -129,37 +143,40 @@ pub fn call(
     images: &[u8],
     table: &[u64],
     i: usize,
-    k: u32,
+    at: usize,
     frames: &mut [u32],
 ) -> usize
     requires { ⌜ Formed (now file) ⌝ }
     requires { ⌜ (i < recordCount (now file)) × IsCall (now file) i ⌝ }
-    requires { ⌜ Narrow (now plan) ⌝ }
+    requires { ⌜ Narrow (now plan) × (at + 272 ≤ length (now frames)) ⌝ }
     ensures { λ r. ⌜ r ≡ getD (windowIn (now (table .entry)) (word (now (file .entry)) i 2)) bodyPlace 0 ⌝ }
-    ensures { λ _. ⌜ now (frames .exit) ≡ calleeWords (now (file .entry)) (tablesIn (now (file .entry)) (now (plan .entry)) (now (images .entry)) (now (table .entry)))
-        k i (word (now (file .entry)) i 2) (word (now (file .entry)) i 3) (now (frames .entry)) ⌝ }
+    ensures { λ _. ⌜ ((k : ℕ) → at ≡ 136 * k → now (frames .exit) ≡ calleeWords (now (file .entry))
+        (tablesIn (now (file .entry)) (now (plan .entry)) (now (images .entry)) (now (table .entry)))
+        k i (word (now (file .entry)) i 2) (word (now (file .entry)) i 3) (now (frames .entry))) ⌝ }
 {
     let start = start_of(table, word_in(file, i, CALL_PROCEDURE));
-    enter(file, plan, images, &table[start..], i, k, &mut frames[..]);
+    enter(file, plan, images, &table[start..], i, at, &mut frames[..]);
     word_at(&table[start..], BODY)
 }
 
-// "Its out values pass to the call's arguments"; "when its frame goes, the images of born ones stand for what those did": a return to frame k.
+// "Its out values pass to the call's arguments"; "when its frame goes, the images of born ones stand for what those did": a return to the frame at
+// a place.
 fn give_back(
     file: &[u8],
     plan: &[usize; PLAN],
     images: &[u8],
     table: &[u64],
-    k: u32,
+    to: usize,
     frames: &mut [u32],
 )
     requires { ⌜ Formed (now file) ⌝ }
-    ensures { λ _. ⌜ now (frames .exit) ≡ returnWords (now (file .entry)) (tablesIn (now (file .entry)) (now (plan .entry)) (now (images .entry)) (now (table .entry)))
-        k (getD (now (frames .entry)) (136 * suc k + 129) 0) (now (frames .entry)) ⌝ }
+    requires { ⌜ to + 272 ≤ length (now frames) ⌝ }
+    ensures { λ _. ⌜ ((k : ℕ) → to ≡ 136 * k → now (frames .exit) ≡ returnWords (now (file .entry))
+        (tablesIn (now (file .entry)) (now (plan .entry)) (now (images .entry)) (now (table .entry)))
+        k (getD (now (frames .entry)) (136 * suc k + 129) 0) (now (frames .entry))) ⌝ }
 {
-    let to = base(k);
-    let from = to + 136;
-    let i = memory::word(&frames[..], from + 129) as usize;
+    let from = to + FRAME_WORDS;
+    let i = wide(frames[from + CALL_WORD]);
     values_out(
         file,
         plan,
@@ -170,7 +187,7 @@ fn give_back(
     );
     let born = born_of(table, word(file, i, CALL_PROCEDURE));
     let side = entry(&plan[..], SIDES + i);
-    regions_out(born, images, side, from + 64, to + 64, &mut frames[..]);
+    regions_out(born, images, side, from, to, &mut frames[..]);
 }
 
 // "Whenever the newest frame has no goals left, it goes at once". The entry's frame stays.
@@ -183,20 +200,34 @@ pub fn settle(
     frames: &mut [u32],
 ) -> State
     requires { ⌜ Formed (now file) ⌝ }
+    requires { ⌜ Placed state (length (now frames)) ⌝ }
     ensures { λ r. ⌜ ((h : Heap) (m rs ps : List ℕ) → wordsOf h m rs (now (frames .exit)) ps r
         ≡ settled (now (file .entry)) (tablesIn (now (file .entry)) (now (plan .entry)) (now (images .entry)) (now (table .entry)))
         (wordsOf h m rs (now (frames .entry)) ps state)) ⌝ }
+    ensures { λ r. ⌜ Placed r (length (now (frames .exit))) ⌝ }
 {
     let printed = state.printed;
     let mut top = state.top;
+    let mut at = state.at;
     let mut goal = state.goal;
     while goal == 0 {
-        if top == 0 {
-            return State { top, goal, printed };
+        if at == 0 {
+            return State {
+                top,
+                at,
+                goal,
+                printed,
+            };
         }
         top -= 1;
-        goal = memory::word(&frames[..], base(top)) as usize;
-        give_back(file, plan, images, table, top, &mut frames[..]);
+        at -= FRAME_WORDS;
+        goal = wide(frames[at]);
+        give_back(file, plan, images, table, at, &mut frames[..]);
     }
-    State { top, goal, printed }
+    State {
+        top,
+        at,
+        goal,
+        printed,
+    }
 }

@@ -45,46 +45,46 @@ pub fn successor(file: &[u8], plan: &[usize; PLAN], i: usize) -> usize
 }
 
 // "Literal .. gives X a value".
-pub fn literal(file: &[u8], i: usize, top: u32, frames: &mut [u32])
-    requires { ⌜ 16 * i + 16 ≤ length (now file) ⌝ }
-    ensures { λ _. ⌜ now (frames .exit) ≡ set (now (frames .entry)) (136 * top + word (now (file .entry)) i 2) (literalWord (word (now (file .entry)) i 3)) ⌝ }
+pub fn literal(file: &[u8], i: usize, at: usize, frames: &mut [u32])
+    requires { ⌜ (16 * i + 16 ≤ length (now file)) × (at + 136 ≤ length (now frames)) ⌝ }
+    ensures { λ _. ⌜ now (frames .exit) ≡ set (now (frames .entry)) (at + word (now (file .entry)) i 2) (literalWord (word (now (file .entry)) i 3)) ⌝ }
 {
     let v = word_in(file, i, LITERAL_VALUE) as u32;
-    give(frames, top, word_in(file, i, GOAL_X), literal_word(v));
+    give(frames, at, word_in(file, i, GOAL_X), literal_word(v));
 }
 
 // ".. sum ..".
-pub fn sum(file: &[u8], i: usize, top: u32, frames: &mut [u32])
-    requires { ⌜ 16 * i + 16 ≤ length (now file) ⌝ }
-    ensures { λ _. ⌜ now (frames .exit) ≡ set (now (frames .entry)) (136 * top + word (now (file .entry)) i 2)
-        (sumWord (word (now (file .entry)) i 3) (getD (now (frames .entry)) (136 * top + word (now (file .entry)) i 4) 0)
-        (getD (now (frames .entry)) (136 * top + word (now (file .entry)) i 5) 0)) ⌝ }
+pub fn sum(file: &[u8], i: usize, at: usize, frames: &mut [u32])
+    requires { ⌜ (16 * i + 16 ≤ length (now file)) × (at + 136 ≤ length (now frames)) ⌝ }
+    ensures { λ _. ⌜ now (frames .exit) ≡ set (now (frames .entry)) (at + word (now (file .entry)) i 2)
+        (sumWord (word (now (file .entry)) i 3) (getD (now (frames .entry)) (at + word (now (file .entry)) i 4) 0)
+        (getD (now (frames .entry)) (at + word (now (file .entry)) i 5) 0)) ⌝ }
 {
-    let y = value(&frames[..], top, word_in(file, i, SUM_Y));
-    let z = value(&frames[..], top, word_in(file, i, SUM_Z));
+    let y = value(&frames[..], at, word_in(file, i, SUM_Y));
+    let z = value(&frames[..], at, word_in(file, i, SUM_Z));
     let v = sum_word(word_in(file, i, SUM_OPERATION), y, z);
-    give(frames, top, word_in(file, i, GOAL_X), v);
+    give(frames, at, word_in(file, i, GOAL_X), v);
 }
 
 // ".. and assign".
-pub fn assign(file: &[u8], i: usize, top: u32, frames: &mut [u32])
-    requires { ⌜ 16 * i + 16 ≤ length (now file) ⌝ }
-    ensures { λ _. ⌜ now (frames .exit) ≡ set (now (frames .entry)) (136 * top + word (now (file .entry)) i 2)
-        (getD (now (frames .entry)) (136 * top + word (now (file .entry)) i 3) 0) ⌝ }
+pub fn assign(file: &[u8], i: usize, at: usize, frames: &mut [u32])
+    requires { ⌜ (16 * i + 16 ≤ length (now file)) × (at + 136 ≤ length (now frames)) ⌝ }
+    ensures { λ _. ⌜ now (frames .exit) ≡ set (now (frames .entry)) (at + word (now (file .entry)) i 2)
+        (getD (now (frames .entry)) (at + word (now (file .entry)) i 3) 0) ⌝ }
 {
-    let v = value(&frames[..], top, word_in(file, i, ASSIGN_Y));
-    give(frames, top, word_in(file, i, GOAL_X), v);
+    let v = value(&frames[..], at, word_in(file, i, ASSIGN_Y));
+    give(frames, at, word_in(file, i, GOAL_X), v);
 }
 
 // The first goal of an if's part: "if Y < Z".
-pub fn part_of(file: &[u8], i: usize, top: u32, frames: &[u32]) -> usize
-    requires { ⌜ 16 * i + 16 ≤ length (now file) ⌝ }
-    ensures { λ r. ⌜ r ≡ choose (less (toZ w32 (getD (now (frames .entry)) (136 * top + word (now (file .entry)) i 2) 0))
-        (toZ w32 (getD (now (frames .entry)) (136 * top + word (now (file .entry)) i 3) 0)))
+pub fn part_of(file: &[u8], i: usize, at: usize, frames: &[u32]) -> usize
+    requires { ⌜ (16 * i + 16 ≤ length (now file)) × (at + 136 ≤ length (now frames)) ⌝ }
+    ensures { λ r. ⌜ r ≡ choose (less (toZ w32 (getD (now (frames .entry)) (at + word (now (file .entry)) i 2) 0))
+        (toZ w32 (getD (now (frames .entry)) (at + word (now (file .entry)) i 3) 0)))
         (word (now (file .entry)) i 4) (word (now (file .entry)) i 5) ⌝ }
 {
-    let y = value(frames, top, word_in(file, i, IF_Y));
-    let z = value(frames, top, word_in(file, i, IF_Z));
+    let y = value(frames, at, word_in(file, i, IF_Y));
+    let z = value(frames, at, word_in(file, i, IF_Z));
     if less_words(y, z) {
         word_in(file, i, IF_THEN)
     } else {

@@ -16,10 +16,11 @@ use records::word_in;
 ghost use mathlib.Core.Bool.{true};
 ghost use mathlib.Core.List.{List};
 ghost use Prim.Native.Nat.{ℕ, _<_};
+ghost use lib.ListN.{length};
 ghost use Rattle.language.specs.File.{word, recordCount};
 ghost use Rattle.chains.specs.Formed.{Formed};
 ghost use Rattle.plans.specs.Plan.{tablesIn};
-ghost use Rattle.machine.specs.Words.{Changes, Keeps};
+ghost use Rattle.machine.specs.Words.{Placed, Changes, Keeps};
 
 // Whether goals of a kind change the heap.
 pub fn changes_heap(kind: usize) -> bool
@@ -44,20 +45,20 @@ pub fn keep(
     frames: &mut [u32],
 ) -> Kept
     requires { ⌜ Formed (now file) ⌝ }
-    requires { ⌜ state .goal < recordCount (now file) ⌝ }
+    requires { ⌜ (state .goal < recordCount (now file)) × Placed state (length (now frames)) ⌝ }
     requires { ⌜ Changes (word (now file) (state .goal) 0) true ⌝ }
     ensures { λ r. ⌜ ((images table : List ℕ) → Keeps (now (file .entry)) (tablesIn (now (file .entry)) (now (plan .entry)) images table) state heap
         (now (cells .entry)) (now (regions .entry)) (now (frames .entry)) r (now (cells .exit)) (now (regions .exit)) (now (frames .exit))) ⌝ }
 {
     let i = state.goal;
-    let top = state.top;
+    let at = state.at;
     match word_in(file, i, KIND) {
         CONSTRUCT => {
             let made = construct(
                 file,
                 plan,
                 i,
-                top,
+                at,
                 heap,
                 &mut cells[..],
                 &mut regions[..],
@@ -69,7 +70,7 @@ pub fn keep(
             Kept::Left(left)
         }
         CREATE => {
-            let made = make_region(file, i, top, heap, &mut regions[..], &mut frames[..]);
+            let made = make_region(file, i, at, heap, &mut regions[..], &mut frames[..]);
             let Made::At(place, left) = made else {
                 return Kept::Lacks(Stop::Places);
             };
@@ -78,7 +79,7 @@ pub fn keep(
         _ => Kept::Left(drop_region(
             file,
             i,
-            top,
+            at,
             heap,
             &mut cells[..],
             &mut regions[..],

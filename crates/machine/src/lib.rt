@@ -11,9 +11,11 @@ use language::Stop;
 use memory::Heap;
 pub use runs::run_words;
 
-// What a run keeps beside the lent words and the heap: the newest frame's number, its next goal's record, and how many numbers are printed.
+// What a run keeps beside the lent words and the heap: the newest frame's number and the place of its first word, its next goal's record, and how
+// many numbers are printed.
 pub struct State {
     pub top: u32,
+    pub at: usize,
     pub goal: usize,
     pub printed: usize,
 }

@@ -8,16 +8,15 @@ use crate::calls::size_of;
 use crate::goals::successor;
 use crate::heaps::changes_heap;
 use crate::heaps::keep;
-use crate::steps::FRAME_WORDS;
 use crate::steps::go;
 use crate::steps::onward;
+use frames::FRAME_WORDS;
 use frames::clear;
 use language::Ending;
 use language::Stop;
 use language::format::KIND;
 use language::format::RECORD_BYTES;
 use memory::empty;
-use memory::room;
 use plans::PLAN;
 use records::word_in;
 use tables::body_of;
@@ -26,6 +25,7 @@ ghost use Rattle.plans.specs.Plan.{tablesIn};
 ghost use Rattle.word_machine.specs.Machine.{wordRun};
 ghost use Rattle.machine.specs.Words.{Narrow};
 ghost use Rattle.machine.specs.Runs.{endedAt, firstState, runFirst, Ran};
+ghost use Prim.Native.Nat.{_≤_};
 ghost use lib.ListN.{length};
 ghost use Rattle.language.specs.Machine.{holds};
 ghost use Rattle.memory.specs.Memory.{emptyHeap};
@@ -48,6 +48,7 @@ fn first_state(table: &[u64]) -> State
 {
     State {
         top: 0,
+        at: 0,
         goal: body_of(table, 0),
         printed: 0,
     }
@@ -67,6 +68,7 @@ fn run_on(
 ) -> Outcome
     requires { ⌜ Formed (now file) ⌝ }
     requires { ⌜ Narrow (now plan) ⌝ }
+    requires { ⌜ 136 ≤ length (now frames) ⌝ }
     ensures { λ r. ⌜ Ran (runFirst (now (file .entry)) (tablesIn (now (file .entry)) (now (plan .entry)) (now (images .entry)) (now (table .entry))) steps
         (emptyHeap (holds (length (now (cells .entry))) 8) (holds (length (now (regions .entry))) 2))
         (now (cells .entry)) (now (regions .entry)) (now (frames .entry)) (now (prints .entry)) (firstState (now (table .entry))))
@@ -130,7 +132,7 @@ pub fn run_words(
         (now (cells .entry)) (now (regions .entry)) (now (frames .entry)) (now (prints .entry)) steps)
         r (now (cells .exit)) (now (regions .exit)) (now (frames .exit)) (now (prints .exit)) ⌝ }
 {
-    if room(frames.len(), FRAME_WORDS) == 0 {
+    if frames.len() < FRAME_WORDS {
         return ended(Ending::Stopped(Stop::Frames), 0, first_state(table));
     }
     clear(frames, 1, size_of(table, 0));

@@ -9,6 +9,7 @@ use crate::goals::part_of;
 use crate::goals::successor;
 use crate::goals::sum;
 use crate::places::switch_arm;
+use frames::FRAME_WORDS;
 use frames::value;
 use language::Stop;
 use language::format::ARM_GOALS;
@@ -28,15 +29,13 @@ use records::word_in;
 ghost use mathlib.Core.Path.{_≡_};
 ghost use mathlib.Core.List.{List};
 ghost use Prim.Native.Nat.{ℕ, _<_};
+ghost use lib.ListN.{length};
 ghost use Rattle.language.specs.File.{word, recordCount};
 ghost use mathlib.Core.Bool.{false};
 ghost use Rattle.chains.specs.Formed.{Formed};
 ghost use Rattle.chains.specs.Shapes.{IsCall, IsPrint};
 ghost use Rattle.plans.specs.Plan.{tablesIn};
-ghost use Rattle.machine.specs.Words.{Narrow, Changes, onwardTo, Goes};
-
-// The words of a frame, and of a printed number.
-pub const FRAME_WORDS: usize = 136;
+ghost use Rattle.machine.specs.Words.{Narrow, Placed, Changes, onwardTo, Goes};
 
 const PRINT_WORDS: usize = 1;
 
@@ -46,6 +45,7 @@ pub fn onward(state: State, goal: usize) -> State
 {
     State {
         top: state.top,
+        at: state.at,
         goal,
         printed: state.printed,
     }
@@ -62,11 +62,12 @@ fn call_step(
 ) -> Step
     requires { ⌜ Formed (now file) ⌝ }
     requires { ⌜ Narrow (now plan) ⌝ }
-    requires { ⌜ (state .goal < recordCount (now file)) × IsCall (now file) (state .goal) ⌝ }
+    requires { ⌜ (state .goal < recordCount (now file)) × IsCall (now file) (state .goal) × Placed state (length (now frames)) ⌝ }
     ensures { λ r. ⌜ ((m ps : List ℕ) → Goes (now (file .entry)) (tablesIn (now (file .entry)) (now (plan .entry)) (now (images .entry)) (now (table .entry)))
         state m (now (frames .entry)) ps r (now (frames .exit)) ps) ⌝ }
 {
     let k = state.top;
+    let at = state.at;
     let i = state.goal;
     let printed = state.printed;
     let limit = room(frames.len(), FRAME_WORDS) as usize;
@@ -74,9 +75,10 @@ fn call_step(
     if limit <= above {
         return Step::Stops(Stop::Frames);
     }
-    let goal = call(file, plan, images, table, i, k, &mut frames[..]);
+    let goal = call(file, plan, images, table, i, at, &mut frames[..]);
     Step::Went(State {
         top: k + 1,
+        at: at + FRAME_WORDS,
         goal,
         printed,
     })
@@ -91,21 +93,23 @@ fn print_step(
     prints: &mut [u32],
 ) -> Step
     requires { ⌜ Formed (now file) ⌝ }
-    requires { ⌜ (state .goal < recordCount (now file)) × IsPrint (now file) (state .goal) ⌝ }
+    requires { ⌜ (state .goal < recordCount (now file)) × IsPrint (now file) (state .goal) × Placed state (length (now frames)) ⌝ }
     ensures { λ r. ⌜ ((images table m : List ℕ) → Goes (now (file .entry)) (tablesIn (now (file .entry)) (now (plan .entry)) images table)
         state m (now (frames .entry)) (now (prints .entry)) r (now (frames .entry)) (now (prints .exit))) ⌝ }
 {
     let k = state.top;
+    let at = state.at;
     let i = state.goal;
     let printed = state.printed;
     let limit = room(prints.len(), PRINT_WORDS) as usize;
     if limit <= printed {
         return Step::Stops(Stop::Prints);
     }
-    let v = value(frames, k, word_in(file, i, PRINT_Y));
+    let v = value(frames, at, word_in(file, i, PRINT_Y));
     put(&mut prints[..], printed, v);
     Step::Went(State {
         top: k,
+        at,
         goal: successor(file, plan, i),
         printed: printed + 1,
     })
@@ -124,35 +128,35 @@ pub fn go(
 ) -> Step
     requires { ⌜ Formed (now file) ⌝ }
     requires { ⌜ Narrow (now plan) ⌝ }
-    requires { ⌜ state .goal < recordCount (now file) ⌝ }
+    requires { ⌜ (state .goal < recordCount (now file)) × Placed state (length (now frames)) ⌝ }
     requires { ⌜ Changes (word (now file) (state .goal) 0) false ⌝ }
     ensures { λ r. ⌜ Goes (now (file .entry)) (tablesIn (now (file .entry)) (now (plan .entry)) (now (images .entry)) (now (table .entry))) state
         (now (cells .entry)) (now (frames .entry)) (now (prints .entry)) r (now (frames .exit)) (now (prints .exit)) ⌝ }
 {
     let i = state.goal;
-    let top = state.top;
+    let at = state.at;
     match word_in(file, i, KIND) {
         LITERAL => {
-            literal(file, i, top, &mut frames[..]);
+            literal(file, i, at, &mut frames[..]);
             Step::Went(onward(state, successor(file, plan, i)))
         }
         SUM => {
-            sum(file, i, top, &mut frames[..]);
+            sum(file, i, at, &mut frames[..]);
             Step::Went(onward(state, successor(file, plan, i)))
         }
         ASSIGN => {
-            assign(file, i, top, &mut frames[..]);
+            assign(file, i, at, &mut frames[..]);
             Step::Went(onward(state, successor(file, plan, i)))
         }
         SWITCH => {
-            let j = switch_arm(file, i, top, cells, &mut frames[..]);
+            let j = switch_arm(file, i, at, cells, &mut frames[..]);
             Step::Went(onward(
                 state,
                 onto(word_in(file, j, ARM_GOALS), successor(file, plan, i)),
             ))
         }
         IF => {
-            let part = part_of(file, i, top, &frames[..]);
+            let part = part_of(file, i, at, &frames[..]);
             Step::Went(onward(state, onto(part, successor(file, plan, i))))
         }
         CALL => call_step(file, plan, images, table, state, &mut frames[..]),

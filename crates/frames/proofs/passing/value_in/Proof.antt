@@ -5,8 +5,8 @@ use Rattle.frames.proofs.passing.value_in.Statement.{statement}
 use Rattle.frames.proofs.passing.value_in.Tie as tie
 use Rattle.frames.proofs.passing.value_in.Reads as reads
 use Rattle.frames.proofs.passing.value_in.Lts as lts
-use Rattle.frames.proofs.words.put_from.Reads as put-from-reads
-use Rattle.frames.proofs.words.word_from.Reads as word-from-reads
+use Rattle.frames.proofs.words.give.Reads as give-reads
+use Rattle.frames.proofs.words.value.Reads as value-reads
 use Rattle.records.proofs.word_in.Reads as word-in-reads
 
 -- src/passing.rt:56:13
@@ -26,24 +26,24 @@ word-in-requires : tie.Need-word-in-requires
 word-in-requires c κs = search needs
 
 -- src/passing.rt:57:13
-word-from-requires : tie.Need-word-from-requires
-word-from-requires c κs = search needs
+value-requires : tie.Need-value-requires
+value-requires c κs = search needs
 
 -- src/passing.rt:58:44
-add-put-from : tie.Need-add-put-from
-add-put-from c = search needs
+add-give : tie.Need-add-give
+add-give c = search needs
 
 -- src/passing.rt:58:39
-mul-put-from : tie.Need-mul-put-from
-mul-put-from c = search needs
+mul-give : tie.Need-mul-give
+mul-give c = search needs
 
 -- src/passing.rt:58:39
-element-copy-out-put-from : tie.Need-element-copy-out-put-from
-element-copy-out-put-from c = search needs
+element-copy-out-give : tie.Need-element-copy-out-give
+element-copy-out-give c = search needs
 
 -- src/passing.rt:58:9
-put-from-requires : tie.Need-put-from-requires
-put-from-requires c κs = search needs
+give-requires : tie.Need-give-requires
+give-requires c κs = search needs
 
 -- src/passing.rt:45:1
 same-length : tie.Need-same-length
@@ -51,7 +51,7 @@ same-length c = search needs
 
 -- src/passing.rt:45:1
 returns : tie.Need-returns
-returns c = in-done _ _ _ _ _ _ _ _ _ _ _ refl (c .before .before .before .before .before .before .word-in .ensures .0) refl (c .before .before .before .before .before .before .before .before .if1 .taken) (c .before .before .before .before .before .word-from .ensures) (c .before .before .put-from .ensures)
+returns c = in-done _ _ _ _ _ _ _ _ _ _ _ refl (c .before .before .before .before .before .before .word-in .ensures .0) refl (c .before .before .before .before .before .before .before .before .if1 .taken) (c .before .before .before .before .before .value .ensures) (c .before .before .give .ensures)
 
 -- src/passing.rt:45:1
 returns-2 : tie.Need-returns-2
@@ -65,11 +65,11 @@ value-in-spec =
     mul-if1
     element-copy-out-if1
     word-in-requires
-    word-from-requires
-    add-put-from
-    mul-put-from
-    element-copy-out-put-from
-    put-from-requires
+    value-requires
+    add-give
+    mul-give
+    element-copy-out-give
+    give-requires
     same-length
     returns
     returns-2)

@@ -5,8 +5,8 @@ use Rattle.frames.proofs.passing.value_out.Statement.{statement}
 use Rattle.frames.proofs.passing.value_out.Tie as tie
 use Rattle.frames.proofs.passing.value_out.Reads as reads
 use Rattle.frames.proofs.passing.value_out.Lts as lts
-use Rattle.frames.proofs.words.put_from.Reads as put-from-reads
-use Rattle.frames.proofs.words.word_from.Reads as word-from-reads
+use Rattle.frames.proofs.words.give.Reads as give-reads
+use Rattle.frames.proofs.words.value.Reads as value-reads
 use Rattle.records.proofs.word_in.Reads as word-in-reads
 
 -- src/passing.rt:95:13
@@ -22,28 +22,28 @@ element-copy-out-if1 : tie.Need-element-copy-out-if1
 element-copy-out-if1 c = search needs
 
 -- src/passing.rt:96:55
-add-word-from : tie.Need-add-word-from
-add-word-from c = search needs
+add-value : tie.Need-add-value
+add-value c = search needs
 
 -- src/passing.rt:96:50
-mul-word-from : tie.Need-mul-word-from
-mul-word-from c = search needs
+mul-value : tie.Need-mul-value
+mul-value c = search needs
 
 -- src/passing.rt:96:50
-element-copy-out-word-from : tie.Need-element-copy-out-word-from
-element-copy-out-word-from c = search needs
+element-copy-out-value : tie.Need-element-copy-out-value
+element-copy-out-value c = search needs
 
 -- src/passing.rt:96:13
-word-from-requires : tie.Need-word-from-requires
-word-from-requires c κs = search needs
+value-requires : tie.Need-value-requires
+value-requires c κs = search needs
 
 -- src/passing.rt:97:39
 word-in-requires : tie.Need-word-in-requires
 word-in-requires c κs = search needs
 
 -- src/passing.rt:97:9
-put-from-requires : tie.Need-put-from-requires
-put-from-requires c κs = search needs
+give-requires : tie.Need-give-requires
+give-requires c κs = search needs
 
 -- src/passing.rt:84:1
 same-length : tie.Need-same-length
@@ -51,7 +51,7 @@ same-length c = search needs
 
 -- src/passing.rt:84:1
 returns : tie.Need-returns
-returns c = out-done _ _ _ _ _ _ _ _ _ _ _ refl (c .before .before .before .word-in .ensures .0) refl (c .before .before .before .before .before .before .before .before .if1 .taken) (c .before .before .before .before .before .word-from .ensures) (c .before .before .put-from .ensures)
+returns c = out-done _ _ _ _ _ _ _ _ _ _ _ refl (c .before .before .before .word-in .ensures .0) refl (c .before .before .before .before .before .before .before .before .if1 .taken) (c .before .before .before .before .before .value .ensures) (c .before .before .give .ensures)
 
 -- src/passing.rt:84:1
 returns-2 : tie.Need-returns-2
@@ -64,12 +64,12 @@ value-out-spec =
     add-if1
     mul-if1
     element-copy-out-if1
-    add-word-from
-    mul-word-from
-    element-copy-out-word-from
-    word-from-requires
+    add-value
+    mul-value
+    element-copy-out-value
+    value-requires
     word-in-requires
-    put-from-requires
+    give-requires
     same-length
     returns
     returns-2)

@@ -25,7 +25,7 @@ abbrev μ-loop : tie.MeasureT-loop
 
 -- src/passing.rt:77:5
 loop-holds : tie.Need-loop-holds Inv-loop μ-loop
-loop-holds c = (c .before .before .pre .1, refl, refl)
+loop-holds c = (c .before .before .pre .1 .0, refl, refl)
 
 -- src/passing.rt:78:9
 value-in-requires : tie.Need-value-in-requires Inv-loop μ-loop

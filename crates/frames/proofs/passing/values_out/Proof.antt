@@ -26,7 +26,7 @@ abbrev μ-loop : tie.MeasureT-loop
 
 -- src/passing.rt:127:5
 loop-holds : tie.Need-loop-holds Inv-loop μ-loop
-loop-holds c = (c .before .before .pre .1, refl, refl)
+loop-holds c = (c .before .before .pre .1 .0, refl, refl)
 
 -- src/passing.rt:129:13
 stray-out-requires : tie.Need-stray-out-requires Inv-loop μ-loop

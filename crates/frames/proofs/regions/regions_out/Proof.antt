@@ -27,11 +27,11 @@ loop-holds c = (0, c .after .ensures, out-start _ _ _ _ _ _, refl)
 image-of-requires : tie.Need-image-of-requires Inv-loop μ-loop
 image-of-requires c κs = search needs
 
-word-from-requires : tie.Need-word-from-requires Inv-loop μ-loop
-word-from-requires c κs = search needs
+region-requires : tie.Need-region-requires Inv-loop μ-loop
+region-requires c κs = search needs
 
-put-from-requires : tie.Need-put-from-requires Inv-loop μ-loop
-put-from-requires c κs = search needs
+name-region-requires : tie.Need-name-region-requires Inv-loop μ-loop
+name-region-requires c κs = search needs
 
 after-requires-2 : tie.Need-after-requires-2 Inv-loop μ-loop
 after-requires-2 c κs = search needs
@@ -42,10 +42,10 @@ loop-less c = next-falls _ _ _ (c .before .before .before .before .before .befor
 loop-again : tie.Need-loop-again Inv-loop μ-loop
 loop-again c =
     let l = c .before .before .before .before .before .before .before .before .before .loop in
-    let p = c .before .before .before .put-from .ensures in (
+    let p = c .before .before .before .name-region .ensures in (
       l .r,
       c .after2 .ensures,
-      out-more _ _ _ _ _ (l .inv .0) (l .r) _ _ _ _ (l .inv .1) (c .before .before .before .before .before .before .before .before .loop-test .taken) (c .before .before .before .before .before .before .before .image-of .ensures) (c .before .before .before .before .before .word-from .ensures) p ∙ l .inv .2,
+      out-more _ _ _ _ _ (l .inv .0) (l .r) _ _ _ _ (l .inv .1) (c .before .before .before .before .before .before .before .before .loop-test .taken) (c .before .before .before .before .before .before .before .image-of .ensures) (c .before .before .before .before .before .region .ensures) p ∙ l .inv .2,
       ap length p ∙ simp length-set (l .inv .3),
     )
 
@@ -64,8 +64,8 @@ regions-out-spec =
     after-requires
     loop-holds
     image-of-requires
-    word-from-requires
-    put-from-requires
+    region-requires
+    name-region-requires
     after-requires-2
     loop-less
     loop-again

@@ -75,7 +75,7 @@ returns c =
     let l = window-lent (c .before .before .before .before .before .before .before .before .before .before .before .before .before .args .table .now) _ (c .before .before .before .before .before .before .before .start-of .ensures .0) in
     let q = c .before .before .before .before .before .before .before .before .word-in .ensures .0 in (
       c .word-at .ensures ∙ ap (λ (t : List ℕ). getD t bodyPlace 0) l ∙ ap (λ (p : ℕ). getD (windowIn (c .before .before .before .before .before .before .before .before .before .before .before .before .before .args .table .now) p) bodyPlace 0) q,
-      call-as _ _ _ _ _ _ _ _ _ _ l q (c .before .before .before .before .enter .ensures),
+      λ k e. call-as _ _ _ _ k _ _ _ _ _ _ e l q (c .before .before .before .before .enter .ensures),
     )
 
 pub call-spec : {M : Type 1} → statement M

@@ -1,37 +1,28 @@
-use mathlib.Core.Path.{refl}
 use Rattle.machine.specs.Calls.{marked-as}
 use borrow.Author.Needs.{needs}
 use Rattle.machine.proofs.calls.mark.Statement.{statement}
 use Rattle.machine.proofs.calls.mark.Tie as tie
 use Rattle.machine.proofs.calls.mark.Reads as reads
 use Rattle.machine.proofs.calls.mark.Lts as lts
-use Rattle.frames.proofs.base.Reads as base-reads
-use Rattle.memory.proofs.put.Reads as put-reads
+use Rattle.machine.proofs.calls.store.Reads as store-reads
 
--- src/calls.rt:55:9
-base-requires : tie.Need-base-requires
-base-requires c κs = search needs
+store-requires : tie.Need-store-requires
+store-requires c κs = search needs
 
--- src/calls.rt:56:5
-put-requires : tie.Need-put-requires
-put-requires c κs = search needs
+add-store : tie.Need-add-store
+add-store c = search needs
 
--- src/calls.rt:57:26
-add-put : tie.Need-add-put
-add-put c = search needs
+add-store-2 : tie.Need-add-store-2
+add-store-2 c = search needs
 
--- src/calls.rt:57:5
-put-requires-2 : tie.Need-put-requires-2
-put-requires-2 c κs = search needs
+store-requires-2 : tie.Need-store-requires-2
+store-requires-2 c κs = search needs
 
--- src/calls.rt:52:1
 same-length : tie.Need-same-length
 same-length c = search needs
 
--- src/calls.rt:52:1
 returns : tie.Need-returns
-returns c = marked-as _ _ _ _ _ _ _ _ (c .before .before .before .before .before .before .before .before .base .ensures) (c .before .before .before .before .before .before .put .ensures) refl (c .before .before .put2 .ensures)
+returns c = marked-as _ _ _ _ _ _ (c .before .before .before .before .before .before .store .ensures) (c .before .before .store2 .ensures)
 
 pub mark-spec : {M : Type 1} → statement M
-mark-spec =
-    tie.close (tie.spec base-requires put-requires add-put put-requires-2 same-length returns)
+mark-spec = tie.close (tie.spec store-requires add-store add-store-2 store-requires-2 same-length returns)

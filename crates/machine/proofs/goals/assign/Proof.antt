@@ -31,7 +31,7 @@ same-length c = search needs
 
 -- src/goals.rt:69:1
 returns : tie.Need-returns
-returns c = gives (136 * c .before .before .before .before .before .before .before .before .before .before .args .top) _ _ _ _ (c .before .before .before .before .before .before .before .before .before .before .args .frames .now) _ (c .before .before .give .ensures) (c .before .before .before .word-in2 .ensures .0) (value-as (136 * c .before .before .before .before .before .before .before .before .before .before .args .top) _ _ _ (c .before .before .before .before .before .before .before .before .before .before .args .frames .now) (c .before .before .before .before .before .value .ensures) (c .before .before .before .before .before .before .word-in .ensures .0))
+returns c = gives (c .before .before .before .before .before .before .before .before .before .before .args .at) _ _ _ _ (c .before .before .before .before .before .before .before .before .before .before .args .frames .now) _ (c .before .before .give .ensures) (c .before .before .before .word-in2 .ensures .0) (value-as (c .before .before .before .before .before .before .before .before .before .before .args .at) _ _ _ (c .before .before .before .before .before .before .before .before .before .before .args .frames .now) (c .before .before .before .before .before .value .ensures) (c .before .before .before .before .before .before .word-in .ensures .0))
 
 pub assign-spec : {M : Type 1} → statement M
 assign-spec =

@@ -37,7 +37,7 @@ same-length c = search needs
 
 -- src/goals.rt:47:1
 returns : tie.Need-returns
-returns c = gives (136 * c .before .before .before .before .before .before .before .before .before .args .top) _ _ _ _ (c .before .before .before .before .before .before .before .before .before .args .frames .now) _ (c .before .before .give .ensures) (c .before .before .before .before .word-in2 .ensures .0) (c .before .before .before .literal-word .ensures ∙ ap literalWord (c .before .before .before .before .before .before .word-in .ensures .0))
+returns c = gives (c .before .before .before .before .before .before .before .before .before .args .at) _ _ _ _ (c .before .before .before .before .before .before .before .before .before .args .frames .now) _ (c .before .before .give .ensures) (c .before .before .before .before .word-in2 .ensures .0) (c .before .before .before .literal-word .ensures ∙ ap literalWord (c .before .before .before .before .before .before .word-in .ensures .0))
 
 pub literal-spec : {M : Type 1} → statement M
 literal-spec =

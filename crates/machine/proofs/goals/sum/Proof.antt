@@ -49,8 +49,8 @@ same-length c = search needs
 -- src/goals.rt:56:1
 returns : tie.Need-returns
 returns c =
-    gives (136 * c .before .before .before .before .before .before .before .before .before .before .before .before .before .before .before .args .top) _ _ _ _ (c .before .before .before .before .before .before .before .before .before .before .before .before .before .before .before .args .frames .now) _ (c .before .before .give .ensures) (c .before .before .before .word-in4 .ensures .0)
-    (sum-as _ _ _ _ _ _ _ (c .before .before .before .before .before .sum-word .ensures) (c .before .before .before .before .before .before .word-in3 .ensures .0) (value-as (136 * c .before .before .before .before .before .before .before .before .before .before .before .before .before .before .before .args .top) _ _ _ (c .before .before .before .before .before .before .before .before .before .before .before .before .before .before .before .args .frames .now) (c .before .before .before .before .before .before .before .before .before .before .value .ensures) (c .before .before .before .before .before .before .before .before .before .before .before .word-in .ensures .0)) (value-as (136 * c .before .before .before .before .before .before .before .before .before .before .before .before .before .before .before .args .top) _ _ _ (c .before .before .before .before .before .before .before .before .before .before .before .before .before .before .before .args .frames .now) (c .before .before .before .before .before .before .before .value2 .ensures) (c .before .before .before .before .before .before .before .before .word-in2 .ensures .0)))
+    gives (c .before .before .before .before .before .before .before .before .before .before .before .before .before .before .before .args .at) _ _ _ _ (c .before .before .before .before .before .before .before .before .before .before .before .before .before .before .before .args .frames .now) _ (c .before .before .give .ensures) (c .before .before .before .word-in4 .ensures .0)
+    (sum-as _ _ _ _ _ _ _ (c .before .before .before .before .before .sum-word .ensures) (c .before .before .before .before .before .before .word-in3 .ensures .0) (value-as (c .before .before .before .before .before .before .before .before .before .before .before .before .before .before .before .args .at) _ _ _ (c .before .before .before .before .before .before .before .before .before .before .before .before .before .before .before .args .frames .now) (c .before .before .before .before .before .before .before .before .before .before .value .ensures) (c .before .before .before .before .before .before .before .before .before .before .before .word-in .ensures .0)) (value-as (c .before .before .before .before .before .before .before .before .before .before .before .before .before .before .before .args .at) _ _ _ (c .before .before .before .before .before .before .before .before .before .before .before .before .before .before .before .args .frames .now) (c .before .before .before .before .before .before .before .value2 .ensures) (c .before .before .before .before .before .before .before .before .word-in2 .ensures .0)))
 
 pub sum-spec : {M : Type 1} → statement M
 sum-spec =

@@ -14,11 +14,11 @@ use Rattle.records.proofs.word_in.Reads as word-in-reads
 
 -- src/heaps.rt:54:11
 word-in-requires : tie.Need-word-in-requires
-word-in-requires c κs = let w = whole (c .before .before .before .before .pre .0) (c .before .before .before .before .args .state .goal) (c .before .before .before .before .pre .1 .0) in search needs
+word-in-requires c κs = let w = whole (c .before .before .before .before .pre .0) (c .before .before .before .before .args .state .goal) (c .before .before .before .before .pre .1 .0 .0) in search needs
 
 -- src/heaps.rt:56:17
 construct-requires : tie.Need-construct-requires
-construct-requires c κs = let w = whole (c .before .before .before .before .before .before .before .before .before .pre .0) (c .before .before .before .before .before .before .before .before .before .args .state .goal) (c .before .before .before .before .before .before .before .before .before .pre .1 .0) in search needs
+construct-requires c κs = let w = whole (c .before .before .before .before .before .before .before .before .before .pre .0) (c .before .before .before .before .before .before .before .before .before .args .state .goal) (c .before .before .before .before .before .before .before .before .before .pre .1 .0 .0) in search needs
 
 -- src/heaps.rt:57:26
 enum-known-made : tie.Need-enum-known-made
@@ -42,11 +42,11 @@ same-length-3 c = search needs
 
 -- src/heaps.rt:58:17
 returns : tie.Need-returns
-returns c = λ images table. construct-lacks _ _ _ _ _ _ _ _ _ _ (c .before .before .before .before .before .before .before .before .before .before .before .before .before .word-in .ensures .0) _ _ _ _ (c .before .before .before .before .before .before .before .before .before .before .before .before .match .keys1) (c .before .before .before .before .before .before .before .before .construct .ensures .0) (c .before .before .before .before .before .before .before .before .construct .ensures .1 .0) (c .before .before .before .before .before .before .before .before .construct .ensures .1 .1 .0) (c .before .before .before .before .before .before .before .before .construct .ensures .1 .1 .1) (c .enum-told .given .1)
+returns c = λ images table. construct-lacks _ _ _ _ _ _ _ _ _ (c .before .before .before .before .before .before .before .before .before .before .before .before .before .before .before .before .before .before .pre .1 .0 .1 .place) _ (c .before .before .before .before .before .before .before .before .before .before .before .before .before .word-in .ensures .0) _ _ _ _ (c .before .before .before .before .before .before .before .before .before .before .before .before .match .keys1) (c .before .before .before .before .before .before .before .before .construct .ensures .0) (c .before .before .before .before .before .before .before .before .construct .ensures .1 .0) (c .before .before .before .before .before .before .before .before .construct .ensures .1 .1 .0) (c .before .before .before .before .before .before .before .before .construct .ensures .1 .1 .1) (c .enum-told .given .1)
 
 -- src/heaps.rt:63:17
 make-region-requires : tie.Need-make-region-requires
-make-region-requires c κs = let w = whole (c .before .before .before .before .before .before .before .before .pre .0) (c .before .before .before .before .before .before .before .before .args .state .goal) (c .before .before .before .before .before .before .before .before .pre .1 .0) in search needs
+make-region-requires c κs = let w = whole (c .before .before .before .before .before .before .before .before .pre .0) (c .before .before .before .before .before .before .before .before .args .state .goal) (c .before .before .before .before .before .before .before .before .pre .1 .0 .0) in search needs
 
 -- src/heaps.rt:64:26
 enum-known-made-2 : tie.Need-enum-known-made-2
@@ -66,11 +66,11 @@ same-length-5 c = search needs
 
 -- src/heaps.rt:65:17
 returns-2 : tie.Need-returns-2
-returns-2 c = λ images table. create-lacks _ _ _ _ _ _ _ _ _ _ (c .before .before .before .before .before .before .before .before .before .before .word-in .ensures .0) _ _ _ (c .before .before .before .before .before .before .before .before .before .match .keys2) (c .before .before .before .before .before .before .make-region .ensures .0) (c .before .before .before .before .before .before .make-region .ensures .1 .0) (c .before .before .before .before .before .before .make-region .ensures .1 .1) (c .enum-told2 .given .1)
+returns-2 c = λ images table. create-lacks _ _ _ _ _ _ _ _ _ (c .before .before .before .before .before .before .before .before .before .before .before .before .before .before .before .pre .1 .0 .1 .place) _ (c .before .before .before .before .before .before .before .before .before .before .word-in .ensures .0) _ _ _ (c .before .before .before .before .before .before .before .before .before .match .keys2) (c .before .before .before .before .before .before .make-region .ensures .0) (c .before .before .before .before .before .before .make-region .ensures .1 .0) (c .before .before .before .before .before .before .make-region .ensures .1 .1) (c .enum-told2 .given .1)
 
 -- src/heaps.rt:69:25
 drop-region-requires : tie.Need-drop-region-requires
-drop-region-requires c κs = let w = whole (c .before .before .before .before .before .before .before .before .before .pre .0) (c .before .before .before .before .before .before .before .before .before .args .state .goal) (c .before .before .before .before .before .before .before .before .before .pre .1 .0) in search needs
+drop-region-requires c κs = let w = whole (c .before .before .before .before .before .before .before .before .before .pre .0) (c .before .before .before .before .before .before .before .before .before .args .state .goal) (c .before .before .before .before .before .before .before .before .before .pre .1 .0 .0) in search needs
 
 -- src/heaps.rt:37:1
 same-length-6 : tie.Need-same-length-6
@@ -86,7 +86,7 @@ same-length-8 c = search needs
 
 -- src/heaps.rt:37:1
 returns-3 : tie.Need-returns-3
-returns-3 c = λ images table. construct-keeps _ _ _ _ _ _ _ _ _ _ (c .before .before .before .before .before .before .before .before .before .before .before .before .before .before .word-in .ensures .0) _ _ _ _ (c .before .before .before .before .before .before .before .before .before .before .before .before .before .match .keys1) (c .before .before .before .before .before .before .before .before .before .construct .ensures .0) (c .before .before .before .before .before .before .before .before .before .construct .ensures .1 .0) (c .before .before .before .before .before .before .before .before .before .construct .ensures .1 .1 .0) (c .before .before .before .before .before .before .before .before .before .construct .ensures .1 .1 .1) _ _ (c .before .made .given .1)
+returns-3 c = λ images table. construct-keeps _ _ _ _ _ _ _ _ _ (c .before .before .before .before .before .before .before .before .before .before .before .before .before .before .before .before .before .before .before .pre .1 .0 .1 .place) _ (c .before .before .before .before .before .before .before .before .before .before .before .before .before .before .word-in .ensures .0) _ _ _ _ (c .before .before .before .before .before .before .before .before .before .before .before .before .before .match .keys1) (c .before .before .before .before .before .before .before .before .before .construct .ensures .0) (c .before .before .before .before .before .before .before .before .before .construct .ensures .1 .0) (c .before .before .before .before .before .before .before .before .before .construct .ensures .1 .1 .0) (c .before .before .before .before .before .before .before .before .before .construct .ensures .1 .1 .1) _ _ (c .before .made .given .1)
 
 -- src/heaps.rt:37:1
 same-length-9 : tie.Need-same-length-9
@@ -98,7 +98,7 @@ same-length-10 c = search needs
 
 -- src/heaps.rt:37:1
 returns-4 : tie.Need-returns-4
-returns-4 c = λ images table. create-keeps _ _ _ _ _ _ _ _ _ _ (c .before .before .before .before .before .before .before .before .before .before .before .word-in .ensures .0) _ _ _ (c .before .before .before .before .before .before .before .before .before .before .match .keys2) (c .before .before .before .before .before .before .before .make-region .ensures .0) (c .before .before .before .before .before .before .before .make-region .ensures .1 .0) (c .before .before .before .before .before .before .before .make-region .ensures .1 .1) _ _ (c .before .made2 .given .1)
+returns-4 c = λ images table. create-keeps _ _ _ _ _ _ _ _ _ (c .before .before .before .before .before .before .before .before .before .before .before .before .before .before .before .before .pre .1 .0 .1 .place) _ (c .before .before .before .before .before .before .before .before .before .before .before .word-in .ensures .0) _ _ _ (c .before .before .before .before .before .before .before .before .before .before .match .keys2) (c .before .before .before .before .before .before .before .make-region .ensures .0) (c .before .before .before .before .before .before .before .make-region .ensures .1 .0) (c .before .before .before .before .before .before .before .make-region .ensures .1 .1) _ _ (c .before .made2 .given .1)
 
 -- src/heaps.rt:37:1
 same-length-11 : tie.Need-same-length-11
@@ -115,7 +115,7 @@ same-length-13 c = search needs
 -- src/heaps.rt:37:1
 returns-5 : tie.Need-returns-5
 returns-5 c =
-    λ images table. remove-keeps _ _ _ _ _ _ _ _ _ _ (c .before .before .before .before .before .before .before .before .before .word-in .ensures .0) _ _ _
+    λ images table. remove-keeps _ _ _ _ _ _ _ _ _ (c .before .before .before .before .before .before .before .before .before .before .before .before .before .before .pre .1 .0 .1 .place) _ (c .before .before .before .before .before .before .before .before .before .word-in .ensures .0) _ _ _
     (c .before .before .before .before .before .before .before .before .before .word-in .ensures .0 ∙ remaining _ (c .before .before .before .before .before .before .before .before .before .before .before .before .before .before .pre .1 .1) (λ z. c .before .before .before .before .before .before .before .before .match .rest .0 .1 (c .before .before .before .before .before .before .before .before .before .word-in .ensures .0 ∙ z)) (λ z. c .before .before .before .before .before .before .before .before .match .rest .1 (c .before .before .before .before .before .before .before .before .before .word-in .ensures .0 ∙ z))) (c .before .before .before .before .drop-region .ensures)
 
 pub keep-spec : {M : Type 1} → statement M

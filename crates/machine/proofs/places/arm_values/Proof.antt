@@ -1,3 +1,4 @@
+use native.Mathlib.Omega.{arith}
 use Prim.Native.Nat.{_*_}
 use Rattle.machine.specs.Goals.{arms-as}
 use borrow.Author.Needs.{needs}
@@ -63,11 +64,11 @@ add-word-in-3 c = search needs
 
 -- src/places.rt:130:32
 word-in-requires-4 : tie.Need-word-in-requires-4
-word-in-requires-4 c κs = search needs
+word-in-requires-4 c κs = let l = c .before .before .before .before .before .before .before .before .before .before .before .before .before .before .before .before .before .before .before .before .before .before .before .pre .0 in search needs
 
 -- src/places.rt:130:5
 give-requires-4 : tie.Need-give-requires-4
-give-requires-4 c κs = search needs
+give-requires-4 c κs = omega (arith, c .before .before .before .before .before .before .before .before .before .before .before .before .before .before .before .before .before .before .before .before .before .before .before .before .pre .1, c .before .before .before .before .before .before .before .before .before .before .before .before .before .before .give .kept .0, c .before .before .before .before .before .before .before .before .before .give2 .kept .0, c .before .before .before .before .give3 .kept .0)
 
 -- src/places.rt:119:1
 same-length : tie.Need-same-length

@@ -69,7 +69,7 @@ word-in-requires c κs = (omega arith, c .before .before .before .before .before
 
 -- src/places.rt:74:5
 give-requires : tie.Need-give-requires
-give-requires c κs = search needs
+give-requires c κs = let l = c .before .before .before .before .before .before .before .before .before .before .before .before .before .before .before .before .before .before .before .before .before .pre .2 in search needs
 
 -- src/places.rt:51:1
 same-length-4 : tie.Need-same-length-4

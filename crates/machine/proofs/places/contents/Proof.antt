@@ -63,8 +63,8 @@ value-requires-4 c κs = search needs
 -- src/places.rt:32:1
 returns : tie.Need-returns
 returns c =
-    term-as _ _ _ (c .before .before .before .before .before .before .before .before .before .before .before .args .frames .now) _ _ _ _ _ (c .before .before .before .before .before .before .before .before .word-in .ensures .0) (value-as (136 * c .before .before .before .before .before .before .before .before .before .before .before .args .top) _ _ _ (c .before .before .before .before .before .before .before .before .before .before .before .args .frames .now) (c .before .before .before .before .before .before .value .ensures) (c .before .before .before .before .before .before .before .word-in2 .ensures .0)) (value-as (136 * c .before .before .before .before .before .before .before .before .before .before .before .args .top) _ _ _ (c .before .before .before .before .before .before .before .before .before .before .before .args .frames .now) (c .before .before .before .before .value2 .ensures) (c .before .before .before .before .before .word-in3 .ensures .0))
-    (value-as (136 * c .before .before .before .before .before .before .before .before .before .before .before .args .top) _ _ _ (c .before .before .before .before .before .before .before .before .before .before .before .args .frames .now) (c .before .before .value3 .ensures) (c .before .before .before .word-in4 .ensures .0)) (value-as (136 * c .before .before .before .before .before .before .before .before .before .before .before .args .top) _ _ _ (c .before .before .before .before .before .before .before .before .before .before .before .args .frames .now) (c .value4 .ensures) (c .before .word-in5 .ensures .0))
+    term-as _ _ _ (c .before .before .before .before .before .before .before .before .before .before .before .args .frames .now) _ _ _ _ _ (c .before .before .before .before .before .before .before .before .word-in .ensures .0) (value-as (c .before .before .before .before .before .before .before .before .before .before .before .args .at) _ _ _ (c .before .before .before .before .before .before .before .before .before .before .before .args .frames .now) (c .before .before .before .before .before .before .value .ensures) (c .before .before .before .before .before .before .before .word-in2 .ensures .0)) (value-as (c .before .before .before .before .before .before .before .before .before .before .before .args .at) _ _ _ (c .before .before .before .before .before .before .before .before .before .before .before .args .frames .now) (c .before .before .before .before .value2 .ensures) (c .before .before .before .before .before .word-in3 .ensures .0))
+    (value-as (c .before .before .before .before .before .before .before .before .before .before .before .args .at) _ _ _ (c .before .before .before .before .before .before .before .before .before .before .before .args .frames .now) (c .before .before .value3 .ensures) (c .before .before .before .word-in4 .ensures .0)) (value-as (c .before .before .before .before .before .before .before .before .before .before .before .args .at) _ _ _ (c .before .before .before .before .before .before .before .before .before .before .before .args .frames .now) (c .value4 .ensures) (c .before .word-in5 .ensures .0))
 
 pub contents-spec : {M : Type 1} → statement M
 contents-spec =

@@ -31,7 +31,7 @@ cell-word-requires c κs = search needs
 
 -- src/places.rt:144:9
 arm-of-requires : tie.Need-arm-of-requires
-arm-of-requires c κs = (c .before .before .before .before .before .before .before .before .pre .0, to-arms (c .before .before .before .before .before .before .before .before .pre .0) (c .before .before .before .before .before .before .before .before .pre .1 .1) (c .before .word-in2 .ensures .0) .stands .below)
+arm-of-requires c κs = (c .before .before .before .before .before .before .before .before .pre .0, to-arms (c .before .before .before .before .before .before .before .before .pre .0) (c .before .before .before .before .before .before .before .before .pre .1 .1 .0) (c .before .word-in2 .ensures .0) .stands .below)
 
 -- src/places.rt:145:5
 arm-values-requires : tie.Need-arm-values-requires

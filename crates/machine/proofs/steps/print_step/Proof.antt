@@ -25,7 +25,7 @@ cast-limit c = search needs
 
 -- src/steps.rt:103:9
 returns : tie.Need-returns
-returns c = λ images table m. print-stops _ _ _ _ _ _ _ refl _ (c .before .before .before .before .before .pre .1 .1) (c .before .room .ensures) (c .if1 .taken)
+returns c = λ images table m. print-stops _ _ _ _ _ _ (c .before .before .before .before .before .pre .1 .2) _ refl _ (c .before .before .before .before .before .pre .1 .1) (c .before .room .ensures) (c .if1 .taken)
 
 -- src/steps.rt:105:30
 word-in-requires : tie.Need-word-in-requires
@@ -44,8 +44,8 @@ successor-requires : tie.Need-successor-requires
 successor-requires c κs = let w = whole (c .before .before .before .before .before .before .before .before .before .before .before .pre .0) (c .before .before .before .before .before .before .before .before .before .before .before .args .state .goal) (c .before .before .before .before .before .before .before .before .before .before .before .pre .1 .0) in search needs
 
 -- src/steps.rt:110:18
-add-t18 : tie.Need-add-t18
-add-t18 c = search needs
+add-t19 : tie.Need-add-t19
+add-t19 c = search needs
 
 -- src/steps.rt:86:1
 same-length : tie.Need-same-length
@@ -54,8 +54,8 @@ same-length c = search needs
 -- src/steps.rt:86:1
 returns-2 : tie.Need-returns-2
 returns-2 c =
-    λ images table m. print-goes _ _ _ _ _ _ _ _ refl (successor-as _ _ _ _ _ _ (c .successor .ensures .0)) _ _ _ (c .before .before .before .before .before .before .before .before .before .before .before .before .pre .1 .1)
-    (value-as (136 * c .before .before .before .before .before .before .before .before .before .before .before .before .args .state .top) _ _ _ (c .before .before .before .before .before .before .before .before .before .before .before .before .args .frames .now) (c .before .before .before .before .before .value .ensures) (c .before .before .before .before .before .before .word-in .ensures .0)) (c .before .before .before .put .ensures) (c .before .before .before .before .before .before .before .before .room .ensures) (c .before .before .before .before .before .before .before .if1 .left)
+    λ images table m. print-goes _ _ _ _ _ _ (c .before .before .before .before .before .before .before .before .before .before .before .before .pre .1 .2) _ _ refl (successor-as _ _ _ _ _ _ (c .successor .ensures .0)) _ _ _ (c .before .before .before .before .before .before .before .before .before .before .before .before .pre .1 .1)
+    (value-as (c .before .before .before .before .before .before .before .before .before .before .before .before .args .state .at) _ _ _ (c .before .before .before .before .before .before .before .before .before .before .before .before .args .frames .now) (c .before .before .before .before .before .value .ensures) (c .before .before .before .before .before .before .word-in .ensures .0)) (c .before .before .before .put .ensures) (c .before .before .before .before .before .before .before .before .room .ensures) (c .before .before .before .before .before .before .before .if1 .left)
 
 pub print-step-spec : {M : Type 1} → statement M
 print-step-spec =
@@ -68,6 +68,6 @@ print-step-spec =
     value-requires
     put-requires
     successor-requires
-    add-t18
+    add-t19
     same-length
     returns-2)
