@@ -2,39 +2,50 @@
 use Prim.Native.Nat.{ℕ, zero, suc, _+_, _-_, _%_, _^_, _≤_, _<_}
 use native.Mathlib.Omega.{arith}
 use native.Mathlib.Nat.{zero-add}
+use native.Mathlib.Numerals.{add-one}
 use mathlib.Core.Path.{_≡_, refl, sym, ap, _∙_}
 use mathlib.Core.List.{List}
-use borrow.Author.Tests.{le-ltb}
+use borrow.Author.Tests.{lt-ltb, le-ltb}
 use lib.IntN.{ℤ, pos, negsuc, _-ℤ_}
-use lib.ListN.{length, set}
-use lib.Seq.{set-out}
+use lib.ListN.{set}
 use mir.Syntax.{Width, w32}
 use mir.Val.{SFits, bits, hbits, toZ, ofZ}
 use mir.Facts.{toZ-neg}
-use Rattle.word_machine.specs.Machine.{sumWord, cleared}
+use Rattle.language.specs.Lists.{choose}
+use Rattle.word_machine.specs.Machine.{sumWord, cleared, blocks}
 use Rattle.word_machine.specs.WordLaws.{add-words, subtract-words}
 
 -- ---- words that are cleared
-pub cleared-none : (p n : ℕ) (t : List ℕ) → n ≡ 0 → t ≡ cleared p n t
+pub cleared-two : (p : ℕ) (t u v : List ℕ) → u ≡ set t p 0 → v ≡ set u (p + 1) 0 → v ≡ cleared p 2 t
 unfolding cleared
-cleared-none p n t z = rw z
+cleared-two p t u v e d = rw (d, e, add-one p)
 
--- past the end there is nothing to clear
-pub cleared-past : (p n : ℕ) (t : List ℕ) → length t ≤ p → t ≡ cleared p n t
+cleared-append : (n m p : ℕ) (t : List ℕ) → cleared (p + n) m (cleared p n t) ≡ cleared p (n + m) t
 unfolding cleared
-cleared-past p zero t l = refl
-cleared-past p (suc n) t l = rw (set-out t p 0 l) (cleared-past (suc p) n t (omega arith))
+cleared-append zero m p t =
+    let e : p + 0 ≡ p = omega arith in
+    let g : 0 + m ≡ m = omega arith in
+    rw (e, g)
+cleared-append (suc n) m p t =
+    let e : p + suc n ≡ suc p + n = omega arith in
+    let g : suc n + m ≡ suc (n + m) = omega arith in
+    rw (e, g) (cleared-append n m (suc p) (set t p 0))
 
-pub cleared-same : (p p′ n n′ : ℕ) (t : List ℕ) → p ≡ p′ → n ≡ n′ → cleared p n t ≡ cleared p′ n′ t
-cleared-same p p′ n n′ t e d = cc
+-- n words, and then m
+pub cleared-join : (n m p : ℕ) (t u v : List ℕ) → u ≡ cleared p n t → v ≡ cleared (p + n) m u → v ≡ cleared p (n + m) t
+cleared-join n m p t u v e d = rw (d, e) (cleared-append n m p t)
 
--- k of n words are cleared
-pub cleared-more : (p n k : ℕ) (t : List ℕ) → k < n → cleared (p + (k + 1)) (n - (k + 1)) (set t (p + k) 0) ≡ cleared (p + k) (n - k) t
-unfolding cleared
-cleared-more p n k t l =
-    let e : n - k ≡ suc (n - (k + 1)) = omega arith in
-    let d : p + (k + 1) ≡ suc (p + k) = omega arith in
-    rw (e, d)
+pub few-cleared : (n p : ℕ) (t u : List ℕ) → n < 9 → u ≡ cleared p 8 t → u ≡ cleared p (blocks n) t
+unfolding blocks choose
+few-cleared n p t u l e = rw (lt-ltb n 9 l) e
+
+pub some-cleared : (n p : ℕ) (t u : List ℕ) → 9 ≤ n → n < 17 → u ≡ cleared p 16 t → u ≡ cleared p (blocks n) t
+unfolding blocks choose
+some-cleared n p t u h l e = rw (le-ltb n 9 h, lt-ltb n 17 l) e
+
+pub all-cleared : (n p : ℕ) (t u : List ℕ) → 17 ≤ n → u ≡ cleared p 64 t → u ≡ cleared p (blocks n) t
+unfolding blocks choose
+all-cleared n p t u h e = rw (le-ltb n 9 (omega arith), le-ltb n 17 h) e
 
 -- ---- a word of the upper half, with k its complement
 toZ-high : (w : Width) (n : ℕ) → 2 ^ hbits w ≤ n → toZ w n ≡ negsuc (2 ^ bits w - suc n)

@@ -1,9 +1,11 @@
 // Frames of 136 lent words: values and regions of a frame's numbers, what a call and a return copy, and words of numbers.
+mod clearing;
 mod numbers;
 mod passing;
 mod regions;
 mod words;
 
+pub use clearing::clear;
 pub use numbers::less_words;
 pub use numbers::literal_word;
 pub use numbers::sum_word;
@@ -13,8 +15,8 @@ pub use passing::values_out;
 pub use regions::regions_in;
 pub use regions::regions_out;
 pub use words::FRAME_WORDS;
-pub use words::clear;
 pub use words::give;
 pub use words::name_region;
 pub use words::region;
+pub use words::store;
 pub use words::value;

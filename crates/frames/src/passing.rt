@@ -99,12 +99,7 @@ fn value_out(
 {
     if plan[MODES + at] == MODE_OUT {
         let v = value(&frames[..], from, plan[SLOTS + at]);
-        give(
-            &mut frames[..],
-            to,
-            word_in(file, at, ARGUMENT_VARIABLE),
-            v,
-        );
+        give(&mut frames[..], to, word_in(file, at, ARGUMENT_VARIABLE), v);
     }
 }
 

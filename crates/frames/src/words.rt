@@ -1,8 +1,7 @@
 // Words of a frame, for any number.
 ghost use mathlib.Core.Path.{_≡_};
-ghost use Prim.Native.Nat.{_+_, _≤_};
+ghost use Prim.Native.Nat.{_+_, _≤_, _<_};
 ghost use lib.ListN.{length, getD, set};
-ghost use Rattle.word_machine.specs.Machine.{cleared};
 
 // "136 a frame": its next goal's record, 64 values, the places of what 64 region numbers stand for, the call's record.
 pub const FRAME_WORDS: usize = 136;
@@ -82,19 +81,10 @@ pub fn name_region(frames: &mut [u32], at: usize, r: usize, place: u32)
     put_from(&mut frames[..], at + VALUE_WORDS, r, place);
 }
 
-// Zero in the n words from a place on, as far as there are any.
-pub fn clear(frames: &mut [u32], first: usize, n: usize)
-    ensures { λ _. ⌜ now (frames .exit) ≡ cleared first n (now (frames .entry)) ⌝ }
+// A store where there is a word.
+pub fn store(mem: &mut [u32], at: usize, value: u32)
+    requires { ⌜ at < length (now mem) ⌝ }
+    ensures { λ _. ⌜ now (mem .exit) ≡ set (now (mem .entry)) at value ⌝ }
 {
-    let mut k: usize = 0;
-    while k < n {
-        if frames.len() <= first {
-            return;
-        }
-        if frames.len() - first <= k {
-            return;
-        }
-        frames[first + k] = 0;
-        k += 1;
-    }
+    mem[at] = value;
 }

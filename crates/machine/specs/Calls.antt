@@ -17,7 +17,7 @@ use Rattle.frames.specs.Passing.{passedIn, passedOut, passed-in, passed-out}
 use Rattle.frames.specs.Regions.{namedIn, namedOut, named-in, named-out}
 use Rattle.word_machine.specs.Tables.{Tables, onto}
 use Rattle.word_machine.specs.Copies.{copied-length}
-use Rattle.word_machine.specs.Machine.{Words, cleared, calleeWords, regionsIn, valuesOut, regionsOut, returnWords, returned, settledFrom, settled}
+use Rattle.word_machine.specs.Machine.{Words, cleared, blocks, calleeWords, regionsIn, valuesOut, regionsOut, returnWords, returned, settledFrom, settled}
 use Rattle.machine.specs.declared.State.{State}
 use Rattle.machine.specs.Words.{wordsOf}
 
@@ -31,9 +31,9 @@ marked-as P next i fw fx fy e d = rw (d, e)
 
 -- the callee's values: zero, and its in values
 unfoldable pub opened : List ℕ → List ℕ → ℕ → ℕ → ℕ → List ℕ → List ℕ
-opened f plan ys P size fw = passedIn f plan P (P + 136) (chainRecords f ys) (cleared (P + 136 + 1) size fw)
+opened f plan ys P size fw = passedIn f plan P (P + 136) (chainRecords f ys) (cleared (P + 136 + 1) (blocks size) fw)
 
-pub opened-as : (f plan : List ℕ) (ys P size : ℕ) (fw fx fy : List ℕ) → fx ≡ cleared (P + 136 + 1) size fw
+pub opened-as : (f plan : List ℕ) (ys P size : ℕ) (fw fx fy : List ℕ) → fx ≡ cleared (P + 136 + 1) (blocks size) fw
     → fy ≡ passedIn f plan P (P + 136) (chainRecords f ys) fx → fy ≡ opened f plan ys P size fw
 unfolding opened
 opened-as f plan ys P size fw fx fy e4 e5 = rw (e5, e4)
@@ -71,7 +71,7 @@ module _ (f plan images table : List ℕ) where
   -- to is the callee's place
   enters : (k i to : ℕ) (fw : List ℕ) → to ≡ 136 * suc k
       → namedIn images (getD plan (sidesFrom + i) 0) (136 * k) to (members (setIn (windowIn table (word f i 2)) deadPlace ∪ setIn (windowIn table (word f i 2)) keptPlace))
-      (passedIn f plan (136 * k) to (chainRecords f (word f i 3)) (cleared (to + 1) (getD (windowIn table (word f i 2)) variablesPlace 0)
+      (passedIn f plan (136 * k) to (chainRecords f (word f i 3)) (cleared (to + 1) (blocks (getD (windowIn table (word f i 2)) variablesPlace 0))
       (set (set fw (136 * k) (onto (word f i 1) (getD plan i 0))) (to + 129) i)))
       ≡ calleeWords f T k i (word f i 2) (word f i 3) fw
   unfolding calleeWords tablesIn

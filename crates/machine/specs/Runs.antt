@@ -20,7 +20,7 @@ use Rattle.frames.specs.Strays.{past-word}
 use Rattle.tables.specs.Window.{bodyPlace}
 use Rattle.tables.specs.Starts.{windowIn}
 use Rattle.word_machine.specs.Tables.{Tables}
-use Rattle.word_machine.specs.Machine.{Words, Went, went, stops, Outcome, endedWith, afterStep, cleared, steps, settledFrom, settled, settledIf, stepped, runOn, runFrom, startWords, noFrame, lentWords, wordRun}
+use Rattle.word_machine.specs.Machine.{Words, Went, went, stops, Outcome, endedWith, afterStep, cleared, blocks, steps, settledFrom, settled, settledIf, stepped, runOn, runFrom, startWords, noFrame, lentWords, wordRun}
 use Rattle.machine.specs.declared.State.{State}
 use Rattle.machine.specs.declared.Kept.{Kept}
 use Rattle.machine.specs.declared.Kept.the-variants.{Left, Lacks}
@@ -143,13 +143,13 @@ module _ (f : List ℕ) (T : Tables) (l : ℕ) (m rs fw ps : List ℕ) where
   first-as h g s u r m₁ rs₁ fw₁ ps₁ eh es R = rw (← eh, ← es) R
 
   -- the words of the entry's frame are cleared; there is room for it
-  started : (size goal : ℕ) (h : Heap) (fx : List ℕ) → goal ≡ T .body 0 → size ≡ T .size 0 → fx ≡ cleared 1 size fw → h ≡ emptyHeap (holds (length m) 8) (holds (length rs) 2)
+  started : (size goal : ℕ) (h : Heap) (fx : List ℕ) → goal ≡ T .body 0 → size ≡ T .size 0 → fx ≡ cleared 1 (blocks size) fw → h ≡ emptyHeap (holds (length m) 8) (holds (length rs) 2)
       → length fx ≡ length fw → 0 < holds (length fw) 136 → runFirst f T l h m rs fx ps (entryState goal) ≡ wordRun f T m rs fw ps l
   unfolding runFirst wordRun runFrom startWords roomIn lentWords wordsOf
   started size goal h fx eg es ef eh e q = rw (lt-ltb 0 (holds (length fw) 136) q, e, ef, es, eh, eg)
 
   pub from-start : (table : List ℕ) (size : ℕ) (fx m₁ rs₁ fw₁ ps₁ : List ℕ) (r : Answer) → 136 ≤ length fw
-      → getD (windowIn table 0) bodyPlace 0 ≡ T .body 0 → size ≡ T .size 0 → fx ≡ cleared 1 size fw → length fx ≡ length fw
+      → getD (windowIn table 0) bodyPlace 0 ≡ T .body 0 → size ≡ T .size 0 → fx ≡ cleared 1 (blocks size) fw → length fx ≡ length fw
       → Ran (runFirst f T l (emptyHeap (holds (length m) 8) (holds (length rs) 2)) m rs fx ps (firstState table)) r m₁ rs₁ fw₁ ps₁ → Ran (wordRun f T m rs fw ps l) r m₁ rs₁ fw₁ ps₁
   unfolding firstState
   from-start table size fx m₁ rs₁ fw₁ ps₁ r q eg es ef e R = rw (← started size (getD (windowIn table 0) bodyPlace 0) _ fx eg es ef refl e (some-frame (length fw) q)) R

@@ -6,6 +6,7 @@ use frames::FRAME_WORDS;
 use frames::clear;
 use frames::regions_in;
 use frames::regions_out;
+use frames::store;
 use frames::values_in;
 use frames::values_out;
 use language::format::CALL_ARGUMENTS;
@@ -26,7 +27,7 @@ use tables::word_at;
 ghost use mathlib.Core.Path.{_≡_};
 ghost use mathlib.Core.List.{List};
 ghost use Prim.Native.Nat.{ℕ, suc, _+_, _*_, _≤_, _<_};
-ghost use lib.ListN.{length, getD, set};
+ghost use lib.ListN.{length, getD};
 ghost use Rattle.language.specs.File.{word, recordCount};
 ghost use Rattle.memory.specs.declared.Heap.{Heap};
 ghost use Rattle.chains.specs.Formed.{Formed};
@@ -61,13 +62,6 @@ fn wide(x: u32) -> usize
     ensures { λ r. ⌜ (r ≡ x) × (r < 4294967296) ⌝ }
 {
     x as usize
-}
-
-fn store(frames: &mut [u32], at: usize, value: u32)
-    requires { ⌜ at < length (now frames) ⌝ }
-    ensures { λ _. ⌜ now (frames .exit) ≡ set (now (frames .entry)) at value ⌝ }
-{
-    frames[at] = value;
 }
 
 // Where the frame at a place goes on after its call, and in the callee's frame the call's record.
@@ -126,14 +120,7 @@ fn enter(
         &mut frames[..],
     );
     let held = set_at(own, DEAD).union(set_at(own, KEPT));
-    regions_in(
-        held,
-        images,
-        plan[SIDES + i],
-        at,
-        to,
-        &mut frames[..],
-    );
+    regions_in(held, images, plan[SIDES + i], at, to, &mut frames[..]);
 }
 
 // "A call adds the callee's frame with its in values"; "a callee's dead and kept numbers stand for what their images do". Returns the callee's first goal.

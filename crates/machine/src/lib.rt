@@ -6,10 +6,16 @@ mod places;
 mod runs;
 mod steps;
 
+pub use calls::settle;
+pub use goals::successor;
+pub use heaps::changes_heap;
+pub use heaps::keep;
 use language::Ending;
 use language::Stop;
 use memory::Heap;
 pub use runs::run_words;
+pub use steps::go;
+pub use steps::onward;
 
 // What a run keeps beside the lent words and the heap: the newest frame's number and the place of its first word, its next goal's record, and how
 // many numbers are printed.

@@ -130,24 +130,9 @@ fn arm_values(file: &[u8], j: usize, p: u32, at: usize, cells: &[u32], frames: &
     let c = cell_word(cells, p, 3);
     let d = cell_word(cells, p, 4);
     give(&mut frames[..], at, word_in(file, j, TERM_ARGUMENTS), a);
-    give(
-        &mut frames[..],
-        at,
-        word_in(file, j, TERM_ARGUMENTS + 1),
-        b,
-    );
-    give(
-        &mut frames[..],
-        at,
-        word_in(file, j, TERM_ARGUMENTS + 2),
-        c,
-    );
-    give(
-        &mut frames[..],
-        at,
-        word_in(file, j, TERM_ARGUMENTS + 3),
-        d,
-    );
+    give(&mut frames[..], at, word_in(file, j, TERM_ARGUMENTS + 1), b);
+    give(&mut frames[..], at, word_in(file, j, TERM_ARGUMENTS + 2), c);
+    give(&mut frames[..], at, word_in(file, j, TERM_ARGUMENTS + 3), d);
 }
 
 // "A switch takes the arm of X's functor". Returns the arm's record.

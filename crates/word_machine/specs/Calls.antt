@@ -23,8 +23,8 @@ use Rattle.chains.specs.Formed.{Formed}
 use Rattle.safety.specs.Premises.{Accepted, laws}
 use Rattle.heap.specs.Standing.{Stands}
 use Rattle.word_machine.specs.Tables.{Tables, Tabled}
-use Rattle.word_machine.specs.Machine.{goalPlace, valuePlace, regionPlace, callPlace, copied, cleared, valuesIn, regionsIn, calleeWords}
-use Rattle.word_machine.specs.Copies.{copied-length, copied-other, copied-related, cleared-length, cleared-before, cleared-after, cleared-in, puts-give, puts-stand}
+use Rattle.word_machine.specs.Machine.{goalPlace, valuePlace, regionPlace, callPlace, copied, cleared, blocks, valuesIn, regionsIn, calleeWords}
+use Rattle.word_machine.specs.Copies.{copied-length, copied-other, copied-related, cleared-length, cleared-before, cleared-after, cleared-in, blocks-most, blocks-least, puts-give, puts-stand}
 use Rattle.word_machine.specs.Relation.{Where, Means, Names, not-later, sig, FrameOk, Linked, Waiting, more, frame-later, waiting-later}
 use Rattle.word_machine.specs.Returns.{members-range, passing, caller-range, caller-variable, callee-range}
 use Rattle.word_machine.specs.Links.{body-todo}
@@ -46,7 +46,7 @@ module _ {f : List ℕ} {T : Tables} (B : Tabled f T) (A : Accepted (program f))
   helds = members (startHeld (sig f q))
 
   abbrev count : ℕ
-  count = length (sig f q .variables)
+  count = blocks (length (sig f q .variables))
 
   abbrev fa : List ℕ
   fa = set fw (goalPlace k) (T .successor i)
@@ -68,7 +68,10 @@ module _ {f : List ℕ} {T : Tables} (B : Tabled f T) (A : Accepted (program f))
   callee-is = rw (w3, B .held q (N .some), B .size q (N .some))
 
   few : count ≤ 64
-  few = laws A q .variables
+  few = blocks-most (length (sig f q .variables))
+
+  enough : length (sig f q .variables) ≤ count
+  enough = blocks-least (length (sig f q .variables)) (laws A q .variables)
 
   longc : length fc ≡ length fw
   longc = cleared-length count (suc (goalPlace (suc k))) fb ∙ length-set fa (callPlace (suc k)) i ∙ length-set fw (goalPlace k) (T .successor i)
@@ -134,7 +137,7 @@ module _ {f : List ℕ} {T : Tables} (B : Tabled f T) (A : Accepted (program f))
             (G .values (word f a 2) (r .0) (r .1) (caller-variable B A N 1 a m)),
       ))
       (λ a b m n z. let r = callee-range B A N 1 a m in let s = caller-range B A N 1 b n in omega (arith, s .1))
-      (rw (cleared-in count (suc (goalPlace (suc k))) fb (valuePlace (suc k) x) (omega arith) (omega (arith, variable-count (sig f q) x v))
+      (rw (cleared-in count (suc (goalPlace (suc k))) fb (valuePlace (suc k) x) (omega arith) (omega (arith, variable-count (sig f q) x v, enough))
       (omega (arith, few, longc, cleared-length count (suc (goalPlace (suc k))) fb))) refl))
 
   held-image : (r : ℕ) → inList r helds ≡ true → (1 ≤ T .image i r) × (T .image i r ≤ 64)

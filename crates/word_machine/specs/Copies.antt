@@ -3,17 +3,19 @@ use Prim.Native.Nat.{ℕ, zero, suc, _+_, _<_, _≤_}
 use native.Mathlib.Omega.{arith}
 use native.Mathlib.Decide.{ℕ-discrete}
 use mathlib.Core.Path.{_≡_, refl, _∙_}
-use mathlib.Core.Bool.{true}
+use mathlib.Core.Bool.{Bool, true, false}
 use mathlib.Core.List.{List, [], _∷_, map}
 use mathlib.Core.Logic.{_≢_}
+use borrow.Author.Tests.{ltb-true}
+use lib.Dec.{ltb}
 use lib.ListN.{length, getD, set, length-set}
 use lib.Seq.{getD-set-same, getD-set-other}
 use Rattle.sets.specs.Members.{inList, cons-here, cons-later}
-use Rattle.language.specs.Lists.{put}
+use Rattle.language.specs.Lists.{choose, put}
 use Rattle.language.specs.Frames.{Value, giveEach}
 use Rattle.language.specs.AcceptedRun.{standEach}
 use Rattle.laws.specs.Choices.{put-same, put-other}
-use Rattle.word_machine.specs.Machine.{copied, cleared}
+use Rattle.word_machine.specs.Machine.{copied, cleared, blocks}
 
 -- ---- lengths, and words that no store meets
 module _ (to from : ℕ → ℕ) where
@@ -51,6 +53,25 @@ cleared-in (suc n) p fw j h l q = elim (ℕ-discrete p j) [
   | yes z ↦ cleared-before n (suc p) (set fw p 0) j (omega arith) ∙ (rw (← z) (getD-set-same fw p 0 0 (omega arith)))
   | no ne ↦ cleared-in n (suc p) (set fw p 0) j (omega (arith, ne)) (omega arith) (omega (arith, length-set fw p 0))
 ]
+
+-- ---- words are cleared in blocks
+pub blocks-most : (n : ℕ) → blocks n ≤ 64
+unfolding blocks choose
+blocks-most n = by (ltb n 9) (ltb n 17)
+  where
+    by : (a b : Bool) → choose a 8 (choose b 16 64) ≤ 64
+    by true b = omega arith
+    by false true = omega arith
+    by false false = omega arith
+
+pub blocks-least : (n : ℕ) → n ≤ 64 → n ≤ blocks n
+unfolding blocks choose
+blocks-least n l = by (ltb n 9) (ltb n 17) refl refl
+  where
+    by : (a b : Bool) → ltb n 9 ≡ a → ltb n 17 ≡ b → n ≤ choose a 8 (choose b 16 64)
+    by true b ea eb = omega (arith, ltb-true n 9 ea)
+    by false true ea eb = omega (arith, ltb-true n 17 eb)
+    by false false ea eb = l
 
 -- for each of a list, its value at its name
 pub puts : {A : Type 0} → (ℕ → ℕ) → (ℕ → A) → List ℕ → (ℕ → A) → ℕ → A

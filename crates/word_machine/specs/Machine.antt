@@ -72,6 +72,10 @@ unfoldable pub cleared : ℕ → ℕ → List ℕ → List ℕ
 cleared p zero fw = fw
 cleared p (suc n) fw = cleared (suc p) n (set fw p 0)
 
+-- how many words are cleared where n values stand: 8, 16 or all 64
+unfoldable pub blocks : ℕ → ℕ
+blocks n = choose (ltb n 9) 8 (choose (ltb n 17) 16 64)
+
 -- the first record of a list whose word 3 is k
 unfoldable pub armOf : List ℕ → ℕ → List ℕ → ℕ
 armOf f k [] = 0
@@ -180,7 +184,7 @@ module _ (f : List ℕ) (T : Tables) where
 
   unfoldable pub calleeWords : ℕ → ℕ → ℕ → ℕ → List ℕ → List ℕ
   calleeWords k i q ys fw =
-      regionsIn k i (members (T .held q)) (valuesIn k (chainRecords f ys) (cleared (suc (goalPlace (suc k))) (T .size q) (set (set fw (goalPlace k) (T .successor i)) (callPlace (suc k)) i)))
+      regionsIn k i (members (T .held q)) (valuesIn k (chainRecords f ys) (cleared (suc (goalPlace (suc k))) (blocks (T .size q)) (set (set fw (goalPlace k) (T .successor i)) (callPlace (suc k)) i)))
 
   unfoldable pub calls : Words → ℕ → ℕ → ℕ → Words
   calls w i q ys =
@@ -272,7 +276,7 @@ module _ (f : List ℕ) (T : Tables) where
         heap = emptyHeap (holds (length m) 8) (holds (length rs) 2);
         cells = m;
         regions = rs;
-        frames = cleared 1 (T .size 0) fw;
+        frames = cleared 1 (blocks (T .size 0)) fw;
         prints = ps;
         top = 0;
         goal = T .body 0;

@@ -24,9 +24,9 @@ use Rattle.safety.specs.Safety.{steps-fine, taken, busy}
 use Rattle.heap.specs.Standing.{Stands}
 use Rattle.heap.specs.Reading.{starts}
 use Rattle.word_machine.specs.Tables.{Tables, Tabled}
-use Rattle.word_machine.specs.Machine.{Words, valuePlace, Went, cleared, valuesOut, regionsOut, returnWords, returned, settledFrom, settled, settledIf, steps, stepped, endedWith, afterStep, runOn, startWords, lentWords}
+use Rattle.word_machine.specs.Machine.{Words, valuePlace, Went, cleared, blocks, valuesOut, regionsOut, returnWords, returned, settledFrom, settled, settledIf, steps, stepped, endedWith, afterStep, runOn, startWords, lentWords}
 use Rattle.word_machine.specs.Statement.{Gives}
-use Rattle.word_machine.specs.Copies.{copied-length, cleared-length, cleared-in}
+use Rattle.word_machine.specs.Copies.{copied-length, cleared-length, cleared-in, blocks-most, blocks-least}
 use Rattle.word_machine.specs.Relation.{whereIn, sig, FrameOk, none, Running, Stored}
 use Rattle.word_machine.specs.Returns as R
 use Rattle.word_machine.specs.Returns.{Related, settled-from}
@@ -160,14 +160,15 @@ module _ {f : List ℕ} {T : Tables} (B : Tabled f T) (A : Accepted (program f))
     unfolding roomIn lentWords holds
     room = rw k (omega arith)
 
-    entry-frame : FrameOk B (cleared 1 (T .size 0) fw) 0 (whereIn (start (program f) .memory) (λ r. 0) (λ j. 0)) (T .body 0) (record { frame = entryFrame (program f); stands = λ r. 0 })
+    entry-frame : FrameOk B (cleared 1 (blocks (T .size 0)) fw) 0 (whereIn (start (program f) .memory) (λ r. 0) (λ j. 0)) (T .body 0) (record { frame = entryFrame (program f); stands = λ r. 0 })
     unfolding entryFrame Stands
     entry-frame =
         let e = B .size 0 entry-some in
-        let c : length (sig f 0 .variables) ≤ 64 = laws A 0 .variables in
+        let c = blocks-most (T .size 0) in
+        let n : length (sig f 0 .variables) ≤ blocks (T .size 0) = rw e (blocks-least (length (sig f 0 .variables)) (laws A 0 .variables)) in
         record {
-          fits = rw (cleared-length (T .size 0) 1 fw) (omega (arith, room, some));
-          values = λ x a b v. rw (cleared-in (T .size 0) 1 fw (valuePlace 0 x) (omega arith) (omega (arith, variable-count (sig f 0) x v)) (omega (arith, room, some))) refl;
+          fits = rw (cleared-length (blocks (T .size 0)) 1 fw) (omega (arith, room, some));
+          values = λ x a b v. rw (cleared-in (blocks (T .size 0)) 1 fw (valuePlace 0 x) (omega arith) (omega (arith, variable-count (sig f 0) x v, n)) (omega (arith, room, some, c))) refl;
           regions = λ r a b z. absurd (z refl);
           todo = body-todo B A F 0 entry-some;
         }
@@ -181,7 +182,7 @@ module _ {f : List ℕ} {T : Tables} (B : Tabled f T) (A : Accepted (program f))
     entry-stored = record {
       represents = rw k (starts (program f) (lentWords m rs fw qs l) m rs refl refl);
       printed = record { count = refl; long = refl; room = omega arith; front = refl; behind = refl };
-      frame-room = rw (cleared-length (T .size 0) 1 fw) room;
+      frame-room = rw (cleared-length (blocks (T .size 0)) 1 fw) room;
       print-room = print-words;
     }
 

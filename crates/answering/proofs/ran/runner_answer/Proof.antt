@@ -24,13 +24,22 @@ enum-told : tie.Need-enum-told
 enum-told c = search needs
 
 accepted-answer-requires : tie.Need-accepted-answer-requires
-accepted-answer-requires c κs = (sym (c .before .before .before .check .ensures) ∙ c .before .enum-told .given .1, c .before .before .before .before .before .before .pre)
+accepted-answer-requires c κs = (sym (c .before .before .before .before .check .ensures) ∙ c .before .before .enum-told .given .1, c .before .before .before .before .before .before .before .pre)
 
 same-length-2 : tie.Need-same-length-2
 same-length-2 c = search needs
 
 returns-2 : tie.Need-returns-2
 returns-2 c = search needs
+
+accepted-answer-requires-2 : tie.Need-accepted-answer-requires-2
+accepted-answer-requires-2 c κs = (sym (c .before .before .before .before .check .ensures) ∙ c .before .before .enum-told .given .1, c .before .before .before .before .before .before .before .pre)
+
+same-length-3 : tie.Need-same-length-3
+same-length-3 c = search needs
+
+returns-3 : tie.Need-returns-3
+returns-3 c = search needs
 
 pub runner-answer-spec : {M : Type 1} → statement M
 runner-answer-spec =
@@ -44,4 +53,7 @@ runner-answer-spec =
     enum-told
     accepted-answer-requires
     same-length-2
-    returns-2)
+    returns-2
+    accepted-answer-requires-2
+    same-length-3
+    returns-3)
