@@ -186,8 +186,7 @@ pub fn settle(
     state: State,
     frames: &mut [u32],
 ) -> State
-    requires { ⌜ Formed (now file) ⌝ }
-    requires { ⌜ Placed state (length (now frames)) ⌝ }
+    requires { ⌜ Formed (now file) × Placed state (length (now frames)) ⌝ }
     ensures { λ r. ⌜ ((h : Heap) (m rs ps : List ℕ) → wordsOf h m rs (now (frames .exit)) ps r
         ≡ settled (now (file .entry)) (tablesIn (now (file .entry)) (now (plan .entry)) (now (images .entry)) (now (table .entry)))
         (wordsOf h m rs (now (frames .entry)) ps state)) ⌝ }

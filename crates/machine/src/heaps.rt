@@ -13,6 +13,7 @@ use memory::Heap;
 use memory::Made;
 use plans::PLAN;
 use records::word_in;
+ghost use mathlib.Core.Path.{_≡_};
 ghost use mathlib.Core.Bool.{true};
 ghost use mathlib.Core.List.{List};
 ghost use Prim.Native.Nat.{ℕ, _<_};
@@ -34,7 +35,63 @@ pub fn changes_heap(kind: usize) -> bool
     }
 }
 
-// A construct, "11 no free cell"; a create, "12 no free region"; a remove.
+// A construct, "11 no free cell".
+fn construct_step(
+    file: &[u8],
+    plan: &[usize; PLAN],
+    state: State,
+    heap: Heap,
+    cells: &mut [u32],
+    regions: &mut [u32],
+    frames: &mut [u32],
+) -> Kept
+    requires { ⌜ Formed (now file) ⌝ }
+    requires { ⌜ (state .goal < recordCount (now file)) × (word (now file) (state .goal) 0 ≡ 11) × Placed state (length (now frames)) ⌝ }
+    ensures { λ r. ⌜ ((images table : List ℕ) → Keeps (now (file .entry)) (tablesIn (now (file .entry)) (now (plan .entry)) images table) state heap
+        (now (cells .entry)) (now (regions .entry)) (now (frames .entry)) r (now (cells .exit)) (now (regions .exit)) (now (frames .exit))) ⌝ }
+{
+    let i = state.goal;
+    let at = state.at;
+    let made = construct(
+        file,
+        plan,
+        i,
+        at,
+        heap,
+        &mut cells[..],
+        &mut regions[..],
+        &mut frames[..],
+    );
+    let Made::At(cell, left) = made else {
+        return Kept::Lacks(Stop::Cells);
+    };
+    Kept::Left(left)
+}
+
+// A create, "12 no free region".
+fn create_step(
+    file: &[u8],
+    plan: &[usize; PLAN],
+    state: State,
+    heap: Heap,
+    regions: &mut [u32],
+    frames: &mut [u32],
+) -> Kept
+    requires { ⌜ Formed (now file) ⌝ }
+    requires { ⌜ (state .goal < recordCount (now file)) × (word (now file) (state .goal) 0 ≡ 18) × Placed state (length (now frames)) ⌝ }
+    ensures { λ r. ⌜ ((images table m : List ℕ) → Keeps (now (file .entry)) (tablesIn (now (file .entry)) (now (plan .entry)) images table) state heap
+        m (now (regions .entry)) (now (frames .entry)) r m (now (regions .exit)) (now (frames .exit))) ⌝ }
+{
+    let i = state.goal;
+    let at = state.at;
+    let made = make_region(file, i, at, heap, &mut regions[..], &mut frames[..]);
+    let Made::At(place, left) = made else {
+        return Kept::Lacks(Stop::Places);
+    };
+    Kept::Left(left)
+}
+
+// A construct, a create or a remove.
 pub fn keep(
     file: &[u8],
     plan: &[usize; PLAN],
@@ -53,29 +110,16 @@ pub fn keep(
     let i = state.goal;
     let at = state.at;
     match word_in(file, i, KIND) {
-        CONSTRUCT => {
-            let made = construct(
-                file,
-                plan,
-                i,
-                at,
-                heap,
-                &mut cells[..],
-                &mut regions[..],
-                &mut frames[..],
-            );
-            let Made::At(cell, left) = made else {
-                return Kept::Lacks(Stop::Cells);
-            };
-            Kept::Left(left)
-        }
-        CREATE => {
-            let made = make_region(file, i, at, heap, &mut regions[..], &mut frames[..]);
-            let Made::At(place, left) = made else {
-                return Kept::Lacks(Stop::Places);
-            };
-            Kept::Left(left)
-        }
+        CONSTRUCT => construct_step(
+            file,
+            plan,
+            state,
+            heap,
+            &mut cells[..],
+            &mut regions[..],
+            &mut frames[..],
+        ),
+        CREATE => create_step(file, plan, state, heap, &mut regions[..], &mut frames[..]),
         _ => Kept::Left(drop_region(
             file,
             i,

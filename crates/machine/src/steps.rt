@@ -33,7 +33,7 @@ ghost use lib.ListN.{length};
 ghost use Rattle.language.specs.File.{word, recordCount};
 ghost use mathlib.Core.Bool.{false};
 ghost use Rattle.chains.specs.Formed.{Formed};
-ghost use Rattle.chains.specs.Shapes.{IsCall, IsPrint};
+ghost use Rattle.chains.specs.Shapes.{IsCall, IsIf, IsPrint, IsSwitch};
 ghost use Rattle.plans.specs.Plan.{tablesIn};
 ghost use Rattle.machine.specs.Words.{Narrow, Placed, Changes, onwardTo, Goes};
 
@@ -115,6 +115,41 @@ fn print_step(
     })
 }
 
+// A switch.
+fn switch_step(
+    file: &[u8],
+    plan: &[usize; PLAN],
+    state: State,
+    cells: &[u32],
+    frames: &mut [u32],
+) -> Step
+    requires { ⌜ Formed (now file) ⌝ }
+    requires { ⌜ (state .goal < recordCount (now file)) × IsSwitch (now file) (state .goal) × Placed state (length (now frames)) ⌝ }
+    ensures { λ r. ⌜ ((images table ps : List ℕ) → Goes (now (file .entry)) (tablesIn (now (file .entry)) (now (plan .entry)) images table)
+        state (now (cells .entry)) (now (frames .entry)) ps r (now (frames .exit)) ps) ⌝ }
+{
+    let i = state.goal;
+    let at = state.at;
+    let j = switch_arm(file, i, at, cells, &mut frames[..]);
+    Step::Went(onward(
+        state,
+        onto(word_in(file, j, ARM_GOALS), successor(file, plan, i)),
+    ))
+}
+
+// An if.
+fn if_step(file: &[u8], plan: &[usize; PLAN], state: State, frames: &[u32]) -> Step
+    requires { ⌜ Formed (now file) ⌝ }
+    requires { ⌜ (state .goal < recordCount (now file)) × IsIf (now file) (state .goal) × Placed state (length (now frames)) ⌝ }
+    ensures { λ r. ⌜ ((images table m ps : List ℕ) → Goes (now (file .entry)) (tablesIn (now (file .entry)) (now (plan .entry)) images table)
+        state m (now (frames .entry)) ps r (now (frames .entry)) ps) ⌝ }
+{
+    let i = state.goal;
+    let at = state.at;
+    let part = part_of(file, i, at, frames);
+    Step::Went(onward(state, onto(part, successor(file, plan, i))))
+}
+
 // The goal at record state.goal, one that leaves cells and regions alone.
 pub fn go(
     file: &[u8],
@@ -148,17 +183,8 @@ pub fn go(
             assign(file, i, at, &mut frames[..]);
             Step::Went(onward(state, successor(file, plan, i)))
         }
-        SWITCH => {
-            let j = switch_arm(file, i, at, cells, &mut frames[..]);
-            Step::Went(onward(
-                state,
-                onto(word_in(file, j, ARM_GOALS), successor(file, plan, i)),
-            ))
-        }
-        IF => {
-            let part = part_of(file, i, at, &frames[..]);
-            Step::Went(onward(state, onto(part, successor(file, plan, i))))
-        }
+        SWITCH => switch_step(file, plan, state, cells, &mut frames[..]),
+        IF => if_step(file, plan, state, &frames[..]),
         CALL => call_step(file, plan, images, table, state, &mut frames[..]),
         PRINT => print_step(file, plan, state, &frames[..], &mut prints[..]),
         _ => Step::Went(state),

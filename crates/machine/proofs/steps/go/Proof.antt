@@ -1,8 +1,7 @@
 use mathlib.Core.Path.{sym, _∙_}
 use Rattle.frames.specs.Strays.{whole}
 use Rattle.machine.specs.Calls.{successor-as}
-use Rattle.machine.specs.Goals.{onto-as}
-use Rattle.machine.specs.Steps.{goes-same, literal-goes, sum-goes, assign-goes, switch-goes, if-goes, else-goes}
+use Rattle.machine.specs.Steps.{goes-same, literal-goes, sum-goes, assign-goes, else-goes}
 use borrow.Author.Needs.{needs}
 use Rattle.machine.proofs.steps.go.Statement.{statement}
 use Rattle.machine.proofs.steps.go.Tie as tie
@@ -10,13 +9,12 @@ use Rattle.machine.proofs.steps.go.Reads as reads
 use Rattle.machine.proofs.steps.go.Lts as lts
 use Rattle.machine.proofs.goals.assign.Reads as assign-reads
 use Rattle.machine.proofs.goals.literal.Reads as literal-reads
-use Rattle.machine.proofs.goals.onto.Reads as onto-reads
-use Rattle.machine.proofs.goals.part_of.Reads as part-of-reads
 use Rattle.machine.proofs.goals.successor.Reads as successor-reads
 use Rattle.machine.proofs.goals.sum.Reads as sum-reads
-use Rattle.machine.proofs.places.switch_arm.Reads as switch-arm-reads
 use Rattle.machine.proofs.steps.call_step.Reads as call-step-reads
 use Rattle.machine.proofs.steps.onward.Reads as onward-reads
+use Rattle.machine.proofs.steps.switch_step.Reads as switch-step-reads
+use Rattle.machine.proofs.steps.if_step.Reads as if-step-reads
 use Rattle.machine.proofs.steps.print_step.Reads as print-step-reads
 use Rattle.records.proofs.word_in.Reads as word-in-reads
 
@@ -60,41 +58,11 @@ successor-requires-3 c κs = let w = whole (c .before .before .before .before .b
 onward-requires-3 : tie.Need-onward-requires-3
 onward-requires-3 c κs = search needs
 
--- src/steps.rt:148:17
-switch-arm-requires : tie.Need-switch-arm-requires
-switch-arm-requires c κs = (c .before .before .before .before .before .before .before .before .before .pre .0, (c .before .before .before .before .before .before .before .before .before .pre .1 .1 .0 .0, (sym (c .before .before .word-in .ensures .0) ∙ c .before .match .keys4, c .before .before .before .before .before .before .before .before .before .pre .1 .1 .0 .1 .fits)))
+switch-step-requires : tie.Need-switch-step-requires
+switch-step-requires c κs = (c .before .before .before .before .before .before .before .before .before .pre .0, (c .before .before .before .before .before .before .before .before .before .pre .1 .1 .0 .0, sym (c .before .before .word-in .ensures .0) ∙ c .before .match .keys4, c .before .before .before .before .before .before .before .before .before .pre .1 .1 .0 .1))
 
--- src/steps.rt:149:43
-word-in-requires-2 : tie.Need-word-in-requires-2
-word-in-requires-2 c κs = let w = whole (c .before .before .before .before .before .before .before .before .before .before .before .before .pre .0) _ (c .before .before .switch-arm .ensures .1 .0) in search needs
-
--- src/steps.rt:149:72
-successor-requires-4 : tie.Need-successor-requires-4
-successor-requires-4 c κs = let w = whole (c .before .before .before .before .before .before .before .before .before .before .before .before .before .pre .0) (c .before .before .before .before .before .before .before .before .before .before .before .before .before .args .state .goal) (c .before .before .before .before .before .before .before .before .before .before .before .before .before .pre .1 .1 .0 .0) in search needs
-
--- src/steps.rt:149:38
-onto-requires : tie.Need-onto-requires
-onto-requires c κs = search needs
-
--- src/steps.rt:149:24
-onward-requires-4 : tie.Need-onward-requires-4
-onward-requires-4 c κs = search needs
-
--- src/steps.rt:152:17
-part-of-requires : tie.Need-part-of-requires
-part-of-requires c κs = let w = whole (c .before .before .before .before .before .before .before .before .before .pre .0) (c .before .before .before .before .before .before .before .before .before .args .state .goal) (c .before .before .before .before .before .before .before .before .before .pre .1 .1 .0 .0) in search needs
-
--- src/steps.rt:153:49
-successor-requires-5 : tie.Need-successor-requires-5
-successor-requires-5 c κs = let w = whole (c .before .before .before .before .before .before .before .before .before .before .pre .0) (c .before .before .before .before .before .before .before .before .before .before .args .state .goal) (c .before .before .before .before .before .before .before .before .before .before .pre .1 .1 .0 .0) in search needs
-
--- src/steps.rt:153:38
-onto-requires-2 : tie.Need-onto-requires-2
-onto-requires-2 c κs = search needs
-
--- src/steps.rt:153:24
-onward-requires-5 : tie.Need-onward-requires-5
-onward-requires-5 c κs = search needs
+if-step-requires : tie.Need-if-step-requires
+if-step-requires c κs = (c .before .before .before .before .before .before .before .before .before .pre .0, (c .before .before .before .before .before .before .before .before .before .pre .1 .1 .0 .0, sym (c .before .before .word-in .ensures .0) ∙ c .before .match .keys5, c .before .before .before .before .before .before .before .before .before .pre .1 .1 .0 .1))
 
 -- src/steps.rt:155:17
 call-step-requires : tie.Need-call-step-requires
@@ -134,9 +102,7 @@ same-length-4 c = search needs
 
 -- src/steps.rt:115:1
 returns-4 : tie.Need-returns-4
-returns-4 c =
-    goes-same _ _ _ _ _ _ _ _ _ _ (c .onward4 .ensures)
-    (switch-goes _ _ _ _ _ _ (c .before .before .before .before .before .before .before .before .before .before .before .before .before .before .before .before .pre .1 .1 .0 .1) _ _ (c .before .before .before .before .before .before .before .before .before .word-in .ensures .0) (successor-as _ _ _ _ _ _ (c .before .before .successor4 .ensures .0)) _ _ _ (c .before .before .before .before .before .before .before .before .match .keys4) (c .before .before .before .before .before .before .switch-arm .ensures .0) (c .before .before .before .before .before .before .switch-arm .ensures .1 .1) (onto-as _ _ _ _ (c .before .onto .ensures) (c .before .before .before .word-in2 .ensures .0)))
+returns-4 c = c .before .before .switch-step .ensures _ _ _
 
 -- src/steps.rt:115:1
 same-length-5 : tie.Need-same-length-5
@@ -144,9 +110,7 @@ same-length-5 c = search needs
 
 -- src/steps.rt:115:1
 returns-5 : tie.Need-returns-5
-returns-5 c =
-    goes-same _ _ _ _ _ _ _ _ _ _ (c .onward5 .ensures)
-    (if-goes _ _ _ _ _ _ (c .before .before .before .before .before .before .before .before .before .before .before .before .before .pre .1 .1 .0 .1) _ _ (c .before .before .before .before .before .before .word-in .ensures .0) (successor-as _ _ _ _ _ _ (c .before .before .successor5 .ensures .0)) _ _ (c .before .before .before .before .before .match .keys5) (c .before .before .before .part-of .ensures) (c .before .onto2 .ensures))
+returns-5 c = c .if-step .ensures _ _ _ _
 
 -- src/steps.rt:115:1
 same-length-6 : tie.Need-same-length-6
@@ -188,15 +152,8 @@ go-spec =
     assign-requires
     successor-requires-3
     onward-requires-3
-    switch-arm-requires
-    word-in-requires-2
-    successor-requires-4
-    onto-requires
-    onward-requires-4
-    part-of-requires
-    successor-requires-5
-    onto-requires-2
-    onward-requires-5
+    switch-step-requires
+    if-step-requires
     call-step-requires
     print-step-requires
     same-length

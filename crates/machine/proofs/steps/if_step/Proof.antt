@@ -1,0 +1,27 @@
+use mathlib.Core.Path.{refl}
+use Rattle.machine.specs.Calls.{successor-as}
+use Rattle.machine.specs.Steps.{goes-same, if-goes}
+use Rattle.frames.specs.Strays.{whole}
+use borrow.Author.Needs.{needs}
+use Rattle.machine.proofs.steps.if_step.Statement.{statement}
+use Rattle.machine.proofs.steps.if_step.Tie as tie
+
+part-of-requires : tie.Need-part-of-requires
+part-of-requires c κs = let w = whole (c .before .before .pre .0) (c .before .before .args .state .goal) (c .before .before .pre .1 .0) in search needs
+
+successor-requires : tie.Need-successor-requires
+successor-requires c κs = let w = whole (c .before .before .before .pre .0) (c .before .before .before .args .state .goal) (c .before .before .before .pre .1 .0) in search needs
+
+onto-requires : tie.Need-onto-requires
+onto-requires c κs = search needs
+
+onward-requires : tie.Need-onward-requires
+onward-requires c κs = search needs
+
+returns : tie.Need-returns
+returns c =
+    λ images table m ps. goes-same _ _ _ _ _ _ _ _ _ _ (c .onward .ensures)
+    (if-goes _ _ _ _ _ _ (c .before .before .before .before .before .before .pre .1 .2) _ _ refl (successor-as _ _ _ _ _ _ (c .before .before .successor .ensures .0)) _ _ (c .before .before .before .before .before .before .pre .1 .1) (c .before .before .before .part-of .ensures) (c .before .onto .ensures))
+
+pub if-step-spec : {M : Type 1} → statement M
+if-step-spec = tie.close (tie.spec part-of-requires successor-requires onto-requires onward-requires returns)
