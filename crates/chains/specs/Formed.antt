@@ -12,6 +12,7 @@
 --   the end, i ≡ 0: `variables-none` and its like, below; along the procedures: module Turns.
 use Prim.Native.Nat.{ℕ, zero, suc, _-_, _*_, _≤_, _<_}
 use native.Mathlib.Omega.{arith}
+use native.Mathlib.Decide.{decLt}
 use mathlib.Core.Path.{_≡_, refl, sym, _∙_}
 use mathlib.Core.List.{List, []}
 use mathlib.Core.Bool.{true}
@@ -23,6 +24,7 @@ use Rattle.language.specs.Format.{kindWord, headerProcedures, headerTypes, reco
 use Rattle.language.specs.File.{Chain, types, procedures, row, kindOf, word, recordCount, headerOk, formOk}
 use Rattle.language.specs.Program.{Functor, Variable, Edge, Region, print, Goals, done, _then_, Goal, step, Arms, noArms, Procedure}
 use Rattle.language.specs.Answers.{program}
+use Rattle.records.specs.Words.{word-past}
 use Rattle.records.specs.Verdicts.{formVerdict, form-in}
 use Rattle.layout.specs.Passing.{Starts, Leads}
 use Rattle.layout.specs.Files.{file-length, count-range, types-lead, procedures-lead}
@@ -46,6 +48,12 @@ pub counted : {f : List ℕ} → Formed f → Counted f
 counted {f} F =
     let r = count-range f (F .header) (F .form) in
     record { some = r .0; most = r .1; bytes = file-length f (F .header) (F .form) }
+
+-- a word that is not 0 is one of a record that the file has
+pub word-within : {f : List ℕ} → Formed f → (i k : ℕ) → 0 < word f i k → i < recordCount f
+word-within {f} F i k p =
+    let n = counted F in
+    elim (decLt i (recordCount f)) [ yes q ↦ q | no q ↦ absurd (omega (arith, word-past f i k (omega arith))) ]
 
 -- ---- what stands in the chain at record i
 module _ (f : List ℕ) (i : ℕ) where

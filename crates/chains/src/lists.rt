@@ -1,6 +1,6 @@
 // The records of a chain: listed in a table, and counted.
+use crate::words::word;
 use language::format::NEXT;
-use records::word;
 ghost use mathlib.Core.Path.{_≡_};
 ghost use Prim.Native.Nat.{_+_, _<_};
 ghost use lib.ListN.{length, set, replicate};

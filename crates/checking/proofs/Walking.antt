@@ -12,11 +12,11 @@ use Rattle.language.specs.File.{goals, arms, word}
 use Rattle.language.specs.Program.{four, argumentsOf, Signature, Program, _then_, Goals, Goal, step, signatureOf}
 use Rattle.language.specs.Checking.{soundGiven}
 use Rattle.language.specs.Answers.{program}
-use Rattle.chains.specs.Formed.{Formed, Stands, Onward, ahead, goalsAt, goalAt, goals-none}
+use Rattle.chains.specs.Formed.{Formed, Stands, Onward, ahead, goalsAt, goalAt}
 use Rattle.chains.specs.Is.{goals-step}
 use Rattle.chains.specs.Shapes.{IsSwitch, IsIf, goal-here, step-here}
-use Rattle.values.specs.Walk.{outcome, goesOn, Walker, walkGoals, chain-end, chain-stop, chain-next, step-goes}
-use Rattle.values.specs.Along.{GoalsWalked, GoalWalked, ArmsWalked, switch-stops, switch-walked, if-unread, if-unread-2, if-then-stops, if-else-stops, if-walked, arms-none-walked, arm-stops, arm-last, arm-rest-stops, arms-walked}
+use Rattle.values.specs.Walk.{outcome, goesOn, Walker, walkGoals, chain-stop, chain-next, step-goes}
+use Rattle.values.specs.Along.{GoalsWalked, GoalWalked, ArmsWalked, none-walked, switch-stops, switch-walked, if-unread, if-unread-2, if-then-stops, if-else-stops, if-walked, arms-none-walked, arm-stops, arm-last, arm-rest-stops, arms-walked}
 use Rattle.tables.specs.Rows.{givesIn}
 use Rattle.tables.specs.Filled.{StepAt}
 use Rattle.checking.specs.Checker.{State, carrying, checker}
@@ -41,9 +41,13 @@ pub record Walking (f rows own : List ℕ) (start : ℕ) (c₀ c : List ℕ) (i 
   pub rest : (o : ℕ → ℕ) (q : ℕ) → Ready f rows own o q → Belongs o q start
       → Belongs o q i × (walkGoals (walker f q) (goalsAt f i) (state c) ≡ walkGoals (walker f q) (goalsAt f start) (state c₀))
 
+-- no goals
+pub none-checked : (f rows own : List ℕ) {i : ℕ} (c : List ℕ) → i ≡ 0 → GoalsChecked f rows own i c true c
+none-checked f rows own c z o q y p = none-walked (walker f q) f (state c) z
+
 module _ {f rows own : List ℕ} {start : ℕ} {c₀ c : List ℕ} {i : ℕ} (F : Formed f) (w : Walking f rows own start c₀ c i) where
   pub walk-last : i ≡ 0 → GoalsChecked f rows own start c₀ true c
-  walk-last z o q y p = chain-end (walker f q) (state c) (goals-none f z) ∙ w .rest o q y p .1
+  walk-last z o q y p = none-walked (walker f q) f (state c) z ∙ w .rest o q y p .1
 
   module _ (z : i ≡ 0 → ⊥) where
     here : goalsAt f i ≡ goalAt f i then goalsAt f (word f i 1)

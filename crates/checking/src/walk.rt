@@ -5,6 +5,7 @@ use crate::carried::join;
 use crate::carried::sound_in;
 use crate::step::enter;
 use crate::step::step;
+use chains::word;
 use language::format::ARM;
 use language::format::ARM_GOALS;
 use language::format::GOAL_X;
@@ -17,7 +18,6 @@ use language::format::KIND;
 use language::format::NEXT;
 use language::format::SWITCH;
 use language::format::SWITCH_ARMS;
-use records::word;
 use tables::ROWS;
 use values::is_step;
 ghost use mathlib.Core.Path.{_≡_};
@@ -102,6 +102,9 @@ fn branches(file: &[u8], rows: &[u64; ROWS], own: &[u64], carried: &mut [u64; 2]
     let s = sound_in(carried);
     carry(carried, held, sound);
     let no = word(file, i, IF_ELSE);
+    if no == 0 {
+        return join(h, s, carried);
+    }
     if !goals(file, rows, own, carried, no) {
         return false;
     }

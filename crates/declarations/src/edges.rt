@@ -1,11 +1,11 @@
 // The edges of a region against the places of its type, functor by functor and position by position.
 use crate::Rest;
 use crate::names::is_region_of;
+use chains::word;
 use language::format::FUNCTOR_ARITY;
 use language::format::NEXT;
 use records::Record;
 use records::record_at;
-use records::word;
 ghost use mathlib.Core.Path.{_≡_};
 ghost use mathlib.Core.List.{[], _∷_};
 ghost use Rattle.language.specs.File.{functors, edges};

@@ -1,4 +1,5 @@
 // The procedure that each record belongs to, in one pass: a record hands its entry on to the records that it refers to, which stand behind it.
+use chains::record_count;
 use language::format;
 use records::word;
 ghost use mathlib.Core.Path.{_≡_};
@@ -15,7 +16,7 @@ pub fn list_owners(file: &[u8], owners: &mut [u16])
     requires { ⌜ recordCount (now file) ≤ length (now owners) ⌝ }
     ensures { λ _. ⌜ now (owners .exit) ≡ ownersOf (now (file .entry)) ++ drop (recordCount (now (file .entry))) (now (owners .entry)) ⌝ }
 {
-    let n = word(file, 0, format::HEADER_COUNT);
+    let n = record_count(file);
     clear(owners, n);
     let mut i = 0;
     while i < n {

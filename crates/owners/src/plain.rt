@@ -1,4 +1,5 @@
 // Number 6 as a loop over the records.
+use chains::record_count;
 use language::format;
 use records::word;
 ghost use mathlib.Core.Path.{_≡_};
@@ -11,7 +12,7 @@ pub fn is_unannotated(file: &[u8]) -> bool
     requires { ⌜ Formed (now file) ⌝ }
     ensures { λ r. ⌜ r ≡ unannotated (program (now (file .entry))) ⌝ }
 {
-    let n = word(file, 0, format::HEADER_COUNT);
+    let n = record_count(file);
     let mut i = 1;
     while i < n {
         let kind = word(file, i, format::KIND);

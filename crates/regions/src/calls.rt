@@ -1,10 +1,10 @@
 // The mapping of a call.
 use crate::pairs::map_region;
+use chains::word;
 use language::format::ARGUMENT_VARIABLE;
 use language::format::NEXT;
 use language::format::VARIABLE_MODE;
 use language::format::VARIABLE_REGION;
-use records::word;
 use tables::FIRST;
 use tables::home;
 use tables::word_at;

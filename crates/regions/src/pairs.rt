@@ -1,8 +1,8 @@
 // The call's mapping, pair by pair: a region of the callee gets a region of the caller for its image, and so on along equal edges.
 use chains::entry;
+use chains::word;
 use language::format::EDGE_TARGET;
 use language::format::NEXT;
-use records::word;
 use tables::edges;
 ghost use mathlib.Core.Path.{_≡_};
 ghost use mathlib.Core.Bool.{true, false};

@@ -6,6 +6,7 @@ use crate::images::image_effect;
 use crate::repeats::owner_of;
 use crate::repeats::repeats;
 use crate::single::record_ok;
+use chains::record_count;
 use language::format;
 use records::blank::blank_places;
 use records::word;
@@ -173,7 +174,7 @@ pub fn regions_agree(file: &[u8], table: &[u64], owners: &[u16], rows: &mut [u64
     ensures { λ b. ⌜ b ≡ regionsOk (program (now (file .entry))) ⌝ }
     ensures { λ b. ⌜ Passed (now (file .entry)) (now (rows .entry)) b (now (rows .exit)) ⌝ }
 {
-    let n = word(file, 0, format::HEADER_COUNT);
+    let n = record_count(file);
     let mut last = 0;
     let mut i = 1;
     while i < n {

@@ -1,6 +1,6 @@
 // Calls that repeat one another.
+use chains::word;
 use language::format;
-use records::word;
 use tables::home;
 ghost use mathlib.Core.Path.{_≡_};
 ghost use mathlib.Core.Bool.{true};
@@ -46,15 +46,15 @@ pub fn owner_of(owners: &[u16], i: usize) -> usize
     if i < owners.len() { wide(owners[i]) } else { 0 }
 }
 
-// Whether records j and i are calls of one procedure from one procedure with arguments in the same regions, by its window.
+// Whether records j and i are calls of one procedure from one procedure with arguments in the same regions, by its window. They may be any numbers.
 pub fn repeats(file: &[u8], own: &[u64], owners: &[u16], j: usize, i: usize) -> bool
     requires { ⌜ Formed (now file) ⌝ }
     ensures { λ b. ⌜ (b ≡ true → Repeats (now (file .entry)) (now (own .entry)) (now (owners .entry)) j i) ⌝ }
 {
-    if word(file, i, format::KIND) != format::CALL {
+    if records::word(file, i, format::KIND) != format::CALL {
         return false;
     }
-    if word(file, j, format::KIND) != format::CALL {
+    if records::word(file, j, format::KIND) != format::CALL {
         return false;
     }
     if owner_of(owners, i) != owner_of(owners, j) {

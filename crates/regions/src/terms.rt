@@ -1,16 +1,16 @@
 // The arguments of a construct or an arm against the targets of their edges.
+use chains::word;
 use language::format::EDGE_FUNCTOR;
 use language::format::EDGE_POSITION;
 use language::format::EDGE_TARGET;
 use language::format::NEXT;
 use language::format::TERM_ARGUMENTS;
 use language::format::TERM_FUNCTOR;
-use records::word;
 use tables::home;
 ghost use mathlib.Core.Path.{_≡_};
-ghost use Prim.Native.Nat.{ℕ, _≤_};
+ghost use Prim.Native.Nat.{ℕ, _≤_, _<_};
 ghost use Rattle.language.specs.Format;
-ghost use Rattle.language.specs.File.{edges};
+ghost use Rattle.language.specs.File.{edges, recordCount};
 ghost use Rattle.language.specs.Regions.{targetFor};
 ghost use Rattle.chains.specs.Formed.{Formed, Stands, edgesAt};
 ghost use Rattle.regions.specs.Terms.{argumentsHere, wordsFrom, termIn};
@@ -53,6 +53,8 @@ fn edges_for(file: &[u8], start: usize, f: usize) -> usize
 
 // How many arguments the construct or arm at record i has: a zero at the end is none.
 fn count_arguments(file: &[u8], i: usize) -> usize
+    requires { ⌜ Formed (now file) ⌝ }
+    requires { ⌜ i < recordCount (now file) ⌝ }
     ensures { λ n. ⌜ n ≤ 4 ⌝ }
     ensures { λ n. ⌜ argumentsHere (now (file .entry)) i ≡ wordsFrom (now (file .entry)) i Format.termArguments n ⌝ }
 {
@@ -74,7 +76,7 @@ fn count_arguments(file: &[u8], i: usize) -> usize
 // Whether the arguments at record i, of a construct or an arm, are in the targets of their edges, which are in the chain at record start.
 pub fn in_targets(file: &[u8], own: &[u64], start: usize, i: usize) -> bool
     requires { ⌜ Formed (now file) ⌝ }
-    requires { ⌜ Stands (now file) edges start ⌝ }
+    requires { ⌜ Stands (now file) edges start × (i < recordCount (now file)) ⌝ }
     ensures { λ b. ⌜ b ≡ termIn (now (file .entry)) (now (own .entry)) start i ⌝ }
 {
     let functor = word(file, i, TERM_FUNCTOR);

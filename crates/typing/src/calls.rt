@@ -1,5 +1,6 @@
 // A call's arguments against the callee's in and out variables, in chain order.
 use crate::parameters::parameter;
+use chains::word;
 use declarations::has_type;
 use declarations::listed;
 use declarations::word_of;
@@ -7,7 +8,6 @@ use language::format::ARGUMENT_VARIABLE;
 use language::format::NEXT;
 use language::format::PROCEDURE_VARIABLES;
 use language::format::VARIABLE_TYPE;
-use records::word;
 ghost use Rattle.language.specs.File.{variables, arguments};
 ghost use Rattle.chains.specs.Formed.{Formed, Stands, variablesAt};
 ghost use Rattle.typing.specs.Parameters.{ParameterTable};

@@ -1,5 +1,5 @@
 // A table by records: for each variable the first in or out variable from there on, so that a call looks at no local one.
-use language::format::HEADER_COUNT;
+use chains::record_count;
 use language::format::KIND;
 use language::format::NEXT;
 use language::format::VARIABLE;
@@ -46,7 +46,7 @@ pub fn list_parameters(file: &[u8], table: &mut [u16])
     ensures { λ _. ⌜ ParameterTable (now (file .entry)) (now (table .exit)) ⌝ }
 {
     table[0] = 0;
-    let mut i = word(file, 0, HEADER_COUNT);
+    let mut i = record_count(file);
     while 1 < i {
         i -= 1;
         if word(file, i, KIND) == VARIABLE {

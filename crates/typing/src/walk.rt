@@ -4,6 +4,7 @@ use crate::functors::FUNCTOR_PLACES;
 use crate::functors::functor_at;
 use crate::steps::compared_ok;
 use crate::steps::step_ok;
+use chains::word;
 use declarations::listed;
 use declarations::type_of;
 use language::format::ARM_GOALS;
@@ -18,7 +19,6 @@ use language::format::NEXT;
 use language::format::PLACES;
 use language::format::SWITCH;
 use language::format::SWITCH_ARMS;
-use records::word;
 ghost use mathlib.Core.Path.{_≡_};
 ghost use Rattle.language.specs.File.{functors, goals, arms};
 ghost use Rattle.chains.specs.Formed.{Stands};
@@ -92,6 +92,9 @@ fn branches(
         return false;
     }
     let second = word(file, i, IF_ELSE);
+    if second == 0 {
+        return true;
+    }
     goals(file, places, called, parameters, variables, regions, second)
 }
 

@@ -63,9 +63,13 @@ module _ {A : Type 0} (W : Walk.Walker A) (f : List ℕ) where
   pub along-first : {i : ℕ} (a : A) → Stands f goals i → Along i a i a
   along-first a s = record { stands = s; near = omega arith; same = refl }
 
+  -- no goals
+  pub none-walked : {i : ℕ} (a : A) → i ≡ 0 → GoalsWalked i a true a
+  none-walked a z = Walk.chain-end W a (goals-none f z)
+
   module _ (F : Formed f) {start : ℕ} {a₀ : A} {i : ℕ} {a : A} (h : Along start a₀ i a) where
     pub along-last : i ≡ 0 → GoalsWalked start a₀ true a
-    along-last z = Walk.chain-end W a (goals-none f z) ∙ h .same
+    along-last z = none-walked a z ∙ h .same
 
     module _ (z : i ≡ 0 → ⊥) where
       module _ (b : A) {r : Bool} (m : GoalWalked i a r b) where

@@ -1,7 +1,7 @@
 // The entry's variables.
+use chains::word;
 use language::format::NEXT;
 use language::format::VARIABLE_MODE;
-use records::word;
 ghost use mathlib.Core.Path.{_≡_};
 ghost use Rattle.language.specs.File.{variables};
 ghost use Rattle.language.specs.Lists.{isNone};

@@ -1,4 +1,5 @@
 // Number 4: which variables have a value, on every path and on some path.
+mod calls;
 mod carried;
 mod declared;
 mod rows;

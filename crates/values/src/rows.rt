@@ -1,19 +1,19 @@
 // What every step and every arm reads and gives, worked out once, into the rows.
+use crate::calls::call_access;
 use crate::steps::arm_access;
 use crate::steps::assign_access;
-use crate::steps::call_access;
 use crate::steps::construct_access;
 use crate::steps::literal_access;
 use crate::steps::no_access;
 use crate::steps::print_access;
 use crate::steps::sum_access;
 use chains::chain_length;
+use chains::record_count;
 use language::format::ARM;
 use language::format::ASSIGN;
 use language::format::CALL;
 use language::format::CONSTRUCT;
 use language::format::CREATE;
-use language::format::HEADER_COUNT;
 use language::format::HEADER_PROCEDURES;
 use language::format::KIND;
 use language::format::LITERAL;
@@ -44,7 +44,7 @@ pub fn list_accesses(file: &[u8], table: &[u64; TABLE], rows: &mut [u64; ROWS])
     ensures { λ _. ⌜ Kept (now (file .entry)) (now (rows .entry)) (now (rows .exit)) ⌝ }
 {
     let procedures = chain_length(file, word(file, 0, HEADER_PROCEDURES));
-    let count = word(file, 0, HEADER_COUNT);
+    let count = record_count(file);
     let mut i = 1;
     while i < count {
         list_access(file, table, procedures, i, rows);

@@ -5,6 +5,7 @@ use crate::carried::every_in;
 use crate::carried::join;
 use crate::carried::some_in;
 use crate::rows::is_step;
+use chains::word;
 use language::format::ARM;
 use language::format::ARM_GOALS;
 use language::format::GOAL_X;
@@ -17,7 +18,6 @@ use language::format::KIND;
 use language::format::NEXT;
 use language::format::SWITCH;
 use language::format::SWITCH_ARMS;
-use records::word;
 use tables::ROWS;
 ghost use mathlib.Core.Path.{_≡_};
 ghost use Rattle.language.specs.File.{goals, arms, word};
@@ -99,6 +99,10 @@ fn branches(file: &[u8], rows: &[u64; ROWS], carried: &mut [u64; 2], i: usize) -
     let s = some_in(carried);
     carry(carried, every, some);
     let second = word(file, i, IF_ELSE);
+    if second == 0 {
+        join(e, s, carried);
+        return true;
+    }
     if !goals(file, rows, carried, second) {
         return false;
     }

@@ -1,8 +1,8 @@
 // Reach along edges: a region's direct targets, and the regions that it leads to by way of others.
+use chains::word;
 use language::format::EDGE_TARGET;
 use language::format::NEXT;
 use language::format::PLACES;
-use records::word;
 use sets::Set;
 ghost use mathlib.Core.Path.{_≡_};
 ghost use Prim.Native.Nat.{_<_};

@@ -1,8 +1,8 @@
 // The sets that a procedure's declarations say: its in and out variables, its born and dead regions.
+use chains::word;
 use language::format::NEXT;
 use language::format::REGION_CLASS;
 use language::format::VARIABLE_MODE;
-use records::word;
 use sets::Set;
 ghost use mathlib.Core.Path.{_≡_};
 ghost use Prim.Native.Nat.{_<_};

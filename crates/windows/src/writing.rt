@@ -1,10 +1,10 @@
 // Writing the parts of a window: its variables and regions, and runs of words.
 use crate::reaching::targets_of;
+use chains::word;
 use language::format::NEXT;
 use language::format::PLACES;
 use language::format::REGION_EDGES;
 use language::format::VARIABLE_REGION;
-use records::word;
 use sets::Set;
 ghost use mathlib.Core.Path.{_≡_};
 ghost use Prim.Native.Nat.{_+_, _*_, _≤_, _<_};

@@ -1,9 +1,10 @@
 -- `rules_ok` meets its contract.
 use borrow.Author.Tests.{not-true, not-false}
 use mathlib.Core.Path.{refl, _∙_}
+use native.Mathlib.Omega.{arith}
 use Rattle.language.specs.Checking.{procedureRules}
 use Rattle.language.specs.Answers.{program}
-use Rattle.chains.specs.Formed.{ahead}
+use Rattle.chains.specs.Formed.{counted, ahead}
 use Rattle.chains.specs.Declared.{procedure-at}
 use Rattle.chains.specs.Is.{procedure-is}
 use Rattle.chains.specs.Turns.{Tests, tests-first, tests-last, tests-stop, tests-next, turn-below}
@@ -19,7 +20,7 @@ abbrev μ-loop : tie.MeasureT-loop
 μ-loop file table rows i₀ q₀ i q = ahead file i
 
 word-requires : tie.Need-word-requires Inv-loop μ-loop
-word-requires c κs = search needs
+word-requires c κs = let F = c .before .pre .0 in (F, (omega arith, counted F .some))
 
 loop-holds : tie.Need-loop-holds Inv-loop μ-loop
 loop-holds c = tests-first _ (c .before .before .pre .0) (c .word .ensures .0)

@@ -3,9 +3,9 @@ use borrow.Author.Tests.{not-true, not-false}
 use native.Mathlib.Omega.{arith}
 use mathlib.Core.Path.{_≡_, refl, sym, _∙_}
 use Rattle.chains.specs.Formed.{ahead}
-use Rattle.chains.specs.Shapes.{to-arms, to-then, to-else, arm-goals, arm-next}
+use Rattle.chains.specs.Shapes.{switch-here, if-here, to-arms, to-then, to-else, arm-goals, arm-next}
 use Rattle.values.specs.Closed.{goal-closed, arm-closed}
-use Rattle.checking.proofs.Walking.{Walking, walk-last, walk-onward, walk-stop, walk-next, step-checked, switch-broken, switch-done, if-broken, if-broken-2, then-broken, else-broken, if-done, arms-none-checked, arm-broken, arm-ended, rest-broken, arm-more}
+use Rattle.checking.proofs.Walking.{Walking, none-checked, walk-last, walk-onward, walk-stop, walk-next, step-checked, switch-broken, switch-done, if-broken, if-broken-2, then-broken, else-broken, if-done, arms-none-checked, arm-broken, arm-ended, rest-broken, arm-more}
 use borrow.Author.Needs.{needs}
 use Prim.Native.Nat.{ℕ, _<_, _+_, _*_}
 use borrow.Fn.Kinds.{In}
@@ -31,7 +31,7 @@ use Rattle.checking.proofs.carried.join.Reads as join-reads
 use Rattle.checking.proofs.carried.sound_in.Reads as sound-in-reads
 use Rattle.checking.proofs.step.enter.Reads as enter-reads
 use Rattle.checking.proofs.step.step.Reads as step-reads
-use Rattle.records.proofs.word.Reads as word-reads
+use Rattle.chains.proofs.word.Reads as word-reads
 use Rattle.sets.proofs.Set.has.Reads as has-reads
 use Rattle.values.proofs.is_step.Reads as is-step-reads
 use Rattle.checking.proofs.walk.+arms+branches+goal+goals+switch.{statement}
@@ -108,7 +108,7 @@ arms-returns : (t : ℕ) → arms-lts.Need-returns (arms-calls t) (arms-at t) ar
 arms-returns t c = arms-none-checked _ _ _ _ _ (c .if1 .taken)
 
 arms-word-requires : (t : ℕ) → arms-lts.Need-word-requires (arms-calls t) (arms-at t) arms.Post
-arms-word-requires t c κs = search needs
+arms-word-requires t c κs = let p = c .before .before .before .pre .1 in (p .0, (omega arith, p .1 .below))
 
 arms-returns-2 : (t : ℕ) → arms-lts.Need-returns-2 (arms-calls t) (arms-at t) arms.Post
 arms-returns-2 t c = let p = c .before .before .before .before .before .pre .1 in arm-closed (p .1) (c .before .before .if1 .left) (c .before .word .ensures .0) (c .if2 .taken)
@@ -123,7 +123,7 @@ arms-enter-requires : (t : ℕ) → arms-lts.Need-enter-requires (arms-calls t) 
 arms-enter-requires t c κs = search needs
 
 arms-word-requires-2 : (t : ℕ) → arms-lts.Need-word-requires-2 (arms-calls t) (arms-at t) arms.Post
-arms-word-requires-2 t c κs = search needs
+arms-word-requires-2 t c κs = let p = c .before .before .before .before .before .before .before .before .before .before .before .pre .1 in (p .0, (omega arith, p .1 .below))
 
 arms-goals-requires : (t : ℕ) → arms-lts.Need-goals-requires (arms-calls t) (arms-at t) arms.Post
 arms-goals-requires t c κs = let a = c .before .before .before .before .before .before .before .before .before .before .before .before .before .pre in let o = arm-goals (a .1 .0) (c .before .before .before .before .before .before .before .before .before .before .if1 .left) (a .1 .1) (c .before .word2 .ensures .0) in (omega (arith, o .falls, a .0), (a .1 .0, o .stands))
@@ -132,7 +132,7 @@ arms-returns-3 : (t : ℕ) → arms-lts.Need-returns-3 (arms-calls t) (arms-at t
 arms-returns-3 t c = let p = c .before .before .before .before .before .before .before .before .before .before .before .before .before .before .before .pre .1 in arm-broken _ _ _ _ (p .0) (p .1) (c .before .before .before .before .before .before .before .before .before .before .before .before .if1 .left) _ (c .before .before .before .before .enter .ensures .0) (c .before .before .before .before .enter .ensures .1) (c .before .before .before .word2 .ensures .0) _ _ (c .before .goals .ensures) _ (not-true _ (c .if3 .taken))
 
 arms-word-requires-3 : (t : ℕ) → arms-lts.Need-word-requires-3 (arms-calls t) (arms-at t) arms.Post
-arms-word-requires-3 t c κs = search needs
+arms-word-requires-3 t c κs = let p = c .before .before .before .before .before .before .before .before .before .before .before .before .before .before .before .pre .1 in (p .0, (omega arith, p .1 .below))
 
 arms-returns-4 : (t : ℕ) → arms-lts.Need-returns-4 (arms-calls t) (arms-at t) arms.Post
 arms-returns-4 t c = let p = c .before .before .before .before .before .before .before .before .before .before .before .before .before .before .before .before .before .pre .1 in arm-ended _ _ _ _ (p .0) (p .1) (c .before .before .before .before .before .before .before .before .before .before .before .before .before .before .if1 .left) _ (c .before .before .before .before .before .before .enter .ensures .0) (c .before .before .before .before .before .before .enter .ensures .1) (c .before .before .before .before .before .word2 .ensures .0) _ _ (c .before .before .before .goals .ensures) (not-false _ (c .before .before .if3 .left)) (c .before .word3 .ensures .0) (c .if4 .taken)
@@ -165,7 +165,7 @@ branches-sound-in-requires : (t : ℕ) → branches-lts.Need-sound-in-requires (
 branches-sound-in-requires t c κs = search needs
 
 branches-word-requires : (t : ℕ) → branches-lts.Need-word-requires (branches-calls t) (branches-at t) branches.Post
-branches-word-requires t c κs = search needs
+branches-word-requires t c κs = let p = c .before .before .before .before .before .before .pre .1 in (p .0, (omega arith, if-here (p .0) refl (p .1) .below))
 
 branches-has-requires : (t : ℕ) → branches-lts.Need-has-requires (branches-calls t) (branches-at t) branches.Post
 branches-has-requires t c κs = search needs
@@ -174,7 +174,7 @@ branches-returns : (t : ℕ) → branches-lts.Need-returns (branches-calls t) (b
 branches-returns t c = let p = c .before .before .before .before .before .before .before .before .before .pre .1 in if-broken _ _ _ (p .0) (p .1) (c .before .before .before .sound-in .ensures) (c .before .before .word .ensures .0) (c .before .has .ensures) _ (not-true _ (c .if1 .taken))
 
 branches-word-requires-2 : (t : ℕ) → branches-lts.Need-word-requires-2 (branches-calls t) (branches-at t) branches.Post
-branches-word-requires-2 t c κs = search needs
+branches-word-requires-2 t c κs = let p = c .before .before .before .before .before .before .before .before .before .pre .1 in (p .0, (omega arith, if-here (p .0) refl (p .1) .below))
 
 branches-has-requires-2 : (t : ℕ) → branches-lts.Need-has-requires-2 (branches-calls t) (branches-at t) branches.Post
 branches-has-requires-2 t c κs = search needs
@@ -183,7 +183,7 @@ branches-returns-2 : (t : ℕ) → branches-lts.Need-returns-2 (branches-calls t
 branches-returns-2 t c = let p = c .before .before .before .before .before .before .before .before .before .before .before .before .pre .1 in if-broken-2 _ _ _ (p .0) (p .1) (c .before .before .before .before .before .before .sound-in .ensures) (c .before .before .before .before .before .word .ensures .0) (c .before .before .before .before .has .ensures) (not-false _ (c .before .before .before .if1 .left)) (c .before .before .word2 .ensures .0) (c .before .has2 .ensures) _ (not-true _ (c .if2 .taken))
 
 branches-word-requires-3 : (t : ℕ) → branches-lts.Need-word-requires-3 (branches-calls t) (branches-at t) branches.Post
-branches-word-requires-3 t c κs = search needs
+branches-word-requires-3 t c κs = let p = c .before .before .before .before .before .before .before .before .before .before .before .before .pre .1 in (p .0, (omega arith, if-here (p .0) refl (p .1) .below))
 
 branches-goals-requires : (t : ℕ) → branches-lts.Need-goals-requires (branches-calls t) (branches-at t) branches.Post
 branches-goals-requires t c κs = let a = c .before .before .before .before .before .before .before .before .before .before .before .before .before .before .pre in let o = to-then (a .1 .0) (a .1 .1) (c .before .word3 .ensures .0) in (omega (arith, o .falls, a .0), (a .1 .0, o .stands))
@@ -201,19 +201,25 @@ branches-carry-requires : (t : ℕ) → branches-lts.Need-carry-requires (branch
 branches-carry-requires t c κs = search needs
 
 branches-word-requires-4 : (t : ℕ) → branches-lts.Need-word-requires-4 (branches-calls t) (branches-at t) branches.Post
-branches-word-requires-4 t c κs = search needs
-
-branches-goals-requires-2 : (t : ℕ) → branches-lts.Need-goals-requires-2 (branches-calls t) (branches-at t) branches.Post
-branches-goals-requires-2 t c κs = let a = c .before .before .before .before .before .before .before .before .before .before .before .before .before .before .before .before .before .before .before .before .before .before .before .before .pre in let o = to-else (a .1 .0) (a .1 .1) (c .before .word4 .ensures .0) in (omega (arith, o .falls, a .0), (a .1 .0, o .stands))
-
-branches-returns-4 : (t : ℕ) → branches-lts.Need-returns-4 (branches-calls t) (branches-at t) branches.Post
-branches-returns-4 t c = let p = c .before .before .before .before .before .before .before .before .before .before .before .before .before .before .before .before .before .before .before .before .before .before .before .before .before .before .pre .1 in else-broken _ _ _ (p .0) (p .1) (c .before .before .before .before .before .before .before .before .before .before .before .before .before .before .before .before .before .before .before .before .sound-in .ensures) (c .before .before .before .before .before .before .before .before .before .before .before .before .before .before .before .before .before .before .before .word .ensures .0) (c .before .before .before .before .before .before .before .before .before .before .before .before .before .before .before .before .before .before .has .ensures) (not-false _ (c .before .before .before .before .before .before .before .before .before .before .before .before .before .before .before .before .before .if1 .left)) (c .before .before .before .before .before .before .before .before .before .before .before .before .before .before .before .before .word2 .ensures .0) (c .before .before .before .before .before .before .before .before .before .before .before .before .before .before .before .has2 .ensures) (not-false _ (c .before .before .before .before .before .before .before .before .before .before .before .before .before .before .if2 .left)) (c .before .before .before .before .before .before .before .before .before .before .before .before .before .word3 .ensures .0) _ _ (c .before .before .before .before .before .before .before .before .before .before .before .goals .ensures) (not-false _ (c .before .before .before .before .before .before .before .before .before .before .if3 .left)) (c .before .before .before .word4 .ensures .0) _ ((c .before .before .before .before .carry .ensures .0) ∙ c .before .before .before .before .before .before .before .before .before .before .before .before .before .before .before .before .before .before .before .before .before .before .held-in .ensures) ((c .before .before .before .before .carry .ensures .1) ∙ c .before .before .before .before .before .before .before .before .before .before .before .before .before .before .before .before .before .before .before .before .sound-in .ensures) _ _ (c .before .goals2 .ensures) _ (not-true _ (c .if4 .taken))
+branches-word-requires-4 t c κs = let p = c .before .before .before .before .before .before .before .before .before .before .before .before .before .before .before .before .before .before .before .before .before .before .pre .1 in (p .0, (omega arith, if-here (p .0) refl (p .1) .below))
 
 branches-join-requires : (t : ℕ) → branches-lts.Need-join-requires (branches-calls t) (branches-at t) branches.Post
 branches-join-requires t c κs = search needs
 
+branches-returns-4 : (t : ℕ) → branches-lts.Need-returns-4 (branches-calls t) (branches-at t) branches.Post
+branches-returns-4 t c = let p = c .before .before .before .before .before .before .before .before .before .before .before .before .before .before .before .before .before .before .before .before .before .before .before .before .before .before .pre .1 in if-done _ _ _ (p .0) (p .1) (c .before .before .before .before .before .before .before .before .before .before .before .before .before .before .before .before .before .before .before .before .sound-in .ensures) (c .before .before .before .before .before .before .before .before .before .before .before .before .before .before .before .before .before .before .before .word .ensures .0) (c .before .before .before .before .before .before .before .before .before .before .before .before .before .before .before .before .before .before .has .ensures) (not-false _ (c .before .before .before .before .before .before .before .before .before .before .before .before .before .before .before .before .before .if1 .left)) (c .before .before .before .before .before .before .before .before .before .before .before .before .before .before .before .before .word2 .ensures .0) (c .before .before .before .before .before .before .before .before .before .before .before .before .before .before .before .has2 .ensures) (not-false _ (c .before .before .before .before .before .before .before .before .before .before .before .before .before .before .if2 .left)) (c .before .before .before .before .before .before .before .before .before .before .before .before .before .word3 .ensures .0) _ _ (c .before .before .before .before .before .before .before .before .before .before .before .goals .ensures) (not-false _ (c .before .before .before .before .before .before .before .before .before .before .if3 .left)) (c .before .before .before .word4 .ensures .0) _ ((c .before .before .before .before .carry .ensures .0) ∙ c .before .before .before .before .before .before .before .before .before .before .before .before .before .before .before .before .before .before .before .before .before .before .held-in .ensures) ((c .before .before .before .before .carry .ensures .1) ∙ c .before .before .before .before .before .before .before .before .before .before .before .before .before .before .before .before .before .before .before .before .sound-in .ensures) _ _ (none-checked _ _ _ _ (c .before .before .if4 .taken)) _ _ refl (c .before .before .before .before .before .before .before .before .held-in2 .ensures) (c .before .before .before .before .before .before .sound-in2 .ensures) (c .join .ensures)
+
+branches-goals-requires-2 : (t : ℕ) → branches-lts.Need-goals-requires-2 (branches-calls t) (branches-at t) branches.Post
+branches-goals-requires-2 t c κs = let a = c .before .before .before .before .before .before .before .before .before .before .before .before .before .before .before .before .before .before .before .before .before .before .before .before .before .pre in let o = to-else (a .1 .0) (a .1 .1) (c .before .before .word4 .ensures .0) in (omega (arith, o .falls, a .0), (a .1 .0, o .stands))
+
 branches-returns-5 : (t : ℕ) → branches-lts.Need-returns-5 (branches-calls t) (branches-at t) branches.Post
-branches-returns-5 t c = let p = c .before .before .before .before .before .before .before .before .before .before .before .before .before .before .before .before .before .before .before .before .before .before .before .before .before .before .before .before .pre .1 in if-done _ _ _ (p .0) (p .1) (c .before .before .before .before .before .before .before .before .before .before .before .before .before .before .before .before .before .before .before .before .before .before .sound-in .ensures) (c .before .before .before .before .before .before .before .before .before .before .before .before .before .before .before .before .before .before .before .before .before .word .ensures .0) (c .before .before .before .before .before .before .before .before .before .before .before .before .before .before .before .before .before .before .before .before .has .ensures) (not-false _ (c .before .before .before .before .before .before .before .before .before .before .before .before .before .before .before .before .before .before .before .if1 .left)) (c .before .before .before .before .before .before .before .before .before .before .before .before .before .before .before .before .before .before .word2 .ensures .0) (c .before .before .before .before .before .before .before .before .before .before .before .before .before .before .before .before .before .has2 .ensures) (not-false _ (c .before .before .before .before .before .before .before .before .before .before .before .before .before .before .before .before .if2 .left)) (c .before .before .before .before .before .before .before .before .before .before .before .before .before .before .before .word3 .ensures .0) _ _ (c .before .before .before .before .before .before .before .before .before .before .before .before .before .goals .ensures) (not-false _ (c .before .before .before .before .before .before .before .before .before .before .before .before .if3 .left)) (c .before .before .before .before .before .word4 .ensures .0) _ ((c .before .before .before .before .before .before .carry .ensures .0) ∙ c .before .before .before .before .before .before .before .before .before .before .before .before .before .before .before .before .before .before .before .before .before .before .before .before .held-in .ensures) ((c .before .before .before .before .before .before .carry .ensures .1) ∙ c .before .before .before .before .before .before .before .before .before .before .before .before .before .before .before .before .before .before .before .before .before .before .sound-in .ensures) _ _ (c .before .before .before .goals2 .ensures) _ _ (not-false _ (c .before .before .if4 .left)) (c .before .before .before .before .before .before .before .before .before .before .held-in2 .ensures) (c .before .before .before .before .before .before .before .before .sound-in2 .ensures) (c .join .ensures)
+branches-returns-5 t c = let p = c .before .before .before .before .before .before .before .before .before .before .before .before .before .before .before .before .before .before .before .before .before .before .before .before .before .before .before .pre .1 in else-broken _ _ _ (p .0) (p .1) (c .before .before .before .before .before .before .before .before .before .before .before .before .before .before .before .before .before .before .before .before .before .sound-in .ensures) (c .before .before .before .before .before .before .before .before .before .before .before .before .before .before .before .before .before .before .before .before .word .ensures .0) (c .before .before .before .before .before .before .before .before .before .before .before .before .before .before .before .before .before .before .before .has .ensures) (not-false _ (c .before .before .before .before .before .before .before .before .before .before .before .before .before .before .before .before .before .before .if1 .left)) (c .before .before .before .before .before .before .before .before .before .before .before .before .before .before .before .before .before .word2 .ensures .0) (c .before .before .before .before .before .before .before .before .before .before .before .before .before .before .before .before .has2 .ensures) (not-false _ (c .before .before .before .before .before .before .before .before .before .before .before .before .before .before .before .if2 .left)) (c .before .before .before .before .before .before .before .before .before .before .before .before .before .before .word3 .ensures .0) _ _ (c .before .before .before .before .before .before .before .before .before .before .before .before .goals .ensures) (not-false _ (c .before .before .before .before .before .before .before .before .before .before .before .if3 .left)) (c .before .before .before .before .word4 .ensures .0) _ ((c .before .before .before .before .before .carry .ensures .0) ∙ c .before .before .before .before .before .before .before .before .before .before .before .before .before .before .before .before .before .before .before .before .before .before .before .held-in .ensures) ((c .before .before .before .before .before .carry .ensures .1) ∙ c .before .before .before .before .before .before .before .before .before .before .before .before .before .before .before .before .before .before .before .before .before .sound-in .ensures) _ _ (c .before .goals2 .ensures) _ (not-true _ (c .if5 .taken))
+
+branches-join-requires-2 : (t : ℕ) → branches-lts.Need-join-requires-2 (branches-calls t) (branches-at t) branches.Post
+branches-join-requires-2 t c κs = search needs
+
+branches-returns-6 : (t : ℕ) → branches-lts.Need-returns-6 (branches-calls t) (branches-at t) branches.Post
+branches-returns-6 t c = let p = c .before .before .before .before .before .before .before .before .before .before .before .before .before .before .before .before .before .before .before .before .before .before .before .before .before .before .before .before .before .pre .1 in if-done _ _ _ (p .0) (p .1) (c .before .before .before .before .before .before .before .before .before .before .before .before .before .before .before .before .before .before .before .before .before .before .before .sound-in .ensures) (c .before .before .before .before .before .before .before .before .before .before .before .before .before .before .before .before .before .before .before .before .before .before .word .ensures .0) (c .before .before .before .before .before .before .before .before .before .before .before .before .before .before .before .before .before .before .before .before .before .has .ensures) (not-false _ (c .before .before .before .before .before .before .before .before .before .before .before .before .before .before .before .before .before .before .before .before .if1 .left)) (c .before .before .before .before .before .before .before .before .before .before .before .before .before .before .before .before .before .before .before .word2 .ensures .0) (c .before .before .before .before .before .before .before .before .before .before .before .before .before .before .before .before .before .before .has2 .ensures) (not-false _ (c .before .before .before .before .before .before .before .before .before .before .before .before .before .before .before .before .before .if2 .left)) (c .before .before .before .before .before .before .before .before .before .before .before .before .before .before .before .before .word3 .ensures .0) _ _ (c .before .before .before .before .before .before .before .before .before .before .before .before .before .before .goals .ensures) (not-false _ (c .before .before .before .before .before .before .before .before .before .before .before .before .before .if3 .left)) (c .before .before .before .before .before .before .word4 .ensures .0) _ ((c .before .before .before .before .before .before .before .carry .ensures .0) ∙ c .before .before .before .before .before .before .before .before .before .before .before .before .before .before .before .before .before .before .before .before .before .before .before .before .before .held-in .ensures) ((c .before .before .before .before .before .before .before .carry .ensures .1) ∙ c .before .before .before .before .before .before .before .before .before .before .before .before .before .before .before .before .before .before .before .before .before .before .before .sound-in .ensures) _ _ (c .before .before .before .goals2 .ensures) _ _ (not-false _ (c .before .before .if5 .left)) (c .before .before .before .before .before .before .before .before .before .before .before .held-in2 .ensures) (c .before .before .before .before .before .before .before .before .before .sound-in2 .ensures) (c .join2 .ensures)
 
 goal-word-requires : (t : ℕ) → goal-lts.Need-word-requires (goal-calls t) (goal-at t) goal.Post
 goal-word-requires t c κs = search needs
@@ -273,7 +279,7 @@ switch-sound-in-requires : (t : ℕ) → switch-lts.Need-sound-in-requires (swit
 switch-sound-in-requires t c κs = search needs
 
 switch-word-requires : (t : ℕ) → switch-lts.Need-word-requires (switch-calls t) (switch-at t) switch.Post
-switch-word-requires t c κs = search needs
+switch-word-requires t c κs = let p = c .before .before .before .before .pre .1 in (p .0, (omega arith, switch-here (p .0) refl (p .1) .below))
 
 switch-has-requires : (t : ℕ) → switch-lts.Need-has-requires (switch-calls t) (switch-at t) switch.Post
 switch-has-requires t c κs = search needs
@@ -282,7 +288,7 @@ switch-returns : (t : ℕ) → switch-lts.Need-returns (switch-calls t) (switch-
 switch-returns t c = let p = c .before .before .before .before .before .before .before .pre .1 in switch-broken _ _ _ (p .0) (p .1) (c .before .before .before .sound-in .ensures) (c .before .before .word .ensures .0) (c .before .has .ensures) _ (not-true _ (c .if1 .taken))
 
 switch-word-requires-2 : (t : ℕ) → switch-lts.Need-word-requires-2 (switch-calls t) (switch-at t) switch.Post
-switch-word-requires-2 t c κs = search needs
+switch-word-requires-2 t c κs = let p = c .before .before .before .before .before .before .before .pre .1 in (p .0, (omega arith, switch-here (p .0) refl (p .1) .below))
 
 switch-arms-requires : (t : ℕ) → switch-lts.Need-arms-requires (switch-calls t) (switch-at t) switch.Post
 switch-arms-requires t c κs = let a = c .before .before .before .before .before .before .before .before .before .pre in let o = to-arms (a .1 .0) (a .1 .1) (c .before .word2 .ensures .0) in (omega (arith, o .falls, a .0), (a .1 .0, o .stands))
@@ -331,10 +337,12 @@ pub +arms+branches+goal+goals+switch-spec : {M : Type 1} → statement M
     (branches-sound-in-requires-2 t)
     (branches-carry-requires t)
     (branches-word-requires-4 t)
-    (branches-goals-requires-2 t)
-    (branches-returns-4 t)
     (branches-join-requires t)
-    (branches-returns-5 t))
+    (branches-returns-4 t)
+    (branches-goals-requires-2 t)
+    (branches-returns-5 t)
+    (branches-join-requires-2 t)
+    (branches-returns-6 t))
     (λ t. goal-lts.spec (goal-calls t)
     (goal-at t)
     goal.Post

@@ -3,7 +3,6 @@ use Prim.Native.Nat.{_-_}
 use mathlib.Core.Path.{_≡_, refl, _∙_}
 use native.Mathlib.Omega.{arith}
 use lib.ListN.{length, drop}
-use Rattle.language.specs.File.{recordCount}
 use Rattle.owners.proofs.Filling.{Passed, first, asks, next, last}
 use borrow.Author.Needs.{needs}
 use Rattle.owners.proofs.pass.list_owners.Statement.{statement}
@@ -15,16 +14,14 @@ Inv-loop file owners₀ n i₀ owners i = Passed file (drop n owners₀) owners 
 abbrev μ-loop : tie.MeasureT-loop
 μ-loop file owners₀ n i₀ owners i = n - i
 
-word-requires : tie.Need-word-requires Inv-loop μ-loop
-word-requires c κs = search needs
+record-count-requires : tie.Need-record-count-requires Inv-loop μ-loop
+record-count-requires c κs = search needs
 
 clear-requires : tie.Need-clear-requires Inv-loop μ-loop
-unfolding recordCount
-clear-requires c κs = omega (arith, c .before .word .ensures .0, c .before .before .before .before .pre .1)
+clear-requires c κs = omega (arith, c .before .record-count .ensures, c .before .before .before .before .pre .1)
 
 loop-holds : tie.Need-loop-holds Inv-loop μ-loop
-unfolding recordCount
-loop-holds c = (first _ (c .before .before .before .before .before .before .before .args .owners .now) (c .before .before .before .before .word .ensures .0) (c .before .before .clear .ensures), refl)
+loop-holds c = (first _ (c .before .before .before .before .before .before .before .args .owners .now) (c .before .before .before .before .record-count .ensures) (c .before .before .clear .ensures), refl)
 
 hand-on-requires : tie.Need-hand-on-requires Inv-loop μ-loop
 hand-on-requires c κs = asks (c .before .before .before .before .before .before .before .before .before .before .pre .0) (c .before .before .loop .inv .0) (c .before .loop-test .taken)
@@ -52,7 +49,7 @@ list-owners-spec =
     (tie.spec
     Inv-loop
     μ-loop
-    word-requires
+    record-count-requires
     clear-requires
     loop-holds
     hand-on-requires

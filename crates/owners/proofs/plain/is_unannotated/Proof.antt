@@ -1,7 +1,6 @@
 -- `is_unannotated` meets its contract: the invariant and its laws are in Testing.
 use Prim.Native.Nat.{_-_}
 use native.Mathlib.Omega.{arith}
-use Rattle.language.specs.File.{recordCount}
 use Rattle.owners.proofs.Testing.{Left, first, stop-create, stop-remove, next, last}
 use borrow.Author.Needs.{needs}
 use Rattle.owners.proofs.plain.is_unannotated.Statement.{statement}
@@ -13,21 +12,20 @@ Inv-loop file n i₀ i = Left file n i
 abbrev μ-loop : tie.MeasureT-loop
 μ-loop file n i₀ i = n - i
 
+record-count-requires : tie.Need-record-count-requires Inv-loop μ-loop
+record-count-requires c κs = search needs
+
+loop-holds : tie.Need-loop-holds Inv-loop μ-loop
+loop-holds c = first (c .before .before .pre) (c .record-count .ensures)
+
 word-requires : tie.Need-word-requires Inv-loop μ-loop
 word-requires c κs = search needs
 
-loop-holds : tie.Need-loop-holds Inv-loop μ-loop
-unfolding recordCount
-loop-holds c = first (c .before .before .pre) (c .word .ensures .0)
-
-word-requires-2 : tie.Need-word-requires-2 Inv-loop μ-loop
-word-requires-2 c κs = search needs
-
 returns : tie.Need-returns Inv-loop μ-loop
-returns c = stop-create (c .before .before .before .loop .inv) (c .before .before .loop-test .taken) (c .before .word2 .ensures .0) (c .if1 .taken)
+returns c = stop-create (c .before .before .before .loop .inv) (c .before .before .loop-test .taken) (c .before .word .ensures .0) (c .if1 .taken)
 
 returns-2 : tie.Need-returns-2 Inv-loop μ-loop
-returns-2 c = stop-remove (c .before .before .before .before .loop .inv) (c .before .before .before .loop-test .taken) (c .before .before .word2 .ensures .0) (c .if2 .taken)
+returns-2 c = stop-remove (c .before .before .before .before .loop .inv) (c .before .before .before .loop-test .taken) (c .before .before .word .ensures .0) (c .if2 .taken)
 
 add-i : tie.Need-add-i Inv-loop μ-loop
 add-i c = search needs
@@ -36,7 +34,7 @@ loop-less : tie.Need-loop-less Inv-loop μ-loop
 loop-less c = search needs
 
 loop-again : tie.Need-loop-again Inv-loop μ-loop
-loop-again c = next (c .before .before .before .before .loop .inv) (c .before .before .before .loop-test .taken) (c .before .before .word2 .ensures .0) (c .before .if1 .left) (c .if2 .left)
+loop-again c = next (c .before .before .before .before .loop .inv) (c .before .before .before .loop-test .taken) (c .before .before .word .ensures .0) (c .before .if1 .left) (c .if2 .left)
 
 returns-3 : tie.Need-returns-3 Inv-loop μ-loop
 returns-3 c = last (c .before .loop .inv) (omega arith)
@@ -47,9 +45,9 @@ is-unannotated-spec =
     (tie.spec
     Inv-loop
     μ-loop
-    word-requires
+    record-count-requires
     loop-holds
-    word-requires-2
+    word-requires
     returns
     returns-2
     add-i

@@ -23,7 +23,7 @@ use Rattle.regions.proofs.pairs.map_region.Reads as map-region
 use Rattle.regions.proofs.pairs.map_region.Kinds as map-region-kinds
 use Rattle.regions.proofs.pairs.+map_edges+map_region.Lts-map_region as map-region-lts
 use Rattle.chains.proofs.entry.Reads as entry-reads
-use Rattle.records.proofs.word.Reads as word-reads
+use Rattle.chains.proofs.word.Reads as word-reads
 use Rattle.regions.proofs.pairs.is_pair.Reads as is-pair-reads
 use Rattle.tables.proofs.edges.Reads as edges-reads
 use Rattle.regions.proofs.pairs.+map_edges+map_region.{statement}

@@ -16,12 +16,12 @@ Inv-loop file table owners rows₀ n last₀ i₀ rows last i = Going file rows�
 abbrev μ-loop : tie.MeasureT-loop
 μ-loop file table owners rows₀ n last₀ i₀ rows last i = n - i
 
-word-requires : tie.Need-word-requires Inv-loop μ-loop
-word-requires c κs = search needs
+record-count-requires : tie.Need-record-count-requires Inv-loop μ-loop
+record-count-requires c κs = search needs
 
 loop-holds : tie.Need-loop-holds Inv-loop μ-loop
 unfolding recordCount
-loop-holds c = (going-first _ (c .before .before .before .before .pre .0 .formed) (c .word .ensures .0), omega arith)
+loop-holds c = (going-first _ (c .before .before .before .before .pre .0 .formed) (c .record-count .ensures), omega arith)
 
 next-ok-requires : tie.Need-next-ok-requires Inv-loop μ-loop
 next-ok-requires c κs =
@@ -40,8 +40,8 @@ returns c =
     let z = not-true _ (c .if1 .taken) in
     (going-stop k (t .loop-test .taken) (e .0) z, going-stopped k (t .loop-test .taken) (e .1) z)
 
-word-requires-2 : tie.Need-word-requires-2 Inv-loop μ-loop
-word-requires-2 c κs = search needs
+word-requires : tie.Need-word-requires Inv-loop μ-loop
+word-requires c κs = search needs
 
 add-i : tie.Need-add-i Inv-loop μ-loop
 add-i c = search needs
@@ -70,11 +70,11 @@ regions-agree-spec =
     (tie.spec
     Inv-loop
     μ-loop
-    word-requires
+    record-count-requires
     loop-holds
     next-ok-requires
     returns
-    word-requires-2
+    word-requires
     add-i
     loop-less
     loop-again

@@ -3,7 +3,9 @@ use mathlib.Core.Bool.{false≢true}
 use mathlib.Core.Path.{sym, ap, _∙_}
 use mathlib.Core.List.{List}
 use Prim.Native.Nat.{ℕ}
-use Rattle.chains.specs.Formed.{argumentsAt}
+use native.Mathlib.Omega.{arith}
+use Rattle.language.specs.Format.{kindWord}
+use Rattle.chains.specs.Formed.{word-within, argumentsAt}
 use Rattle.chains.specs.Shapes.{to-arguments}
 use Rattle.regions.specs.CallMap.{homesIn}
 use borrow.Author.Needs.{needs}
@@ -32,19 +34,31 @@ returns-3 : tie.Need-returns-3
 returns-3 c = λ e. absurd (false≢true e)
 
 word-requires-3 : tie.Need-word-requires-3
-word-requires-3 c κs = search needs
+word-requires-3 c κs =
+    let d = c .before .before .before in
+    let F = d .before .before .before .before .before .before .before .pre in
+    (F, (omega arith, word-within F _ kindWord (omega (arith, sym (d .before .before .before .word .ensures .0) ∙ d .before .before .if1 .left))))
 
 word-requires-4 : tie.Need-word-requires-4
-word-requires-4 c κs = search needs
+word-requires-4 c κs =
+    let d = c .before .before .before .before in
+    let F = d .before .before .before .before .before .before .before .pre in
+    (F, (omega arith, word-within F _ kindWord (omega (arith, sym (d .before .word2 .ensures .0) ∙ d .if2 .left))))
 
 returns-4 : tie.Need-returns-4
 returns-4 c = λ e. absurd (false≢true e)
 
 word-requires-5 : tie.Need-word-requires-5
-word-requires-5 c κs = search needs
+word-requires-5 c κs =
+    let d = c .before .before .before .before .before .before in
+    let F = d .before .before .before .before .before .before .before .pre in
+    (F, (omega arith, word-within F _ kindWord (omega (arith, sym (d .before .before .before .word .ensures .0) ∙ d .before .before .if1 .left))))
 
 word-requires-6 : tie.Need-word-requires-6
-word-requires-6 c κs = search needs
+word-requires-6 c κs =
+    let d = c .before .before .before .before .before .before .before in
+    let F = d .before .before .before .before .before .before .before .pre in
+    (F, (omega arith, word-within F _ kindWord (omega (arith, sym (d .before .word2 .ensures .0) ∙ d .if2 .left))))
 
 same-homes-requires : tie.Need-same-homes-requires
 same-homes-requires c κs =

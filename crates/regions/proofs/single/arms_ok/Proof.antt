@@ -21,8 +21,9 @@ loop-holds c = (c .before .before .pre .1 .1, refl)
 
 in-targets-requires : tie.Need-in-targets-requires Inv-loop μ-loop
 in-targets-requires c κs =
-    let p = c .before .before .before .before .pre in
-    (p .0, p .1 .0)
+    let l = c .before in
+    let p = l .before .before .before .pre in
+    (p .0, (p .1 .0, l .loop .inv .0 .below))
 
 returns : tie.Need-returns Inv-loop μ-loop
 returns c =

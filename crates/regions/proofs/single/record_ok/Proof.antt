@@ -37,7 +37,7 @@ in-targets-requires c κs =
     let a = m .before .before .before .before in
     let H = a .pre .0 in
     let k = construct-kind (a .args .file .now) (a .args .i) (sym (m .before .word .ensures .0) ∙ m .match .keys2) in
-    (H .formed, edges-stand H kConstruct k (c .before .before .word4 .ensures .0) (c .before .home3 .ensures) (c .edges .ensures))
+    (H .formed, (edges-stand H kConstruct k (c .before .before .word4 .ensures .0) (c .before .home3 .ensures) (c .edges .ensures), H .below))
 
 word-requires-5 : tie.Need-word-requires-5
 word-requires-5 c κs = search needs

@@ -19,23 +19,24 @@ abbrev μ-loop : tie.MeasureT-loop
 slice-write-table : tie.Need-slice-write-table Inv-loop μ-loop
 slice-write-table c = search (needs, c .before .before .pre .1)
 
-word-requires : tie.Need-word-requires Inv-loop μ-loop
-word-requires c κs = search needs
+record-count-requires : tie.Need-record-count-requires Inv-loop μ-loop
+record-count-requires c κs = search needs
 
 loop-holds : tie.Need-loop-holds Inv-loop μ-loop
-loop-holds c = let a = listed-first (c .before .before .before .args .table .now) (c .before .before .before .pre .0) (c .word .ensures .0) (c .before .before .before .pre .1) in (a .0, a .1, refl)
+unfolding recordCount
+loop-holds c = let a = listed-first (c .before .before .before .args .table .now) (c .before .before .before .pre .0) (c .record-count .ensures) (c .before .before .before .pre .1) in (a .0, a .1, refl)
 
 sub-i : tie.Need-sub-i Inv-loop μ-loop
 sub-i c = search needs
+
+word-requires : tie.Need-word-requires Inv-loop μ-loop
+word-requires c κs = search needs
 
 word-requires-2 : tie.Need-word-requires-2 Inv-loop μ-loop
 word-requires-2 c κs = search needs
 
 word-requires-3 : tie.Need-word-requires-3 Inv-loop μ-loop
 word-requires-3 c κs = search needs
-
-word-requires-4 : tie.Need-word-requires-4 Inv-loop μ-loop
-word-requires-4 c κs = search needs
 
 link-requires : tie.Need-link-requires Inv-loop μ-loop
 link-requires c κs = search needs
@@ -50,7 +51,7 @@ loop-less : tie.Need-loop-less Inv-loop μ-loop
 loop-less c = omega (arith, c .before .before .before .before .before .before .before .loop-test .taken)
 
 loop-again : tie.Need-loop-again Inv-loop μ-loop
-loop-again c = let F = c .before .before .before .before .before .before .before .before .before .before .before .before .pre .0 in let l = c .before .before .before .before .before .before .before .before .loop in let h = c .before .before .before .before .before .before .before .loop-test .taken in (listed-next F (l .inv .0) _ (omega (arith, h)) (omega (arith, h, counted F .most, l .inv .1)) (λ q. omega (arith, h, q)) (parameter-later F (l .inv .0) _ (omega (arith, h)) (λ q. omega (arith, h, q)) (c .before .before .before .before .word3 .ensures .0) (c .before .before .before .if2 .taken) (c .before .word4 .ensures .0) (c .link .ensures)), omega (arith, l .inv .1), simp length-set (l .inv .2 ∙ length-set (c .before .before .before .before .before .before .before .before .before .before .before .before .args .table .now) 0 0))
+loop-again c = let F = c .before .before .before .before .before .before .before .before .before .before .before .before .pre .0 in let l = c .before .before .before .before .before .before .before .before .loop in let h = c .before .before .before .before .before .before .before .loop-test .taken in (listed-next F (l .inv .0) _ (omega (arith, h)) (omega (arith, h, counted F .most, l .inv .1)) (λ q. omega (arith, h, q)) (parameter-later F (l .inv .0) _ (omega (arith, h)) (λ q. omega (arith, h, q)) (c .before .before .before .before .word2 .ensures .0) (c .before .before .before .if2 .taken) (c .before .word3 .ensures .0) (c .link .ensures)), omega (arith, l .inv .1), simp length-set (l .inv .2 ∙ length-set (c .before .before .before .before .before .before .before .before .before .before .before .before .args .table .now) 0 0))
 
 narrow-requires : tie.Need-narrow-requires Inv-loop μ-loop
 narrow-requires c κs = omega (arith, counted (c .before .before .before .before .before .before .before .before .before .pre .0) .most, c .before .before .before .before .before .loop .inv .1)
@@ -72,7 +73,7 @@ loop-again-2 c =
     let k = l .loop .inv in
     let h = c .before .before .before .before .before .loop-test .taken in (
       listed-next F (k .0) _ (omega (arith, h)) (omega (arith, h, counted F .most, k .1)) (λ q. omega (arith, h, q))
-          (parameter-same (c .narrow .ensures) (parameter-here F (k .0) _ (omega (arith, h)) (λ q. omega (arith, h, q)) (c .before .before .word3 .ensures .0) (c .before .if2 .left))),
+          (parameter-same (c .narrow .ensures) (parameter-here F (k .0) _ (omega (arith, h)) (λ q. omega (arith, h, q)) (c .before .before .word2 .ensures .0) (c .before .if2 .left))),
       omega (arith, k .1),
       simp length-set (k .2 ∙ length-set (a .args .table .now) 0 0),
     )
@@ -81,7 +82,7 @@ loop-less-3 : tie.Need-loop-less-3 Inv-loop μ-loop
 loop-less-3 c = omega (arith, c .before .before .loop-test .taken)
 
 loop-again-3 : tie.Need-loop-again-3 Inv-loop μ-loop
-loop-again-3 c = let l = c .before .before .before .loop in let h = c .before .before .loop-test .taken in (listed-other (c .before .before .before .before .before .before .before .pre .0) (l .inv .0) _ (omega (arith, h)) (λ k. c .if1 .left (c .before .word2 .ensures .0 ∙ k)) (λ q. omega (arith, h, q)), omega (arith, l .inv .1), l .inv .2)
+loop-again-3 c = let l = c .before .before .before .loop in let h = c .before .before .loop-test .taken in (listed-other (c .before .before .before .before .before .before .before .pre .0) (l .inv .0) _ (omega (arith, h)) (λ k. c .if1 .left (c .before .word .ensures .0 ∙ k)) (λ q. omega (arith, h, q)), omega (arith, l .inv .1), l .inv .2)
 
 same-length : tie.Need-same-length Inv-loop μ-loop
 same-length c = c .before .loop .inv .2 ∙ length-set (c .before .before .before .before .before .args .table .now) 0 0
@@ -96,12 +97,12 @@ list-parameters-spec =
     Inv-loop
     μ-loop
     slice-write-table
-    word-requires
+    record-count-requires
     loop-holds
     sub-i
+    word-requires
     word-requires-2
     word-requires-3
-    word-requires-4
     link-requires
     mul-table
     slice-write-table-2

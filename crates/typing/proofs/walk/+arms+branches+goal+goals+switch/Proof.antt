@@ -6,7 +6,7 @@ use Rattle.language.specs.Answers.{program}
 use Rattle.language.specs.Typing.{goalsOk, armsOk}
 use Rattle.chains.specs.Formed.{Stands, goalsAt, armsAt, functorsAt, ahead, ahead-below}
 use Rattle.chains.specs.Is.{chain-next}
-use Rattle.chains.specs.Shapes.{to-arms, to-then, to-else, arm-goals}
+use Rattle.chains.specs.Shapes.{switch-here, if-here, to-arms, to-then, to-else, arm-goals}
 use Rattle.typing.specs.Settings.{declared}
 use Rattle.typing.specs.Walk.{goals-no, goals-yes, goals-end, if-compared, if-first, if-second, switch-none, switch-number, switch-arms, arms-unfit, arms-goals, arms-next, arms-end}
 use borrow.Author.Tests.{not-true, not-false}
@@ -34,7 +34,7 @@ use Rattle.typing.proofs.walk.switch.Kinds as switch-kinds
 use Rattle.typing.proofs.walk.+arms+branches+goal+goals+switch.Lts-switch as switch-lts
 use Rattle.declarations.proofs.listed.Reads as listed-reads
 use Rattle.declarations.proofs.type_of.Reads as type-of-reads
-use Rattle.records.proofs.word.Reads as word-reads
+use Rattle.chains.proofs.word.Reads as word-reads
 use Rattle.typing.proofs.constructs.arm_fits.Reads as arm-fits-reads
 use Rattle.typing.proofs.functors.functor_at.Reads as functor-at-reads
 use Rattle.typing.proofs.steps.compared_ok.Reads as compared-ok-reads
@@ -161,7 +161,7 @@ branches-returns : (t : ℕ) → branches-lts.Need-returns (branches-calls t) (b
 branches-returns t c = let s = c .before .before .before .before .pre in if-compared (s .1 .0) _ (s .1 .1) (c .before .compared-ok .ensures) (not-true _ (c .if1 .taken))
 
 branches-word-requires : (t : ℕ) → branches-lts.Need-word-requires (branches-calls t) (branches-at t) the-branches.Post
-branches-word-requires t c κs = search needs
+branches-word-requires t c κs = let p = c .before .before .before .before .pre .1 in let F = p .0 .tables .formed in (F, (omega arith, if-here F refl (p .1) .below))
 
 branches-goals-requires : (t : ℕ) → branches-lts.Need-goals-requires (branches-calls t) (branches-at t) the-branches.Post
 branches-goals-requires t c κs = let s = c .before .before .before .before .before .pre in let o = to-then (s .1 .0 .tables .formed) (s .1 .1) (c .word .ensures .0) in (omega (arith, o .falls, s .0), (s .1 .0, o .stands))
@@ -170,13 +170,16 @@ branches-returns-2 : (t : ℕ) → branches-lts.Need-returns-2 (branches-calls t
 branches-returns-2 t c = let s = c .before .before .before .before .before .before .before .pre in if-first (s .1 .0) _ (s .1 .1) (c .before .before .before .before .compared-ok .ensures) (not-false _ (c .before .before .before .if1 .left)) (c .before .before .word .ensures .0) (c .before .goals .ensures) (not-true _ (c .if2 .taken))
 
 branches-word-requires-2 : (t : ℕ) → branches-lts.Need-word-requires-2 (branches-calls t) (branches-at t) the-branches.Post
-branches-word-requires-2 t c κs = search needs
-
-branches-goals-requires-2 : (t : ℕ) → branches-lts.Need-goals-requires-2 (branches-calls t) (branches-at t) the-branches.Post
-branches-goals-requires-2 t c κs = let s = c .before .before .before .before .before .before .before .before .pre in let o = to-else (s .1 .0 .tables .formed) (s .1 .1) (c .word2 .ensures .0) in (omega (arith, o .falls, s .0), (s .1 .0, o .stands))
+branches-word-requires-2 t c κs = let p = c .before .before .before .before .before .before .before .pre .1 in let F = p .0 .tables .formed in (F, (omega arith, if-here F refl (p .1) .below))
 
 branches-returns-3 : (t : ℕ) → branches-lts.Need-returns-3 (branches-calls t) (branches-at t) the-branches.Post
-branches-returns-3 t c = let s = c .before .before .before .before .before .before .before .before .before .pre in if-second (s .1 .0) _ (s .1 .1) (c .before .before .before .before .before .before .compared-ok .ensures) (not-false _ (c .before .before .before .before .before .if1 .left)) (c .before .before .before .before .word .ensures .0) (c .before .before .before .goals .ensures) (not-false _ (c .before .before .if2 .left)) (c .before .word2 .ensures .0) (c .goals2 .ensures)
+branches-returns-3 t c = let s = c .before .before .before .before .before .before .before .before .before .pre in if-second (s .1 .0) _ (s .1 .1) (c .before .before .before .before .before .before .compared-ok .ensures) (not-false _ (c .before .before .before .before .before .if1 .left)) (c .before .before .before .before .word .ensures .0) (c .before .before .before .goals .ensures) (not-false _ (c .before .before .if2 .left)) (c .before .word2 .ensures .0) (goals-end _ _ (c .if3 .taken))
+
+branches-goals-requires-2 : (t : ℕ) → branches-lts.Need-goals-requires-2 (branches-calls t) (branches-at t) the-branches.Post
+branches-goals-requires-2 t c κs = let s = c .before .before .before .before .before .before .before .before .before .pre in let o = to-else (s .1 .0 .tables .formed) (s .1 .1) (c .before .word2 .ensures .0) in (omega (arith, o .falls, s .0), (s .1 .0, o .stands))
+
+branches-returns-4 : (t : ℕ) → branches-lts.Need-returns-4 (branches-calls t) (branches-at t) the-branches.Post
+branches-returns-4 t c = let s = c .before .before .before .before .before .before .before .before .before .before .pre in if-second (s .1 .0) _ (s .1 .1) (c .before .before .before .before .before .before .before .compared-ok .ensures) (not-false _ (c .before .before .before .before .before .before .if1 .left)) (c .before .before .before .before .before .word .ensures .0) (c .before .before .before .before .goals .ensures) (not-false _ (c .before .before .before .if2 .left)) (c .before .before .word2 .ensures .0) (c .goals2 .ensures)
 
 goal-word-requires : (t : ℕ) → goal-lts.Need-word-requires (goal-calls t) (goal-at t) the-goal.Post
 goal-word-requires t c κs = search needs
@@ -227,7 +230,7 @@ goals-returns-2 : (t : ℕ) → goals-lts.Need-returns-2 (goals-calls t) (goals-
 goals-returns-2 t c = goals-end _ _ (c .loop-test .left) ∙ c .before .loop .inv .2
 
 switch-word-requires : (t : ℕ) → switch-lts.Need-word-requires (switch-calls t) (switch-at t) the-switch.Post
-switch-word-requires t c κs = search needs
+switch-word-requires t c κs = let p = c .before .pre .1 in let F = p .0 .tables .formed in (F, (omega arith, switch-here F refl (p .1) .below))
 
 switch-listed-requires : (t : ℕ) → switch-lts.Need-listed-requires (switch-calls t) (switch-at t) the-switch.Post
 switch-listed-requires t c κs = search needs
@@ -245,7 +248,7 @@ switch-functor-at-requires : (t : ℕ) → switch-lts.Need-functor-at-requires (
 switch-functor-at-requires t c κs = search needs
 
 switch-word-requires-2 : (t : ℕ) → switch-lts.Need-word-requires-2 (switch-calls t) (switch-at t) the-switch.Post
-switch-word-requires-2 t c κs = search needs
+switch-word-requires-2 t c κs = let p = c .before .before .before .before .before .before .before .before .before .before .pre .1 in let F = p .0 .tables .formed in (F, (omega arith, switch-here F refl (p .1) .below))
 
 switch-arms-requires : (t : ℕ) → switch-lts.Need-arms-requires (switch-calls t) (switch-at t) the-switch.Post
 switch-arms-requires t c κs = let s = c .before .before .before .before .before .before .before .before .before .before .before .pre in let o = to-arms (s .1 .0 .tables .formed) (s .1 .1) (c .word2 .ensures .0) in (omega (arith, o .falls, s .0), (s .1 .0, (o .stands, stands-same (c .before .functor-at .ensures) (s .1 .0 .tables .functor-table .type _ .starts))))
@@ -281,8 +284,9 @@ pub +arms+branches+goal+goals+switch-spec : {M : Type 1} → statement M
     (branches-goals-requires t)
     (branches-returns-2 t)
     (branches-word-requires-2 t)
+    (branches-returns-3 t)
     (branches-goals-requires-2 t)
-    (branches-returns-3 t))
+    (branches-returns-4 t))
     (λ t. goal-lts.spec (goal-calls t)
     (goal-at t)
     the-goal.Post

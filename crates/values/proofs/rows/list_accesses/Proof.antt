@@ -26,8 +26,8 @@ word-requires c κs = search needs
 chain-length-requires : tie.Need-chain-length-requires Inv-loop μ-loop
 chain-length-requires c κs = let F = c .before .before .pre .0 in (F, rw (c .word .ensures .0) (procedures-stand F .below))
 
-word-requires-2 : tie.Need-word-requires-2 Inv-loop μ-loop
-word-requires-2 c κs = search needs
+record-count-requires : tie.Need-record-count-requires Inv-loop μ-loop
+record-count-requires c κs = search needs
 
 loop-holds : tie.Need-loop-holds Inv-loop μ-loop
 loop-holds c = (omega arith, noting-first _ _)
@@ -36,7 +36,7 @@ list-access-requires : tie.Need-list-access-requires Inv-loop μ-loop
 unfolding recordCount
 list-access-requires c κs =
     let p = c .before .before .before .before .before .before .before .pre in
-    (p .0, (p .1 .0, (procedure-count (p .0) (c .before .before .before .before .before .word .ensures .0) (c .before .before .before .before .chain-length .ensures), (rw (c .before .before .before .word2 .ensures .0) at (c .before .loop-test .taken), omega (arith, c .before .before .loop .inv .1 .kept .length, p .1 .1)))))
+    (p .0, (p .1 .0, (procedure-count (p .0) (c .before .before .before .before .before .word .ensures .0) (c .before .before .before .before .chain-length .ensures), (rw (c .before .before .before .record-count .ensures) at (c .before .loop-test .taken), omega (arith, c .before .before .loop .inv .1 .kept .length, p .1 .1)))))
 
 add-i : tie.Need-add-i Inv-loop μ-loop
 add-i c = search needs
@@ -51,7 +51,7 @@ returns : tie.Need-returns Inv-loop μ-loop
 unfolding recordCount
 returns c =
     let h = c .before .loop .inv .1 in
-    let n = noting-last h (rw (c .before .before .word2 .ensures .0) at (c .loop-test .left)) in
+    let n = noting-last h (rw (c .before .before .record-count .ensures) at (c .loop-test .left)) in
     (noted-accessed n, (n, h .kept))
 
 pub list-accesses-spec : {M : Type 1} → statement M
@@ -62,7 +62,7 @@ list-accesses-spec =
     μ-loop
     word-requires
     chain-length-requires
-    word-requires-2
+    record-count-requires
     loop-holds
     list-access-requires
     add-i

@@ -1,13 +1,14 @@
 -- The walk over goals meets its contract: one law of Along for each way through it. The records ahead fall.
 use Prim.Native.Nat.{ℕ, _<_, _+_, _*_}
 use native.Mathlib.Omega.{arith}
-use mathlib.Core.Path.{sym, ap₂, _∙_}
+use mathlib.Core.Path.{refl, sym, ap₂, _∙_}
 use borrow.Author.Needs.{needs}
 use borrow.Author.Tests.{not-true, not-false}
 use Rattle.language.specs.Answers.{program}
 use Rattle.chains.specs.Formed.{ahead}
 use Rattle.chains.specs.Is.{chain-next}
-use Rattle.values.specs.Along.{Along, along-first, along-last, along-stop, along-next, to-arms, switch-stops, switch-walked, to-then, to-else, if-unread, if-unread-2, if-then-stops, if-else-stops, if-walked, arms-none-walked, arm-goals, arm-next, arm-refused, arm-stops, arm-last, arm-rest-stops, arms-walked}
+use Rattle.chains.specs.Shapes.{switch-here, if-here}
+use Rattle.values.specs.Along.{Along, along-first, none-walked, along-last, along-stop, along-next, to-arms, switch-stops, switch-walked, to-then, to-else, if-unread, if-unread-2, if-then-stops, if-else-stops, if-walked, arms-none-walked, arm-goals, arm-next, arm-refused, arm-stops, arm-last, arm-rest-stops, arms-walked}
 use Rattle.values.specs.Valuing.{both, valuation, valuer}
 use Rattle.values.specs.Closed.{goal-closed, arm-closed}
 use Rattle.values.specs.Carrying.{goal-step, row-arm, readable-is, joined}
@@ -28,7 +29,7 @@ use Rattle.values.proofs.walk.+arms+branches+goal+goals+switch.Lts-goal
 use Rattle.values.proofs.walk.switch.Reads as switch
 use Rattle.values.proofs.walk.switch.Kinds as switch-kinds
 use Rattle.values.proofs.walk.+arms+branches+goal+goals+switch.Lts-switch as switch-lts
-use Rattle.records.proofs.word.Reads as word-reads
+use Rattle.chains.proofs.word.Reads as word-reads
 use Rattle.sets.proofs.Set.has.Reads as has-reads
 use Rattle.values.proofs.carried.apply.Reads as apply-reads
 use Rattle.values.proofs.carried.carry.Reads as carry-reads
@@ -110,7 +111,7 @@ arms-returns : (t : ℕ) → arms-lts.Need-returns (arms-calls t) (arms-at t) ar
 arms-returns t c = arms-none-walked _ _ _ (c .if1 .taken)
 
 arms-word-requires : (t : ℕ) → arms-lts.Need-word-requires (arms-calls t) (arms-at t) arms.Post
-arms-word-requires t c κs = search needs
+arms-word-requires t c κs = let p = c .before .before .pre .1 in (p .0, (omega arith, p .1 .1 .below))
 
 arms-returns-2 : (t : ℕ) → arms-lts.Need-returns-2 (arms-calls t) (arms-at t) arms.Post
 arms-returns-2 t c = arm-closed (c .before .before .before .before .pre .1 .1 .1) (c .before .before .if1 .left) (c .before .word .ensures .0) (c .if2 .taken)
@@ -128,7 +129,7 @@ arms-returns-3 : (t : ℕ) → arms-lts.Need-returns-3 (arms-calls t) (arms-at t
 arms-returns-3 t c = arm-refused _ _ (c .before .before .before .before .before .before .before .before .before .before .before .pre .1 .0) (c .before .before .before .before .before .before .before .before .before .before .before .pre .1 .1 .1) (c .before .before .before .before .before .before .before .before .before .if1 .left) _ _ (row-arm _ (c .before .before .before .before .before .before .before .before .before .before .before .pre .1 .1 .0) _ (c .before .before .before .before .before .before .before .before .before .before .before .pre .1 .1 .1) (c .before .before .before .before .before .before .before .before .before .if1 .left) _ _ _ (c .before .apply .ensures)) _ (not-true _ (c .if3 .taken))
 
 arms-word-requires-2 : (t : ℕ) → arms-lts.Need-word-requires-2 (arms-calls t) (arms-at t) arms.Post
-arms-word-requires-2 t c κs = search needs
+arms-word-requires-2 t c κs = let p = c .before .before .before .before .before .before .before .before .before .before .before .pre .1 in (p .0, (omega arith, p .1 .1 .below))
 
 arms-goals-requires : (t : ℕ) → arms-lts.Need-goals-requires (arms-calls t) (arms-at t) arms.Post
 arms-goals-requires t c κs = let o = arm-goals (c .before .before .before .before .before .before .before .before .before .before .before .before .before .pre .1 .0) (c .before .before .before .before .before .before .before .before .before .before .before .before .before .pre .1 .1 .1) (c .before .before .before .before .before .before .before .before .before .before .before .if1 .left) (c .before .word2 .ensures .0) in (omega (arith, o .falls, c .before .before .before .before .before .before .before .before .before .before .before .before .before .pre .0), (c .before .before .before .before .before .before .before .before .before .before .before .before .before .pre .1 .0, (c .before .before .before .before .before .before .before .before .before .before .before .before .before .pre .1 .1 .0, o .stands)))
@@ -137,7 +138,7 @@ arms-returns-4 : (t : ℕ) → arms-lts.Need-returns-4 (arms-calls t) (arms-at t
 arms-returns-4 t c = arm-stops _ _ (c .before .before .before .before .before .before .before .before .before .before .before .before .before .before .before .pre .1 .0) (c .before .before .before .before .before .before .before .before .before .before .before .before .before .before .before .pre .1 .1 .1) (c .before .before .before .before .before .before .before .before .before .before .before .before .before .if1 .left) _ _ (row-arm _ (c .before .before .before .before .before .before .before .before .before .before .before .before .before .before .before .pre .1 .1 .0) _ (c .before .before .before .before .before .before .before .before .before .before .before .before .before .before .before .pre .1 .1 .1) (c .before .before .before .before .before .before .before .before .before .before .before .before .before .if1 .left) _ _ _ (c .before .before .before .before .before .apply .ensures)) (not-false _ (c .before .before .before .before .if3 .left)) _ _ (c .before .before .before .word2 .ensures .0) (c .before .goals .ensures) _ (not-true _ (c .if4 .taken))
 
 arms-word-requires-3 : (t : ℕ) → arms-lts.Need-word-requires-3 (arms-calls t) (arms-at t) arms.Post
-arms-word-requires-3 t c κs = search needs
+arms-word-requires-3 t c κs = let p = c .before .before .before .before .before .before .before .before .before .before .before .before .before .before .before .pre .1 in (p .0, (omega arith, p .1 .1 .below))
 
 arms-returns-5 : (t : ℕ) → arms-lts.Need-returns-5 (arms-calls t) (arms-at t) arms.Post
 arms-returns-5 t c = arm-last _ _ (c .before .before .before .before .before .before .before .before .before .before .before .before .before .before .before .before .before .pre .1 .0) (c .before .before .before .before .before .before .before .before .before .before .before .before .before .before .before .before .before .pre .1 .1 .1) (c .before .before .before .before .before .before .before .before .before .before .before .before .before .before .before .if1 .left) _ _ (row-arm _ (c .before .before .before .before .before .before .before .before .before .before .before .before .before .before .before .before .before .pre .1 .1 .0) _ (c .before .before .before .before .before .before .before .before .before .before .before .before .before .before .before .before .before .pre .1 .1 .1) (c .before .before .before .before .before .before .before .before .before .before .before .before .before .before .before .if1 .left) _ _ _ (c .before .before .before .before .before .before .before .apply .ensures)) (not-false _ (c .before .before .before .before .before .before .if3 .left)) _ _ (c .before .before .before .before .before .word2 .ensures .0) (c .before .before .before .goals .ensures) (not-false _ (c .before .before .if4 .left)) (c .before .word3 .ensures .0) (c .if5 .taken)
@@ -170,7 +171,7 @@ branches-some-in-requires : (t : ℕ) → branches-lts.Need-some-in-requires (br
 branches-some-in-requires t c κs = search needs
 
 branches-word-requires : (t : ℕ) → branches-lts.Need-word-requires (branches-calls t) (branches-at t) branches.Post
-branches-word-requires t c κs = search needs
+branches-word-requires t c κs = let p = c .before .before .before .before .before .pre .1 in (p .0, (omega arith, if-here (p .0) refl (p .1 .1) .below))
 
 branches-has-requires : (t : ℕ) → branches-lts.Need-has-requires (branches-calls t) (branches-at t) branches.Post
 branches-has-requires t c κs = search needs
@@ -179,7 +180,7 @@ branches-returns : (t : ℕ) → branches-lts.Need-returns (branches-calls t) (b
 branches-returns t c = if-unread _ _ (c .before .before .before .before .before .before .before .before .pre .1 .0) _ (c .before .before .before .before .before .before .before .before .pre .1 .1 .1) _ (c .before .before .word .ensures .0) (readable-is _ _ _ (c .before .has .ensures) (c .before .before .before .before .before .every-in .ensures)) _ (not-true _ (c .if1 .taken))
 
 branches-word-requires-2 : (t : ℕ) → branches-lts.Need-word-requires-2 (branches-calls t) (branches-at t) branches.Post
-branches-word-requires-2 t c κs = search needs
+branches-word-requires-2 t c κs = let p = c .before .before .before .before .before .before .before .before .pre .1 in (p .0, (omega arith, if-here (p .0) refl (p .1 .1) .below))
 
 branches-has-requires-2 : (t : ℕ) → branches-lts.Need-has-requires-2 (branches-calls t) (branches-at t) branches.Post
 branches-has-requires-2 t c κs = search needs
@@ -188,7 +189,7 @@ branches-returns-2 : (t : ℕ) → branches-lts.Need-returns-2 (branches-calls t
 branches-returns-2 t c = if-unread-2 _ _ (c .before .before .before .before .before .before .before .before .before .before .before .pre .1 .0) _ (c .before .before .before .before .before .before .before .before .before .before .before .pre .1 .1 .1) _ (c .before .before .before .before .before .word .ensures .0) (readable-is _ _ _ (c .before .before .before .before .has .ensures) (c .before .before .before .before .before .before .before .before .every-in .ensures)) (not-false _ (c .before .before .before .if1 .left)) (c .before .before .word2 .ensures .0) (readable-is _ _ _ (c .before .has2 .ensures) (c .before .before .before .before .before .before .before .before .every-in .ensures)) _ (not-true _ (c .if2 .taken))
 
 branches-word-requires-3 : (t : ℕ) → branches-lts.Need-word-requires-3 (branches-calls t) (branches-at t) branches.Post
-branches-word-requires-3 t c κs = search needs
+branches-word-requires-3 t c κs = let p = c .before .before .before .before .before .before .before .before .before .before .before .pre .1 in (p .0, (omega arith, if-here (p .0) refl (p .1 .1) .below))
 
 branches-goals-requires : (t : ℕ) → branches-lts.Need-goals-requires (branches-calls t) (branches-at t) branches.Post
 branches-goals-requires t c κs = let o = to-then (c .before .before .before .before .before .before .before .before .before .before .before .before .before .pre .1 .0) _ (c .before .before .before .before .before .before .before .before .before .before .before .before .before .pre .1 .1 .1) (c .before .word3 .ensures .0) in (omega (arith, o .falls, c .before .before .before .before .before .before .before .before .before .before .before .before .before .pre .0), (c .before .before .before .before .before .before .before .before .before .before .before .before .before .pre .1 .0, (c .before .before .before .before .before .before .before .before .before .before .before .before .before .pre .1 .1 .0, o .stands)))
@@ -206,19 +207,25 @@ branches-carry-requires : (t : ℕ) → branches-lts.Need-carry-requires (branch
 branches-carry-requires t c κs = search needs
 
 branches-word-requires-4 : (t : ℕ) → branches-lts.Need-word-requires-4 (branches-calls t) (branches-at t) branches.Post
-branches-word-requires-4 t c κs = search needs
-
-branches-goals-requires-2 : (t : ℕ) → branches-lts.Need-goals-requires-2 (branches-calls t) (branches-at t) branches.Post
-branches-goals-requires-2 t c κs = let o = to-else (c .before .before .before .before .before .before .before .before .before .before .before .before .before .before .before .before .before .before .before .before .before .before .before .pre .1 .0) _ (c .before .before .before .before .before .before .before .before .before .before .before .before .before .before .before .before .before .before .before .before .before .before .before .pre .1 .1 .1) (c .before .word4 .ensures .0) in (omega (arith, o .falls, c .before .before .before .before .before .before .before .before .before .before .before .before .before .before .before .before .before .before .before .before .before .before .before .pre .0), (c .before .before .before .before .before .before .before .before .before .before .before .before .before .before .before .before .before .before .before .before .before .before .before .pre .1 .0, (c .before .before .before .before .before .before .before .before .before .before .before .before .before .before .before .before .before .before .before .before .before .before .before .pre .1 .1 .0, o .stands)))
-
-branches-returns-4 : (t : ℕ) → branches-lts.Need-returns-4 (branches-calls t) (branches-at t) branches.Post
-branches-returns-4 t c = if-else-stops _ _ (c .before .before .before .before .before .before .before .before .before .before .before .before .before .before .before .before .before .before .before .before .before .before .before .before .before .pre .1 .0) _ (c .before .before .before .before .before .before .before .before .before .before .before .before .before .before .before .before .before .before .before .before .before .before .before .before .before .pre .1 .1 .1) _ (c .before .before .before .before .before .before .before .before .before .before .before .before .before .before .before .before .before .before .before .word .ensures .0) (readable-is _ _ _ (c .before .before .before .before .before .before .before .before .before .before .before .before .before .before .before .before .before .before .has .ensures) (c .before .before .before .before .before .before .before .before .before .before .before .before .before .before .before .before .before .before .before .before .before .before .every-in .ensures)) (not-false _ (c .before .before .before .before .before .before .before .before .before .before .before .before .before .before .before .before .before .if1 .left)) (c .before .before .before .before .before .before .before .before .before .before .before .before .before .before .before .before .word2 .ensures .0) (readable-is _ _ _ (c .before .before .before .before .before .before .before .before .before .before .before .before .before .before .before .has2 .ensures) (c .before .before .before .before .before .before .before .before .before .before .before .before .before .before .before .before .before .before .before .before .before .before .every-in .ensures)) (not-false _ (c .before .before .before .before .before .before .before .before .before .before .before .before .before .before .if2 .left)) _ _ (c .before .before .before .before .before .before .before .before .before .before .before .before .before .word3 .ensures .0) (c .before .before .before .before .before .before .before .before .before .before .before .goals .ensures) (not-false _ (c .before .before .before .before .before .before .before .before .before .before .if3 .left)) _ (c .before .before .before .before .carry .ensures ∙ ap₂ both (c .before .before .before .before .before .before .before .before .before .before .before .before .before .before .before .before .before .before .before .before .before .before .every-in .ensures) (c .before .before .before .before .before .before .before .before .before .before .before .before .before .before .before .before .before .before .before .before .some-in .ensures)) _ _ (c .before .before .before .word4 .ensures .0) (c .before .goals2 .ensures) _ (not-true _ (c .if4 .taken))
+branches-word-requires-4 t c κs = let p = c .before .before .before .before .before .before .before .before .before .before .before .before .before .before .before .before .before .before .before .before .before .pre .1 in (p .0, (omega arith, if-here (p .0) refl (p .1 .1) .below))
 
 branches-join-requires : (t : ℕ) → branches-lts.Need-join-requires (branches-calls t) (branches-at t) branches.Post
 branches-join-requires t c κs = search needs
 
+branches-returns-4 : (t : ℕ) → branches-lts.Need-returns-4 (branches-calls t) (branches-at t) branches.Post
+branches-returns-4 t c = if-walked _ _ (c .before .before .before .before .before .before .before .before .before .before .before .before .before .before .before .before .before .before .before .before .before .before .before .before .before .pre .1 .0) _ (c .before .before .before .before .before .before .before .before .before .before .before .before .before .before .before .before .before .before .before .before .before .before .before .before .before .pre .1 .1 .1) _ (c .before .before .before .before .before .before .before .before .before .before .before .before .before .before .before .before .before .before .before .word .ensures .0) (readable-is _ _ _ (c .before .before .before .before .before .before .before .before .before .before .before .before .before .before .before .before .before .before .has .ensures) (c .before .before .before .before .before .before .before .before .before .before .before .before .before .before .before .before .before .before .before .before .before .before .every-in .ensures)) (not-false _ (c .before .before .before .before .before .before .before .before .before .before .before .before .before .before .before .before .before .if1 .left)) (c .before .before .before .before .before .before .before .before .before .before .before .before .before .before .before .before .word2 .ensures .0) (readable-is _ _ _ (c .before .before .before .before .before .before .before .before .before .before .before .before .before .before .before .has2 .ensures) (c .before .before .before .before .before .before .before .before .before .before .before .before .before .before .before .before .before .before .before .before .before .before .every-in .ensures)) (not-false _ (c .before .before .before .before .before .before .before .before .before .before .before .before .before .before .if2 .left)) _ _ (c .before .before .before .before .before .before .before .before .before .before .before .before .before .word3 .ensures .0) (c .before .before .before .before .before .before .before .before .before .before .before .goals .ensures) (not-false _ (c .before .before .before .before .before .before .before .before .before .before .if3 .left)) _ (c .before .before .before .before .carry .ensures ∙ ap₂ both (c .before .before .before .before .before .before .before .before .before .before .before .before .before .before .before .before .before .before .before .before .before .before .every-in .ensures) (c .before .before .before .before .before .before .before .before .before .before .before .before .before .before .before .before .before .before .before .before .some-in .ensures)) _ _ (c .before .before .before .word4 .ensures .0) (none-walked _ _ _ (c .before .before .if4 .taken)) _ _ _ (ap₂ both (c .before .before .before .before .before .before .before .before .every-in2 .ensures) (c .before .before .before .before .before .before .some-in2 .ensures)) refl (joined _ _ _ _ (c .join .ensures))
+
+branches-goals-requires-2 : (t : ℕ) → branches-lts.Need-goals-requires-2 (branches-calls t) (branches-at t) branches.Post
+branches-goals-requires-2 t c κs = let o = to-else (c .before .before .before .before .before .before .before .before .before .before .before .before .before .before .before .before .before .before .before .before .before .before .before .before .pre .1 .0) _ (c .before .before .before .before .before .before .before .before .before .before .before .before .before .before .before .before .before .before .before .before .before .before .before .before .pre .1 .1 .1) (c .before .before .word4 .ensures .0) in (omega (arith, o .falls, c .before .before .before .before .before .before .before .before .before .before .before .before .before .before .before .before .before .before .before .before .before .before .before .before .pre .0), (c .before .before .before .before .before .before .before .before .before .before .before .before .before .before .before .before .before .before .before .before .before .before .before .before .pre .1 .0, (c .before .before .before .before .before .before .before .before .before .before .before .before .before .before .before .before .before .before .before .before .before .before .before .before .pre .1 .1 .0, o .stands)))
+
 branches-returns-5 : (t : ℕ) → branches-lts.Need-returns-5 (branches-calls t) (branches-at t) branches.Post
-branches-returns-5 t c = if-walked _ _ (c .before .before .before .before .before .before .before .before .before .before .before .before .before .before .before .before .before .before .before .before .before .before .before .before .before .before .before .pre .1 .0) _ (c .before .before .before .before .before .before .before .before .before .before .before .before .before .before .before .before .before .before .before .before .before .before .before .before .before .before .before .pre .1 .1 .1) _ (c .before .before .before .before .before .before .before .before .before .before .before .before .before .before .before .before .before .before .before .before .before .word .ensures .0) (readable-is _ _ _ (c .before .before .before .before .before .before .before .before .before .before .before .before .before .before .before .before .before .before .before .before .has .ensures) (c .before .before .before .before .before .before .before .before .before .before .before .before .before .before .before .before .before .before .before .before .before .before .before .before .every-in .ensures)) (not-false _ (c .before .before .before .before .before .before .before .before .before .before .before .before .before .before .before .before .before .before .before .if1 .left)) (c .before .before .before .before .before .before .before .before .before .before .before .before .before .before .before .before .before .before .word2 .ensures .0) (readable-is _ _ _ (c .before .before .before .before .before .before .before .before .before .before .before .before .before .before .before .before .before .has2 .ensures) (c .before .before .before .before .before .before .before .before .before .before .before .before .before .before .before .before .before .before .before .before .before .before .before .before .every-in .ensures)) (not-false _ (c .before .before .before .before .before .before .before .before .before .before .before .before .before .before .before .before .if2 .left)) _ _ (c .before .before .before .before .before .before .before .before .before .before .before .before .before .before .before .word3 .ensures .0) (c .before .before .before .before .before .before .before .before .before .before .before .before .before .goals .ensures) (not-false _ (c .before .before .before .before .before .before .before .before .before .before .before .before .if3 .left)) _ (c .before .before .before .before .before .before .carry .ensures ∙ ap₂ both (c .before .before .before .before .before .before .before .before .before .before .before .before .before .before .before .before .before .before .before .before .before .before .before .before .every-in .ensures) (c .before .before .before .before .before .before .before .before .before .before .before .before .before .before .before .before .before .before .before .before .before .before .some-in .ensures)) _ _ (c .before .before .before .before .before .word4 .ensures .0) (c .before .before .before .goals2 .ensures) _ _ _ (ap₂ both (c .before .before .before .before .before .before .before .before .before .before .every-in2 .ensures) (c .before .before .before .before .before .before .before .before .some-in2 .ensures)) (not-false _ (c .before .before .if4 .left)) (joined _ _ _ _ (c .join .ensures))
+branches-returns-5 t c = if-else-stops _ _ (c .before .before .before .before .before .before .before .before .before .before .before .before .before .before .before .before .before .before .before .before .before .before .before .before .before .before .pre .1 .0) _ (c .before .before .before .before .before .before .before .before .before .before .before .before .before .before .before .before .before .before .before .before .before .before .before .before .before .before .pre .1 .1 .1) _ (c .before .before .before .before .before .before .before .before .before .before .before .before .before .before .before .before .before .before .before .before .word .ensures .0) (readable-is _ _ _ (c .before .before .before .before .before .before .before .before .before .before .before .before .before .before .before .before .before .before .before .has .ensures) (c .before .before .before .before .before .before .before .before .before .before .before .before .before .before .before .before .before .before .before .before .before .before .before .every-in .ensures)) (not-false _ (c .before .before .before .before .before .before .before .before .before .before .before .before .before .before .before .before .before .before .if1 .left)) (c .before .before .before .before .before .before .before .before .before .before .before .before .before .before .before .before .before .word2 .ensures .0) (readable-is _ _ _ (c .before .before .before .before .before .before .before .before .before .before .before .before .before .before .before .before .has2 .ensures) (c .before .before .before .before .before .before .before .before .before .before .before .before .before .before .before .before .before .before .before .before .before .before .before .every-in .ensures)) (not-false _ (c .before .before .before .before .before .before .before .before .before .before .before .before .before .before .before .if2 .left)) _ _ (c .before .before .before .before .before .before .before .before .before .before .before .before .before .before .word3 .ensures .0) (c .before .before .before .before .before .before .before .before .before .before .before .before .goals .ensures) (not-false _ (c .before .before .before .before .before .before .before .before .before .before .before .if3 .left)) _ (c .before .before .before .before .before .carry .ensures ∙ ap₂ both (c .before .before .before .before .before .before .before .before .before .before .before .before .before .before .before .before .before .before .before .before .before .before .before .every-in .ensures) (c .before .before .before .before .before .before .before .before .before .before .before .before .before .before .before .before .before .before .before .before .before .some-in .ensures)) _ _ (c .before .before .before .before .word4 .ensures .0) (c .before .goals2 .ensures) _ (not-true _ (c .if5 .taken))
+
+branches-join-requires-2 : (t : ℕ) → branches-lts.Need-join-requires-2 (branches-calls t) (branches-at t) branches.Post
+branches-join-requires-2 t c κs = search needs
+
+branches-returns-6 : (t : ℕ) → branches-lts.Need-returns-6 (branches-calls t) (branches-at t) branches.Post
+branches-returns-6 t c = if-walked _ _ (c .before .before .before .before .before .before .before .before .before .before .before .before .before .before .before .before .before .before .before .before .before .before .before .before .before .before .before .before .pre .1 .0) _ (c .before .before .before .before .before .before .before .before .before .before .before .before .before .before .before .before .before .before .before .before .before .before .before .before .before .before .before .before .pre .1 .1 .1) _ (c .before .before .before .before .before .before .before .before .before .before .before .before .before .before .before .before .before .before .before .before .before .before .word .ensures .0) (readable-is _ _ _ (c .before .before .before .before .before .before .before .before .before .before .before .before .before .before .before .before .before .before .before .before .before .has .ensures) (c .before .before .before .before .before .before .before .before .before .before .before .before .before .before .before .before .before .before .before .before .before .before .before .before .before .every-in .ensures)) (not-false _ (c .before .before .before .before .before .before .before .before .before .before .before .before .before .before .before .before .before .before .before .before .if1 .left)) (c .before .before .before .before .before .before .before .before .before .before .before .before .before .before .before .before .before .before .before .word2 .ensures .0) (readable-is _ _ _ (c .before .before .before .before .before .before .before .before .before .before .before .before .before .before .before .before .before .before .has2 .ensures) (c .before .before .before .before .before .before .before .before .before .before .before .before .before .before .before .before .before .before .before .before .before .before .before .before .before .every-in .ensures)) (not-false _ (c .before .before .before .before .before .before .before .before .before .before .before .before .before .before .before .before .before .if2 .left)) _ _ (c .before .before .before .before .before .before .before .before .before .before .before .before .before .before .before .before .word3 .ensures .0) (c .before .before .before .before .before .before .before .before .before .before .before .before .before .before .goals .ensures) (not-false _ (c .before .before .before .before .before .before .before .before .before .before .before .before .before .if3 .left)) _ (c .before .before .before .before .before .before .before .carry .ensures ∙ ap₂ both (c .before .before .before .before .before .before .before .before .before .before .before .before .before .before .before .before .before .before .before .before .before .before .before .before .before .every-in .ensures) (c .before .before .before .before .before .before .before .before .before .before .before .before .before .before .before .before .before .before .before .before .before .before .before .some-in .ensures)) _ _ (c .before .before .before .before .before .before .word4 .ensures .0) (c .before .before .before .goals2 .ensures) _ _ _ (ap₂ both (c .before .before .before .before .before .before .before .before .before .before .before .every-in2 .ensures) (c .before .before .before .before .before .before .before .before .before .some-in2 .ensures)) (not-false _ (c .before .before .if5 .left)) (joined _ _ _ _ (c .join2 .ensures))
 
 goal-word-requires : (t : ℕ) → goal-lts.Need-word-requires (goal-calls t) (goal-at t) goal.Post
 goal-word-requires t c κs = search needs
@@ -278,7 +285,7 @@ switch-every-in-requires : (t : ℕ) → switch-lts.Need-every-in-requires (swit
 switch-every-in-requires t c κs = search needs
 
 switch-word-requires : (t : ℕ) → switch-lts.Need-word-requires (switch-calls t) (switch-at t) switch.Post
-switch-word-requires t c κs = search needs
+switch-word-requires t c κs = let p = c .before .before .before .pre .1 in (p .0, (omega arith, switch-here (p .0) refl (p .1 .1) .below))
 
 switch-has-requires : (t : ℕ) → switch-lts.Need-has-requires (switch-calls t) (switch-at t) switch.Post
 switch-has-requires t c κs = search needs
@@ -287,7 +294,7 @@ switch-returns : (t : ℕ) → switch-lts.Need-returns (switch-calls t) (switch-
 switch-returns t c = switch-stops _ _ (c .before .before .before .before .before .before .pre .1 .0) _ (c .before .before .before .before .before .before .pre .1 .1 .1) _ (c .before .before .word .ensures .0) (readable-is _ _ _ (c .before .has .ensures) (c .before .before .before .every-in .ensures)) _ (not-true _ (c .if1 .taken))
 
 switch-word-requires-2 : (t : ℕ) → switch-lts.Need-word-requires-2 (switch-calls t) (switch-at t) switch.Post
-switch-word-requires-2 t c κs = search needs
+switch-word-requires-2 t c κs = let p = c .before .before .before .before .before .before .pre .1 in (p .0, (omega arith, switch-here (p .0) refl (p .1 .1) .below))
 
 switch-arms-requires : (t : ℕ) → switch-lts.Need-arms-requires (switch-calls t) (switch-at t) switch.Post
 switch-arms-requires t c κs = let o = to-arms (c .before .before .before .before .before .before .before .before .pre .1 .0) _ (c .before .before .before .before .before .before .before .before .pre .1 .1 .1) (c .before .word2 .ensures .0) in (omega (arith, o .falls, c .before .before .before .before .before .before .before .before .pre .0), (c .before .before .before .before .before .before .before .before .pre .1 .0, (c .before .before .before .before .before .before .before .before .pre .1 .1 .0, o .stands)))
@@ -337,10 +344,12 @@ pub +arms+branches+goal+goals+switch-spec : {M : Type 1} → statement M
     (branches-some-in-requires-2 t)
     (branches-carry-requires t)
     (branches-word-requires-4 t)
-    (branches-goals-requires-2 t)
-    (branches-returns-4 t)
     (branches-join-requires t)
-    (branches-returns-5 t))
+    (branches-returns-4 t)
+    (branches-goals-requires-2 t)
+    (branches-returns-5 t)
+    (branches-join-requires-2 t)
+    (branches-returns-6 t))
     (λ t. goal-lts.spec (goal-calls t)
     (goal-at t)
     goal.Post

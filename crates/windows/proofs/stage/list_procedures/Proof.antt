@@ -4,7 +4,7 @@ use borrow.Author.Needs.{needs}
 use mathlib.Core.Path.{_≡_, refl, sym, ap, _∙_}
 use native.Mathlib.Omega.{arith}
 use lib.ListN.{length, length-set, length-replicate}
-use Rattle.chains.specs.Formed.{ahead}
+use Rattle.chains.specs.Formed.{counted, ahead}
 use Rattle.chains.specs.Is.{chain-next}
 use Rattle.windows.specs.Listing.{Listing, listing-first, signature-here, place-here, place-low, room-here, fits-here, listing-next, listing-right, listing-table, listing-only}
 use Rattle.windows.proofs.stage.list_procedures.Statement.{statement}
@@ -20,7 +20,7 @@ blank-sets-requires : tie.Need-blank-sets-requires Inv-loop μ-loop
 blank-sets-requires c κs = search needs
 
 word-requires : tie.Need-word-requires Inv-loop μ-loop
-word-requires c κs = search needs
+word-requires c κs = let F = c .before .before .before .pre .0 in (F, (omega arith, counted F .some))
 
 loop-holds : tie.Need-loop-holds Inv-loop μ-loop
 loop-holds c = let s = c .before .before .before .before in (listing-first (s .args .table .now) (s .pre .0) (s .pre .1 .0) (s .pre .1 .1) (c .word .ensures .0), refl, sym (length-replicate {A = ℕ} 65 0) ∙ ap length (sym (c .before .blank-sets .ensures)))

@@ -1,16 +1,17 @@
 -- `call_access` meets its contract.
 use mathlib.Core.Path.{refl}
-use Rattle.chains.specs.Shapes.{to-arguments}
+use native.Mathlib.Omega.{arith}
+use Rattle.chains.specs.Shapes.{call-here, to-arguments}
 use Rattle.values.specs.Fitting.{call-fits}
 use borrow.Author.Needs.{needs}
-use Rattle.values.proofs.steps.call_access.Statement.{statement}
-use Rattle.values.proofs.steps.call_access.Tie as tie
+use Rattle.values.proofs.calls.call_access.Statement.{statement}
+use Rattle.values.proofs.calls.call_access.Tie as tie
 
 word-requires : tie.Need-word-requires
-word-requires c κs = search needs
+word-requires c κs = let p = c .before .pre in (p .0, (omega arith, call-here (p .0) refl (p .1 .1 .1) .below))
 
 word-requires-2 : tie.Need-word-requires-2
-word-requires-2 c κs = search needs
+word-requires-2 c κs = let p = c .before .before .pre in (p .0, (omega arith, call-here (p .0) refl (p .1 .1 .1) .below))
 
 called-access-requires : tie.Need-called-access-requires
 called-access-requires c κs =

@@ -2,12 +2,12 @@
 use native.Mathlib.Omega.{arith}
 use Rattle.values.specs.Fitting.{call-none, window-fits, callee-stands, callee-accesses}
 use borrow.Author.Needs.{needs}
-use Rattle.values.proofs.steps.called_access.Statement.{statement}
-use Rattle.values.proofs.steps.called_access.Tie as tie
-use Rattle.values.proofs.steps.called_access.Reads as reads
-use Rattle.values.proofs.steps.called_access.Lts as lts
+use Rattle.values.proofs.calls.called_access.Statement.{statement}
+use Rattle.values.proofs.calls.called_access.Tie as tie
+use Rattle.values.proofs.calls.called_access.Reads as reads
+use Rattle.values.proofs.calls.called_access.Lts as lts
 use Rattle.tables.proofs.word_at.Reads as word-at-reads
-use Rattle.values.proofs.steps.match_arguments.Reads as match-arguments-reads
+use Rattle.values.proofs.calls.match_arguments.Reads as match-arguments-reads
 use Rattle.values.proofs.steps.no_access.Reads as no-access-reads
 
 no-access-requires : tie.Need-no-access-requires

@@ -6,8 +6,8 @@ use mathlib.Core.Logic.{⊎-elim}
 use native.Mathlib.Omega.{arith}
 use borrow.Author.Needs.{needs}
 use mathlib.Core.Path.{_≡_, refl, sym, ap, _∙_}
-use Rattle.values.proofs.steps.match_arguments.Statement.{statement}
-use Rattle.values.proofs.steps.match_arguments.Tie as tie
+use Rattle.values.proofs.calls.match_arguments.Statement.{statement}
+use Rattle.values.proofs.calls.match_arguments.Tie as tie
 
 abbrev Inv-loop : tie.InvT-loop
 Inv-loop file v0 y0 a₀ v₀ y₀ a v y = Going file v0 y0 a v y

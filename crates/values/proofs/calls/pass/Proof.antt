@@ -2,8 +2,8 @@
 use Rattle.values.specs.Gathering.{passedIn, pass-in, pass-out, pass-none}
 use mathlib.Core.Path.{_≡_, refl, sym, ap, _∙_}
 use borrow.Author.Needs.{needs}
-use Rattle.values.proofs.steps.pass.Statement.{statement}
-use Rattle.values.proofs.steps.pass.Tie as tie
+use Rattle.values.proofs.calls.pass.Statement.{statement}
+use Rattle.values.proofs.calls.pass.Tie as tie
 
 read-requires : tie.Need-read-requires
 read-requires c κs = search needs
