@@ -1,0 +1,88 @@
+//! Packs runs in lent memory of many sizes, with the lines that each must print, for the program `lent_runs`: pack-runs TABLE.tsv PACK STDOUT
+//!
+//! TABLE has a file a line, as tools/pack-jobs takes it. Of sixty accepted files of up to 64 records that run to their end in 4 to 5,000 steps: cells, regions,
+//! frames, printed numbers and steps lent in turn as 0, one word, one too few, just enough and more, the others just enough. A pack is files one behind the
+//! other: the length of the name in one byte, the name, the length of the file in three, the file, how many runs in one byte, and for each the words lent
+//! for cells, regions, frames and printed numbers and the steps, in three bytes each; low bytes first.
+use reference::{run, Ending, Lent};
+
+fn bytes(hex: &str) -> Vec<u8> {
+    (0..hex.len() / 2).map(|k| u8::from_str_radix(&hex[2 * k..2 * k + 2], 16).unwrap()).collect()
+}
+
+/// Just enough of each sort.
+fn enough(file: &[u8]) -> Option<Lent> {
+    let done = run(file, &Lent::program());
+    let most = done.most;
+    (done.ending == Ending::Finished && done.steps <= 5000).then_some(Lent {
+        cells: 8 * most.cells,
+        regions: 2 * most.regions,
+        frames: 136 * most.frames,
+        prints: done.printed.len(),
+        steps: done.steps,
+    })
+}
+
+/// 0, a word, one too few with a remainder, just enough, more.
+fn sizes(words: usize, each: usize) -> Vec<usize> {
+    let mut all = vec![0, 1, words.saturating_sub(1), words, words + each + 1];
+    all.sort();
+    all.dedup();
+    all
+}
+
+fn cases(lent: &Lent) -> Vec<Lent> {
+    let mut found = Vec::new();
+    found.extend(sizes(lent.cells, 8).into_iter().map(|n| Lent { cells: n, ..*lent }));
+    found.extend(sizes(lent.regions, 2).into_iter().map(|n| Lent { regions: n, ..*lent }));
+    found.extend(sizes(lent.frames, 136).into_iter().map(|n| Lent { frames: n, ..*lent }));
+    found.extend(sizes(lent.prints, 1).into_iter().map(|n| Lent { prints: n, ..*lent }));
+    found.extend(sizes(lent.steps as usize, 1).into_iter().map(|n| Lent { steps: n as u64, ..*lent }));
+    found
+}
+
+/// A number in three bytes.
+fn number(n: usize) -> [u8; 3] {
+    let [a, b, c, 0, ..] = n.to_le_bytes() else { panic!("{n} takes more than three bytes") };
+    [a, b, c]
+}
+
+fn packed(name: &str, file: &[u8], cases: &[Lent]) -> Vec<u8> {
+    let mut data = vec![name.len() as u8];
+    data.extend(name.as_bytes());
+    data.extend(number(file.len()));
+    data.extend(file);
+    data.push(cases.len() as u8);
+    for lent in cases {
+        for n in [lent.cells, lent.regions, lent.frames, lent.prints, lent.steps as usize] {
+            data.extend(number(n));
+        }
+    }
+    data
+}
+
+fn main() {
+    let words: Vec<String> = std::env::args().collect();
+    let [_, table, pack, stdout] = &words[..] else { panic!("pack-runs TABLE.tsv PACK STDOUT") };
+    let mut data = Vec::new();
+    let mut lines = String::new();
+    let mut files = 0;
+    let mut runs = 0;
+    for line in std::fs::read_to_string(table).unwrap().lines() {
+        let [name, hex, _, answer, _] = line.split('\t').collect::<Vec<_>>()[..] else { panic!("{line}") };
+        let file = bytes(hex);
+        if answer != "accepted" || file.len() > 64 * 16 || files == 60 {
+            continue;
+        }
+        let Some(lent) = enough(&file).filter(|lent| lent.steps >= 4) else { continue };
+        let cases = cases(&lent);
+        data.extend(packed(name, &file, &cases));
+        lines += &format!("{name}\n");
+        lines.extend(cases.iter().map(|lent| run(&file, lent).lines()));
+        files += 1;
+        runs += cases.len();
+    }
+    println!("{files} files, {runs} runs, {} bytes", data.len());
+    std::fs::write(pack, data).unwrap();
+    std::fs::write(stdout, lines).unwrap();
+}
