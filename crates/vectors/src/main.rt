@@ -6,51 +6,18 @@
 use answering::print_annotated;
 use answering::print_checked;
 use libc::STDOUT_FILENO;
-ghost use Prim.Native.Nat.{_≤_};
+use packs::next_byte;
+use packs::next_bytes;
+use packs::next_number;
+use packs::print_name;
 ghost use mathlib.Core.Path.{_≡_};
 ghost use lib.ListN.{length};
-ghost use Rattle.io.specs.Counts.{Counts};
 
 // One byte more than the longest file has, so that a longer one is seen to be too long.
 fn memory() -> [u8; 65537]
     ensures { λ r. ⌜ 65537 ≡ length r ⌝ }
 {
     [0; 65537]
-}
-
-fn wide(x: u8) -> usize
-    ensures { λ r. ⌜ r ≤ 255 ⌝ }
-{
-    x as usize
-}
-
-// The next byte; 256 at the end of the pack.
-fn next_byte(fd: i32) -> usize
-    ensures { λ r. ⌜ r ≤ 256 ⌝ }
-{
-    let mut byte = [0u8; 1];
-    if io::read_full(fd, &mut byte) == 0 {
-        return 256;
-    }
-    wide(byte[0])
-}
-
-// The next n bytes, as far as they fit.
-fn next_bytes(fd: i32, out: &mut [u8], n: usize) -> usize
-    ensures { λ r. ⌜ Counts r (now (out .exit)) ⌝ }
-{
-    if n < out.len() {
-        io::read_full(fd, &mut out[..n])
-    } else {
-        io::read_full(fd, out)
-    }
-}
-
-fn print_name(fd: i32, n: usize) {
-    let mut name = io::buffer();
-    let k = next_bytes(fd, &mut name, n);
-    io::write_all(STDOUT_FILENO, &name[..k]);
-    io::write_all(STDOUT_FILENO, b" ");
 }
 
 fn try_file(fd: i32, n: usize) {
@@ -67,10 +34,9 @@ fn try_job(fd: i32) -> bool {
         return false;
     }
     print_name(fd, n);
-    let low = next_byte(fd);
-    let middle = next_byte(fd);
-    let high = next_byte(fd);
-    try_file(fd, low + 256 * middle + 65536 * high);
+    io::write_all(STDOUT_FILENO, b" ");
+    let length = next_number(fd);
+    try_file(fd, length);
     true
 }
 

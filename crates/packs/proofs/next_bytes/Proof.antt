@@ -7,8 +7,8 @@ use lib.ListN.{length, drop, length-append}
 use lib.Seq.{length-take-le}
 use borrow.Author.Needs.{needs}
 use Rattle.io.specs.Counts.{Counts}
-use Rattle.vectors.proofs.next_bytes.Statement.{statement}
-use Rattle.vectors.proofs.next_bytes.Tie as tie
+use Rattle.packs.proofs.next_bytes.Statement.{statement}
+use Rattle.packs.proofs.next_bytes.Tie as tie
 
 in-front : (n : ℕ) (a b : List ℕ) → n ≤ length a → Counts n (a ++ b)
 in-front n a b l =

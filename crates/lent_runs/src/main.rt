@@ -1,68 +1,3 @@
-# A program in the gate that runs accepted files in lent memory of many sizes (issue 11, line 4)
-
-Where it stands: the packer is `pack-runs` of rust/compare (60 files, 1,329 runs, 60 KB, 19 KB of lines: 643 finished, 180 stopped 10, 162 stopped 11, 123 stopped 12, 180 stopped 13,
-41 stopped 14), run as `pack-runs TABLE.tsv crates/lent_runs/stdin crates/lent_runs/stdout`. The two crates below are written; `packs` is proved (its `next_bytes` with the proof that
-`vectors` has), `lent_runs` is not tried yet. `vectors` then takes `next_byte`, `next_bytes`, `next_number` and `print_name` from `packs`.
-
-    packs: io libc
-    vectors: answering packs io os libc
-    lent_runs: running machine word_machine lines packs language io libc
-
-`packs`, src/lib.rt:
-
-```rust
-// Packs of job files, as tools/pack-jobs and pack-runs of rust/compare write them: names and files behind their lengths, numbers low byte first.
-use libc::STDOUT_FILENO;
-ghost use Prim.Native.Nat.{_≤_};
-ghost use Rattle.io.specs.Counts.{Counts};
-
-fn wide(x: u8) -> usize
-    ensures { λ r. ⌜ r ≤ 255 ⌝ }
-{
-    x as usize
-}
-
-// The next byte; 256 at the end of the pack.
-pub fn next_byte(fd: i32) -> usize
-    ensures { λ r. ⌜ r ≤ 256 ⌝ }
-{
-    let mut byte = [0u8; 1];
-    if io::read_full(fd, &mut byte) == 0 {
-        return 256;
-    }
-    wide(byte[0])
-}
-
-// The next number, in three bytes.
-pub fn next_number(fd: i32) -> usize {
-    let low = next_byte(fd);
-    let middle = next_byte(fd);
-    let high = next_byte(fd);
-    low + 256 * middle + 65536 * high
-}
-
-// The next n bytes, as far as they fit.
-pub fn next_bytes(fd: i32, out: &mut [u8], n: usize) -> usize
-    ensures { λ r. ⌜ Counts r (now (out .exit)) ⌝ }
-{
-    if n < out.len() {
-        io::read_full(fd, &mut out[..n])
-    } else {
-        io::read_full(fd, out)
-    }
-}
-
-// Prints the next n bytes, a name.
-pub fn print_name(fd: i32, n: usize) {
-    let mut name = io::buffer();
-    let k = next_bytes(fd, &mut name, n);
-    io::write_all(STDOUT_FILENO, &name[..k]);
-}
-```
-
-`lent_runs`, src/main.rt:
-
-```rust
 // Runs each job of a pack in lent memory of many sizes, and prints its name and the lines of each run.
 //
 // The pack comes on standard input, as pack-runs of rust/compare writes it: jobs one behind the other, each the length of its name in one byte, the name,
@@ -189,6 +124,22 @@ fn print_lines(prints: &[u32], r: Outcome)
     }
 }
 
+// A run and its lines.
+fn try_in(
+    file: &[u8],
+    cells: usize,
+    regions: usize,
+    frames: usize,
+    prints: &mut [u32],
+    steps: usize,
+)
+    requires { ⌜ (cells ≤ 160) × (regions ≤ 16) × (frames ≤ 1000) ⌝ }
+    requires { ⌜ length (now prints) ≤ 16 ⌝ }
+{
+    let r = run_in(file, cells, regions, frames, &mut *prints, steps);
+    print_lines(&*prints, r);
+}
+
 fn try_run(file: &[u8]) {
     let cells = next_lent(CELLS);
     let regions = next_lent(REGIONS);
@@ -196,8 +147,7 @@ fn try_run(file: &[u8]) {
     let n = next_lent(PRINTS);
     let steps = next_number(STDIN_FILENO);
     let mut prints = print_words();
-    let r = run_in(file, cells, regions, frames, &mut prints[..n], steps);
-    print_lines(&prints, r);
+    try_in(file, cells, regions, frames, &mut prints[..n], steps);
 }
 
 fn try_runs(file: &[u8], n: usize) {
@@ -233,4 +183,3 @@ fn main() {
         }
     }
 }
-```
