@@ -1,6 +1,7 @@
 pub mod Pairs
 pub mod CallMap
 pub mod Terms
+pub mod Firsts
 pub mod Doubled
 pub mod Images
 pub mod Single

@@ -1,6 +1,6 @@
 // What a step does to regions.
+use chains::word;
 use language::format;
-use records::word;
 use sets::Set;
 use tables::Effect;
 use tables::home;

@@ -8,6 +8,7 @@ use crate::repeats::repeats;
 use crate::single::record_ok;
 use chains::record_count;
 use language::format;
+use language::format::PLACES;
 use records::blank::blank_places;
 use records::word;
 use tables::Effect;
@@ -29,6 +30,7 @@ ghost use Rattle.language.specs.Answers.{program};
 ghost use Rattle.chains.specs.Shapes.{IsCall};
 ghost use Rattle.owners.specs.Everywhere.{recordTest};
 ghost use Rattle.tables.specs.Rows.{rowsLength, effectIn, putEffect};
+ghost use Rattle.regions.specs.Firsts.{Firsts};
 ghost use Rattle.regions.specs.Single.{agrees};
 ghost use Rattle.regions.specs.Here.{Given, Here};
 ghost use Rattle.regions.specs.Effects.{SomeStep, regionEffect};
@@ -52,39 +54,64 @@ fn call_ok(file: &[u8], own: &[u64], callee: &[u64], i: usize, rows: &mut [u64; 
 }
 
 // The step at record i, no call, of the procedure with the window own.
-fn row_ok(file: &[u8], own: &[u64], i: usize, rows: &mut [u64; ROWS]) -> bool
+fn row_ok(
+    file: &[u8],
+    own: &[u64],
+    i: usize,
+    rows: &mut [u64; ROWS],
+    firsts: &mut [usize; PLACES],
+) -> bool
     requires { ⌜ Here (now file) (now own) i ⌝ }
     requires { ⌜ (IsCall (now file) i → ⊥) × SomeStep (now file) i ⌝ }
     requires { ⌜ rowsLength ≤ length (now rows) ⌝ }
+    requires { ⌜ Firsts (now file) (now firsts) ⌝ }
     ensures { λ b. ⌜ b ≡ recordTest (agrees (now (file .entry))) (now (file .entry)) i ⌝ }
     ensures { λ b. ⌜ Rowed (now (file .entry)) i (now (rows .entry)) b (now (rows .exit)) ⌝ }
+    ensures { λ _. ⌜ Firsts (now (file .entry)) (now (firsts .exit)) ⌝ }
 {
     put_effect(rows, i, step_effect(file, own, i));
-    record_ok(file, own, i)
+    record_ok(file, own, i, firsts)
 }
 
 // The same by the table of windows.
-fn step_ok(file: &[u8], table: &[u64], owners: &[u16], i: usize, rows: &mut [u64; ROWS]) -> bool
+fn step_ok(
+    file: &[u8],
+    table: &[u64],
+    owners: &[u16],
+    i: usize,
+    rows: &mut [u64; ROWS],
+    firsts: &mut [usize; PLACES],
+) -> bool
     requires { ⌜ Given (now file) (now table) (now owners) ⌝ }
     requires { ⌜ (0 < i) × (i < recordCount (now file)) ⌝ }
     requires { ⌜ (IsCall (now file) i → ⊥) × SomeStep (now file) i ⌝ }
     requires { ⌜ rowsLength ≤ length (now rows) ⌝ }
+    requires { ⌜ Firsts (now file) (now firsts) ⌝ }
     ensures { λ b. ⌜ b ≡ recordTest (agrees (now (file .entry))) (now (file .entry)) i ⌝ }
     ensures { λ b. ⌜ Rowed (now (file .entry)) i (now (rows .entry)) b (now (rows .exit)) ⌝ }
+    ensures { λ _. ⌜ Firsts (now (file .entry)) (now (firsts .exit)) ⌝ }
 {
     let start = start_of(table, owner_of(owners, i));
-    row_ok(file, &table[start..], i, rows)
+    row_ok(file, &table[start..], i, rows, firsts)
 }
 
 // The switch at record i.
-fn switch_ok(file: &[u8], table: &[u64], owners: &[u16], i: usize) -> bool
+fn switch_ok(
+    file: &[u8],
+    table: &[u64],
+    owners: &[u16],
+    i: usize,
+    firsts: &mut [usize; PLACES],
+) -> bool
     requires { ⌜ Given (now file) (now table) (now owners) ⌝ }
     requires { ⌜ (0 < i) × (i < recordCount (now file)) ⌝ }
     requires { ⌜ (IsCall (now file) i → ⊥) ⌝ }
+    requires { ⌜ Firsts (now file) (now firsts) ⌝ }
     ensures { λ b. ⌜ b ≡ recordTest (agrees (now (file .entry))) (now (file .entry)) i ⌝ }
+    ensures { λ _. ⌜ Firsts (now (file .entry)) (now (firsts .exit)) ⌝ }
 {
     let start = start_of(table, owner_of(owners, i));
-    record_ok(file, &table[start..], i)
+    record_ok(file, &table[start..], i, firsts)
 }
 
 // The step at record i has no effect, and asks for nothing.
@@ -145,24 +172,27 @@ fn next_ok(
     last: usize,
     i: usize,
     rows: &mut [u64; ROWS],
+    firsts: &mut [usize; PLACES],
 ) -> bool
     requires { ⌜ Given (now file) (now table) (now owners) ⌝ }
     requires { ⌜ (0 < i) × (i < recordCount (now file)) ⌝ }
     requires { ⌜ rowsLength ≤ length (now rows) ⌝ }
     requires { ⌜ Before (now file) (now rows) last ⌝ }
+    requires { ⌜ Firsts (now file) (now firsts) ⌝ }
     ensures { λ b. ⌜ b ≡ recordTest (agrees (now (file .entry))) (now (file .entry)) i ⌝ }
     ensures { λ b. ⌜ Rowed (now (file .entry)) i (now (rows .entry)) b (now (rows .exit)) ⌝ }
+    ensures { λ _. ⌜ Firsts (now (file .entry)) (now (firsts .exit)) ⌝ }
 {
     match word(file, i, format::KIND) {
         format::LITERAL => put_none(rows, i),
         format::SUM => put_none(rows, i),
         format::PRINT => put_none(rows, i),
-        format::SWITCH => switch_ok(file, table, owners, i),
+        format::SWITCH => switch_ok(file, table, owners, i, firsts),
         format::CALL => next_call_ok(file, table, owners, last, i, rows),
-        format::ASSIGN => step_ok(file, table, owners, i, rows),
-        format::CONSTRUCT => step_ok(file, table, owners, i, rows),
-        format::CREATE => step_ok(file, table, owners, i, rows),
-        format::REMOVE => step_ok(file, table, owners, i, rows),
+        format::ASSIGN => step_ok(file, table, owners, i, rows, firsts),
+        format::CONSTRUCT => step_ok(file, table, owners, i, rows, firsts),
+        format::CREATE => step_ok(file, table, owners, i, rows, firsts),
+        format::REMOVE => step_ok(file, table, owners, i, rows, firsts),
         _ => true,
     }
 }
@@ -175,10 +205,11 @@ pub fn regions_agree(file: &[u8], table: &[u64], owners: &[u16], rows: &mut [u64
     ensures { λ b. ⌜ Passed (now (file .entry)) (now (rows .entry)) b (now (rows .exit)) ⌝ }
 {
     let n = record_count(file);
+    let mut firsts = blank_places();
     let mut last = 0;
     let mut i = 1;
     while i < n {
-        if !next_ok(file, table, owners, last, i, rows) {
+        if !next_ok(file, table, owners, last, i, rows, &mut firsts) {
             return false;
         }
         if word(file, i, format::KIND) == format::CALL {

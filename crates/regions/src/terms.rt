@@ -3,7 +3,9 @@ use chains::word;
 use language::format::EDGE_FUNCTOR;
 use language::format::EDGE_POSITION;
 use language::format::EDGE_TARGET;
+use language::format::MAX_FUNCTORS;
 use language::format::NEXT;
+use language::format::PLACES;
 use language::format::TERM_ARGUMENTS;
 use language::format::TERM_FUNCTOR;
 use tables::home;
@@ -13,6 +15,7 @@ ghost use Rattle.language.specs.Format;
 ghost use Rattle.language.specs.File.{edges, recordCount};
 ghost use Rattle.language.specs.Regions.{targetFor};
 ghost use Rattle.chains.specs.Formed.{Formed, Stands, edgesAt};
+ghost use Rattle.regions.specs.Firsts.{FirstEdge, Firsts};
 ghost use Rattle.regions.specs.Terms.{argumentsHere, wordsFrom, termIn};
 
 // The target of the edge for functor f and position k in the chain at record start; 0 where there is none.
@@ -51,6 +54,27 @@ fn edges_for(file: &[u8], start: usize, f: usize) -> usize
     i
 }
 
+// The first edge for functor f in the chain at record start, by the first edges found before: for each functor the chain that was searched last
+// and the edge.
+fn first_edge(file: &[u8], start: usize, f: usize, firsts: &mut [usize; PLACES]) -> usize
+    requires { ⌜ Formed (now file) ⌝ }
+    requires { ⌜ Stands (now file) edges start ⌝ }
+    requires { ⌜ Firsts (now file) (now firsts) ⌝ }
+    ensures { λ r. ⌜ FirstEdge (now (file .entry)) f start r ⌝ }
+    ensures { λ _. ⌜ Firsts (now (file .entry)) (now (firsts .exit)) ⌝ }
+{
+    if MAX_FUNCTORS <= f {
+        return edges_for(file, start, f);
+    }
+    if firsts[2 * f] == start {
+        return firsts[2 * f + 1];
+    }
+    let first = edges_for(file, start, f);
+    firsts[2 * f] = start;
+    firsts[2 * f + 1] = first;
+    first
+}
+
 // How many arguments the construct or arm at record i has: a zero at the end is none.
 fn count_arguments(file: &[u8], i: usize) -> usize
     requires { ⌜ Formed (now file) ⌝ }
@@ -74,13 +98,21 @@ fn count_arguments(file: &[u8], i: usize) -> usize
 }
 
 // Whether the arguments at record i, of a construct or an arm, are in the targets of their edges, which are in the chain at record start.
-pub fn in_targets(file: &[u8], own: &[u64], start: usize, i: usize) -> bool
+pub fn in_targets(
+    file: &[u8],
+    own: &[u64],
+    start: usize,
+    i: usize,
+    firsts: &mut [usize; PLACES],
+) -> bool
     requires { ⌜ Formed (now file) ⌝ }
     requires { ⌜ Stands (now file) edges start × (i < recordCount (now file)) ⌝ }
+    requires { ⌜ Firsts (now file) (now firsts) ⌝ }
     ensures { λ b. ⌜ b ≡ termIn (now (file .entry)) (now (own .entry)) start i ⌝ }
+    ensures { λ _. ⌜ Firsts (now (file .entry)) (now (firsts .exit)) ⌝ }
 {
     let functor = word(file, i, TERM_FUNCTOR);
-    let first = edges_for(file, start, functor);
+    let first = first_edge(file, start, functor, firsts);
     let n = count_arguments(file, i);
     let mut k = 0;
     while k < n {

@@ -1,15 +1,23 @@
--- One turn of each loop along a chain of variables, over the code's own values.
-use Prim.Native.Nat.{ℕ}
-use mathlib.Core.Path.{_≡_, refl, sym, ap, _∙_}
+-- One turn of each loop: along a chain of variables, and through a callee's in and out variables, over the code's own values.
+use Prim.Native.Nat.{ℕ, _<_, _≤_}
+use native.Mathlib.Omega.{arith}
+use mathlib.Core.Path.{_≡_, refl}
 use mathlib.Core.List.{List}
+use Rattle.sets.specs.Sets.{_∪_}
+use Rattle.sets.specs.Members.{nextMember}
+use Rattle.sets.specs.Walk.{next-is}
+use Rattle.sets.specs.declared.Set.{Set}
+use Rattle.language.specs.Format.{places}
+use Rattle.language.specs.Program.{Signature}
 use Rattle.language.specs.File.{variables, arguments, word}
-use Rattle.chains.specs.Formed.{Formed, Stands, Onward, variablesAt, argumentsAt, variables-none, arguments-none}
+use Rattle.chains.specs.Formed.{Formed, Stands, Onward, argumentsAt, arguments-none}
 use Rattle.chains.specs.Declared.{VariableAt, variable-at}
 use Rattle.chains.specs.Parts.{ArgumentAt, argument-at}
 use Rattle.chains.specs.Is.{variable-is, argument-is}
 use Rattle.tables.specs.declared.Access.{Access}
-use Rattle.values.specs.Gathering.{passedIn}
-use Rattle.values.specs.Matching.{Matches, Matching, match-local, match-passed, match-short, match-last}
+use Rattle.values.specs.Gathering.{noAccess, passedIn}
+use Rattle.values.specs.Matching.{Matches}
+use Rattle.values.specs.Parameters.{Declares, Turned, toldMode, turned-first, turned-short, turned-last, turned-next}
 
 module _ {f : List ℕ} (F : Formed f) {v : ℕ} (s : Stands f variables v) (z : v ≡ 0 → ⊥) where
   pub variable-here : VariableAt f v (word f v 1) (word f v 2) (word f v 3) (word f v 4)
@@ -19,34 +27,33 @@ module _ {f : List ℕ} (F : Formed f) {v : ℕ} (s : Stands f variables v) (z :
   to-next e = rw e (variable-here .to-next)
 
 -- ---- a call's arguments
-pub record Going (f : List ℕ) (v0 y0 : ℕ) (a : Access) (v y : ℕ) : Type 0 where
-  pub variable : Stands f variables v
+pub record Going (f : List ℕ) (ins both : Set) (y0 : ℕ) (a : Access) (x y : ℕ) : Type 0 where
+  pub passed : ℕ
+  pub next : x ≡ nextMember both passed
   pub argument : Stands f arguments y
-  pub matching : Matching (variablesAt f v0) (argumentsAt f y0) a (variablesAt f v) (argumentsAt f y)
+  pub turned : (S : Signature) (outs : Set) → both ≡ ins ∪ outs → Declares S ins outs → Turned S ins both (argumentsAt f y0) a passed (argumentsAt f y)
 
-module _ {f : List ℕ} {v0 y0 : ℕ} {a : Access} {v y : ℕ} (F : Formed f) (h : Going f v0 y0 a v y) (z : v ≡ 0 → ⊥) {mode : ℕ} (m : mode ≡ word f v 2) where
-  pub going-local : {w u : ℕ} {b : Access} → mode ≡ 0 → b ≡ a → u ≡ y → w ≡ word f v 1 → Going f v0 y0 b w u
-  going-local o i j e =
-      let n = variable-here F (h .variable) z in
+pub going-first : {f : List ℕ} (ins : Set) {both : Set} {y0 : ℕ} {a : Access} {x : ℕ} → Stands f arguments y0 → a ≡ noAccess → x ≡ nextMember both 0
+    → Going f ins both y0 a x y0
+going-first ins s e n = record { passed = 0; next = n; argument = s; turned = λ S o b D. rw e (turned-first _ D b) }
+
+module _ {f : List ℕ} {ins both : Set} {y0 : ℕ} {a : Access} {x y : ℕ} (h : Going f ins both y0 a x y) where
+  pub going-short : y ≡ 0 → {outs : Set} → both ≡ ins ∪ outs → (S : Signature) → Declares S ins outs → Matches (S .variables) (argumentsAt f y0) a
+  going-short e b S D = turned-short (h .turned S _ b D) (arguments-none f e)
+
+  pub going-last : places ≤ x → {outs : Set} → both ≡ ins ∪ outs → (S : Signature) → Declares S ins outs → Matches (S .variables) (argumentsAt f y0) a
+  going-last l b S D = turned-last (h .turned S _ b D) (omega (arith, h .next, next-is both (h .passed) .top))
+
+  pub going-next : Formed f → x < places → (y ≡ 0 → ⊥) → {m w u z : ℕ} {b : Access} → m ≡ toldMode ins x → w ≡ word f y 2 → b ≡ passedIn m a w
+      → u ≡ word f y 1 → z ≡ nextMember both x → Going f ins both y0 b z u
+  going-next F l p {m} {w} {u} {z} {b} i j k e n =
+      let t : ArgumentAt f y (word f y 1) (word f y 2) = argument-at F refl (argument-is (h .argument) p) in
       record {
-        variable = to-next F (h .variable) z e .stands;
-        argument = rw j (h .argument);
-        matching = rw (e, i, j) (match-local (h .matching) (n .view) (sym m ∙ o));
+        passed = x;
+        next = n;
+        argument = rw e (t .to-next .stands);
+        turned = λ S o q D. rw (k, i, j, e) (turned-next (h .turned S o q D) (h .next) l (t .view));
       }
 
-  pub going-short : (mode ≡ 0 → ⊥) → y ≡ 0 → Matches (variablesAt f v0) (argumentsAt f y0) a
-  going-short o e = match-short (h .matching) (variable-here F (h .variable) z .view) (λ q. o (m ∙ q)) (arguments-none f e)
-
-  pub going-passed : {w x u : ℕ} {b : Access} → (mode ≡ 0 → ⊥) → (y ≡ 0 → ⊥) → x ≡ word f y 2 → b ≡ passedIn mode a x → u ≡ word f y 1 → w ≡ word f v 1
-      → Going f v0 y0 b w u
-  going-passed o p i j k e =
-      let n = variable-here F (h .variable) z in
-      let l : ArgumentAt f y (word f y 1) (word f y 2) = argument-at F refl (argument-is (h .argument) p) in
-      record {
-        variable = to-next F (h .variable) z e .stands;
-        argument = rw k (l .to-next .stands);
-        matching = rw (j, i, k, e, m) (match-passed (h .matching) (n .view) (λ q. o (m ∙ q)) (l .view));
-      }
-
-pub going-last : {f : List ℕ} {v0 y0 : ℕ} {a : Access} {v y : ℕ} → Going f v0 y0 a v y → v ≡ 0 → Matches (variablesAt f v0) (argumentsAt f y0) a
-going-last {f} h e = match-last (h .matching) (variables-none f e)
+pub going-rises : (both : Set) (x : ℕ) {z : ℕ} → x < places → z ≡ nextMember both x → x < z
+going-rises both x l e = omega (arith, next-is both x .low)

@@ -3,20 +3,25 @@ use Prim.Native.Nat.{ℕ, zero, suc, _+_, _≤_, _<_}
 use native.Mathlib.Omega.{arith}
 use mathlib.Core.Path.{_≡_, refl, sym, ap, _∙_}
 use mathlib.Core.List.{List, [], _∷_}
+use mathlib.Core.Bool.{true}
 use lib.ListN.{length, getD, drop}
 use lib.Seq.{getD-drop}
 use Rattle.language.specs.Format.{literalKind, sumKind, assignKind, constructKind, armKind, callKind, printKind, createKind, removeKind, goalX, sumY, sumZ, assignY, printY, callProcedure, callArguments}
-use Rattle.language.specs.File.{GoalKind, kLiteral, kSum, kAssign, kConstruct, kSwitch, kIf, kCall, kPrint, kCreate, kRemove, Kind, kNone, kArm, kGoal, goals, variables, arms, row, kindOf, word, recordCount}
+use Rattle.language.specs.File.{GoalKind, kLiteral, kSum, kAssign, kConstruct, kSwitch, kIf, kCall, kPrint, kCreate, kRemove, Kind, kNone, kArm, kGoal, goals, arms, row, kindOf, word, recordCount}
 use Rattle.language.specs.Lists.{nth}
 use Rattle.language.specs.Program.{Four, four, fourWords, argumentsOf, Step, Goals, _then_, step, call, Variable, Procedure, Program, done, procedureAt, signatureOf}
+use Rattle.language.specs.Typing.{typingOk}
 use Rattle.language.specs.Answers.{program}
 use Rattle.chains.specs.Layout.{all-rows, number-is, starts-kind, goals-kind, arms-kind}
-use Rattle.chains.specs.Formed.{Formed, Stands, stands-starts, variablesAt, goalsAt, argumentsAt}
+use Rattle.chains.specs.Formed.{Formed, Stands, stands-starts, goalsAt, argumentsAt}
 use Rattle.chains.specs.Shapes.{goal-kind, literal-here, sum-here, assign-here, construct-here, call-here, print-here, create-here, remove-here}
-use Rattle.tables.specs.Window.{firstPlace, FileTable}
+use Rattle.tables.specs.Window.{insPlace, outsPlace, setIn, FileTable}
+use Rattle.sets.specs.Sets.{loaded}
+use Rattle.sets.specs.declared.Set.{Set}
 use Rattle.tables.specs.declared.Access.{Access}
 use Rattle.values.specs.Gathering.{noAccess, readIn, givenIn, readAll, fourRead, fourGiven, Gathers, four-given}
-use Rattle.values.specs.Matching.{Matches, match-first, match-last}
+use Rattle.values.specs.Matching.{Matches, none-matches}
+use Rattle.values.specs.Parameters.{Declares, declares}
 use Rattle.values.specs.Accesses.{Accesses, literal-access, sum-access, assign-access, construct-access, print-access, create-access, remove-access, call-access, at-step}
 
 -- the four words of a construct's or an arm's arguments
@@ -103,7 +108,7 @@ module _ (f : List ℕ) (i : ℕ) (F : Formed f) {w : ℕ} (e : w ≡ word f i 0
     arm = λ s z. rw p (four-given (argumentWords f i));
   }
 
--- ---- a call: the callee's first variable stands in its window
+-- ---- a call: the callee's in and out variables stand in its window
 nth-none : {A : Type 0} (d : A) (xs : List A) (k : ℕ) → length xs ≤ k → nth d xs k ≡ d
 unfolding nth
 nth-none d [] k h = refl
@@ -115,7 +120,7 @@ pub call-none : (P : Program) (q : ℕ) (ys : List ℕ) {a : Access} → length 
 unfolding signatureOf procedureAt
 call-none P q ys h e =
     let n = nth-none (record { signature = record { variables = []; regions = [] }; body = done }) (P .procedures) q h in
-    rw e (call-access P (sym (ap (λ p. p .signature .variables) n)) (match-last match-first refl))
+    rw e (call-access P (sym (ap (λ p. p .signature .variables) n)) (none-matches ys))
 
 -- the window of procedure q, which starts at that place
 module _ {f t : List ℕ} (T : FileTable f t) {q w : ℕ} (h : q < length (program f .procedures)) (e : w ≡ getD t q 0) where
@@ -125,10 +130,13 @@ module _ {f t : List ℕ} (T : FileTable f t) {q w : ℕ} (h : q < length (progr
   pub window-fits : w ≤ length t
   window-fits = rw e (T .starts q h)
 
-  pub callee-stands : {v : ℕ} → v ≡ getD t (w + firstPlace) 0 → Stands f variables v
-  callee-stands g = rw (in-window firstPlace g) (T .at q h .window .variables-stand)
+  -- its sets of in and out variables
+  pub callee-declares : typingOk (program f) ≡ true → {ins outs : Set} → ins ≡ setIn t (w + insPlace) → outs ≡ setIn t (w + outsPlace)
+      → Declares (signatureOf (program f) q) ins outs
+  unfolding setIn signatureOf
+  callee-declares d i o =
+      let W = T .at q h .window in
+      declares (program f) d h (i ∙ ap loaded (in-window insPlace refl) ∙ W .ins) (o ∙ ap loaded (in-window outsPlace refl) ∙ W .outs)
 
-  pub callee-accesses : {v : ℕ} {ys : List ℕ} {a : Access} → v ≡ getD t (w + firstPlace) 0 → Matches (variablesAt f v) ys a
-      → Accesses (program f) (call q ys) a
-  unfolding signatureOf
-  callee-accesses g m = call-access (program f) (ap (variablesAt f) (in-window firstPlace g) ∙ T .at q h .window .variables) m
+  pub callee-accesses : {ys : List ℕ} {a : Access} → Matches (signatureOf (program f) q .variables) ys a → Accesses (program f) (call q ys) a
+  callee-accesses m = call-access (program f) refl m

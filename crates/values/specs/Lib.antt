@@ -1,6 +1,7 @@
 pub mod Ranged
 pub mod Gathering
 pub mod Matching
+pub mod Parameters
 pub mod Modes
 pub mod Callees
 pub mod Accesses

@@ -9,20 +9,26 @@ use language::format::CALL_PROCEDURE;
 use language::format::MODE_IN;
 use language::format::MODE_OUT;
 use language::format::NEXT;
-use language::format::VARIABLE_MODE;
+use language::format::PLACES;
+use sets::Set;
 use tables::Access;
-use tables::FIRST;
+use tables::INS;
+use tables::OUTS;
 use tables::TABLE;
+use tables::set_at;
 use tables::word_at;
 ghost use mathlib.Core.Path.{_≡_};
+ghost use mathlib.Core.Bool.{true};
 ghost use lib.ListN.{length};
-ghost use Rattle.language.specs.File.{variables, arguments};
-ghost use Rattle.language.specs.Program.{call};
+ghost use Rattle.language.specs.File.{arguments};
+ghost use Rattle.language.specs.Program.{Signature, call};
+ghost use Rattle.language.specs.Typing.{typingOk};
 ghost use Rattle.language.specs.Answers.{program};
 ghost use Rattle.chains.specs.Shapes.{IsCall};
-ghost use Rattle.chains.specs.Formed.{Formed, Stands, argumentsAt, variablesAt};
+ghost use Rattle.chains.specs.Formed.{Formed, Stands, argumentsAt};
 ghost use Rattle.values.specs.Gathering.{passedIn};
 ghost use Rattle.values.specs.Matching.{Matches};
+ghost use Rattle.values.specs.Parameters.{toldMode, Declares};
 ghost use Rattle.values.specs.Accesses.{Accesses};
 ghost use Rattle.tables.specs.Window.{FileTable};
 ghost use Rattle.values.specs.Fitting.{Fits};
@@ -46,6 +52,7 @@ pub fn call_access(file: &[u8], table: &[u64; TABLE], procedures: usize, i: usiz
     requires { ⌜ FileTable (now file) (now table) ⌝ }
     requires { ⌜ procedures ≡ length (program (now file) .procedures) ⌝ }
     requires { ⌜ IsCall (now file) i ⌝ }
+    requires { ⌜ typingOk (program (now file)) ≡ true ⌝ }
     ensures { λ r. ⌜ Fits (now (file .entry)) i r ⌝ }
 {
     let q = word(file, i, CALL_PROCEDURE);
@@ -59,35 +66,42 @@ fn called_access(file: &[u8], table: &[u64; TABLE], procedures: usize, q: usize,
     requires { ⌜ FileTable (now file) (now table) ⌝ }
     requires { ⌜ procedures ≡ length (program (now file) .procedures) ⌝ }
     requires { ⌜ Stands (now file) arguments y ⌝ }
+    requires { ⌜ typingOk (program (now file)) ≡ true ⌝ }
     ensures { λ r. ⌜ Accesses (program (now (file .entry))) (call q (argumentsAt (now (file .entry)) y)) r ⌝ }
 {
     if q >= procedures {
         return no_access();
     }
     let window = word_at(table, q);
-    match_arguments(file, word_at(table, window + FIRST), y)
+    let ins = set_at(table, window + INS);
+    let outs = set_at(table, window + OUTS);
+    match_arguments(file, ins, outs, y)
 }
 
-// The arguments from record y0 on, matched with the in and out variables among those from record v0 on.
-fn match_arguments(file: &[u8], v0: usize, y0: usize) -> Access
-    requires { ⌜ Formed (now file) ⌝ }
-    requires { ⌜ Stands (now file) variables v0 ⌝ }
-    requires { ⌜ Stands (now file) arguments y0 ⌝ }
-    ensures { λ r. ⌜ Matches (variablesAt (now (file .entry)) v0) (argumentsAt (now (file .entry)) y0) r ⌝ }
+// The mode of variable x, an in variable if it is in ins, else an out variable.
+fn mode_of(ins: Set, x: usize) -> usize
+    ensures { λ m. ⌜ m ≡ toldMode ins x ⌝ }
 {
+    if ins.has(x) { MODE_IN } else { MODE_OUT }
+}
+
+// The arguments from record y0 on at the places of the variables of ins and outs, in rising number.
+fn match_arguments(file: &[u8], ins: Set, outs: Set, y0: usize) -> Access
+    requires { ⌜ Formed (now file) ⌝ }
+    requires { ⌜ Stands (now file) arguments y0 ⌝ }
+    ensures { λ r. ⌜ ((S : Signature) → Declares S ins outs → Matches (S .variables) (argumentsAt (now (file .entry)) y0) r) ⌝ }
+{
+    let both = ins.union(outs);
     let mut a = no_access();
-    let mut v = v0;
+    let mut x = both.after(0);
     let mut y = y0;
-    while v != 0 {
-        let mode = word(file, v, VARIABLE_MODE);
-        if mode != 0 {
-            if y == 0 {
-                return a;
-            }
-            a = pass(a, mode, word(file, y, ARGUMENT_VARIABLE));
-            y = word(file, y, NEXT);
+    while x < PLACES {
+        if y == 0 {
+            return a;
         }
-        v = word(file, v, NEXT);
+        a = pass(a, mode_of(ins, x), word(file, y, ARGUMENT_VARIABLE));
+        y = word(file, y, NEXT);
+        x = both.after(x);
     }
     a
 }

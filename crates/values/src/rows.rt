@@ -25,9 +25,11 @@ use tables::ROWS;
 use tables::TABLE;
 use tables::put_access;
 ghost use mathlib.Core.Path.{_≡_};
+ghost use mathlib.Core.Bool.{true};
 ghost use Prim.Native.Nat.{_<_, _≤_};
 ghost use lib.ListN.{length};
 ghost use Rattle.language.specs.File.{recordCount};
+ghost use Rattle.language.specs.Typing.{typingOk};
 ghost use Rattle.language.specs.Answers.{program};
 ghost use Rattle.chains.specs.Formed.{Formed};
 ghost use Rattle.tables.specs.Window.{FileTable};
@@ -39,6 +41,7 @@ pub fn list_accesses(file: &[u8], table: &[u64; TABLE], rows: &mut [u64; ROWS])
     requires { ⌜ Formed (now file) ⌝ }
     requires { ⌜ FileTable (now file) (now table) ⌝ }
     requires { ⌜ rowWords ≤ length (now rows) ⌝ }
+    requires { ⌜ typingOk (program (now file)) ≡ true ⌝ }
     ensures { λ _. ⌜ Accessed (now (file .entry)) (now (rows .exit)) ⌝ }
     ensures { λ _. ⌜ Noted (now (file .entry)) (now (rows .exit)) ⌝ }
     ensures { λ _. ⌜ Kept (now (file .entry)) (now (rows .entry)) (now (rows .exit)) ⌝ }
@@ -64,6 +67,7 @@ fn list_access(
     requires { ⌜ FileTable (now file) (now table) ⌝ }
     requires { ⌜ procedures ≡ length (program (now file) .procedures) ⌝ }
     requires { ⌜ (i < recordCount (now file)) × (rowWords ≤ length (now rows)) ⌝ }
+    requires { ⌜ typingOk (program (now file)) ≡ true ⌝ }
     ensures { λ _. ⌜ RowListed (now (file .entry)) i (now (rows .entry)) (now (rows .exit)) ⌝ }
 {
     match word(file, i, KIND) {

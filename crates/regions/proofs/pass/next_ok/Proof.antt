@@ -35,43 +35,43 @@ put-none-requires-3 c κs =
 
 switch-ok-requires : tie.Need-switch-ok-requires
 switch-ok-requires c κs =
-    let p = c .before .before .before .before .before .pre in
-    let e = c .before .word .ensures .0 in
-    (p .0, (p .1 .0, λ k. omega (arith, e, c .match .keys4, k)))
+    let p = c .before .before .before .before .before .before .pre in
+    let e = c .before .before .word .ensures .0 in
+    (p .0, (p .1 .0, ((λ k. omega (arith, e, c .before .match .keys4, k)), p .1 .1 .1 .1)))
 
 next-call-ok-requires : tie.Need-next-call-ok-requires
 next-call-ok-requires c κs =
     let m = c .before in
     let p = m .before .before .before .before .before .pre in
-    (p .0, ((p .1 .0 .0, p .1 .0 .1, sym (m .before .word .ensures .0) ∙ m .match .keys5), p .1 .1))
+    (p .0, ((p .1 .0 .0, p .1 .0 .1, sym (m .before .word .ensures .0) ∙ m .match .keys5), (p .1 .1 .0, p .1 .1 .1 .0)))
 
 step-ok-requires : tie.Need-step-ok-requires
 step-ok-requires c κs =
-    let m = c .before in
+    let m = c .before .before in
     let p = m .before .before .before .before .before .pre in
     let e = m .before .word .ensures .0 in
-    (p .0, (p .1 .0, (((λ k. omega (arith, e, m .match .keys6, k)), assign-step (p .0 .formed) (p .1 .0 .0) (p .1 .0 .1) (sym e ∙ m .match .keys6)), p .1 .1 .0)))
+    (p .0, (p .1 .0, (((λ k. omega (arith, e, m .match .keys6, k)), assign-step (p .0 .formed) (p .1 .0 .0) (p .1 .0 .1) (sym e ∙ m .match .keys6)), (p .1 .1 .0, p .1 .1 .1 .1))))
 
 step-ok-requires-2 : tie.Need-step-ok-requires-2
 step-ok-requires-2 c κs =
-    let m = c .before in
+    let m = c .before .before in
     let p = m .before .before .before .before .before .pre in
     let e = m .before .word .ensures .0 in
-    (p .0, (p .1 .0, (((λ k. omega (arith, e, m .match .keys7, k)), construct-step (p .0 .formed) (p .1 .0 .0) (p .1 .0 .1) (sym e ∙ m .match .keys7)), p .1 .1 .0)))
+    (p .0, (p .1 .0, (((λ k. omega (arith, e, m .match .keys7, k)), construct-step (p .0 .formed) (p .1 .0 .0) (p .1 .0 .1) (sym e ∙ m .match .keys7)), (p .1 .1 .0, p .1 .1 .1 .1))))
 
 step-ok-requires-3 : tie.Need-step-ok-requires-3
 step-ok-requires-3 c κs =
-    let m = c .before in
+    let m = c .before .before in
     let p = m .before .before .before .before .before .pre in
     let e = m .before .word .ensures .0 in
-    (p .0, (p .1 .0, (((λ k. omega (arith, e, m .match .keys8, k)), create-step (p .0 .formed) (p .1 .0 .0) (p .1 .0 .1) (sym e ∙ m .match .keys8)), p .1 .1 .0)))
+    (p .0, (p .1 .0, (((λ k. omega (arith, e, m .match .keys8, k)), create-step (p .0 .formed) (p .1 .0 .0) (p .1 .0 .1) (sym e ∙ m .match .keys8)), (p .1 .1 .0, p .1 .1 .1 .1))))
 
 step-ok-requires-4 : tie.Need-step-ok-requires-4
 step-ok-requires-4 c κs =
-    let m = c .before in
+    let m = c .before .before in
     let p = m .before .before .before .before .before .pre in
     let e = m .before .word .ensures .0 in
-    (p .0, (p .1 .0, (((λ k. omega (arith, e, m .match .keys9, k)), remove-step (p .0 .formed) (p .1 .0 .0) (p .1 .0 .1) (sym e ∙ m .match .keys9)), p .1 .1 .0)))
+    (p .0, (p .1 .0, (((λ k. omega (arith, e, m .match .keys9, k)), remove-step (p .0 .formed) (p .1 .0 .0) (p .1 .0 .1) (sym e ∙ m .match .keys9)), (p .1 .1 .0, p .1 .1 .1 .1))))
 
 returns : tie.Need-returns
 returns c =
@@ -83,7 +83,7 @@ returns c =
     let k = m .match .keys1 in
     let few : a .args .i < maxRecords = let l = b .1 in omega (arith, counted F .most, l) in (
       c .put-none .ensures .0 ∙ other-agrees _ F e (λ z. omega (arith, k, z)) (λ z. omega (arith, k, z)) (λ z. omega (arith, k, z)) (λ z. omega (arith, k, z)),
-      rowed-put (a .args .file .now) (a .args .i) (a .args .rows .now) few (a .pre .1 .1 .0) (c .put-none .ensures .1) (literal-made F (b .0) (b .1) (sym e ∙ k) refl),
+      (rowed-put (a .args .file .now) (a .args .i) (a .args .rows .now) few (a .pre .1 .1 .0) (c .put-none .ensures .1) (literal-made F (b .0) (b .1) (sym e ∙ k) refl), a .pre .1 .1 .1 .1),
     )
 
 returns-2 : tie.Need-returns-2
@@ -96,7 +96,7 @@ returns-2 c =
     let k = m .match .keys2 in
     let few : a .args .i < maxRecords = let l = b .1 in omega (arith, counted F .most, l) in (
       c .put-none2 .ensures .0 ∙ other-agrees _ F e (λ z. omega (arith, k, z)) (λ z. omega (arith, k, z)) (λ z. omega (arith, k, z)) (λ z. omega (arith, k, z)),
-      rowed-put (a .args .file .now) (a .args .i) (a .args .rows .now) few (a .pre .1 .1 .0) (c .put-none2 .ensures .1) (sum-made F (b .0) (b .1) (sym e ∙ k) refl),
+      (rowed-put (a .args .file .now) (a .args .i) (a .args .rows .now) few (a .pre .1 .1 .0) (c .put-none2 .ensures .1) (sum-made F (b .0) (b .1) (sym e ∙ k) refl), a .pre .1 .1 .1 .1),
     )
 
 returns-3 : tie.Need-returns-3
@@ -109,17 +109,19 @@ returns-3 c =
     let k = m .match .keys3 in
     let few : a .args .i < maxRecords = let l = b .1 in omega (arith, counted F .most, l) in (
       c .put-none3 .ensures .0 ∙ other-agrees _ F e (λ z. omega (arith, k, z)) (λ z. omega (arith, k, z)) (λ z. omega (arith, k, z)) (λ z. omega (arith, k, z)),
-      rowed-put (a .args .file .now) (a .args .i) (a .args .rows .now) few (a .pre .1 .1 .0) (c .put-none3 .ensures .1) (print-made F (b .0) (b .1) (sym e ∙ k) refl),
+      (rowed-put (a .args .file .now) (a .args .i) (a .args .rows .now) few (a .pre .1 .1 .0) (c .put-none3 .ensures .1) (print-made F (b .0) (b .1) (sym e ∙ k) refl), a .pre .1 .1 .1 .1),
     )
 
 returns-4 : tie.Need-returns-4
 returns-4 c =
-    let m = c .before in
+    let m = c .before .before in
     let a = m .before .before .before .before .before in
-    (c .switch-ok .ensures, rowed-not (a .args .file .now) (a .args .i) _ (inr (switch-none (a .pre .0 .formed) (sym (m .before .word .ensures .0) ∙ m .match .keys4))))
+    (c .switch-ok .ensures .0, (rowed-not (a .args .file .now) (a .args .i) _ (inr (switch-none (a .pre .0 .formed) (sym (m .before .word .ensures .0) ∙ m .match .keys4))), c .switch-ok .ensures .1))
 
 returns-5 : tie.Need-returns-5
-returns-5 c = (c .next-call-ok .ensures .0, c .next-call-ok .ensures .1)
+returns-5 c =
+    let p = c .before .before .before .before .before .before .before .pre in
+    (c .next-call-ok .ensures .0, (c .next-call-ok .ensures .1, p .1 .1 .1 .1))
 
 returns-6 : tie.Need-returns-6
 returns-6 c = (c .step-ok .ensures .0, c .step-ok .ensures .1)
@@ -142,7 +144,7 @@ returns-10 c =
     let z = r .0 .0 .0 in
     let y = z .0 .0 .0 in (
       other-agrees _ F e (z .1) (r .0 .0 .1) (z .0 .0 .1) (z .0 .1),
-      rowed-not (a .args .file .now) (a .args .i) _ (inr (no-step-left F e (y .0 .0 .1) (y .0 .1) (z .1) (r .0 .0 .1) (z .0 .1) (y .1) (r .0 .1) (r .1))),
+      (rowed-not (a .args .file .now) (a .args .i) _ (inr (no-step-left F e (y .0 .0 .1) (y .0 .1) (z .1) (r .0 .0 .1) (z .0 .1) (y .1) (r .0 .1) (r .1))), a .pre .1 .1 .1 .1),
     )
 
 pub next-ok-spec : {M : Type 1} → statement M

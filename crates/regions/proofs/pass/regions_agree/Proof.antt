@@ -7,38 +7,44 @@ use mathlib.Core.Path.{_≡_}
 use borrow.Author.Tests.{not-true, not-false}
 use Rattle.language.specs.File.{recordCount}
 use Rattle.regions.specs.Rowed.{Going, going-first, going-stop, going-next, going-last, going-passed, going-stopped, going-before}
+use Rattle.regions.specs.Firsts.{Firsts, firsts-none}
 use Rattle.regions.proofs.pass.regions_agree.Statement.{statement}
 use Rattle.regions.proofs.pass.regions_agree.Tie as tie
 
 abbrev Inv-loop : tie.InvT-loop
-Inv-loop file table owners rows₀ n last₀ i₀ rows last i = Going file rows₀ rows n i × (last < i)
+Inv-loop file table owners rows₀ n firsts₀ last₀ i₀ rows firsts last i = Going file rows₀ rows n i × (last < i) × Firsts file firsts
 
 abbrev μ-loop : tie.MeasureT-loop
-μ-loop file table owners rows₀ n last₀ i₀ rows last i = n - i
+μ-loop file table owners rows₀ n firsts₀ last₀ i₀ rows firsts last i = n - i
 
 record-count-requires : tie.Need-record-count-requires Inv-loop μ-loop
 record-count-requires c κs = search needs
 
+blank-places-requires : tie.Need-blank-places-requires Inv-loop μ-loop
+blank-places-requires c κs = search needs
+
 loop-holds : tie.Need-loop-holds Inv-loop μ-loop
 unfolding recordCount
-loop-holds c = (going-first _ (c .before .before .before .before .pre .0 .formed) (c .record-count .ensures), omega arith)
+loop-holds c =
+    let F = c .before .before .before .before .before .pre .0 .formed in
+    (going-first _ F (c .before .record-count .ensures), omega arith, firsts-none F (c .blank-places .ensures))
 
 next-ok-requires : tie.Need-next-ok-requires Inv-loop μ-loop
 next-ok-requires c κs =
-    let l = c .before .before in
-    let a = l .before .before .before .before .before in
+    let l = c .before .before .before in
+    let a = l .before .before .before .before .before .before in
     let k = l .loop .inv .0 in
     let m = k .size in
-    (a .pre .0, ((k .some, omega (arith, c .before .loop-test .taken, k .count)), (omega (arith, a .pre .1, m), going-before k (a .pre .0 .formed) (l .loop .inv .1))))
+    (a .pre .0, ((k .some, omega (arith, c .before .before .loop-test .taken, k .count)), (omega (arith, a .pre .1, m), (going-before k (a .pre .0 .formed) (l .loop .inv .1), l .loop .inv .2))))
 
 returns : tie.Need-returns Inv-loop μ-loop
 returns c =
     let r = c .before in
-    let t = r .before .before in
+    let t = r .before .before .before in
     let k = t .before .loop .inv .0 in
     let e = r .next-ok .ensures in
     let z = not-true _ (c .if1 .taken) in
-    (going-stop k (t .loop-test .taken) (e .0) z, going-stopped k (t .loop-test .taken) (e .1) z)
+    (going-stop k (t .loop-test .taken) (e .0) z, going-stopped k (t .loop-test .taken) (e .1 .0) z)
 
 word-requires : tie.Need-word-requires Inv-loop μ-loop
 word-requires c κs = search needs
@@ -53,10 +59,10 @@ loop-again : tie.Need-loop-again Inv-loop μ-loop
 loop-again c =
     let i = c .before .before in
     let r = i .before in
-    let t = r .before .before in
+    let t = r .before .before .before in
     let k = t .before .loop .inv in
     let e = r .next-ok .ensures in
-    (going-next (k .0) (t .loop-test .taken) (e .1) (e .0) (not-false _ (i .if1 .left)), ⊎-elim (λ y. omega (arith, y .1)) (λ y. omega (arith, y .1, k .1)) (c .if2 .came))
+    (going-next (k .0) (t .loop-test .taken) (e .1 .0) (e .0) (not-false _ (i .if1 .left)), ⊎-elim (λ y. omega (arith, y .1)) (λ y. omega (arith, y .1, k .1)) (c .if2 .came), e .1 .1)
 
 returns-2 : tie.Need-returns-2 Inv-loop μ-loop
 returns-2 c =
@@ -71,6 +77,7 @@ regions-agree-spec =
     Inv-loop
     μ-loop
     record-count-requires
+    blank-places-requires
     loop-holds
     next-ok-requires
     returns

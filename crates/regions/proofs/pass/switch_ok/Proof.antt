@@ -26,7 +26,7 @@ part-record-ok-end c = search needs
 
 record-ok-requires : tie.Need-record-ok-requires
 record-ok-requires c κs =
-    let s = c .before in
+    let s = c .before .before in
     let a = s .before .before .before .before .before in
     let b = a .pre .1 .0 in
     (here (a .pre .0) (a .args .i) (b .0) (b .1) (window-lent (a .args .table .now) _ (s .start-of .ensures .0) ∙ ap (windowIn (a .args .table .now)) (s .before .owner-of .ensures)), a .pre .1 .1)

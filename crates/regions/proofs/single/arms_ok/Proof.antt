@@ -6,55 +6,59 @@ use Rattle.chains.specs.Formed.{Stands, ahead, edgesAt, armsAt}
 use Rattle.chains.specs.Is.{chain-next}
 use Rattle.regions.specs.Here.{armsIn, arms-stop, arms-on, arms-last}
 use borrow.Author.Needs.{needs}
+use Rattle.regions.specs.Firsts.{Firsts}
 use Rattle.regions.proofs.single.arms_ok.Statement.{statement}
 use Rattle.regions.proofs.single.arms_ok.Tie as tie
 
 abbrev Inv-loop : tie.InvT-loop
-Inv-loop file own edges start a₀ a =
-    Stands file File.arms a × (armsIn own (edgesAt file edges) (armsAt file a) ≡ armsIn own (edgesAt file edges) (armsAt file start))
+Inv-loop file own edges start firsts₀ a₀ firsts a =
+    Firsts file firsts × Stands file File.arms a × (armsIn own (edgesAt file edges) (armsAt file a) ≡ armsIn own (edgesAt file edges) (armsAt file start))
 
 abbrev μ-loop : tie.MeasureT-loop
-μ-loop file own edges start a₀ a = ahead file a
+μ-loop file own edges start firsts₀ a₀ firsts a = ahead file a
 
 loop-holds : tie.Need-loop-holds Inv-loop μ-loop
-loop-holds c = (c .before .before .pre .1 .1, refl)
+loop-holds c = let p = c .before .before .pre in (p .1 .1 .1, p .1 .1 .0, refl)
 
 in-targets-requires : tie.Need-in-targets-requires Inv-loop μ-loop
 in-targets-requires c κs =
-    let l = c .before in
+    let l = c .before .before in
     let p = l .before .before .before .pre in
-    (p .0, (p .1 .0, l .loop .inv .0 .below))
+    (p .0, ((p .1 .0, l .loop .inv .1 .below), l .loop .inv .0))
 
 returns : tie.Need-returns Inv-loop μ-loop
 returns c =
-    let l = c .before .before .before in
-    let a = l .before .before .before in
-    arms-stop (a .args .file .now) (a .args .own .now) (edgesAt (a .args .file .now) (a .args .edges)) _ (a .pre .0) (l .loop .inv .0) (c .before .before .loop-test .taken) (c .before .in-targets .ensures) (not-true _ (c .if1 .taken))
-    ∙ l .loop .inv .1
+    let l = c .before .before .before .before in
+    let a = l .before .before .before in (
+      arms-stop (a .args .file .now) (a .args .own .now) (edgesAt (a .args .file .now) (a .args .edges)) _ (a .pre .0) (l .loop .inv .1) (c .before .before .before .loop-test .taken) (c .before .in-targets .ensures .0) (not-true _ (c .if1 .taken))
+          ∙ l .loop .inv .2,
+      c .before .in-targets .ensures .1,
+    )
 
 word-requires : tie.Need-word-requires Inv-loop μ-loop
 word-requires c κs = search needs
 
 loop-less : tie.Need-loop-less Inv-loop μ-loop
 loop-less c =
-    let l = c .before .before .before .before in
-    chain-next (l .before .before .before .pre .0) (l .loop .inv .0) (c .before .before .before .loop-test .taken) (c .word .ensures .0) .falls
+    let l = c .before .before .before .before .before in
+    chain-next (l .before .before .before .pre .0) (l .loop .inv .1) (c .before .before .before .before .loop-test .taken) (c .word .ensures .0) .falls
 
 loop-again : tie.Need-loop-again Inv-loop μ-loop
 loop-again c =
-    let l = c .before .before .before .before in
+    let l = c .before .before .before .before .before in
     let a = l .before .before .before in
-    let z = c .before .before .before .loop-test .taken in (
-      chain-next (a .pre .0) (l .loop .inv .0) z (c .word .ensures .0) .stands,
-      arms-on (a .args .file .now) (a .args .own .now) (edgesAt (a .args .file .now) (a .args .edges)) _ (a .pre .0) (l .loop .inv .0) z (c .before .before .in-targets .ensures) (not-false _ (c .before .if1 .left)) (c .word .ensures .0)
-          ∙ l .loop .inv .1,
+    let z = c .before .before .before .before .loop-test .taken in (
+      c .before .before .in-targets .ensures .1,
+      chain-next (a .pre .0) (l .loop .inv .1) z (c .word .ensures .0) .stands,
+      arms-on (a .args .file .now) (a .args .own .now) (edgesAt (a .args .file .now) (a .args .edges)) _ (a .pre .0) (l .loop .inv .1) z (c .before .before .in-targets .ensures .0) (not-false _ (c .before .if1 .left)) (c .word .ensures .0)
+          ∙ l .loop .inv .2,
     )
 
 returns-2 : tie.Need-returns-2 Inv-loop μ-loop
 returns-2 c =
     let l = c .before in
     let a = l .before .before .before in
-    arms-last (a .args .file .now) (a .args .own .now) (edgesAt (a .args .file .now) (a .args .edges)) (c .loop-test .left) ∙ l .loop .inv .1
+    (arms-last (a .args .file .now) (a .args .own .now) (edgesAt (a .args .file .now) (a .args .edges)) (c .loop-test .left) ∙ l .loop .inv .2, l .loop .inv .0)
 
 pub arms-ok-spec : {M : Type 1} → statement M
 arms-ok-spec =

@@ -10,17 +10,17 @@ use Rattle.regions.proofs.terms.in_targets.Statement.{statement}
 use Rattle.regions.proofs.terms.in_targets.Tie as tie
 
 abbrev Inv-loop : tie.InvT-loop
-Inv-loop file own start i functor first n k₀ k =
+Inv-loop file own start i firsts functor first n k₀ k =
     (k ≤ n) × (restIn file own (edgesAt file first) functor i n k ≡ restIn file own (edgesAt file first) functor i n 0)
 
 abbrev μ-loop : tie.MeasureT-loop
-μ-loop file own start i functor first n k₀ k = n - k
+μ-loop file own start i firsts functor first n k₀ k = n - k
 
 word-requires : tie.Need-word-requires Inv-loop μ-loop
 word-requires c κs = search needs
 
-edges-for-requires : tie.Need-edges-for-requires Inv-loop μ-loop
-edges-for-requires c κs = search needs
+first-edge-requires : tie.Need-first-edge-requires Inv-loop μ-loop
+first-edge-requires c κs = search needs
 
 count-arguments-requires : tie.Need-count-arguments-requires Inv-loop μ-loop
 count-arguments-requires c κs = search needs
@@ -47,12 +47,14 @@ returns : tie.Need-returns Inv-loop μ-loop
 returns c =
     let l = c .before .before .before .before .before in
     let e = l .before .before in
-    let a = e .before .before .before .before in
+    let a = e .before .before .before .before .before in
     let f : List ℕ = a .args .file .now in
-    let n = l .before .count-arguments in
-    terms-decided f (a .args .own .now) (a .args .start) (e .edges-for .result) (a .args .i) (n .result) (e .before .word .ensures .0) (e .edges-for .ensures .1) (n .ensures .1) _
-    (rest-stop f _ (edgesAt f (e .edges-for .result)) _ _ _ (c .before .before .before .before .loop-test .taken) (c .before .before .before .word2 .ensures .0) (c .before .before .home .ensures) (c .before .target-for .ensures) (c .if1 .taken))
-    (l .loop .inv .1)
+    let n = l .before .count-arguments in (
+      terms-decided f (a .args .own .now) (a .args .start) (e .first-edge .result) (a .args .i) (n .result) (e .before .before .word .ensures .0) (e .first-edge .ensures .0 .same) (n .ensures .1) _
+          (rest-stop f _ (edgesAt f (e .first-edge .result)) _ _ _ (c .before .before .before .before .loop-test .taken) (c .before .before .before .word2 .ensures .0) (c .before .before .home .ensures) (c .before .target-for .ensures) (c .if1 .taken))
+          (l .loop .inv .1),
+      e .first-edge .ensures .1,
+    )
 
 add-k : tie.Need-add-k Inv-loop μ-loop
 add-k c = search needs
@@ -64,10 +66,10 @@ loop-again : tie.Need-loop-again Inv-loop μ-loop
 loop-again c =
     let l = c .before .before .before .before .before in
     let e = l .before .before in
-    let a = e .before .before .before .before in
+    let a = e .before .before .before .before .before in
     let f : List ℕ = a .args .file .now in (
       omega arith,
-      rest-on f _ (edgesAt f (e .edges-for .result)) _ _ _ (c .before .before .before .before .loop-test .taken) (c .before .before .before .word2 .ensures .0) (c .before .before .home .ensures) (c .before .target-for .ensures) (c .if1 .left)
+      rest-on f _ (edgesAt f (e .first-edge .result)) _ _ _ (c .before .before .before .before .loop-test .taken) (c .before .before .before .word2 .ensures .0) (c .before .before .home .ensures) (c .before .target-for .ensures) (c .if1 .left)
           ∙ l .loop .inv .1,
     )
 
@@ -75,11 +77,13 @@ returns-2 : tie.Need-returns-2 Inv-loop μ-loop
 returns-2 c =
     let l = c .before in
     let e = l .before .before in
-    let a = e .before .before .before .before in
+    let a = e .before .before .before .before .before in
     let f : List ℕ = a .args .file .now in
-    let n = l .before .count-arguments in
-    terms-decided f (a .args .own .now) (a .args .start) (e .edges-for .result) (a .args .i) (n .result) (e .before .word .ensures .0) (e .edges-for .ensures .1) (n .ensures .1) _
-    (rest-end f (a .args .own .now) (edgesAt f (e .edges-for .result)) (e .before .word .result) (a .args .i) (n .result) (c .loop-test .left)) (l .loop .inv .1)
+    let n = l .before .count-arguments in (
+      terms-decided f (a .args .own .now) (a .args .start) (e .first-edge .result) (a .args .i) (n .result) (e .before .before .word .ensures .0) (e .first-edge .ensures .0 .same) (n .ensures .1) _
+          (rest-end f (a .args .own .now) (edgesAt f (e .first-edge .result)) (e .before .before .word .result) (a .args .i) (n .result) (c .loop-test .left)) (l .loop .inv .1),
+      e .first-edge .ensures .1,
+    )
 
 pub in-targets-spec : {M : Type 1} → statement M
 in-targets-spec =
@@ -88,7 +92,7 @@ in-targets-spec =
     Inv-loop
     μ-loop
     word-requires
-    edges-for-requires
+    first-edge-requires
     count-arguments-requires
     loop-holds
     add-word

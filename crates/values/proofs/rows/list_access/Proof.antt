@@ -21,7 +21,7 @@ literal-access-requires c κs = search needs
 put-access-requires : tie.Need-put-access-requires
 put-access-requires c κs =
     let p = c .before .before .before .before .before .pre in
-    omega (arith, counted (p .0) .most, p .1 .1 .1 .0)
+    omega (arith, counted (p .0) .most, p .1 .1 .1 .0 .0)
 
 sum-access-requires : tie.Need-sum-access-requires
 sum-access-requires c κs = search needs
@@ -29,7 +29,7 @@ sum-access-requires c κs = search needs
 put-access-requires-2 : tie.Need-put-access-requires-2
 put-access-requires-2 c κs =
     let p = c .before .before .before .before .before .pre in
-    omega (arith, counted (p .0) .most, p .1 .1 .1 .0)
+    omega (arith, counted (p .0) .most, p .1 .1 .1 .0 .0)
 
 assign-access-requires : tie.Need-assign-access-requires
 assign-access-requires c κs = search needs
@@ -37,7 +37,7 @@ assign-access-requires c κs = search needs
 put-access-requires-3 : tie.Need-put-access-requires-3
 put-access-requires-3 c κs =
     let p = c .before .before .before .before .before .pre in
-    omega (arith, counted (p .0) .most, p .1 .1 .1 .0)
+    omega (arith, counted (p .0) .most, p .1 .1 .1 .0 .0)
 
 construct-access-requires : tie.Need-construct-access-requires
 construct-access-requires c κs = search needs
@@ -45,7 +45,7 @@ construct-access-requires c κs = search needs
 put-access-requires-4 : tie.Need-put-access-requires-4
 put-access-requires-4 c κs =
     let p = c .before .before .before .before .before .pre in
-    omega (arith, counted (p .0) .most, p .1 .1 .1 .0)
+    omega (arith, counted (p .0) .most, p .1 .1 .1 .0 .0)
 
 arm-access-requires : tie.Need-arm-access-requires
 arm-access-requires c κs = search needs
@@ -53,18 +53,18 @@ arm-access-requires c κs = search needs
 put-access-requires-5 : tie.Need-put-access-requires-5
 put-access-requires-5 c κs =
     let p = c .before .before .before .before .before .pre in
-    omega (arith, counted (p .0) .most, p .1 .1 .1 .0)
+    omega (arith, counted (p .0) .most, p .1 .1 .1 .0 .0)
 
 call-access-requires : tie.Need-call-access-requires
 call-access-requires c κs =
     let m = c .before in
     let p = m .before .before .before .pre in
-    (p .0, (p .1 .0, (p .1 .1 .0, sym (m .before .word .ensures .0) ∙ m .match .keys6)))
+    (p .0, (p .1 .0, (p .1 .1 .0, (sym (m .before .word .ensures .0) ∙ m .match .keys6, p .1 .1 .1 .1))))
 
 put-access-requires-6 : tie.Need-put-access-requires-6
 put-access-requires-6 c κs =
     let p = c .before .before .before .before .before .pre in
-    omega (arith, counted (p .0) .most, p .1 .1 .1 .0)
+    omega (arith, counted (p .0) .most, p .1 .1 .1 .0 .0)
 
 print-access-requires : tie.Need-print-access-requires
 print-access-requires c κs = search needs
@@ -72,7 +72,7 @@ print-access-requires c κs = search needs
 put-access-requires-7 : tie.Need-put-access-requires-7
 put-access-requires-7 c κs =
     let p = c .before .before .before .before .before .pre in
-    omega (arith, counted (p .0) .most, p .1 .1 .1 .0)
+    omega (arith, counted (p .0) .most, p .1 .1 .1 .0 .0)
 
 no-access-requires : tie.Need-no-access-requires
 no-access-requires c κs = search needs
@@ -80,7 +80,7 @@ no-access-requires c κs = search needs
 put-access-requires-8 : tie.Need-put-access-requires-8
 put-access-requires-8 c κs =
     let p = c .before .before .before .before .before .pre in
-    omega (arith, counted (p .0) .most, p .1 .1 .1 .0)
+    omega (arith, counted (p .0) .most, p .1 .1 .1 .0 .0)
 
 no-access-requires-2 : tie.Need-no-access-requires-2
 no-access-requires-2 c κs = search needs
@@ -88,7 +88,7 @@ no-access-requires-2 c κs = search needs
 put-access-requires-9 : tie.Need-put-access-requires-9
 put-access-requires-9 c κs =
     let p = c .before .before .before .before .before .pre in
-    omega (arith, counted (p .0) .most, p .1 .1 .1 .0)
+    omega (arith, counted (p .0) .most, p .1 .1 .1 .0 .0)
 
 returns : tie.Need-returns
 unfolding isStep inList _or_
@@ -97,7 +97,7 @@ returns c =
     let p = m .before .before .before .pre in
     let e = m .before .word .ensures .0 in
     let k = m .match .keys1 in
-    listed-put _ (p .0) (p .1 .1 .1 .1) (p .1 .1 .1 .0) (literal-fits _ _ (p .0) e k (c .before .literal-access .ensures)) (c .put-access .ensures) (inl (found-step _ _ literalKind e k refl))
+    listed-put _ (p .0) (p .1 .1 .1 .0 .1) (p .1 .1 .1 .0 .0) (literal-fits _ _ (p .0) e k (c .before .literal-access .ensures)) (c .put-access .ensures) (inl (found-step _ _ literalKind e k refl))
 
 returns-2 : tie.Need-returns-2
 unfolding isStep inList _or_
@@ -106,7 +106,7 @@ returns-2 c =
     let p = m .before .before .before .pre in
     let e = m .before .word .ensures .0 in
     let k = m .match .keys2 in
-    listed-put _ (p .0) (p .1 .1 .1 .1) (p .1 .1 .1 .0) (sum-fits _ _ (p .0) e k (c .before .sum-access .ensures)) (c .put-access2 .ensures) (inl (found-step _ _ sumKind e k refl))
+    listed-put _ (p .0) (p .1 .1 .1 .0 .1) (p .1 .1 .1 .0 .0) (sum-fits _ _ (p .0) e k (c .before .sum-access .ensures)) (c .put-access2 .ensures) (inl (found-step _ _ sumKind e k refl))
 
 returns-3 : tie.Need-returns-3
 unfolding isStep inList _or_
@@ -115,7 +115,7 @@ returns-3 c =
     let p = m .before .before .before .pre in
     let e = m .before .word .ensures .0 in
     let k = m .match .keys3 in
-    listed-put _ (p .0) (p .1 .1 .1 .1) (p .1 .1 .1 .0) (assign-fits _ _ (p .0) e k (c .before .assign-access .ensures)) (c .put-access3 .ensures) (inl (found-step _ _ assignKind e k refl))
+    listed-put _ (p .0) (p .1 .1 .1 .0 .1) (p .1 .1 .1 .0 .0) (assign-fits _ _ (p .0) e k (c .before .assign-access .ensures)) (c .put-access3 .ensures) (inl (found-step _ _ assignKind e k refl))
 
 returns-4 : tie.Need-returns-4
 unfolding isStep inList _or_
@@ -124,7 +124,7 @@ returns-4 c =
     let p = m .before .before .before .pre in
     let e = m .before .word .ensures .0 in
     let k = m .match .keys4 in
-    listed-put _ (p .0) (p .1 .1 .1 .1) (p .1 .1 .1 .0) (construct-fits _ _ (p .0) e k (c .before .construct-access .ensures)) (c .put-access4 .ensures) (inl (found-step _ _ constructKind e k refl))
+    listed-put _ (p .0) (p .1 .1 .1 .0 .1) (p .1 .1 .1 .0 .0) (construct-fits _ _ (p .0) e k (c .before .construct-access .ensures)) (c .put-access4 .ensures) (inl (found-step _ _ constructKind e k refl))
 
 returns-5 : tie.Need-returns-5
 returns-5 c =
@@ -132,7 +132,7 @@ returns-5 c =
     let p = m .before .before .before .pre in
     let e = m .before .word .ensures .0 in
     let k = m .match .keys5 in
-    listed-put _ (p .0) (p .1 .1 .1 .1) (p .1 .1 .1 .0) (arm-fits _ _ (p .0) e k (c .before .arm-access .ensures)) (c .put-access5 .ensures) (inr (sym e ∙ k))
+    listed-put _ (p .0) (p .1 .1 .1 .0 .1) (p .1 .1 .1 .0 .0) (arm-fits _ _ (p .0) e k (c .before .arm-access .ensures)) (c .put-access5 .ensures) (inr (sym e ∙ k))
 
 returns-6 : tie.Need-returns-6
 unfolding isStep inList _or_
@@ -141,7 +141,7 @@ returns-6 c =
     let p = m .before .before .before .pre in
     let e = m .before .word .ensures .0 in
     let k = m .match .keys6 in
-    listed-put _ (p .0) (p .1 .1 .1 .1) (p .1 .1 .1 .0) (c .before .call-access .ensures) (c .put-access6 .ensures) (inl (found-step _ _ callKind e k refl))
+    listed-put _ (p .0) (p .1 .1 .1 .0 .1) (p .1 .1 .1 .0 .0) (c .before .call-access .ensures) (c .put-access6 .ensures) (inl (found-step _ _ callKind e k refl))
 
 returns-7 : tie.Need-returns-7
 unfolding isStep inList _or_
@@ -150,7 +150,7 @@ returns-7 c =
     let p = m .before .before .before .pre in
     let e = m .before .word .ensures .0 in
     let k = m .match .keys7 in
-    listed-put _ (p .0) (p .1 .1 .1 .1) (p .1 .1 .1 .0) (print-fits _ _ (p .0) e k (c .before .print-access .ensures)) (c .put-access7 .ensures) (inl (found-step _ _ printKind e k refl))
+    listed-put _ (p .0) (p .1 .1 .1 .0 .1) (p .1 .1 .1 .0 .0) (print-fits _ _ (p .0) e k (c .before .print-access .ensures)) (c .put-access7 .ensures) (inl (found-step _ _ printKind e k refl))
 
 returns-8 : tie.Need-returns-8
 unfolding isStep inList _or_
@@ -159,7 +159,7 @@ returns-8 c =
     let p = m .before .before .before .pre in
     let e = m .before .word .ensures .0 in
     let k = m .match .keys8 in
-    listed-put _ (p .0) (p .1 .1 .1 .1) (p .1 .1 .1 .0) (create-fits _ _ (p .0) e k (c .before .no-access .ensures)) (c .put-access8 .ensures) (inl (found-step _ _ createKind e k refl))
+    listed-put _ (p .0) (p .1 .1 .1 .0 .1) (p .1 .1 .1 .0 .0) (create-fits _ _ (p .0) e k (c .before .no-access .ensures)) (c .put-access8 .ensures) (inl (found-step _ _ createKind e k refl))
 
 returns-9 : tie.Need-returns-9
 unfolding isStep inList _or_
@@ -168,7 +168,7 @@ returns-9 c =
     let p = m .before .before .before .pre in
     let e = m .before .word .ensures .0 in
     let k = m .match .keys9 in
-    listed-put _ (p .0) (p .1 .1 .1 .1) (p .1 .1 .1 .0) (remove-fits _ _ (p .0) e k (c .before .no-access2 .ensures)) (c .put-access9 .ensures) (inl (found-step _ _ removeKind e k refl))
+    listed-put _ (p .0) (p .1 .1 .1 .0 .1) (p .1 .1 .1 .0 .0) (remove-fits _ _ (p .0) e k (c .before .no-access2 .ensures)) (c .put-access9 .ensures) (inl (found-step _ _ removeKind e k refl))
 
 returns-10 : tie.Need-returns-10
 returns-10 c =

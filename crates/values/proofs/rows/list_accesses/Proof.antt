@@ -36,7 +36,7 @@ list-access-requires : tie.Need-list-access-requires Inv-loop μ-loop
 unfolding recordCount
 list-access-requires c κs =
     let p = c .before .before .before .before .before .before .before .pre in
-    (p .0, (p .1 .0, (procedure-count (p .0) (c .before .before .before .before .before .word .ensures .0) (c .before .before .before .before .chain-length .ensures), (rw (c .before .before .before .record-count .ensures) at (c .before .loop-test .taken), omega (arith, c .before .before .loop .inv .1 .kept .length, p .1 .1)))))
+    (p .0, (p .1 .0, (procedure-count (p .0) (c .before .before .before .before .before .word .ensures .0) (c .before .before .before .before .chain-length .ensures), ((rw (c .before .before .before .record-count .ensures) at (c .before .loop-test .taken), omega (arith, c .before .before .loop .inv .1 .kept .length, p .1 .1 .0)), p .1 .1 .1))))
 
 add-i : tie.Need-add-i Inv-loop μ-loop
 add-i c = search needs

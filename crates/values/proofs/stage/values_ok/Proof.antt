@@ -7,7 +7,7 @@ use Rattle.values.proofs.stage.values_ok.Statement.{statement}
 use Rattle.values.proofs.stage.values_ok.Tie as tie
 
 list-accesses-requires : tie.Need-list-accesses-requires
-list-accesses-requires c κs = ((c .before .before .pre .0), ((c .before .before .pre .1 .1 .0), c .before .before .pre .1 .1 .1))
+list-accesses-requires c κs = (c .before .before .pre .0, (c .before .before .pre .1 .1 .0, (c .before .before .pre .1 .1 .1, c .before .before .pre .1 .0)))
 
 word-requires : tie.Need-word-requires
 word-requires c κs = search needs
