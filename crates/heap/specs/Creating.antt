@@ -40,10 +40,10 @@ module _ {k : Room} {h : Heap} {m rs : List ℕ} {M : Memory} {ρ χ : ℕ → �
   pub region-kept : (p r : ℕ) → M .alive r ≡ true → put ρ (suc (M .made)) p r ≡ ρ r
   region-kept p r e = put-other ρ n p r (λ z. omega (arith, R .low r e))
 
-  cells-count : cellsHeld (put (M .alive) n true) (M .cells) ≡ cellsHeld (M .alive) (M .cells)
+  pub cells-count : cellsHeld (put (M .alive) n true) (M .cells) ≡ cellsHeld (M .alive) (M .cells)
   cells-count = held-same (M .alive) (put (M .alive) n true) (M .made) alive-old (M .cells) (R .made)
 
-  regions-count : regionsHeld (withRegion M) ≡ suc (regionsHeld M)
+  pub regions-count : regionsHeld (withRegion M) ≡ suc (regionsHeld M)
   unfolding regionsHeld withRegion
   regions-count =
       alive-more (put (M .alive) n true) (M .made) 1 n (omega arith) (put-same (M .alive) n true)

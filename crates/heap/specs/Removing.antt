@@ -45,10 +45,10 @@ module _ {k : Room} {h : Heap} {m rs : List ℕ} {M : Memory} {ρ χ : ℕ → �
   abbrev reg1 : Labels
   reg1 = put (R .reg) (ρ r) (free (R .labelled .freeRegions))
 
-  cells-count : cellsHeld (M .alive) (M .cells) ≡ cellsIn r (M .cells) + cellsHeld alive1 (M .cells)
+  pub cells-count : cellsHeld (M .alive) (M .cells) ≡ cellsIn r (M .cells) + cellsHeld alive1 (M .cells)
   cells-count = held-removed (M .alive) r er (M .cells)
 
-  regions-count : regionsHeld M ≡ suc (regionsHeld (withoutRegion M r))
+  pub regions-count : regionsHeld M ≡ suc (regionsHeld (withoutRegion M r))
   unfolding regionsHeld withoutRegion
   regions-count = let l = R .low r er in alive-less (M .alive) (M .made) 1 r er (l .0) (omega (arith, l .1))
 

@@ -7,12 +7,14 @@ mod runs;
 mod steps;
 
 pub use calls::settle;
+pub use calls::size_of;
 pub use goals::successor;
 pub use heaps::changes_heap;
 pub use heaps::keep;
 use language::Ending;
 use language::Stop;
 use memory::Heap;
+pub use runs::first_state;
 pub use runs::run_words;
 pub use steps::go;
 pub use steps::onward;

@@ -43,7 +43,7 @@ fn ended(ending: Ending, steps: usize, state: State) -> Outcome
 }
 
 // Before the first step: the entry's frame, at its first goal.
-fn first_state(table: &[u64]) -> State
+pub fn first_state(table: &[u64]) -> State
     ensures { λ r. ⌜ r ≡ firstState (now (table .entry)) ⌝ }
 {
     State {

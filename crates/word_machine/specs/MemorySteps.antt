@@ -123,7 +123,7 @@ module _ {f : List ℕ} {T : Tables} (B : Tabled f T) (A : Accepted (program f))
   create-after r v = create-by r v (created (w .heap) (w .regions)) (createdRegions (w .heap) (w .regions)) (create-ok (Q .represents))
 
   -- the place of a region that is alive
-  region-word : (r : ℕ) → isRegion (sig f (u .frame .procedure)) r ≡ true → m .alive (u .stands r) ≡ true → M.regionFor w r ≡ ρ (u .stands r)
+  pub region-word : (r : ℕ) → isRegion (sig f (u .frame .procedure)) r ≡ true → m .alive (u .stands r) ≡ true → M.regionFor w r ≡ ρ (u .stands r)
   unfolding M.regionFor
   region-word r v l =
       let t = region-top _ _ (laws A (u .frame .procedure)) r v in

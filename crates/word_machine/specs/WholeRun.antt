@@ -45,11 +45,11 @@ unfolding outlook outlookAt outlookIn
 outlook-is K s e fs g rest p q =
     ap (outlook K) (state-is s (e ∷ fs) p) ∙ ap (λ gs. outlookIn K gs (record { frames = e ∷ fs; memory = s .memory })) q
 
-outlook-over : (K : Room) (s : State) → s .frames ≡ [] → outlook K s ≡ ended
+pub outlook-over : (K : Room) (s : State) → s .frames ≡ [] → outlook K s ≡ ended
 unfolding outlook outlookAt
 outlook-over K s p = ap (λ es. outlookAt K es s) p
 
-fine-inv : {P : Program} (s : State) (e : RegionFrame) (fs : List RegionFrame) → Fine P s → s .frames ≡ e ∷ fs → Inv P e fs (s .memory)
+pub fine-inv : {P : Program} (s : State) (e : RegionFrame) (fs : List RegionFrame) → Fine P s → s .frames ≡ e ∷ fs → Inv P e fs (s .memory)
 fine-inv s e fs (running {f = u} {fs = us} p q i) z =
     let a : u ≡ e = cc in
     let b : us ≡ fs = cc in
@@ -74,12 +74,12 @@ module _ {f : List ℕ} {T : Tables} (B : Tabled f T) (A : Accepted (program f))
   settled-stored (suc k) (suc i) w s = s
 
   -- ---- after n steps of the definition's run
-  data Agrees (n : ℕ) (w : Words) : Type 0 where
+  pub data Agrees (n : ℕ) (w : Words) : Type 0 where
     agrees : {ρ χ : ℕ → ℕ} → Related B A w (whereIn (Run.steps (program f) n .memory) ρ χ) (Run.steps (program f) n .frames)
         → Stored K qs w (Run.steps (program f) n .memory) ρ χ → Agrees n w
 
   -- a state in words that stands for a state of the run
-  settled-agrees : (n : ℕ) (v : Words) (e : RegionFrame) (es : List RegionFrame) (m : Memory) {ρ χ : ℕ → ℕ} → Run.steps (program f) n ≡ state (program f) e es m
+  pub settled-agrees : (n : ℕ) (v : Words) (e : RegionFrame) (es : List RegionFrame) (m : Memory) {ρ χ : ℕ → ℕ} → Run.steps (program f) n ≡ state (program f) e es m
       → Running B v (whereIn m ρ χ) e es → Stored K qs v m ρ χ → Agrees n (settled f T v)
   unfolding settled state
   settled-agrees n v e es m {ρ} {χ} z R S =
@@ -110,7 +110,7 @@ module _ {f : List ℕ} {T : Tables} (B : Tabled f T) (A : Accepted (program f))
       step-gives l halts z ih = record { ending = refl; steps = refl; printed = S .printed }
 
   -- the newest frame's next goal, in words and in the definition
-  next-goal : (n : ℕ) (w : Words) {ρ χ : ℕ → ℕ} {e : RegionFrame} {fs : List RegionFrame} (j : ℕ) (p : Run.steps (program f) n .frames ≡ e ∷ fs) → w .goal ≡ suc j
+  pub next-goal : (n : ℕ) (w : Words) {ρ χ : ℕ → ℕ} {e : RegionFrame} {fs : List RegionFrame} (j : ℕ) (p : Run.steps (program f) n .frames ≡ e ∷ fs) → w .goal ≡ suc j
       → Running B w (whereIn (Run.steps (program f) n .memory) ρ χ) e fs → Stored K qs w (Run.steps (program f) n .memory) ρ χ
       → (g : Goal) (rest : Goals) → e .frame .goals ≡ g then rest
       → After B A F K qs g (withFrame e (withGoals (e .frame) rest)) fs (Run.steps (program f) n .memory) (outlook K (Run.steps (program f) n))
@@ -186,7 +186,7 @@ module _ {f : List ℕ} {T : Tables} (B : Tabled f T) (A : Accepted (program f))
       print-room = print-words;
     }
 
-    start-agrees : Agrees 0 (startWords f T m rs fw qs)
+    pub start-agrees : Agrees 0 (startWords f T m rs fw qs)
     unfolding Run.steps start state startWords entryFrame settledFrom
     start-agrees =
         agrees (settled-from B A [] (T .body 0) (startWords f T m rs fw qs) (record { frame = entryFrame (program f); stands = λ r. 0 }) (procedureAt (program f) 0 .body)

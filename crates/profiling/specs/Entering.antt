@@ -1,0 +1,59 @@
+-- The run before its first step, in lent words.
+use Prim.Native.Nat.{ℕ, _<_}
+use native.Mathlib.Omega.{arith}
+use mathlib.Core.Path.{_≡_, refl, sym, ap, subst, _∙_}
+use mathlib.Core.List.{List}
+use lib.ListN.{length, getD}
+use Rattle.language.specs.declared.Verdict.the-variants.{Accepted}
+use Rattle.language.specs.Machine.{holds}
+use Rattle.language.specs.Answers.{checked}
+use Rattle.lines.specs.Put.{Put}
+use Rattle.memory.specs.declared.Heap.{Heap}
+use Rattle.memory.specs.Memory.{emptyHeap}
+use Rattle.tables.specs.Window.{variablesPlace}
+use Rattle.tables.specs.Starts.{windowIn}
+use Rattle.word_machine.specs.Tables.{Tables, Tabled}
+use Rattle.word_machine.specs.Machine.{blocks, cleared, startWords, lentWords}
+use Rattle.plans.specs.Plan.{tablesIn}
+use Rattle.machine.specs.declared.State.{State}
+use Rattle.machine.specs.Words.{Placed, wordsOf}
+use Rattle.machine.specs.Runs.{firstState}
+use Rattle.profiling.specs.declared.Held.{Held}
+use Rattle.profiling.specs.declared.Point.{Point}
+use Rattle.profiling.specs.Statement.{heldAfter, lineText, entryLine}
+use Rattle.profiling.specs.Standing.{at-as, held-here}
+use Rattle.profiling.specs.Beginning.{stands-first}
+use Rattle.profiling.specs.Moving.{Stands, lent-same}
+use Rattle.profiling.specs.Noting.{heldAt}
+use Rattle.profiling.specs.Advancing.{same-held}
+
+module _ (f plan images table : List ℕ) (m rs fw fx ps : List ℕ) (l : ℕ) where
+  abbrev T : Tables
+  T = tablesIn f plan images table
+
+  entered : (size : ℕ) (s : State) (h : Heap) → size ≡ getD (windowIn table 0) variablesPlace 0 → fx ≡ cleared 1 (blocks size) fw → s ≡ firstState table
+      → h ≡ emptyHeap (holds (length m) 8) (holds (length rs) 2) → startWords f T m rs fw ps ≡ wordsOf h m rs fx ps s
+  unfolding startWords wordsOf firstState tablesIn
+  entered size s h ez ex es eh = rw (es, eh, ex, ez)
+
+  placed-first : (s : State) → s ≡ firstState table → length fx ≡ length fw → 0 < holds (length fw) 136 → Placed s (length fx)
+  unfolding firstState holds
+  placed-first s es lx some = rw es (record { place = omega arith; fits = omega (arith, lx) })
+
+  pub begin-stands : (size : ℕ) (s : State) (h : Heap) → size ≡ getD (windowIn table 0) variablesPlace 0 → fx ≡ cleared 1 (blocks size) fw → s ≡ firstState table
+      → h ≡ emptyHeap (holds (length m) 8) (holds (length rs) 2) → length fx ≡ length fw → checked f ≡ Accepted → Tabled f T → 0 < holds (length fw) 136
+      → Stands f T l m rs fx ps (record { state = s; heap = h; counts = record { cells = 0; regions = 0 }; done = 0 })
+  begin-stands size s h ez ex es eh lx e B some = record {
+    here = at-as (lent-same m m rs rs fw fx ps ps l refl refl lx refl) refl (entered size s h ez ex es eh) refl (stands-first e B m rs fw ps l some);
+    placed = placed-first s es lx some;
+  }
+
+-- the line of the entry's frame
+module _ {f : List ℕ} {T : Tables} {l : ℕ} {m rs fw ps : List ℕ} {p : Point} (S : Stands f T l m rs fw ps p) (z : p .done ≡ 0) where
+  entry-is : (h : Held) → h ≡ heldAt p → record { step = 0; held = h; goal = 0 } ≡ entryLine f
+  unfolding entryLine
+  entry-is h e =
+      ap (λ k. record { step = 0; held = k; goal = 0 }) (e ∙ sym (same-held p m rs fw ps) ∙ sym (held-here (S .here)) ∙ ap (heldAfter f) z)
+
+  pub entry-put : (h : Held) → h ≡ heldAt p → {b e : List ℕ} {at k : ℕ} → Put b at (lineText (record { step = 0; held = h; goal = 0 })) e k → Put b at (lineText (entryLine f)) e k
+  entry-put h q {b} {e} {at} {k} u = subst (λ x. Put b at (lineText x) e k) (entry-is h q) u

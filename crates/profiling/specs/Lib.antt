@@ -1,0 +1,14 @@
+pub mod Statement
+pub mod Walking
+pub mod Counting
+pub mod Kinds
+pub mod Standing
+pub mod Beginning
+pub mod Parts
+pub mod Text
+pub mod Turning
+pub mod Moving
+pub mod Noting
+pub mod Advancing
+pub mod Entering
+pub mod Whole

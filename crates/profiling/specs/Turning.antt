@@ -1,0 +1,81 @@
+-- One step in lent words, as the machine on lists of words does it.
+use Prim.Native.Nat.{ℕ}
+use native.Mathlib.Omega.{arith}
+use mathlib.Core.Path.{_≡_, refl, sym, ap, _∙_}
+use mathlib.Core.List.{List}
+use lib.ListN.{length}
+use Rattle.language.specs.declared.Stop.{Stop}
+use Rattle.language.specs.Machine.{Room, holds}
+use Rattle.records.specs.Records.{recordAt}
+use Rattle.memory.specs.declared.Heap.{Heap}
+use Rattle.word_machine.specs.Tables.{Tables}
+use Rattle.word_machine.specs.Machine.{Went, went, stops, steps, settled, settledIf, stepped}
+use Rattle.machine.specs.declared.State.{State}
+use Rattle.machine.specs.declared.Kept.{Kept}
+use Rattle.machine.specs.declared.Kept.the-variants.{Left, Lacks as KeptLacks}
+use Rattle.machine.specs.declared.Step.{Step}
+use Rattle.machine.specs.declared.Step.the-variants.{Went as WentTo, Stops}
+use Rattle.machine.specs.Words.{Placed, wordsOf, onwardTo, onward-placed, cameTo, keptTo, Goes, Keeps}
+use Rattle.profiling.specs.declared.Turn.{Turn}
+use Rattle.profiling.specs.declared.Turn.the-variants.{On, Lacks}
+
+-- what an answer stands for
+unfoldable pub turnedTo : Turn → List ℕ → List ℕ → List ℕ → List ℕ → Went
+turnedTo (On s h) m rs fw ps = went (wordsOf h m rs fw ps s)
+turnedTo (Lacks c) m rs fw ps = stops c
+
+-- the goal at state s is carried out: r is the answer, and the words with ₁ are those afterwards
+pub record Turns (f : List ℕ) (T : Tables) (s : State) (h : Heap) (m rs fw ps : List ℕ) (r : Turn) (m₁ rs₁ fw₁ ps₁ : List ℕ) : Type 0 where
+  pub comes : (k : Room) → k .frames ≡ holds (length fw) 136 → k .prints ≡ holds (length ps) 1
+      → turnedTo r m₁ rs₁ fw₁ ps₁ ≡ stepped f T k (s .goal) (wordsOf h m rs fw ps s)
+  pub stays : (v : State) (g : Heap) → r ≡ On v g → Placed v (length fw₁)
+
+-- the newest frame's words keep their place
+on-placed : {u : State} {h : Heap} {n : ℕ} → Placed u n → (v : State) (g : Heap) → On u h ≡ On v g → Placed v n
+on-placed {u} P v g e = let a : u ≡ v = cc in rw a at P
+
+lacks-placed : {c : Stop} {n : ℕ} (v : State) (g : Heap) → Lacks c ≡ On v g → Placed v n
+lacks-placed v g e = let z : _≡_ {A = ℕ} 0 1 = cc in absurd (omega arith)
+
+pub placed-long : {s : State} {a b : ℕ} → b ≡ a → Placed s a → Placed s b
+placed-long e P = rw e P
+
+pub placed-onward : {s v : State} {a b : ℕ} (i : ℕ) → v ≡ onwardTo s i → b ≡ a → Placed s a → Placed v b
+placed-onward i e l P = rw (e, l) (onward-placed i P)
+
+-- what `settle` promises: frames without goals have gone
+abbrev pub Settles : List ℕ → Tables → State → List ℕ → State → List ℕ → Type 0
+Settles f T s fw u fy = (h : Heap) (m rs ps : List ℕ) → wordsOf h m rs fy ps u ≡ settled f T (wordsOf h m rs fw ps s)
+
+module _ (f : List ℕ) (T : Tables) (s : State) (h : Heap) (m rs fw ps : List ℕ) where
+  -- ---- a goal that changes the heap
+  module _ (r : Kept) (m₁ rs₁ fx : List ℕ) (g : Keeps f T s h m rs fw r m₁ rs₁ fx) where
+    pub kept-turns : (h₁ : Heap) (next : ℕ) (v u : State) (fy : List ℕ) → r ≡ Left h₁ → next ≡ T .successor (s .goal) → v ≡ onwardTo s next → Settles f T v fx u fy
+        → Placed u (length fy) → Turns f T s h m rs fw ps (On u h₁) m₁ rs₁ fy ps
+    unfolding turnedTo stepped settledIf keptTo
+    kept-turns h₁ next v u fy er en ev z pl = record {
+      comes = λ k a b.
+          ap went (z h₁ m₁ rs₁ ps ∙ ap (λ t. settled f T (wordsOf h₁ m₁ rs₁ fx ps t)) ev)
+          ∙ ap (settledIf f T) (ap (λ t. keptTo t m₁ rs₁ fx ps (onwardTo s next)) (sym er) ∙ g .comes k ps next en);
+      stays = on-placed pl;
+    }
+
+    pub kept-lacks : (c : Stop) → r ≡ KeptLacks c → Turns f T s h m rs fw ps (Lacks c) m₁ rs₁ fx ps
+    unfolding turnedTo stepped settledIf keptTo
+    kept-lacks c er = record {
+      comes = λ k a b. ap (settledIf f T) (ap (λ t. keptTo t m₁ rs₁ fx ps (onwardTo s (T .successor (s .goal)))) (sym er) ∙ g .comes k ps (T .successor (s .goal)) refl);
+      stays = lacks-placed;
+    }
+
+  -- ---- a goal that leaves it alone
+  module _ (r : Step) (fx px : List ℕ) (g : Goes f T s m fw ps r fx px) where
+    pub went-turns : (v u : State) (fy : List ℕ) → r ≡ WentTo v → Settles f T v fx u fy → Placed u (length fy) → Turns f T s h m rs fw ps (On u h) m rs fy px
+    unfolding turnedTo stepped settledIf cameTo
+    went-turns v u fy er z pl = record {
+      comes = λ k a b. ap went (z h m rs px) ∙ ap (settledIf f T) (ap (λ t. cameTo t h m rs fx px) (sym er) ∙ g .comes k h rs a b);
+      stays = on-placed pl;
+    }
+
+    pub went-lacks : (c : Stop) → r ≡ Stops c → Turns f T s h m rs fw ps (Lacks c) m rs fx px
+    unfolding turnedTo stepped settledIf cameTo
+    went-lacks c er = record { comes = λ k a b. ap (settledIf f T) (ap (λ t. cameTo t h m rs fx px) (sym er) ∙ g .comes k h rs a b); stays = lacks-placed }

@@ -1,0 +1,62 @@
+// The profile, part by part.
+use crate::Moved;
+use crate::Part;
+use crate::Point;
+use crate::moving::forward;
+use crate::noting::note;
+use crate::text::LINE_BYTES;
+use plans::PLAN;
+ghost use Prim.Native.Nat.{_≤_};
+ghost use lib.ListN.{length};
+ghost use Rattle.plans.specs.Plan.{tablesIn};
+ghost use Rattle.machine.specs.Words.{Narrow};
+ghost use Rattle.profiling.specs.Moving.{Stands};
+ghost use Rattle.profiling.specs.Advancing.{Advances};
+
+// Steps from where the run stands until there may be no room for one more line, or until the run has ended. The lines of these steps stand at the
+// front of `out`.
+pub fn advance(
+    file: &[u8],
+    plan: &[usize; PLAN],
+    images: &[u8],
+    table: &[u64],
+    point: Point,
+    cells: &mut [u32],
+    regions: &mut [u32],
+    frames: &mut [u32],
+    prints: &mut [u32],
+    steps: usize,
+    out: &mut [u8],
+) -> Part
+    requires { ⌜ Narrow (now plan) ⌝ }
+    requires { ⌜ 105 ≤ length (now out) ⌝ }
+    requires { ⌜ Stands (now file) (tablesIn (now file) (now plan) (now images) (now table)) steps (now cells) (now regions) (now frames) (now prints) point ⌝ }
+    ensures { λ r. ⌜ Advances (now (file .entry)) (tablesIn (now (file .entry)) (now (plan .entry)) (now (images .entry)) (now (table .entry))) steps
+        (now (cells .entry)) (now (regions .entry)) (now (frames .entry)) (now (prints .entry)) point (now (out .entry))
+        (now (cells .exit)) (now (regions .exit)) (now (frames .exit)) (now (prints .exit)) (now (out .exit)) r ⌝ }
+{
+    let mut here = point;
+    let mut at = 0;
+    while LINE_BYTES <= out.len() - at {
+        let moved = forward(
+            file,
+            plan,
+            images,
+            table,
+            here,
+            cells,
+            regions,
+            frames,
+            prints,
+            steps,
+        );
+        match moved {
+            Moved::On(next) => {
+                at = note(out, at, here, next);
+                here = next;
+            }
+            Moved::Ended(ending) => return Part::Last(at, ending, here.done),
+        }
+    }
+    Part::More(at, here)
+}

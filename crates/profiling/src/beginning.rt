@@ -1,0 +1,59 @@
+// A run before its first step.
+use crate::Counts;
+use crate::Line;
+use crate::Point;
+use crate::noting::held_at;
+use crate::text::put_line;
+use frames::clear;
+use machine::first_state;
+use machine::size_of;
+use memory::empty;
+ghost use mathlib.Core.List.{List};
+ghost use Prim.Native.Nat.{ℕ, _≤_, _<_};
+ghost use mathlib.Core.Path.{_≡_};
+ghost use lib.ListN.{length};
+ghost use Rattle.language.specs.declared.Verdict.the-variants.{Accepted};
+ghost use Rattle.language.specs.Machine.{holds};
+ghost use Rattle.language.specs.Answers.{checked};
+ghost use Rattle.lines.specs.Put.{Put};
+ghost use Rattle.word_machine.specs.Tables.{Tables, Tabled};
+ghost use Rattle.plans.specs.Plan.{tablesIn};
+ghost use Rattle.profiling.specs.Statement.{lineText, entryLine};
+ghost use Rattle.profiling.specs.Moving.{Stands};
+
+// "The entry's frame is taken first."
+pub fn begin(table: &[u64], cells: &[u32], regions: &[u32], frames: &mut [u32]) -> Point
+    requires { ⌜ 136 ≤ length (now frames) ⌝ }
+    ensures { λ r. ⌜ ((f plan images ps : List ℕ) (l : ℕ) → checked f ≡ Accepted → Tabled f (tablesIn f plan images (now (table .entry)))
+        → 0 < holds (length (now (frames .entry))) 136
+        → (r .done ≡ 0) × Stands f (tablesIn f plan images (now (table .entry))) l (now (cells .entry)) (now (regions .entry)) (now (frames .exit)) ps r) ⌝ }
+{
+    clear(frames, 1, size_of(table, 0));
+    Point {
+        state: first_state(table),
+        heap: empty(cells, regions),
+        counts: Counts {
+            cells: 0,
+            regions: 0,
+        },
+        done: 0,
+    }
+}
+
+// The line of the entry's frame.
+pub fn put_entry(out: &mut [u8], point: Point) -> usize
+    requires { ⌜ 105 ≤ length (now out) ⌝ }
+    ensures { λ k. ⌜ ((f : List ℕ) (T : Tables) (l : ℕ) (m rs fw ps : List ℕ) → Stands f T l m rs fw ps point → point .done ≡ 0
+        → Put (now (out .entry)) 0 (lineText (entryLine f)) (now (out .exit)) k) ⌝ }
+    ensures { λ k. ⌜ k ≤ length (now (out .exit)) ⌝ }
+{
+    put_line(
+        out,
+        0,
+        Line {
+            step: 0,
+            held: held_at(point),
+            goal: 0,
+        },
+    )
+}

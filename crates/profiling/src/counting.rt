@@ -1,0 +1,75 @@
+// The counts of cells and regions held, goal by goal.
+use crate::Counts;
+use crate::walking::region_size;
+use language::format::CONSTRUCT;
+use language::format::CREATE;
+use language::format::KIND;
+use language::format::LIFETIME_REGION;
+use language::format::REMOVE;
+use machine::State;
+use records::word;
+ghost use mathlib.Core.Path.{_≡_};
+ghost use mathlib.Core.List.{List};
+ghost use Prim.Native.Nat.{ℕ, _+_, _-_, _*_, _<_};
+ghost use lib.ListN.{getD};
+ghost use Rattle.records.specs.Records.{recordAt};
+ghost use Rattle.memory.specs.declared.Heap.{Heap};
+ghost use Rattle.machine.specs.Words.{wordsOf};
+ghost use Rattle.profiling.specs.Counting.{counted};
+
+// What is left of a after b go; at least none.
+fn less(a: u32, b: u32) -> u32
+    ensures { λ r. ⌜ r ≡ a - b ⌝ }
+{
+    if b <= a { a - b } else { 0 }
+}
+
+// The words of a frame, and the one before the places of what its region numbers stand for.
+const FRAME_WORDS: usize = 136;
+
+const REGION_WORD: usize = 64;
+
+// The place of what region number r of a frame stands for.
+fn region_place(frames: &[u32], frame: u32, r: usize) -> u32
+    requires { ⌜ r < 65536 ⌝ }
+    ensures { λ p. ⌜ p ≡ getD (now (frames .entry)) (136 * frame + 64 + r) 0 ⌝ }
+{
+    memory::word(frames, FRAME_WORDS * (frame as usize) + REGION_WORD + r)
+}
+
+// The counts after the next goal, from those before it and the words before it: a construct has one cell more, a create one region more, a remove
+// as many cells less as the region has. There are `limit` places for cells.
+pub fn count(
+    file: &[u8],
+    state: State,
+    limit: u32,
+    counts: Counts,
+    cells: &[u32],
+    regions: &[u32],
+    frames: &[u32],
+) -> Counts
+    requires { ⌜ (counts .cells < 65536) × (counts .regions < 65536) ⌝ }
+    ensures { λ r. ⌜ ((h : Heap) (ps : List ℕ) → h .cells .limit ≡ limit
+        → r ≡ counted (wordsOf h (now (cells .entry)) (now (regions .entry)) (now (frames .entry)) ps state) (recordAt (now (file .entry)) (state .goal)) counts) ⌝ }
+{
+    let i = state.goal;
+    match word(file, i, KIND) {
+        CONSTRUCT => Counts {
+            cells: counts.cells + 1,
+            regions: counts.regions,
+        },
+        CREATE => Counts {
+            cells: counts.cells,
+            regions: counts.regions + 1,
+        },
+        REMOVE => {
+            let place = region_place(frames, state.top, word(file, i, LIFETIME_REGION));
+            let size = region_size(cells, regions, limit, place);
+            Counts {
+                cells: less(counts.cells, size),
+                regions: less(counts.regions, 1),
+            }
+        }
+        _ => counts,
+    }
+}

@@ -1,0 +1,60 @@
+// One step of the run, by the runner's own functions.
+use crate::Turn;
+use language::format::KIND;
+use machine::Kept;
+use machine::State;
+use machine::Step;
+use machine::changes_heap;
+use machine::go;
+use machine::keep;
+use machine::onward;
+use machine::settle;
+use machine::successor;
+use memory::Heap;
+use plans::PLAN;
+use records::word_in;
+ghost use Prim.Native.Nat.{_<_};
+ghost use lib.ListN.{length};
+ghost use Rattle.language.specs.File.{recordCount};
+ghost use Rattle.chains.specs.Formed.{Formed};
+ghost use Rattle.plans.specs.Plan.{tablesIn};
+ghost use Rattle.machine.specs.Words.{Narrow, Placed};
+ghost use Rattle.profiling.specs.Turning.{Turns};
+
+// The newest frame's next goal is carried out, and frames without goals go.
+pub fn step(
+    file: &[u8],
+    plan: &[usize; PLAN],
+    images: &[u8],
+    table: &[u64],
+    state: State,
+    heap: Heap,
+    cells: &mut [u32],
+    regions: &mut [u32],
+    frames: &mut [u32],
+    prints: &mut [u32],
+) -> Turn
+    requires { ⌜ Formed (now file) ⌝ }
+    requires { ⌜ Narrow (now plan) ⌝ }
+    requires { ⌜ (state .goal < recordCount (now file)) × Placed state (length (now frames)) ⌝ }
+    ensures { λ r. ⌜ Turns (now (file .entry)) (tablesIn (now (file .entry)) (now (plan .entry)) (now (images .entry)) (now (table .entry))) state heap
+        (now (cells .entry)) (now (regions .entry)) (now (frames .entry)) (now (prints .entry))
+        r (now (cells .exit)) (now (regions .exit)) (now (frames .exit)) (now (prints .exit)) ⌝ }
+{
+    let i = state.goal;
+    if changes_heap(word_in(file, i, KIND)) {
+        let kept = keep(file, plan, state, heap, cells, regions, frames);
+        match kept {
+            Kept::Left(left) => {
+                let next = onward(state, successor(file, plan, i));
+                return Turn::On(settle(file, plan, images, table, next, frames), left);
+            }
+            Kept::Lacks(stop) => return Turn::Lacks(stop),
+        }
+    }
+    let went = go(file, plan, images, table, state, &cells[..], frames, prints);
+    match went {
+        Step::Went(next) => Turn::On(settle(file, plan, images, table, next, frames), heap),
+        Step::Stops(stop) => Turn::Lacks(stop),
+    }
+}

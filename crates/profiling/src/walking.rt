@@ -1,0 +1,33 @@
+// How many cells a region has.
+use memory::cell_word;
+use memory::word;
+ghost use mathlib.Core.Path.{_≡_};
+ghost use Rattle.profiling.specs.Walking.{sizeAt};
+
+// The words of a region, the one that names its last cell, and the word of a cell that leads to the next of its region.
+const REGION_WORDS: usize = 2;
+
+const REGION_LAST: usize = 1;
+
+const CELL_NEXT: u32 = 5;
+
+// The cells of the region at a place, found by walking its chain to its last cell. There are `limit` places for cells; an empty region's last word is none.
+pub fn region_size(cells: &[u32], regions: &[u32], limit: u32, region: u32) -> u32
+    ensures { λ r. ⌜ r ≡ sizeAt limit (now (cells .entry)) (now (regions .entry)) region ⌝ }
+{
+    let at = REGION_WORDS * (region as usize);
+    let last = word(regions, at + REGION_LAST);
+    if limit <= last {
+        return 0;
+    }
+    let mut cell = word(regions, at);
+    let mut n = 0;
+    while n < limit {
+        n += 1;
+        if cell == last {
+            return n;
+        }
+        cell = cell_word(cells, cell, CELL_NEXT);
+    }
+    n
+}
