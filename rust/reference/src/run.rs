@@ -147,13 +147,14 @@ impl<'a> Machine<'a> {
         }
     }
 
-    /// What is held once a step is done, before frames without goals go.
+    /// What is held once a step is done: the most of it before frames without goals go, for `watch` afterwards.
     fn note(&mut self, steps: u64, watch: &mut dyn FnMut(Held)) {
-        let procedure = self.frames.last().map_or(0, |f| f.procedure);
-        watch(Held { steps, cells: self.cells_held, regions: self.regions_held, frames: self.frames.len(), procedure });
         self.most.cells = self.most.cells.max(self.cells_held);
         self.most.regions = self.most.regions.max(self.regions_held);
         self.most.frames = self.most.frames.max(self.frames.len());
+        self.settle();
+        let procedure = self.frames.last().map_or(0, |f| f.procedure);
+        watch(Held { steps, cells: self.cells_held, regions: self.regions_held, frames: self.frames.len(), procedure });
     }
 
     /// What the next step lacks.
@@ -262,7 +263,6 @@ pub fn run(program: &Program, lent: &Lent, watch: &mut dyn FnMut(Held)) -> Run {
         let entry = m.frame(0, &[]);
         m.frames.push(entry);
         m.note(0, watch);
-        m.settle();
         while let Some(frame) = m.frames.last() {
             if steps == lent.steps {
                 break 'run Ending::Stopped(10);
@@ -276,7 +276,6 @@ pub fn run(program: &Program, lent: &Lent, watch: &mut dyn FnMut(Held)) -> Run {
             m.step(goal);
             steps += 1;
             m.note(steps, watch);
-            m.settle();
         }
         Ending::Finished
     };

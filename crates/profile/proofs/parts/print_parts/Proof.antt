@@ -1,0 +1,106 @@
+-- `print_parts` ends: the steps that are left fall.
+use Prim.Native.Nat.{_-_}
+use native.Mathlib.Omega.{arith}
+use mathlib.Core.Path.{sym, _∙_}
+use lib.Seq.{length-take-le}
+use Rattle.plans.specs.Plan.{tablesIn}
+use Rattle.profile.specs.Parts.{Going, going-first, going-on, advanced, last-fits}
+use borrow.Author.Needs.{needs}
+use Rattle.profile.proofs.parts.print_parts.Statement.{statement}
+use Rattle.profile.proofs.parts.print_parts.Tie as tie
+
+abbrev Inv-loop : tie.InvT-loop
+Inv-loop file plan images table cells₀ regions₀ frames₀ prints₀ out₀ point₀ cells regions frames prints out point =
+    Going file (tablesIn file plan images table) 1000000 cells₀ regions₀ frames₀ prints₀ out₀ cells regions frames prints out point
+
+abbrev μ-loop : tie.MeasureT-loop
+μ-loop file plan images table cells₀ regions₀ frames₀ prints₀ out₀ point₀ cells regions frames prints out point =
+    1000000 - point .done
+
+loop-holds : tie.Need-loop-holds Inv-loop μ-loop
+loop-holds c = going-first _ (c .before .before .before .before .before .before .before .before .pre .1 .1)
+
+advance-requires : tie.Need-advance-requires Inv-loop μ-loop
+advance-requires c κs = (c .before .before .before .before .before .before .before .before .before .before .before .before .before .before .pre .0, (omega (arith, c .before .before .before .before .before .before .before .before .before .before .before .before .before .before .pre .1 .0, c .before .before .before .before .before .loop .inv .size), c .before .before .before .before .before .loop .inv .stands))
+
+enum-known-part : tie.Need-enum-known-part Inv-loop μ-loop
+enum-known-part c = search needs
+
+slice-reshare-prefix-print : tie.Need-slice-reshare-prefix-print Inv-loop μ-loop
+slice-reshare-prefix-print c = advanced (c .before .before .before .before .before .before .before .before .before .before .before .before .before .advance .ensures) (c .before .part .given .1) .fits
+
+slice-aggregate-print : tie.Need-slice-aggregate-print Inv-loop μ-loop
+slice-aggregate-print c = sym (length-take-le _ _ (advanced (c .before .before .before .before .before .before .before .before .before .before .before .before .before .before .advance .ensures) (c .before .before .part .given .1) .fits))
+
+print-requires : tie.Need-print-requires Inv-loop μ-loop
+print-requires c κs = search needs
+
+loop-less : tie.Need-loop-less Inv-loop μ-loop
+loop-less c =
+    let m = advanced (c .before .before .before .before .before .before .before .before .before .before .before .before .before .before .before .advance .ensures) (c .before .before .before .part .given .1) in
+    omega (arith, m .later, m .low)
+
+loop-again : tie.Need-loop-again Inv-loop μ-loop
+loop-again c =
+    going-on (c .before .before .before .before .before .before .before .before .before .before .before .before .before .before .before .before .before .before .before .before .before .loop .inv) (c .before .before .before .before .before .before .before .before .before .before .before .before .before .before .before .advance .kept .1 .1 .1 .1 .1 .0) (c .before .before .before .before .before .before .before .before .before .before .before .before .before .before .before .advance .kept .1 .1 .1 .1 .1 .1 .0) (c .before .before .before .before .before .before .before .before .before .before .before .before .before .before .before .advance .kept .1 .1 .1 .1 .1 .1 .1 .0) (c .before .before .before .before .before .before .before .before .before .before .before .before .before .before .before .advance .kept .1 .1 .1 .1 .1 .1 .1 .1 .0) (c .before .before .before .before .before .before .before .before .before .before .before .before .before .before .before .advance .kept .1 .1 .1 .1 .1 .1 .1 .1 .1 .1 .0)
+    (advanced (c .before .before .before .before .before .before .before .before .before .before .before .before .before .before .before .advance .ensures) (c .before .before .before .part .given .1) .stands)
+
+enum-known-part-2 : tie.Need-enum-known-part-2 Inv-loop μ-loop
+enum-known-part-2 c = search needs
+
+slice-reshare-prefix-print-2 : tie.Need-slice-reshare-prefix-print-2 Inv-loop μ-loop
+slice-reshare-prefix-print-2 c = last-fits (c .before .before .before .before .before .before .before .before .before .before .before .before .before .advance .ensures) (c .before .part2 .given .1)
+
+slice-aggregate-print-2 : tie.Need-slice-aggregate-print-2 Inv-loop μ-loop
+slice-aggregate-print-2 c = sym (length-take-le _ _ (last-fits (c .before .before .before .before .before .before .before .before .before .before .before .before .before .before .advance .ensures) (c .before .before .part2 .given .1)))
+
+print-requires-2 : tie.Need-print-requires-2 Inv-loop μ-loop
+print-requires-2 c κs = search needs
+
+print-ending-requires : tie.Need-print-ending-requires Inv-loop μ-loop
+print-ending-requires c κs =
+    omega (arith, c .before .before .before .before .before .before .before .before .before .before .before .before .before .before .before .before .before .before .before .before .before .before .before .before .before .before .before .before .before .before .before .pre .1 .0, c .before .before .before .before .before .before .before .before .before .before .before .before .before .before .before .before .before .before .before .before .before .before .loop .inv .size, c .before .before .before .before .before .before .before .before .before .before .before .before .before .before .before .before .advance .kept .1 .1 .1 .1 .1 .1 .1 .1 .1 .1 .0)
+
+same-length : tie.Need-same-length Inv-loop μ-loop
+same-length c = (c .before .before .before .before .before .before .before .before .before .before .before .before .before .before .before .before .before .before .before .advance .kept .1 .1 .1 .1 .1 .0) ∙ c .before .before .before .before .before .before .before .before .before .before .before .before .before .before .before .before .before .before .before .before .before .before .before .before .before .loop .inv .cells
+
+same-length-2 : tie.Need-same-length-2 Inv-loop μ-loop
+same-length-2 c = (c .before .before .before .before .before .before .before .before .before .before .before .before .before .before .before .before .before .before .before .advance .kept .1 .1 .1 .1 .1 .1 .0) ∙ c .before .before .before .before .before .before .before .before .before .before .before .before .before .before .before .before .before .before .before .before .before .before .before .before .before .loop .inv .regions
+
+same-length-3 : tie.Need-same-length-3 Inv-loop μ-loop
+same-length-3 c = (c .before .before .before .before .before .before .before .before .before .before .before .before .before .before .before .before .before .before .before .advance .kept .1 .1 .1 .1 .1 .1 .1 .0) ∙ c .before .before .before .before .before .before .before .before .before .before .before .before .before .before .before .before .before .before .before .before .before .before .before .before .before .loop .inv .frames
+
+same-length-4 : tie.Need-same-length-4 Inv-loop μ-loop
+same-length-4 c = (c .before .before .before .before .before .before .before .before .before .before .before .before .before .before .before .before .before .before .before .advance .kept .1 .1 .1 .1 .1 .1 .1 .1 .0) ∙ c .before .before .before .before .before .before .before .before .before .before .before .before .before .before .before .before .before .before .before .before .before .before .before .before .before .loop .inv .prints
+
+same-length-5 : tie.Need-same-length-5 Inv-loop μ-loop
+same-length-5 c = c .before .before .print-ending .kept .0 ∙ (c .before .before .before .before .before .before .before .before .before .before .before .before .before .before .before .before .before .before .before .advance .kept .1 .1 .1 .1 .1 .1 .1 .1 .1 .1 .0 ∙ c .before .before .before .before .before .before .before .before .before .before .before .before .before .before .before .before .before .before .before .before .before .before .before .before .before .loop .inv .size)
+
+returns : tie.Need-returns Inv-loop μ-loop
+returns c = search needs
+
+pub print-parts-spec : {M : Type 1} → statement M
+print-parts-spec =
+    tie.close
+    (tie.spec
+    Inv-loop
+    μ-loop
+    loop-holds
+    advance-requires
+    enum-known-part
+    slice-reshare-prefix-print
+    slice-aggregate-print
+    print-requires
+    loop-less
+    loop-again
+    enum-known-part-2
+    slice-reshare-prefix-print-2
+    slice-aggregate-print-2
+    print-requires-2
+    print-ending-requires
+    same-length
+    same-length-2
+    same-length-3
+    same-length-4
+    same-length-5
+    returns)

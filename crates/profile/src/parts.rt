@@ -1,0 +1,77 @@
+// The profile, part by part: each is written before the next is worked out. That all parts together are the profile is `profile-whole` of profiling.
+use language::Ending;
+use libc::STDERR_FILENO;
+use libc::STDOUT_FILENO;
+use lines::put_ending;
+use plans::PLAN;
+use profiling::Part;
+use profiling::Point;
+use profiling::advance;
+ghost use Prim.Native.Nat.{_≤_};
+ghost use lib.ListN.{length};
+ghost use Rattle.plans.specs.Plan.{tablesIn};
+ghost use Rattle.machine.specs.Words.{Narrow};
+ghost use Rattle.profiling.specs.Moving.{Stands};
+
+const STEPS: usize = 1000000;
+
+// Writes bytes; where they cannot be written, a message to standard error.
+pub fn print(bytes: &[u8]) {
+    if !io::write_all(STDOUT_FILENO, bytes) {
+        io::write_all(STDERR_FILENO, b"the answer could not be written\n");
+    }
+}
+
+// The last line.
+fn print_ending(out: &mut [u8], ending: Ending, steps: usize)
+    requires { ⌜ 105 ≤ length (now out) ⌝ }
+{
+    let n = put_ending(&mut out[..], 0, ending, steps as u64);
+    print(&out[..n]);
+}
+
+// From where the run stands to its end.
+pub fn print_parts(
+    file: &[u8],
+    plan: &[usize; PLAN],
+    images: &[u8],
+    table: &[u64],
+    first: Point,
+    cells: &mut [u32],
+    regions: &mut [u32],
+    frames: &mut [u32],
+    prints: &mut [u32],
+    out: &mut [u8],
+)
+    requires { ⌜ Narrow (now plan) ⌝ }
+    requires { ⌜ 105 ≤ length (now out) ⌝ }
+    requires { ⌜ Stands (now file) (tablesIn (now file) (now plan) (now images) (now table)) 1000000 (now cells) (now regions) (now frames) (now prints) first ⌝ }
+{
+    let mut point = first;
+    loop {
+        let part = advance(
+            file,
+            plan,
+            images,
+            table,
+            point,
+            cells,
+            regions,
+            frames,
+            prints,
+            STEPS,
+            out,
+        );
+        match part {
+            Part::More(n, next) => {
+                print(&out[..n]);
+                point = next;
+            }
+            Part::Last(n, ending, steps) => {
+                print(&out[..n]);
+                print_ending(out, ending, steps);
+                return;
+            }
+        }
+    }
+}
