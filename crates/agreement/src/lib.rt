@@ -1,8 +1,11 @@
-// Demand 3 about the code: the annotator and the checker as they run, joined with the theorem about the definitions.
+// Demand 3 about the code: the annotator, the checker and the runner as they run, joined with the theorem about the definitions.
+mod runs;
+
 use annotation::Annotated;
 use annotation::annotate;
 use checking::check;
 use language::Verdict;
+pub use runs::runs_as_plain;
 ghost use mathlib.Core.Path.{_≡_};
 ghost use mathlib.Core.Bool.{true};
 ghost use lib.ListN.{length};

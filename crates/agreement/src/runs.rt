@@ -1,0 +1,21 @@
+// The runner as it runs, joined with the theorem about the definitions.
+use machine::Outcome;
+use running::run;
+ghost use mathlib.Core.Path.{_≡_};
+ghost use Rattle.language.specs.declared.Verdict.the-variants.{Accepted};
+ghost use Rattle.language.specs.Answers.{checked};
+ghost use Rattle.agreement.specs.Runs.{AsPlain};
+
+// Runs what the checker accepts, in lent memory: as far as the run comes, it prints what the plain run prints, and ends as that does.
+pub fn runs_as_plain(
+    file: &[u8],
+    cells: &mut [u32],
+    regions: &mut [u32],
+    frames: &mut [u32],
+    prints: &mut [u32],
+    steps: usize,
+) -> Outcome
+    ensures { λ r. ⌜ (checked (now (file .entry)) ≡ Accepted → AsPlain (now (file .entry)) steps r (now (prints .exit))) ⌝ }
+{
+    run(file, cells, regions, frames, prints, steps)
+}
