@@ -1,9 +1,9 @@
--- The functor of a record.
+-- The functor of a record, and a record that stands in a chain, given another name.
 use Prim.Native.Nat.{ℕ}
 use mathlib.Core.Path.{_≡_, refl}
 use mathlib.Core.List.{List, _∷_}
 use Rattle.language.specs.Format.{nextWord, functorArity}
-use Rattle.language.specs.File.{functors, word}
+use Rattle.language.specs.File.{Chain, functors, word}
 use Rattle.language.specs.Program.{four, Functor}
 use Rattle.chains.specs.Formed.{Formed, Stands, functorsAt}
 use Rattle.chains.specs.Is.{functor-is}
@@ -22,3 +22,6 @@ pub functors-step : {f : List ℕ} → Formed f → (i : ℕ) → Stands f funct
     → functorsAt f i ≡ functorAtRecord f i ∷ functorsAt f (word f i nextWord)
 unfolding functorAtRecord
 functors-step {f} F i s z = functor-at F refl (functor-is s z) .view
+
+pub stands-same : {f : List ℕ} {c : Chain} {w v : ℕ} → w ≡ v → Stands f c v → Stands f c w
+stands-same e s = rw e s

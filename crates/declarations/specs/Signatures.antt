@@ -1,100 +1,142 @@
--- What a procedure declares, by a table of its regions.
+-- What a procedure declares: what the code tests by the two tables is what the definition says.
 use Prim.Native.Nat.{ℕ, _≤_, _<_}
 use native.Mathlib.Omega.{arith}
-use borrow.Author.Tests.{le-leb, lt-leb}
+use borrow.Author.Tests.{le-leb, lt-leb, lt-ltb, le-ltb}
 use mathlib.Core.Path.{_≡_, refl, ap, sym, _∙_}
 use mathlib.Core.Bool.{Bool, true, false}
 use mathlib.Core.List.{List, _∷_}
 use lib.Dec.{eqb, leb}
 use lib.ListN.{length}
 use Rattle.sets.specs.Tests.{_&_}
-use Rattle.language.specs.Format.{nextWord, variableMode, variableType, variableRegion, typeFunctors, regionType, regionClass, regionEdges, deadClass}
+use Rattle.laws.specs.Tests.{and-assoc, and-stop, and-on, refuse, pass}
+use Rattle.language.specs.Format.{nextWord, procedureVariables, procedureRegions, variableMode, variableType, variableRegion, regionType, regionClass, regionEdges, deadClass, maxVariables, maxRegions}
 use Rattle.language.specs.Lists.{all, choose}
 use Rattle.language.specs.File.{variables, regions, word}
 use Rattle.language.specs.Program.{Variable, Region, Signature, functorsOf, outMode}
 use Rattle.language.specs.Answers.{program}
-use Rattle.language.specs.Typing.{isType, regioned, placesFrom, edgesOk, regionOk}
+use Rattle.language.specs.Typing.{isType, regioned, isRegionOf, placesFrom, edgesOk, variableOk, regionOk, signatureOk}
 use Rattle.chains.specs.Formed.{Formed, Stands, functorsAt, edgesAt, variablesAt, regionsAt}
+use Rattle.chains.specs.Records.{chainRecords}
+use Rattle.chains.specs.Elements.{variables-count, regions-count}
 use Rattle.chains.specs.Is.{variable-is, region-is}
-use Rattle.chains.specs.Declared.{VariableAt, RegionAt, variable-at, region-at}
-use Rattle.laws.specs.Tests.{and-stop, and-on}
-use Rattle.laws.specs.Lists.{all-no, all-yes}
-use Rattle.declarations.specs.Names.{wordIn, typedIn, TypeTable}
-use Rattle.declarations.specs.Edges.{RegionsAgree, AllEdgesMatch}
+use Rattle.chains.specs.Declared.{variable-at, region-at}
+use Rattle.declarations.specs.Places.{functorIn}
+use Rattle.declarations.specs.Declares.{Declares, type-listed, type-some, type-none, functors-here}
+use Rattle.declarations.specs.Own.{Own, signatureFrom, declared}
 
--- the variables from record v on and the regions from record r on
-unfoldable pub signatureFrom : List ℕ → ℕ → ℕ → Signature
-signatureFrom f v r = record { variables = variablesAt f v; regions = regionsAt f r }
-
--- of n types, with the regions of the table
-unfoldable pub variableFits : List ℕ → List ℕ → ℕ → Variable → Bool
-variableFits f t n v = leb (v .mode) outMode & leb (v .type) n & choose (leb 1 (v .type)) (typedIn f t regionType (v .type) (v .region)) (eqb (v .region) 0)
+unfoldable pub variableAtRecord : List ℕ → ℕ → Variable
+variableAtRecord f i = record { mode = word f i variableMode; type = word f i variableType; region = word f i variableRegion }
 
 unfoldable pub regionAtRecord : List ℕ → ℕ → Region
 regionAtRecord f i = record { type = word f i regionType; class = word f i regionClass; edges = edgesAt f (word f i regionEdges) }
 
-abbrev pub RegionFits : List ℕ → List ℕ → ℕ → ℕ → Bool → Type 0
-RegionFits f t n i r = (S : Signature) → RegionsAgree f t S → n ≡ length (program f .types) → r ≡ regionOk (program f .types) S (regionAtRecord f i)
+-- of the procedure of record i
+unfoldable pub signatureAt : List ℕ → ℕ → Signature
+signatureAt f i = signatureFrom f (word f i procedureVariables) (word f i procedureRegions)
 
-abbrev pub RegionsFit : List ℕ → List ℕ → ℕ → ℕ → Bool → Type 0
-RegionsFit f t n i r = (S : Signature) → RegionsAgree f t S → n ≡ length (program f .types) → r ≡ all (regionOk (program f .types) S) (regionsAt f i)
+-- ---- what the code tests, with what the procedure's table declares
+module _ (f own : List ℕ) where
+  abbrev pub VariableTested : ℕ → Bool → Type 0
+  VariableTested i b = b ≡ variableOk (program f .types) (declared f own) (variableAtRecord f i)
 
--- the variable at record i, by the words that the code has read
-pub variable-here : {f : List ℕ} {i : ℕ} → Formed f → Stands f variables i → (i ≡ 0 → ⊥) → {next mode ty region : ℕ} → next ≡ word f i nextWord
-    → mode ≡ word f i variableMode → ty ≡ word f i variableType → region ≡ word f i variableRegion → VariableAt f i next mode ty region
-variable-here F s z e1 e2 e3 e4 = rw (e1, e2, e3, e4) (variable-at F refl (variable-is s z))
+  abbrev pub VariablesTested : ℕ → Bool → Type 0
+  VariablesTested i b = b ≡ all (variableOk (program f .types) (declared f own)) (variablesAt f i)
 
--- ---- what the code computes
-module _ (f t : List ℕ) (n mode ty region : ℕ) where
-  pub variable-mode : outMode < mode → false ≡ variableFits f t n (record { mode = mode; type = ty; region = region })
-  unfolding variableFits
-  variable-mode h = and-stop _ (lt-leb mode outMode h)
+  abbrev pub RegionTested : ℕ → Bool → Type 0
+  RegionTested i b = b ≡ regionOk (program f .types) (declared f own) (regionAtRecord f i)
 
-  module _ (m : mode ≤ outMode) where
-    pub variable-type : n < ty → false ≡ variableFits f t n (record { mode = mode; type = ty; region = region })
-    unfolding variableFits
-    variable-type h = and-on (le-leb mode outMode m) (and-stop _ (lt-leb ty n h))
+  abbrev pub RegionsTested : ℕ → Bool → Type 0
+  RegionsTested i b = b ≡ all (regionOk (program f .types) (declared f own)) (regionsAt f i)
 
-    module _ (l : ty ≤ n) where
-      pub variable-number : ty ≡ 0 → eqb region 0 ≡ variableFits f t n (record { mode = mode; type = ty; region = region })
-      unfolding variableFits choose
-      variable-number z = and-on (le-leb mode outMode m) (and-on (le-leb ty n l) (rw (lt-leb 1 ty (omega arith))))
+  -- the table is of the procedure of record i
+  abbrev pub OwnOf : ℕ → Type 0
+  OwnOf i = Own f own × (declared f own ≡ signatureAt f i)
 
-      pub variable-cell : {q : Bool} → (ty ≡ 0 → ⊥) → q ≡ typedIn f t regionType ty region → q ≡ variableFits f t n (record { mode = mode; type = ty; region = region })
-      unfolding variableFits choose
-      variable-cell z e = and-on (le-leb mode outMode m) (and-on (le-leb ty n l) (rw (le-leb 1 ty (omega arith)) e))
+module _ {f : List ℕ} {i : ℕ} (F : Formed f) where
+  pub variables-step : Stands f variables i → (i ≡ 0 → ⊥) → variablesAt f i ≡ variableAtRecord f i ∷ variablesAt f (word f i nextWord)
+  unfolding variableAtRecord
+  variables-step s z = variable-at F refl (variable-is s z) .view
 
-module _ (f t : List ℕ) (n : ℕ) {i next ty class es : ℕ} (v : RegionAt f i next ty class es) where
-  region-as : (S : Signature) → n ≡ length (program f .types)
-      → regionOk (program f .types) S (regionAtRecord f i) ≡ (leb ty n & leb 1 ty & leb class deadClass & edgesOk (program f .types) S (placesFrom (program f .types) 0 (functorsOf (program f .types) ty)) (edgesAt f es))
-  unfolding regionOk regionAtRecord isType regioned
-  region-as S e = rw (e, v .w2, v .w3, v .w4)
+  pub regions-step : Stands f regions i → (i ≡ 0 → ⊥) → regionsAt f i ≡ regionAtRecord f i ∷ regionsAt f (word f i nextWord)
+  unfolding regionAtRecord
+  regions-step s z = region-at F refl (region-is s z) .view
 
-  pub region-type : n < ty → RegionFits f t n i false
-  region-type h S a e = and-stop _ (lt-leb ty n h) ∙ sym (region-as S e)
+module _ {f t : List ℕ} (D : Declares f t) (S : Signature) (i : ℕ) where
+  -- ---- a variable
+  module _ {m : ℕ} (em : m ≡ word f i variableMode) where
+    pub variable-mode : outMode < m → false ≡ variableOk (program f .types) S (variableAtRecord f i)
+    unfolding variableOk variableAtRecord
+    variable-mode h = and-stop _ (lt-leb (word f i variableMode) outMode (omega arith))
 
-  module _ (l : ty ≤ n) where
-    pub region-number : ty ≡ 0 → RegionFits f t n i false
-    region-number h S a e = and-on (le-leb ty n l) (and-stop _ (lt-leb 1 ty (omega arith))) ∙ sym (region-as S e)
+    module _ (h : m ≤ outMode) {ty r : ℕ} (et : ty ≡ word f i variableType) (er : r ≡ word f i variableRegion) where
+      pub variable-number : ty ≡ 0 → eqb r 0 ≡ variableOk (program f .types) S (variableAtRecord f i)
+      unfolding variableOk variableAtRecord isType regioned choose
+      variable-number z =
+          and-on (le-leb (word f i variableMode) outMode (omega arith)) (and-on (le-leb (word f i variableType) (length (program f .types)) (omega arith))
+          (rw (lt-leb 1 (word f i variableType) (omega arith)) (ap (λ k. eqb k 0) er)))
 
-    module _ (z : ty ≡ 0 → ⊥) where
-      pub region-class : deadClass < class → RegionFits f t n i false
-      region-class h S a e = and-on (le-leb ty n l) (and-on (le-leb 1 ty (omega arith)) (and-stop _ (lt-leb class deadClass h))) ∙ sym (region-as S e)
+      module _ (z : ty ≡ 0 → ⊥) {g : ℕ} (eg : g ≡ functorIn t ty 0) where
+        pub variable-type : g ≡ 0 → false ≡ variableOk (program f .types) S (variableAtRecord f i)
+        unfolding variableOk variableAtRecord
+        variable-type e = and-on (le-leb (word f i variableMode) outMode (omega arith)) (and-stop _ (ap (isType (program f .types)) (sym et) ∙ type-none D ty eg z e))
 
-      pub region-edges : {types : List ℕ} → TypeTable f types → class ≤ deadClass → {w : ℕ} {q : Bool} → w ≡ wordIn f types typeFunctors ty → AllEdgesMatch f t (functorsAt f w) es q → RegionFits f t n i q
-      region-edges T h ew k S a e =
-          and-on (le-leb ty n l) (and-on (le-leb 1 ty (omega arith)) (and-on (le-leb class deadClass h)
-          (k S a ∙ ap (λ fs. edgesOk (program f .types) S (placesFrom (program f .types) 0 fs) (edgesAt f es)) (ap (functorsAt f) ew ∙ T .functors-are ty)))) ∙ sym (region-as S e)
+        pub variable-cell : (g ≡ 0 → ⊥) → {b : Bool} → b ≡ isRegionOf S ty r → b ≡ variableOk (program f .types) S (variableAtRecord f i)
+        unfolding variableOk variableAtRecord regioned choose
+        variable-cell n eb =
+            and-on (le-leb (word f i variableMode) outMode (omega arith)) (and-on (ap (isType (program f .types)) (sym et) ∙ type-some D ty eg n)
+            (rw (le-leb 1 (word f i variableType) (omega arith), sym et, sym er) eb))
 
--- along the regions
-regions-step : {f : List ℕ} {i : ℕ} → Formed f → Stands f regions i → (i ≡ 0 → ⊥) → regionsAt f i ≡ regionAtRecord f i ∷ regionsAt f (word f i nextWord)
-unfolding regionAtRecord
-regions-step F s z = region-at F refl (region-is s z) .view
+  -- ---- a region
+  module _ {ty g : ℕ} (et : ty ≡ word f i regionType) (eg : g ≡ functorIn t ty 0) where
+    region-as : regionOk (program f .types) S (regionAtRecord f i)
+        ≡ ((isType (program f .types) ty & regioned (program f .types) ty) & leb (word f i regionClass) deadClass
+        & edgesOk (program f .types) S (placesFrom (program f .types) 0 (functorsOf (program f .types) ty)) (edgesAt f (word f i regionEdges)))
+    unfolding regionOk regionAtRecord
+    region-as = rw et (sym (and-assoc _ _ _))
 
-module _ (f t : List ℕ) (n i : ℕ) (F : Formed f) (s : Stands f regions i) (z : i ≡ 0 → ⊥) {r : Bool} (k : RegionFits f t n i r) where
-  pub regions-no : r ≡ false → RegionsFit f t n i false
-  regions-no p S a e = all-no _ (regions-step F s z) (k S a e) p
+    pub region-type : g ≡ 0 → false ≡ regionOk (program f .types) S (regionAtRecord f i)
+    region-type z = refuse _ (type-listed D ty) (le-ltb 0 (functorIn t ty 0) (omega arith)) ∙ sym region-as
 
-  pub regions-yes : {w : ℕ} → r ≡ true → w ≡ word f i nextWord → (S : Signature) → RegionsAgree f t S → n ≡ length (program f .types)
-      → all (regionOk (program f .types) S) (regionsAt f w) ≡ all (regionOk (program f .types) S) (regionsAt f i)
-  regions-yes p ew S a e = rw ew (all-yes _ (regions-step F s z) (k S a e) p)
+    module _ (z : g ≡ 0 → ⊥) {c : ℕ} (ec : c ≡ word f i regionClass) where
+      pub region-class : deadClass < c → false ≡ regionOk (program f .types) S (regionAtRecord f i)
+      region-class h = pass (type-listed D ty) (lt-ltb 0 (functorIn t ty 0) (omega arith)) (and-stop _ (lt-leb (word f i regionClass) deadClass (omega arith))) ∙ sym region-as
+
+      pub region-edges : c ≤ deadClass → {e : ℕ} {b : Bool} → e ≡ word f i regionEdges → b ≡ edgesOk (program f .types) S (placesFrom (program f .types) 0 (functorsAt f g)) (edgesAt f e) → b ≡ regionOk (program f .types) S (regionAtRecord f i)
+      region-edges h {e} {b} ee k =
+          pass (type-listed D ty) (lt-ltb 0 (functorIn t ty 0) (omega arith)) (and-on (le-leb (word f i regionClass) deadClass (omega arith))
+          (k ∙ ap (λ fs. edgesOk (program f .types) S (placesFrom (program f .types) 0 fs) (edgesAt f e)) (functors-here D ty eg) ∙ ap (λ j. edgesOk (program f .types) S (placesFrom (program f .types) 0 (functorsOf (program f .types) ty)) (edgesAt f j)) ee)) ∙ sym region-as
+
+-- ---- all of it: at most 64 variables from record v on, at most 64 regions from record r on
+module _ {f : List ℕ} (F : Formed f) (v r : ℕ) (sv : Stands f variables v) (sr : Stands f regions r) {l : ℕ} (el : l ≡ length (chainRecords f v)) where
+  abbrev own : Signature
+  own = signatureFrom f v r
+
+  pub many-variables : maxVariables < l → false ≡ signatureOk (program f .types) own
+  unfolding signatureOk signatureFrom
+  many-variables h = and-stop _ (lt-leb (length (variablesAt f v)) maxVariables (omega (arith, variables-count F v sv)))
+
+  module _ (h : l ≤ maxVariables) {m : ℕ} (em : m ≡ length (chainRecords f r)) where
+    few : leb (length (variablesAt f v)) maxVariables ≡ true
+    few = le-leb (length (variablesAt f v)) maxVariables (omega (arith, variables-count F v sv))
+
+    pub many-regions : maxRegions < m → false ≡ signatureOk (program f .types) own
+    unfolding signatureOk signatureFrom
+    many-regions k = and-on few (and-stop _ (lt-leb (length (regionsAt f r)) maxRegions (omega (arith, regions-count F r sr))))
+
+    module _ (k : m ≤ maxRegions) {S : Signature} (e : S ≡ own) {q : Bool} (eq : q ≡ all (variableOk (program f .types) S) (variablesAt f v)) where
+      pub wrong-variable : q ≡ false → false ≡ signatureOk (program f .types) own
+      unfolding signatureOk signatureFrom
+      wrong-variable p = and-on few (and-on (le-leb (length (regionsAt f r)) maxRegions (omega (arith, regions-count F r sr))) (refuse _ (rw e at eq) p))
+
+      pub signature-all : q ≡ true → {b : Bool} → b ≡ all (regionOk (program f .types) S) (regionsAt f r) → b ≡ signatureOk (program f .types) own
+      unfolding signatureOk signatureFrom
+      signature-all p g = and-on few (and-on (le-leb (length (regionsAt f r)) maxRegions (omega (arith, regions-count F r sr))) (pass (rw e at eq) p (rw e at g)))
+
+-- the same by the words that the code has read
+module _ (f : List ℕ) (i : ℕ) {v r : ℕ} (ev : v ≡ word f i procedureVariables) (er : r ≡ word f i procedureRegions) where
+  pub signature-same : signatureFrom f v r ≡ signatureAt f i
+  unfolding signatureAt
+  signature-same = rw (ev, er)
+
+  pub signature-ok-same : {b : Bool} → b ≡ signatureOk (program f .types) (signatureFrom f v r) → b ≡ signatureOk (program f .types) (signatureAt f i)
+  signature-ok-same e = e ∙ ap (signatureOk (program f .types)) signature-same

@@ -19,7 +19,7 @@ use Rattle.chains.specs.Elements.{types-count}
 use Rattle.chains.specs.Records.{chainRecords}
 use Rattle.laws.specs.Tests.{and-stop, and-on}
 use Rattle.laws.specs.Lists.{all-same}
-use Rattle.declarations.specs.Names.{stands-same}
+use Rattle.declarations.specs.Functors.{stands-same}
 use Rattle.declarations.specs.Types.{typeSlot, typeSlots, functorFits, typeFits}
 
 -- ---- functors, slot by slot

@@ -1,14 +1,23 @@
 // Number 3 for what a file declares: its types and functors, and each procedure's variables, regions and edges, as the definitions `typesOk`
-// and `signatureOk` say.
+// and `signatureOk` say; and the two tables that the goals are tested by.
 mod edges;
+mod listing;
 mod names;
+mod places;
 mod signatures;
 mod types;
 
+pub use listing::list_file;
+pub use names::functor;
 pub use names::has_type;
-pub use names::listed;
-pub use names::type_of;
-pub use names::word_of;
+pub use names::parameter;
+pub use names::procedure;
+pub use names::region;
+pub use names::variable;
+pub use places::FILE_PLACES;
+pub use places::OWN_PLACES;
+pub use places::blank_file;
+pub use places::blank_own;
 pub use signatures::signature_ok;
 pub use types::types_ok;
 

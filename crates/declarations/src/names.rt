@@ -1,54 +1,94 @@
-// Numbers that name a record of a table: whether there is such a record, and its words.
-use chains::entry;
-use chains::field;
+// Numbers that name something declared: the record that a table has for it, 0 where there is no such thing.
+use crate::listing::wide;
+use crate::places::FILE_PLACES;
+use crate::places::FUNCTOR_PLACES;
+use crate::places::OWN_PLACES;
+use crate::places::PROCEDURE_PLACES;
+use crate::places::REGION_PLACES;
+use chains::word;
+use language::format::MAX_FUNCTORS;
+use language::format::MAX_PROCEDURES;
 use language::format::PLACES;
 use language::format::REGION_TYPE;
 use language::format::VARIABLE_TYPE;
 ghost use mathlib.Core.Path.{_≡_};
-ghost use Prim.Native.Nat.{_<_};
-ghost use lib.ListN.{length};
-ghost use Rattle.language.specs.Format.{variableType, regionType, places};
-ghost use Rattle.declarations.specs.Names.{listedIn, wordIn, typedIn};
+ghost use Prim.Native.Nat.{_+_, _≤_, _<_};
+ghost use lib.ListN.{length, getD};
+ghost use Rattle.language.specs.Format.{maxRecords};
+ghost use Rattle.language.specs.Typing.{hasType, isRegionOf};
+ghost use Rattle.chains.specs.Formed.{Formed};
+ghost use Rattle.declarations.specs.Places.{placeIn, variableIn, regionIn, procedureIn, functorIn};
+ghost use Rattle.declarations.specs.Own.{Own, declared};
 
-pub fn listed(table: &[usize], n: usize) -> bool
-    ensures { λ r. ⌜ r ≡ listedIn (now (table .entry)) n ⌝ }
+// Entry n of the `most` from place `at` on.
+fn place(table: &[u16], at: usize, most: usize, n: usize) -> usize
+    requires { ⌜ at + most ≤ length (now table) ⌝ }
+    ensures { λ r. ⌜ r ≡ placeIn (now (table .entry)) at most n ⌝ }
 {
-    0 < entry(table, n)
+    if most <= n {
+        return 0;
+    }
+    wide(table[at + n])
 }
 
-// Word k of the record numbered n; 0 where there is none.
-pub fn word_of(file: &[u8], table: &[usize], n: usize, k: usize) -> usize
-    requires { ⌜ k < 8 ⌝ }
-    ensures { λ r. ⌜ r ≡ wordIn (now (file .entry)) (now (table .entry)) k n ⌝ }
+// Functor n of type t.
+pub fn functor(table: &[u16; FILE_PLACES], t: usize, n: usize) -> usize
+    ensures { λ r. ⌜ r ≡ functorIn (now (table .entry)) t n ⌝ }
 {
-    field(file, entry(table, n), k)
+    if PLACES <= t {
+        return 0;
+    }
+    place(table, FUNCTOR_PLACES + MAX_FUNCTORS * t, MAX_FUNCTORS, n)
 }
 
-// Whether there is a record numbered n whose word k, its type, is t.
-fn is_of(file: &[u8], table: &[usize], k: usize, t: usize, n: usize) -> bool
-    requires { ⌜ k < 8 ⌝ }
-    ensures { λ r. ⌜ r ≡ typedIn (now (file .entry)) (now (table .entry)) k t n ⌝ }
+pub fn procedure(table: &[u16; FILE_PLACES], q: usize) -> usize
+    ensures { λ r. ⌜ r ≡ procedureIn (now (table .entry)) q ⌝ }
 {
-    if !listed(table, n) {
+    place(table, PROCEDURE_PLACES, MAX_PROCEDURES, q)
+}
+
+// The first in or out variable from the variable at record v on.
+pub fn parameter(table: &[u16; FILE_PLACES], v: usize) -> usize
+    requires { ⌜ v < maxRecords ⌝ }
+    ensures { λ r. ⌜ r ≡ getD (now (table .entry)) v 0 ⌝ }
+{
+    wide(table[v])
+}
+
+pub fn variable(own: &[u16; OWN_PLACES], x: usize) -> usize
+    ensures { λ r. ⌜ r ≡ variableIn (now (own .entry)) x ⌝ }
+{
+    place(own, 0, PLACES, x)
+}
+
+pub fn region(own: &[u16; OWN_PLACES], r: usize) -> usize
+    ensures { λ s. ⌜ s ≡ regionIn (now (own .entry)) r ⌝ }
+{
+    place(own, REGION_PLACES, PLACES, r)
+}
+
+// Whether x is a variable of type t.
+pub fn has_type(file: &[u8], own: &[u16; OWN_PLACES], t: usize, x: usize) -> bool
+    requires { ⌜ Formed (now file) ⌝ }
+    requires { ⌜ Own (now file) (now own) ⌝ }
+    ensures { λ b. ⌜ b ≡ hasType (declared (now (file .entry)) (now (own .entry))) t x ⌝ }
+{
+    let v = variable(own, x);
+    if v == 0 {
         return false;
     }
-    word_of(file, table, n, k) == t
+    word(file, v, VARIABLE_TYPE) == t
 }
 
-pub fn type_of(file: &[u8], variables: &[usize], x: usize) -> usize
-    ensures { λ r. ⌜ r ≡ wordIn (now (file .entry)) (now (variables .entry)) variableType x ⌝ }
+// Whether r is a region of type t.
+pub fn is_region_of(file: &[u8], own: &[u16; OWN_PLACES], t: usize, r: usize) -> bool
+    requires { ⌜ Formed (now file) ⌝ }
+    requires { ⌜ Own (now file) (now own) ⌝ }
+    ensures { λ b. ⌜ b ≡ isRegionOf (declared (now (file .entry)) (now (own .entry))) t r ⌝ }
 {
-    word_of(file, variables, x, VARIABLE_TYPE)
-}
-
-pub fn has_type(file: &[u8], variables: &[usize], t: usize, x: usize) -> bool
-    ensures { λ r. ⌜ r ≡ typedIn (now (file .entry)) (now (variables .entry)) variableType t x ⌝ }
-{
-    is_of(file, variables, VARIABLE_TYPE, t, x)
-}
-
-pub fn is_region_of(file: &[u8], regions: &[usize], t: usize, region: usize) -> bool
-    ensures { λ r. ⌜ r ≡ typedIn (now (file .entry)) (now (regions .entry)) regionType t region ⌝ }
-{
-    is_of(file, regions, REGION_TYPE, t, region)
+    let i = region(own, r);
+    if i == 0 {
+        return false;
+    }
+    word(file, i, REGION_TYPE) == t
 }

@@ -1,59 +1,70 @@
-// What a procedure declares: its variables and its regions. There are n types.
+// What a procedure declares: its variables and its regions.
 use crate::edges::edges_ok;
+use crate::listing::list_records;
+use crate::names::functor;
 use crate::names::is_region_of;
-use crate::names::word_of;
-use chains::chain_length;
-use chains::list_chain;
+use crate::places::FILE_PLACES;
+use crate::places::OWN_PLACES;
+use crate::places::REGION_PLACES;
 use chains::word;
 use language::format::CLASS_DEAD;
 use language::format::MAX_REGIONS;
 use language::format::MAX_VARIABLES;
 use language::format::MODE_OUT;
 use language::format::NEXT;
-use language::format::PLACES;
-use language::format::TYPE_FUNCTORS;
+use language::format::PROCEDURE_REGIONS;
+use language::format::PROCEDURE_VARIABLES;
+use language::format::REGION_CLASS;
+use language::format::REGION_EDGES;
+use language::format::REGION_TYPE;
 use language::format::VARIABLE_MODE;
 use language::format::VARIABLE_REGION;
 use language::format::VARIABLE_TYPE;
-use records::Record;
-use records::blank::blank_places;
-use records::record_at;
 ghost use mathlib.Core.Path.{_≡_};
-ghost use lib.ListN.{length};
-ghost use Rattle.language.specs.Lists.{all};
-ghost use Rattle.language.specs.File.{variables, regions};
+ghost use mathlib.Core.Bool.{true};
+ghost use lib.ListN.{replicate};
+ghost use Rattle.language.specs.File.{procedures, variables, regions};
 ghost use Rattle.language.specs.Answers.{program};
 ghost use Rattle.language.specs.Typing.{signatureOk};
-ghost use Rattle.chains.specs.Formed.{Formed, Stands, variablesAt};
-ghost use Rattle.declarations.specs.Names.{TypeTable};
-ghost use Rattle.declarations.specs.Signatures.{variableFits, RegionFits, RegionsFit, signatureFrom};
+ghost use Rattle.chains.specs.Formed.{Stands};
+ghost use Rattle.declarations.specs.Places.{ownPlaces};
+ghost use Rattle.declarations.specs.Declares.{Declares};
+ghost use Rattle.declarations.specs.Own.{Own};
+ghost use Rattle.declarations.specs.Signatures.{signatureAt, VariableTested, VariablesTested, RegionTested, RegionsTested, OwnOf};
 
-fn variable_ok(file: &[u8], table: &[usize], n: usize, mode: usize, t: usize, region: usize) -> bool
-    ensures { λ r. ⌜ r ≡ variableFits (now (file .entry)) (now (table .entry)) n (record { mode = mode; type = t; region = region }) ⌝ }
+// The variable of record i.
+fn variable_ok(file: &[u8], table: &[u16; FILE_PLACES], own: &[u16; OWN_PLACES], i: usize) -> bool
+    requires { ⌜ Declares (now file) (now table) × Own (now file) (now own) ⌝ }
+    requires { ⌜ Stands (now file) variables i ⌝ }
+    ensures { λ b. ⌜ VariableTested (now (file .entry)) (now (own .entry)) i b ⌝ }
 {
-    if MODE_OUT < mode {
+    if MODE_OUT < word(file, i, VARIABLE_MODE) {
         return false;
     }
-    if n < t {
-        return false;
-    }
+    let t = word(file, i, VARIABLE_TYPE);
+    let region = word(file, i, VARIABLE_REGION);
     if t == 0 {
         return region == 0;
     }
-    is_region_of(file, table, t, region)
+    if functor(table, t, 0) == 0 {
+        return false;
+    }
+    is_region_of(file, own, t, region)
 }
 
-fn variables_ok(file: &[u8], table: &[usize], n: usize, start: usize) -> bool
-    requires { ⌜ Formed (now file) ⌝ }
+fn variables_ok(
+    file: &[u8],
+    table: &[u16; FILE_PLACES],
+    own: &[u16; OWN_PLACES],
+    start: usize,
+) -> bool
+    requires { ⌜ Declares (now file) (now table) × Own (now file) (now own) ⌝ }
     requires { ⌜ Stands (now file) variables start ⌝ }
-    ensures { λ r. ⌜ r ≡ all (variableFits (now (file .entry)) (now (table .entry)) n) (variablesAt (now (file .entry)) start) ⌝ }
+    ensures { λ b. ⌜ VariablesTested (now (file .entry)) (now (own .entry)) start b ⌝ }
 {
     let mut i = start;
     while i != 0 {
-        let mode = word(file, i, VARIABLE_MODE);
-        let of_type = word(file, i, VARIABLE_TYPE);
-        let region = word(file, i, VARIABLE_REGION);
-        if !variable_ok(file, table, n, mode, of_type, region) {
+        if !variable_ok(file, table, own, i) {
             return false;
         }
         i = word(file, i, NEXT);
@@ -61,48 +72,35 @@ fn variables_ok(file: &[u8], table: &[usize], n: usize, start: usize) -> bool
     true
 }
 
-fn region_ok(file: &[u8], types: &[usize], table: &[usize], n: usize, i: usize) -> bool
-    requires { ⌜ Formed (now file) ⌝ }
-    requires { ⌜ TypeTable (now file) (now types) ⌝ }
-    requires { ⌜ Stands (now file) regions i ⌝ }
-    requires { ⌜ (i ≡ 0 → ⊥) ⌝ }
-    ensures { λ r. ⌜ RegionFits (now (file .entry)) (now (table .entry)) n i r ⌝ }
+// The region of record i.
+fn region_ok(file: &[u8], table: &[u16; FILE_PLACES], own: &[u16; OWN_PLACES], i: usize) -> bool
+    requires { ⌜ Declares (now file) (now table) × Own (now file) (now own) ⌝ }
+    requires { ⌜ Stands (now file) regions i × (i ≡ 0 → ⊥) ⌝ }
+    ensures { λ b. ⌜ RegionTested (now (file .entry)) (now (own .entry)) i b ⌝ }
 {
-    let Record::Region {
-        next: _,
-        of_type,
-        class,
-        edges,
-    } = record_at(file, i)
-    else {
-        return false;
-    };
-    if n < of_type {
+    let start = functor(table, word(file, i, REGION_TYPE), 0);
+    if start == 0 {
         return false;
     }
-    if of_type == 0 {
+    if CLASS_DEAD < word(file, i, REGION_CLASS) {
         return false;
     }
-    if CLASS_DEAD < class {
-        return false;
-    }
-    edges_ok(
-        file,
-        table,
-        word_of(file, types, of_type, TYPE_FUNCTORS),
-        edges,
-    )
+    edges_ok(file, own, start, word(file, i, REGION_EDGES))
 }
 
-fn regions_ok(file: &[u8], types: &[usize], table: &[usize], n: usize, start: usize) -> bool
-    requires { ⌜ Formed (now file) ⌝ }
-    requires { ⌜ TypeTable (now file) (now types) ⌝ }
+fn regions_ok(
+    file: &[u8],
+    table: &[u16; FILE_PLACES],
+    own: &[u16; OWN_PLACES],
+    start: usize,
+) -> bool
+    requires { ⌜ Declares (now file) (now table) × Own (now file) (now own) ⌝ }
     requires { ⌜ Stands (now file) regions start ⌝ }
-    ensures { λ r. ⌜ RegionsFit (now (file .entry)) (now (table .entry)) n start r ⌝ }
+    ensures { λ b. ⌜ RegionsTested (now (file .entry)) (now (own .entry)) start b ⌝ }
 {
     let mut i = start;
     while i != 0 {
-        if !region_ok(file, types, table, n, i) {
+        if !region_ok(file, table, own, i) {
             return false;
         }
         i = word(file, i, NEXT);
@@ -110,24 +108,29 @@ fn regions_ok(file: &[u8], types: &[usize], table: &[usize], n: usize, start: us
     true
 }
 
-// All that a procedure declares: the variables from record vs on and the regions from record rs on.
-pub fn signature_ok(file: &[u8], types: &[usize; PLACES], n: usize, vs: usize, rs: usize) -> bool
-    requires { ⌜ Formed (now file) ⌝ }
-    requires { ⌜ TypeTable (now file) (now types) ⌝ }
-    requires { ⌜ n ≡ length (program (now file) .types) ⌝ }
-    requires { ⌜ Stands (now file) variables vs ⌝ }
-    requires { ⌜ Stands (now file) regions rs ⌝ }
-    ensures { λ r. ⌜ r ≡ signatureOk (program (now (file .entry)) .types) (signatureFrom (now (file .entry)) vs rs) ⌝ }
+// All that the procedure of record i declares. Lists it in `own`, which is blank before.
+pub fn signature_ok(
+    file: &[u8],
+    table: &[u16; FILE_PLACES],
+    i: usize,
+    own: &mut [u16; OWN_PLACES],
+) -> bool
+    requires { ⌜ Declares (now file) (now table) ⌝ }
+    requires { ⌜ Stands (now file) procedures i × (i ≡ 0 → ⊥) ⌝ }
+    requires { ⌜ now own ≡ replicate ownPlaces 0 ⌝ }
+    ensures { λ b. ⌜ b ≡ signatureOk (program (now (file .entry)) .types) (signatureAt (now (file .entry)) i) ⌝ }
+    ensures { λ b. ⌜ (b ≡ true → OwnOf (now (file .entry)) (now (own .exit)) i) ⌝ }
 {
-    if MAX_VARIABLES < chain_length(file, vs) {
+    let variables = word(file, i, PROCEDURE_VARIABLES);
+    let regions = word(file, i, PROCEDURE_REGIONS);
+    if MAX_VARIABLES < list_records(file, variables, 1, MAX_VARIABLES, own) {
         return false;
     }
-    let mut table = blank_places();
-    if MAX_REGIONS < list_chain(file, rs, 1, &mut table) {
+    if MAX_REGIONS < list_records(file, regions, REGION_PLACES + 1, MAX_REGIONS, own) {
         return false;
     }
-    if !variables_ok(file, &table, n, vs) {
+    if !variables_ok(file, table, own, variables) {
         return false;
     }
-    regions_ok(file, types, &table, n, rs)
+    regions_ok(file, table, own, regions)
 }

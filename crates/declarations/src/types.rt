@@ -8,7 +8,6 @@ use records::Record;
 use records::record_at;
 use records::word;
 ghost use mathlib.Core.Path.{_≡_};
-ghost use lib.ListN.{length};
 ghost use Rattle.language.specs.Lists.{all};
 ghost use Rattle.language.specs.File.{types, functors};
 ghost use Rattle.language.specs.Program.{four};
@@ -105,13 +104,14 @@ fn each_type_ok(file: &[u8], n: usize, start: usize) -> bool
 }
 
 // All types of the file.
-pub fn types_ok(file: &[u8], n: usize) -> bool
+pub fn types_ok(file: &[u8]) -> bool
     requires { ⌜ Formed (now file) ⌝ }
-    requires { ⌜ n ≡ length (program (now file) .types) ⌝ }
     ensures { λ r. ⌜ r ≡ typesOk (program (now (file .entry)) .types) ⌝ }
 {
+    let first = word(file, 0, HEADER_TYPES);
+    let n = chain_length(file, first);
     if MAX_TYPES < n {
         return false;
     }
-    each_type_ok(file, n, word(file, 0, HEADER_TYPES))
+    each_type_ok(file, n, first)
 }

@@ -1,10 +1,6 @@
-pub mod Parameters
-pub mod Places
-pub mod Settings
 pub mod Arguments
+pub mod Settings
 pub mod Calls
-pub mod Agree
 pub mod Steps
 pub mod Walk
-pub mod Tables
 pub mod Procedures

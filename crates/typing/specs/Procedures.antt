@@ -7,50 +7,41 @@ use mathlib.Core.List.{List, _∷_}
 use lib.ListN.{length}
 use borrow.Author.Tests.{le-leb, lt-leb}
 use Rattle.sets.specs.Tests.{_&_}
-use Rattle.language.specs.Format.{nextWord, headerProcedures, procedureVariables, procedureRegions, procedureGoals, maxProcedures}
+use Rattle.language.specs.Format.{nextWord, headerProcedures, procedureGoals, maxProcedures}
 use Rattle.language.specs.Lists.{all, among}
 use Rattle.language.specs.File.{procedures, word}
-use Rattle.language.specs.Program.{Procedure, Program}
+use Rattle.language.specs.Program.{Signature, Procedure, Program}
 use Rattle.language.specs.Answers.{program}
 use Rattle.language.specs.Typing.{typesOk, signatureOk, goalsOk, procedureOk, typingOk}
-use Rattle.chains.specs.Formed.{Formed, Stands, procedures-stand, program-procedures, goalsAt, proceduresAt}
+use Rattle.chains.specs.Formed.{Formed, Stands, program-procedures, goalsAt, proceduresAt}
 use Rattle.chains.specs.Is.{procedure-is}
-use Rattle.chains.specs.Declared.{ProcedureAt, procedure-at}
-use Rattle.chains.specs.Elements.{procedures-count}
-use Rattle.chains.specs.Records.{chainRecords}
+use Rattle.chains.specs.Declared.{procedure-at}
 use Rattle.laws.specs.Tests.{and-stop, and-on, refuse, pass}
 use Rattle.laws.specs.Lists.{all-no, all-yes}
-use Rattle.declarations.specs.Names.{stands-same}
-use Rattle.declarations.specs.Signatures.{signatureFrom}
-
--- the procedure with these chains
-unfoldable pub procedureFrom : List ℕ → ℕ → ℕ → ℕ → Procedure
-procedureFrom f v r g = record { signature = signatureFrom f v r; body = goalsAt f g }
+use Rattle.declarations.specs.Own.{signatureFrom}
+use Rattle.declarations.specs.Signatures.{signatureAt}
 
 unfoldable pub proceduresOk : Program → Bool
 proceduresOk P = among maxProcedures (length (P .procedures)) & all (procedureOk P) (P .procedures)
 
 unfoldable pub procedureAtRecord : List ℕ → ℕ → Procedure
-procedureAtRecord f i = procedureFrom f (word f i procedureVariables) (word f i procedureRegions) (word f i procedureGoals)
+procedureAtRecord f i = record { signature = signatureAt f i; body = goalsAt f (word f i procedureGoals) }
 
 -- ---- one procedure
-module _ (f : List ℕ) (i : ℕ) {next v r g : ℕ} (a : ProcedureAt f i next v r g) {q : Bool} (e : q ≡ signatureOk (program f .types) (signatureFrom f v r)) where
-  procedure-as : procedureOk (program f) (procedureFrom f v r g) ≡ procedureOk (program f) (procedureAtRecord f i)
-  unfolding procedureAtRecord
-  procedure-as = rw (a .w2, a .w3, a .w4)
-
+module _ (f : List ℕ) (i : ℕ) {q : Bool} (e : q ≡ signatureOk (program f .types) (signatureAt f i)) where
   pub wrong-signature : q ≡ false → false ≡ procedureOk (program f) (procedureAtRecord f i)
-  unfolding procedureOk procedureFrom
-  wrong-signature p = refuse _ e p ∙ procedure-as
+  unfolding procedureOk procedureAtRecord
+  wrong-signature p = refuse _ e p
 
-  pub procedure-all : q ≡ true → {b : Bool} → b ≡ goalsOk (program f) (signatureFrom f v r) (goalsAt f g) → b ≡ procedureOk (program f) (procedureAtRecord f i)
-  unfolding procedureOk procedureFrom
-  procedure-all p h = pass e p h ∙ procedure-as
+  pub procedure-all : q ≡ true → {S : Signature} {g : ℕ} {b : Bool} → S ≡ signatureAt f i → g ≡ word f i procedureGoals → b ≡ goalsOk (program f) S (goalsAt f g)
+      → b ≡ procedureOk (program f) (procedureAtRecord f i)
+  unfolding procedureOk procedureAtRecord
+  procedure-all p es eg h = pass e p (rw (sym es, sym eg) h)
 
 -- ---- along the procedures
 module _ (f : List ℕ) (i : ℕ) (F : Formed f) (s : Stands f procedures i) (z : i ≡ 0 → ⊥) {q : Bool} (e : q ≡ procedureOk (program f) (procedureAtRecord f i)) where
   step : proceduresAt f i ≡ procedureAtRecord f i ∷ proceduresAt f (word f i nextWord)
-  unfolding procedureAtRecord procedureFrom signatureFrom
+  unfolding procedureAtRecord signatureAt signatureFrom
   step = procedure-at F refl (procedure-is s z) .view
 
   pub procedures-no : q ≡ false → false ≡ all (procedureOk (program f)) (proceduresAt f i)
@@ -60,27 +51,21 @@ module _ (f : List ℕ) (i : ℕ) (F : Formed f) (s : Stands f procedures i) (z 
   procedures-yes p ew = rw ew (all-yes _ step e p)
 
 -- ---- all procedures
-module _ (f : List ℕ) (i : ℕ) (F : Formed f) (e : i ≡ word f 0 headerProcedures) {n : ℕ} (d : n ≡ length (chainRecords f i)) where
-  procedures-are : program f .procedures ≡ proceduresAt f i
-  procedures-are = program-procedures F ∙ ap (proceduresAt f) (sym e)
-
-  count-is : length (program f .procedures) ≡ n
-  count-is = ap length procedures-are ∙ procedures-count F i (stands-same e (procedures-stand F)) ∙ sym d
-
+module _ (f : List ℕ) {n : ℕ} (d : n ≡ length (program f .procedures)) where
   pub no-procedure : n ≡ 0 → false ≡ proceduresOk (program f)
   unfolding proceduresOk among
-  no-procedure h = and-stop _ (sym (and-stop _ (lt-leb 1 (length (program f .procedures)) (omega (arith, count-is)))))
+  no-procedure h = and-stop _ (sym (and-stop _ (lt-leb 1 (length (program f .procedures)) (omega arith))))
 
   module _ (z : n ≡ 0 → ⊥) where
     pub many-procedures : maxProcedures < n → false ≡ proceduresOk (program f)
     unfolding proceduresOk among
-    many-procedures h = and-stop _ (sym (and-on (le-leb 1 (length (program f .procedures)) (omega (arith, count-is))) (sym (lt-leb (length (program f .procedures)) maxProcedures (omega (arith, count-is))))))
+    many-procedures h = and-stop _ (sym (and-on (le-leb 1 (length (program f .procedures)) (omega arith)) (sym (lt-leb (length (program f .procedures)) maxProcedures (omega arith)))))
 
-    pub procedures-all : n ≤ maxProcedures → {q : Bool} → q ≡ all (procedureOk (program f)) (proceduresAt f i) → q ≡ proceduresOk (program f)
+    pub procedures-all : Formed f → n ≤ maxProcedures → {i : ℕ} {q : Bool} → i ≡ word f 0 headerProcedures → q ≡ all (procedureOk (program f)) (proceduresAt f i) → q ≡ proceduresOk (program f)
     unfolding proceduresOk among
-    procedures-all h eq =
-        and-on (sym (and-on (le-leb 1 (length (program f .procedures)) (omega (arith, count-is))) (sym (le-leb (length (program f .procedures)) maxProcedures (omega (arith, count-is))))))
-        (eq ∙ ap (all (procedureOk (program f))) (sym procedures-are))
+    procedures-all F h ei eq =
+        and-on (sym (and-on (le-leb 1 (length (program f .procedures)) (omega arith)) (sym (le-leb (length (program f .procedures)) maxProcedures (omega arith)))))
+        (eq ∙ ap (all (procedureOk (program f))) (sym (program-procedures F ∙ ap (proceduresAt f) (sym ei))))
 
 -- ---- the whole
 module _ (f : List ℕ) {q : Bool} (e : q ≡ typesOk (program f .types)) where

@@ -1,70 +1,103 @@
--- A step by its record's number: what the code tests is what the definition says.
-use Prim.Native.Nat.{ℕ}
-use mathlib.Core.Path.{_≡_, ap, sym, _∙_}
-use mathlib.Core.Bool.{Bool}
+-- The goals without parts but the call: what the code tests is what the definition says.
+use Prim.Native.Nat.{ℕ, _≤_, _<_}
+use native.Mathlib.Omega.{arith}
+use borrow.Author.Tests.{le-leb, lt-leb, lt-ltb, le-ltb}
+use mathlib.Core.Path.{_≡_, refl, ap, sym, _∙_}
+use mathlib.Core.Bool.{Bool, true, false}
 use mathlib.Core.List.{List}
-use lib.Dec.{ltb}
+use lib.Dec.{leb, ltb}
 use lib.ListN.{length}
 use Rattle.sets.specs.Tests.{_&_}
-use Rattle.language.specs.Format.{kindWord, variableType, callProcedure, callArguments, lifetimeRegion, literalKind, sumKind, assignKind, constructKind, callKind, printKind, createKind, removeKind}
+use Rattle.laws.specs.Tests.{and-stop, and-on, refuse, pass}
+use Rattle.language.specs.Format.{goalX, sumOperation, sumY, sumZ, assignY, termFunctor, printY, lifetimeRegion, variableType}
 use Rattle.language.specs.File.{word}
-use Rattle.language.specs.Program.{Goal, step, call, Signature, functorsOf, functorAt, signatureOf}
+use Rattle.language.specs.Program.{Signature, functorsOf, functorAt, typeOf}
 use Rattle.language.specs.Answers.{program}
-use Rattle.language.specs.Typing.{haveTypes, functorsFor, stepOk, goalOk}
-use Rattle.chains.specs.Formed.{goalAt, argumentsAt}
-use Rattle.chains.specs.Shapes.{literal-here, sum-here, assign-here, construct-here, call-here, print-here, create-here, remove-here}
-use Rattle.declarations.specs.Names.{listedIn, wordIn, typedIn}
-use Rattle.typing.specs.Settings.{declared, Setting}
-use Rattle.typing.specs.Arguments.{sumFits, assignFits, argumentsAtRecord, functorsHere, constructFits}
-use Rattle.typing.specs.Calls.{callFits}
-use Rattle.typing.specs.Agree.{arguments-are, parameters-are}
+use Rattle.language.specs.Typing.{isVariable, isRegion, hasType, argumentsOk, functorsFor, stepOk, goalOk}
+use Rattle.chains.specs.Formed.{Formed, goalAt}
+use Rattle.chains.specs.Shapes.{IsLiteral, IsSum, IsAssign, IsConstruct, IsPrint, IsCreate, IsRemove, literal-here, sum-here, assign-here, construct-here, print-here, create-here, remove-here}
+use Rattle.declarations.specs.Places.{variableIn, regionIn, functorIn}
+use Rattle.declarations.specs.Functors.{functorAtRecord}
+use Rattle.declarations.specs.Declares.{Declares, functor-listed, functor-here}
+use Rattle.declarations.specs.Own.{Own, declared, variable-none, variable-some, variable-type, region-listed}
+use Rattle.typing.specs.Arguments.{argumentsAtRecord}
 
-module _ {f fs procedures parameters variables regions : List ℕ} (K : Setting f fs procedures parameters variables regions) where
-  abbrev own : Signature
-  own = declared f variables regions
+-- ---- the steps that name variables of type 0
+module _ {f : List ℕ} (F : Formed f) (S : Signature) (i : ℕ) where
+  pub literal-is : IsLiteral f i → {r : Bool} → r ≡ hasType S 0 (word f i goalX) → r ≡ goalOk (program f) S (goalAt f i)
+  unfolding goalOk stepOk
+  literal-is n h = h ∙ rw (literal-here F refl n .goal)
 
-  goal-as : (i : ℕ) {g : Goal} {q : Bool} → goalAt f i ≡ g → q ≡ goalOk (program f) own g → q ≡ goalOk (program f) own (goalAt f i)
-  goal-as i e h = h ∙ ap (goalOk (program f) own) (sym e)
+  pub print-is : IsPrint f i → {r : Bool} → r ≡ hasType S 0 (word f i printY) → r ≡ goalOk (program f) S (goalAt f i)
+  unfolding goalOk stepOk
+  print-is n h = h ∙ rw (print-here F refl n .goal)
 
-  pub functors-are : (x : ℕ) → functorsHere f fs variables x ≡ functorsFor (program f) own x
-  unfolding functorsHere functorsFor
-  functors-are x = K .tables .functor-table .type (wordIn f variables variableType x) .functors-are ∙ ap (functorsOf (program f .types)) (K .type-is x)
-
-  module _ (i : ℕ) {w : ℕ} (e : w ≡ word f i kindWord) where
-    pub literal-is : w ≡ literalKind → {r : Bool} → r ≡ typedIn f variables variableType 0 (word f i 2) → r ≡ goalOk (program f) own (goalAt f i)
+  module _ (n : IsSum f i) {r1 : Bool} (e1 : r1 ≡ hasType S 0 (word f i goalX)) where
+    sum-as : (hasType S 0 (word f i goalX) & leb (word f i sumOperation) 1 & hasType S 0 (word f i sumY) & hasType S 0 (word f i sumZ)) ≡ goalOk (program f) S (goalAt f i)
     unfolding goalOk stepOk
-    literal-is n h = goal-as i (literal-here (K .tables .formed) e n .goal) (h ∙ K .has-type 0 (word f i 2))
+    sum-as = rw (sum-here F refl n .goal)
 
-    pub sum-is : w ≡ sumKind → {r : Bool} → r ≡ sumFits f variables i → r ≡ goalOk (program f) own (goalAt f i)
-    unfolding goalOk stepOk sumFits
-    sum-is n h = goal-as i (sum-here (K .tables .formed) e n .goal) (h ∙ rw (K .has-type 0 (word f i 2), K .has-type 0 (word f i 4), K .has-type 0 (word f i 5)))
+    pub sum-first : r1 ≡ false → false ≡ goalOk (program f) S (goalAt f i)
+    sum-first p1 = refuse _ e1 p1 ∙ sum-as
 
-    pub assign-is : w ≡ assignKind → {r : Bool} → r ≡ assignFits f variables i → r ≡ goalOk (program f) own (goalAt f i)
-    unfolding goalOk stepOk assignFits
-    assign-is n h =
-        goal-as i (assign-here (K .tables .formed) e n .goal)
-        (h ∙ rw (K .is-variable (word f i 2), K .has-type (wordIn f variables variableType (word f i 2)) (word f i 3), K .type-is (word f i 2)))
+    module _ (p1 : r1 ≡ true) {o : ℕ} (eo : o ≡ word f i sumOperation) where
+      pub sum-operation : 1 < o → false ≡ goalOk (program f) S (goalAt f i)
+      sum-operation h = pass e1 p1 (and-stop _ (lt-leb (word f i sumOperation) 1 (omega arith))) ∙ sum-as
 
-    pub construct-is : w ≡ constructKind → {r : Bool} → r ≡ constructFits f fs variables i → r ≡ goalOk (program f) own (goalAt f i)
-    unfolding goalOk stepOk constructFits argumentsAtRecord
-    construct-is n h =
-        goal-as i (construct-here (K .tables .formed) e n .goal)
-        (h ∙ rw (K .is-variable (word f i 2), functors-are (word f i 2), arguments-are f variables own (K .has-type) (functorAt (functorsFor (program f) own (word f i 2)) (word f i 3)) (argumentsAtRecord f i)))
+      module _ (h : o ≤ 1) {r2 : Bool} (e2 : r2 ≡ hasType S 0 (word f i sumY)) where
+        pub sum-second : r2 ≡ false → false ≡ goalOk (program f) S (goalAt f i)
+        sum-second p2 = pass e1 p1 (and-on (le-leb (word f i sumOperation) 1 (omega arith)) (refuse _ e2 p2)) ∙ sum-as
 
-    pub call-is : w ≡ callKind → {q y : ℕ} {r : Bool} → q ≡ word f i callProcedure → y ≡ word f i callArguments → callFits f variables q y r → r ≡ goalOk (program f) own (goalAt f i)
+        pub sum-all : {r3 : Bool} → r2 ≡ true → r3 ≡ hasType S 0 (word f i sumZ) → r3 ≡ goalOk (program f) S (goalAt f i)
+        sum-all p2 e3 = pass e1 p1 (and-on (le-leb (word f i sumOperation) 1 (omega arith)) (pass e2 p2 e3)) ∙ sum-as
+
+module _ {f own : List ℕ} (F : Formed f) (O : Own f own) (i : ℕ) where
+  abbrev signature : Signature
+  signature = declared f own
+
+  -- ---- a create or a remove names a region
+  module _ {x r : ℕ} (ex : x ≡ word f i lifetimeRegion) (er : r ≡ regionIn own x) where
+    lifetime-region : ltb 0 r ≡ isRegion signature (word f i lifetimeRegion)
+    lifetime-region = ap (ltb 0) er ∙ region-listed F O x ∙ ap (isRegion signature) ex
+
+    pub create-is : IsCreate f i → ltb 0 r ≡ goalOk (program f) signature (goalAt f i)
     unfolding goalOk stepOk
-    call-is n {q} {y} eq ey h =
-        goal-as i {g = step (call q (argumentsAt f y))} (rw (eq, ey) (call-here (K .tables .formed) e n .goal))
-        (h own (K .has-type) ∙ ap (λ ts. ltb q (length (program f .procedures)) & haveTypes own ts (argumentsAt f y)) (parameters-are (signatureOf (program f) q)))
+    create-is n = lifetime-region ∙ rw (create-here F refl n .goal)
 
-    pub print-is : w ≡ printKind → {r : Bool} → r ≡ typedIn f variables variableType 0 (word f i 2) → r ≡ goalOk (program f) own (goalAt f i)
+    pub remove-is : IsRemove f i → ltb 0 r ≡ goalOk (program f) signature (goalAt f i)
     unfolding goalOk stepOk
-    print-is n h = goal-as i (print-here (K .tables .formed) e n .goal) (h ∙ K .has-type 0 (word f i 2))
+    remove-is n = lifetime-region ∙ rw (remove-here F refl n .goal)
 
-    pub create-is : w ≡ createKind → {x : ℕ} {r : Bool} → x ≡ word f i lifetimeRegion → r ≡ listedIn regions x → r ≡ goalOk (program f) own (goalAt f i)
-    unfolding goalOk stepOk
-    create-is n ex h = goal-as i (create-here (K .tables .formed) e n .goal) (h ∙ ap (listedIn regions) ex ∙ K .is-region (word f i lifetimeRegion))
+  -- ---- an assign or a construct gives X a value, whose record is at v
+  module _ {x v : ℕ} (ex : x ≡ word f i goalX) (ev : v ≡ variableIn own x) where
+    module _ (n : IsAssign f i) where
+      assign-as : (isVariable signature x & hasType signature (typeOf signature x) (word f i assignY)) ≡ goalOk (program f) signature (goalAt f i)
+      unfolding goalOk stepOk
+      assign-as = rw (assign-here F refl n .goal, ex)
 
-    pub remove-is : w ≡ removeKind → {x : ℕ} {r : Bool} → x ≡ word f i lifetimeRegion → r ≡ listedIn regions x → r ≡ goalOk (program f) own (goalAt f i)
-    unfolding goalOk stepOk
-    remove-is n ex h = goal-as i (remove-here (K .tables .formed) e n .goal) (h ∙ ap (listedIn regions) ex ∙ K .is-region (word f i lifetimeRegion))
+      pub assign-none : v ≡ 0 → false ≡ goalOk (program f) signature (goalAt f i)
+      assign-none z = and-stop _ (variable-none F O x ev z) ∙ assign-as
+
+      pub assign-all : (v ≡ 0 → ⊥) → {ty y : ℕ} {r : Bool} → ty ≡ word f v variableType → y ≡ word f i assignY → r ≡ hasType signature ty y → r ≡ goalOk (program f) signature (goalAt f i)
+      assign-all z et ey e = and-on (variable-some F O x ev z) (rw (variable-type F O x ev z, sym et, sym ey) e) ∙ assign-as
+
+    module _ (n : IsConstruct f i) where
+      construct-as : (isVariable signature x & ltb (word f i termFunctor) (length (functorsOf (program f .types) (typeOf signature x)))
+          & argumentsOk signature (functorAt (functorsOf (program f .types) (typeOf signature x)) (word f i termFunctor)) (argumentsAtRecord f i)) ≡ goalOk (program f) signature (goalAt f i)
+      unfolding goalOk stepOk functorsFor argumentsAtRecord
+      construct-as = rw (construct-here F refl n .goal, ex)
+
+      pub construct-unlisted : v ≡ 0 → false ≡ goalOk (program f) signature (goalAt f i)
+      construct-unlisted z = and-stop _ (variable-none F O x ev z) ∙ construct-as
+
+      module _ {t : List ℕ} (D : Declares f t) (z : v ≡ 0 → ⊥) {ty k g : ℕ} (et : ty ≡ word f v variableType) (ek : k ≡ word f i termFunctor) (eg : g ≡ functorIn t ty k) where
+        construct-some : {q : Bool} → q ≡ (ltb k (length (functorsOf (program f .types) ty)) & argumentsOk signature (functorAt (functorsOf (program f .types) ty) k) (argumentsAtRecord f i))
+            → q ≡ goalOk (program f) signature (goalAt f i)
+        construct-some e = and-on (variable-some F O x ev z) (rw (variable-type F O x ev z, sym et, sym ek) e) ∙ construct-as
+
+        pub construct-none : g ≡ 0 → false ≡ goalOk (program f) signature (goalAt f i)
+        construct-none n = construct-some (refuse _ (functor-listed D ty k) (le-ltb 0 (functorIn t ty k) (omega arith)))
+
+        pub construct-all : (g ≡ 0 → ⊥) → {q : Bool} → q ≡ argumentsOk signature (functorAtRecord f g) (argumentsAtRecord f i) → q ≡ goalOk (program f) signature (goalAt f i)
+        construct-all n e =
+            construct-some (pass (functor-listed D ty k) (lt-ltb 0 (functorIn t ty k) (omega arith)) (e ∙ ap (λ h. argumentsOk signature h (argumentsAtRecord f i)) (sym (functor-here D ty k eg n))))

@@ -1,71 +1,63 @@
 // A call's arguments against the callee's in and out variables, in chain order.
-use crate::parameters::parameter;
 use chains::word;
+use declarations::FILE_PLACES;
+use declarations::OWN_PLACES;
 use declarations::has_type;
-use declarations::listed;
-use declarations::word_of;
+use declarations::parameter;
+use declarations::procedure;
 use language::format::ARGUMENT_VARIABLE;
+use language::format::CALL_ARGUMENTS;
+use language::format::CALL_PROCEDURE;
 use language::format::NEXT;
 use language::format::PROCEDURE_VARIABLES;
 use language::format::VARIABLE_TYPE;
-ghost use Rattle.language.specs.File.{variables, arguments};
-ghost use Rattle.chains.specs.Formed.{Formed, Stands, variablesAt};
-ghost use Rattle.typing.specs.Parameters.{ParameterTable};
-ghost use Rattle.language.specs.Answers.{program};
-ghost use Rattle.chains.specs.Lookups.{ProcedureTable};
-ghost use Rattle.typing.specs.Calls.{Matched, callFits};
+ghost use Prim.Native.Nat.{_<_};
+ghost use Rattle.language.specs.File.{variables, arguments, recordCount};
+ghost use Rattle.chains.specs.Formed.{Stands};
+ghost use Rattle.chains.specs.Shapes.{IsCall};
+ghost use Rattle.declarations.specs.Declares.{Declares};
+ghost use Rattle.declarations.specs.Own.{Own};
+ghost use Rattle.typing.specs.Settings.{Matched, GoalTested};
 
 // The arguments from record first on against the callee's variables from record start on.
 fn match_arguments(
     file: &[u8],
-    parameters: &[u16],
-    table: &[usize],
+    table: &[u16; FILE_PLACES],
+    own: &[u16; OWN_PLACES],
     start: usize,
     first: usize,
 ) -> bool
-    requires { ⌜ Formed (now file) ⌝ }
-    requires { ⌜ ParameterTable (now file) (now parameters) ⌝ }
+    requires { ⌜ Declares (now file) (now table) × Own (now file) (now own) ⌝ }
     requires { ⌜ Stands (now file) variables start × Stands (now file) arguments first ⌝ }
-    ensures { λ r. ⌜ Matched (now (file .entry)) (now (table .entry)) (variablesAt (now (file .entry)) start) first r ⌝ }
+    ensures { λ b. ⌜ Matched (now (file .entry)) (now (own .entry)) start first b ⌝ }
 {
-    let mut v = parameter(parameters, start);
+    let mut v = parameter(table, start);
     let mut y = first;
     while v != 0 {
         if y == 0 {
             return false;
         }
-        if !has_type(
-            file,
-            table,
-            word(file, v, VARIABLE_TYPE),
-            word(file, y, ARGUMENT_VARIABLE),
-        ) {
+        let t = word(file, v, VARIABLE_TYPE);
+        let x = word(file, y, ARGUMENT_VARIABLE);
+        if !has_type(file, own, t, x) {
             return false;
         }
         y = word(file, y, NEXT);
-        v = parameter(parameters, word(file, v, NEXT));
+        v = parameter(table, word(file, v, NEXT));
     }
     y == 0
 }
 
-// A call of procedure q with the arguments from record first on.
-pub fn call_ok(
-    file: &[u8],
-    procedures: &[usize],
-    parameters: &[u16],
-    table: &[usize],
-    q: usize,
-    first: usize,
-) -> bool
-    requires { ⌜ Formed (now file) ⌝ }
-    requires { ⌜ ProcedureTable (now file) (program (now file)) (now procedures) ⌝ }
-    requires { ⌜ ParameterTable (now file) (now parameters) ⌝ }
-    requires { ⌜ Stands (now file) arguments first ⌝ }
-    ensures { λ r. ⌜ callFits (now (file .entry)) (now (table .entry)) q first r ⌝ }
+// The call of record i.
+pub fn call_ok(file: &[u8], table: &[u16; FILE_PLACES], own: &[u16; OWN_PLACES], i: usize) -> bool
+    requires { ⌜ Declares (now file) (now table) × Own (now file) (now own) ⌝ }
+    requires { ⌜ IsCall (now file) i × (i < recordCount (now file)) ⌝ }
+    ensures { λ b. ⌜ GoalTested (now (file .entry)) (now (own .entry)) i b ⌝ }
 {
-    if !listed(procedures, q) {
+    let callee = procedure(table, word(file, i, CALL_PROCEDURE));
+    if callee == 0 {
         return false;
     }
-    let start = word_of(file, procedures, q, PROCEDURE_VARIABLES);
-    match_arguments(file, parameters, table, start, first)
+    let start = word(file, callee, PROCEDURE_VARIABLES);
+    match_arguments(file, table, own, start, word(file, i, CALL_ARGUMENTS))
 }

@@ -1,26 +1,21 @@
 // The goals without parts.
 use crate::calls::call_ok;
 use crate::constructs::construct_ok;
-use crate::functors::FUNCTOR_PLACES;
+use chains::word;
+use declarations::FILE_PLACES;
+use declarations::OWN_PLACES;
 use declarations::has_type;
-use declarations::listed;
-use declarations::type_of;
+use declarations::region;
+use declarations::variable;
 use language::format::ASSIGN;
 use language::format::ASSIGN_Y;
 use language::format::CALL;
-use language::format::CALL_ARGUMENTS;
-use language::format::CALL_PROCEDURE;
 use language::format::CONSTRUCT;
 use language::format::CREATE;
 use language::format::GOAL_X;
-use language::format::IF_Y;
-use language::format::IF_Z;
 use language::format::KIND;
 use language::format::LIFETIME_REGION;
 use language::format::LITERAL;
-use language::format::MAX_PROCEDURES;
-use language::format::MAX_RECORDS;
-use language::format::PLACES;
 use language::format::PRINT;
 use language::format::PRINT_Y;
 use language::format::REMOVE;
@@ -28,89 +23,81 @@ use language::format::SUM;
 use language::format::SUM_OPERATION;
 use language::format::SUM_Y;
 use language::format::SUM_Z;
-use records::word;
+use language::format::VARIABLE_TYPE;
 ghost use mathlib.Core.Path.{_≡_};
+ghost use mathlib.Core.Logic.{_⊎_};
 ghost use Prim.Native.Nat.{_<_};
-ghost use Rattle.language.specs.File.{word, goals};
-ghost use Rattle.language.specs.Format.{variableType};
-ghost use Rattle.chains.specs.Formed.{Stands};
-ghost use Rattle.chains.specs.Shapes.{IsSwitch, IsIf};
-ghost use Rattle.declarations.specs.Names.{typedIn};
-ghost use Rattle.typing.specs.Settings.{Setting, GoalTested};
-ghost use Rattle.typing.specs.Arguments.{sumFits, assignFits, comparedFits};
+ghost use Rattle.language.specs.File.{word, goals, recordCount};
+ghost use Rattle.chains.specs.Formed.{Formed, Stands};
+ghost use Rattle.chains.specs.Shapes.{IsSum, IsAssign, IsCreate, IsRemove, IsSwitch, IsIf};
+ghost use Rattle.declarations.specs.Declares.{Declares};
+ghost use Rattle.declarations.specs.Own.{Own};
+ghost use Rattle.typing.specs.Settings.{NumberTested, GoalTested};
 
 // Whether word k of record i is a variable of type 0.
-fn is_number(file: &[u8], variables: &[usize], i: usize, k: usize) -> bool
-    requires { ⌜ k < 8 ⌝ }
-    ensures { λ r. ⌜ r ≡ typedIn (now (file .entry)) (now (variables .entry)) variableType 0 (word (now (file .entry)) i k) ⌝ }
+pub fn is_number(file: &[u8], own: &[u16; OWN_PLACES], i: usize, k: usize) -> bool
+    requires { ⌜ Formed (now file) × Own (now file) (now own) ⌝ }
+    requires { ⌜ (k < 8) × (i < recordCount (now file)) ⌝ }
+    ensures { λ b. ⌜ NumberTested (now (file .entry)) (now (own .entry)) i k b ⌝ }
 {
-    has_type(file, variables, 0, word(file, i, k))
+    has_type(file, own, 0, word(file, i, k))
 }
 
-fn sum_ok(file: &[u8], variables: &[usize], i: usize) -> bool
-    ensures { λ r. ⌜ r ≡ sumFits (now (file .entry)) (now (variables .entry)) i ⌝ }
+fn sum_ok(file: &[u8], own: &[u16; OWN_PLACES], i: usize) -> bool
+    requires { ⌜ Formed (now file) × Own (now file) (now own) ⌝ }
+    requires { ⌜ IsSum (now file) i × (i < recordCount (now file)) ⌝ }
+    ensures { λ b. ⌜ GoalTested (now (file .entry)) (now (own .entry)) i b ⌝ }
 {
-    if !is_number(file, variables, i, GOAL_X) {
+    if !is_number(file, own, i, GOAL_X) {
         return false;
     }
     if 1 < word(file, i, SUM_OPERATION) {
         return false;
     }
-    if !is_number(file, variables, i, SUM_Y) {
+    if !is_number(file, own, i, SUM_Y) {
         return false;
     }
-    is_number(file, variables, i, SUM_Z)
+    is_number(file, own, i, SUM_Z)
 }
 
-fn assign_ok(file: &[u8], variables: &[usize], i: usize) -> bool
-    ensures { λ r. ⌜ r ≡ assignFits (now (file .entry)) (now (variables .entry)) i ⌝ }
+fn assign_ok(file: &[u8], own: &[u16; OWN_PLACES], i: usize) -> bool
+    requires { ⌜ Formed (now file) × Own (now file) (now own) ⌝ }
+    requires { ⌜ IsAssign (now file) i × (i < recordCount (now file)) ⌝ }
+    ensures { λ b. ⌜ GoalTested (now (file .entry)) (now (own .entry)) i b ⌝ }
 {
-    let x = word(file, i, GOAL_X);
-    if !listed(variables, x) {
+    let v = variable(own, word(file, i, GOAL_X));
+    if v == 0 {
         return false;
     }
-    let t = type_of(file, variables, x);
-    has_type(file, variables, t, word(file, i, ASSIGN_Y))
+    let t = word(file, v, VARIABLE_TYPE);
+    has_type(file, own, t, word(file, i, ASSIGN_Y))
 }
 
-// The two variables that an if compares.
-pub fn compared_ok(file: &[u8], variables: &[usize], i: usize) -> bool
-    ensures { λ r. ⌜ r ≡ comparedFits (now (file .entry)) (now (variables .entry)) i ⌝ }
+// A create or a remove.
+fn lifetime_ok(file: &[u8], own: &[u16; OWN_PLACES], i: usize) -> bool
+    requires { ⌜ Formed (now file) × Own (now file) (now own) ⌝ }
+    requires { ⌜ (IsCreate (now file) i ⊎ IsRemove (now file) i) × (i < recordCount (now file)) ⌝ }
+    ensures { λ b. ⌜ GoalTested (now (file .entry)) (now (own .entry)) i b ⌝ }
 {
-    if !is_number(file, variables, i, IF_Y) {
-        return false;
-    }
-    is_number(file, variables, i, IF_Z)
+    0 < region(own, word(file, i, LIFETIME_REGION))
 }
 
 // The step of record i, by its kind.
-pub fn step_ok(
-    file: &[u8],
-    places: &[usize; FUNCTOR_PLACES],
-    called: &[usize; MAX_PROCEDURES],
-    parameters: &[u16; MAX_RECORDS],
-    variables: &[usize; PLACES],
-    regions: &[usize; PLACES],
-    i: usize,
-) -> bool
-    requires { ⌜ Setting (now file) (now places) (now called) (now parameters) (now variables) (now regions) ⌝ }
+pub fn step_ok(file: &[u8], table: &[u16; FILE_PLACES], own: &[u16; OWN_PLACES], i: usize) -> bool
+    requires { ⌜ Declares (now file) (now table) × Own (now file) (now own) ⌝ }
     requires { ⌜ Stands (now file) goals i × (i ≡ 0 → ⊥) ⌝ }
     requires { ⌜ (IsSwitch (now file) i → ⊥) × (IsIf (now file) i → ⊥) ⌝ }
-    ensures { λ r. ⌜ GoalTested (now (file .entry)) (now (variables .entry)) (now (regions .entry)) i r ⌝ }
+    ensures { λ b. ⌜ GoalTested (now (file .entry)) (now (own .entry)) i b ⌝ }
 {
     match word(file, i, KIND) {
-        LITERAL => is_number(file, variables, i, GOAL_X),
-        SUM => sum_ok(file, variables, i),
-        ASSIGN => assign_ok(file, variables, i),
-        CONSTRUCT => construct_ok(file, places, variables, i),
-        CALL => {
-            let callee = word(file, i, CALL_PROCEDURE);
-            let first = word(file, i, CALL_ARGUMENTS);
-            call_ok(file, called, parameters, variables, callee, first)
-        }
-        PRINT => is_number(file, variables, i, PRINT_Y),
-        CREATE => listed(regions, word(file, i, LIFETIME_REGION)),
-        REMOVE => listed(regions, word(file, i, LIFETIME_REGION)),
+        LITERAL => is_number(file, own, i, GOAL_X),
+        SUM => sum_ok(file, own, i),
+        ASSIGN => assign_ok(file, own, i),
+        CONSTRUCT => construct_ok(file, table, own, i),
+        CALL => call_ok(file, table, own, i),
+        PRINT => is_number(file, own, i, PRINT_Y),
+        CREATE => lifetime_ok(file, own, i),
+        REMOVE => lifetime_ok(file, own, i),
         _ => false,
     }
 }

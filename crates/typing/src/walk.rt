@@ -1,47 +1,42 @@
 // The walk over goals: a chain of goals, a goal, the two parts of an if, a switch with its arms.
 use crate::constructs::arm_fits;
-use crate::functors::FUNCTOR_PLACES;
-use crate::functors::functor_at;
-use crate::steps::compared_ok;
+use crate::steps::is_number;
 use crate::steps::step_ok;
 use chains::word;
-use declarations::listed;
-use declarations::type_of;
+use declarations::FILE_PLACES;
+use declarations::OWN_PLACES;
+use declarations::functor;
+use declarations::variable;
 use language::format::ARM_GOALS;
 use language::format::GOAL_X;
 use language::format::IF;
 use language::format::IF_ELSE;
 use language::format::IF_THEN;
+use language::format::IF_Y;
+use language::format::IF_Z;
 use language::format::KIND;
-use language::format::MAX_PROCEDURES;
-use language::format::MAX_RECORDS;
 use language::format::NEXT;
-use language::format::PLACES;
 use language::format::SWITCH;
 use language::format::SWITCH_ARMS;
+use language::format::VARIABLE_TYPE;
 ghost use mathlib.Core.Path.{_≡_};
-ghost use Rattle.language.specs.File.{functors, goals, arms};
+ghost use Prim.Native.Nat.{_<_};
+ghost use Rattle.language.specs.File.{functors, goals, arms, recordCount};
 ghost use Rattle.chains.specs.Formed.{Stands};
 ghost use Rattle.chains.specs.Shapes.{IsSwitch, IsIf};
-ghost use Rattle.typing.specs.Settings.{Setting, GoalsTested, GoalTested, ArmsTested};
+ghost use Rattle.declarations.specs.Declares.{Declares};
+ghost use Rattle.declarations.specs.Own.{Own};
+ghost use Rattle.typing.specs.Settings.{GoalsTested, GoalTested, ArmsTested};
 
 // The goals from record start on.
-pub fn goals(
-    file: &[u8],
-    places: &[usize; FUNCTOR_PLACES],
-    called: &[usize; MAX_PROCEDURES],
-    parameters: &[u16; MAX_RECORDS],
-    variables: &[usize; PLACES],
-    regions: &[usize; PLACES],
-    start: usize,
-) -> bool
-    requires { ⌜ Setting (now file) (now places) (now called) (now parameters) (now variables) (now regions) ⌝ }
+pub fn goals(file: &[u8], table: &[u16; FILE_PLACES], own: &[u16; OWN_PLACES], start: usize) -> bool
+    requires { ⌜ Declares (now file) (now table) × Own (now file) (now own) ⌝ }
     requires { ⌜ Stands (now file) goals start ⌝ }
-    ensures { λ r. ⌜ GoalsTested (now (file .entry)) (now (variables .entry)) (now (regions .entry)) start r ⌝ }
+    ensures { λ b. ⌜ GoalsTested (now (file .entry)) (now (own .entry)) start b ⌝ }
 {
     let mut i = start;
     while i != 0 {
-        if !goal(file, places, called, parameters, variables, regions, i) {
+        if !goal(file, table, own, i) {
             return false;
         }
         i = word(file, i, NEXT);
@@ -50,114 +45,83 @@ pub fn goals(
 }
 
 // The goal of record i.
-fn goal(
-    file: &[u8],
-    places: &[usize; FUNCTOR_PLACES],
-    called: &[usize; MAX_PROCEDURES],
-    parameters: &[u16; MAX_RECORDS],
-    variables: &[usize; PLACES],
-    regions: &[usize; PLACES],
-    i: usize,
-) -> bool
-    requires { ⌜ Setting (now file) (now places) (now called) (now parameters) (now variables) (now regions) ⌝ }
+fn goal(file: &[u8], table: &[u16; FILE_PLACES], own: &[u16; OWN_PLACES], i: usize) -> bool
+    requires { ⌜ Declares (now file) (now table) × Own (now file) (now own) ⌝ }
     requires { ⌜ Stands (now file) goals i × (i ≡ 0 → ⊥) ⌝ }
-    ensures { λ r. ⌜ GoalTested (now (file .entry)) (now (variables .entry)) (now (regions .entry)) i r ⌝ }
+    ensures { λ b. ⌜ GoalTested (now (file .entry)) (now (own .entry)) i b ⌝ }
 {
     match word(file, i, KIND) {
-        SWITCH => switch(file, places, called, parameters, variables, regions, i),
-        IF => branches(file, places, called, parameters, variables, regions, i),
-        _ => step_ok(file, places, called, parameters, variables, regions, i),
+        SWITCH => switch(file, table, own, i),
+        IF => branches(file, table, own, i),
+        _ => step_ok(file, table, own, i),
     }
 }
 
 // The if of record i.
-fn branches(
-    file: &[u8],
-    places: &[usize; FUNCTOR_PLACES],
-    called: &[usize; MAX_PROCEDURES],
-    parameters: &[u16; MAX_RECORDS],
-    variables: &[usize; PLACES],
-    regions: &[usize; PLACES],
-    i: usize,
-) -> bool
-    requires { ⌜ Setting (now file) (now places) (now called) (now parameters) (now variables) (now regions) ⌝ }
-    requires { ⌜ IsIf (now file) i ⌝ }
-    ensures { λ r. ⌜ GoalTested (now (file .entry)) (now (variables .entry)) (now (regions .entry)) i r ⌝ }
+fn branches(file: &[u8], table: &[u16; FILE_PLACES], own: &[u16; OWN_PLACES], i: usize) -> bool
+    requires { ⌜ Declares (now file) (now table) × Own (now file) (now own) ⌝ }
+    requires { ⌜ IsIf (now file) i × (i < recordCount (now file)) ⌝ }
+    ensures { λ b. ⌜ GoalTested (now (file .entry)) (now (own .entry)) i b ⌝ }
 {
-    if !compared_ok(file, variables, i) {
+    if !is_number(file, own, i, IF_Y) {
         return false;
     }
-    let first = word(file, i, IF_THEN);
-    if !goals(file, places, called, parameters, variables, regions, first) {
+    if !is_number(file, own, i, IF_Z) {
+        return false;
+    }
+    if !goals(file, table, own, word(file, i, IF_THEN)) {
         return false;
     }
     let second = word(file, i, IF_ELSE);
     if second == 0 {
         return true;
     }
-    goals(file, places, called, parameters, variables, regions, second)
+    goals(file, table, own, second)
 }
 
 // The switch of record i.
-fn switch(
-    file: &[u8],
-    places: &[usize; FUNCTOR_PLACES],
-    called: &[usize; MAX_PROCEDURES],
-    parameters: &[u16; MAX_RECORDS],
-    variables: &[usize; PLACES],
-    regions: &[usize; PLACES],
-    i: usize,
-) -> bool
-    requires { ⌜ Setting (now file) (now places) (now called) (now parameters) (now variables) (now regions) ⌝ }
-    requires { ⌜ IsSwitch (now file) i ⌝ }
-    ensures { λ r. ⌜ GoalTested (now (file .entry)) (now (variables .entry)) (now (regions .entry)) i r ⌝ }
+fn switch(file: &[u8], table: &[u16; FILE_PLACES], own: &[u16; OWN_PLACES], i: usize) -> bool
+    requires { ⌜ Declares (now file) (now table) × Own (now file) (now own) ⌝ }
+    requires { ⌜ IsSwitch (now file) i × (i < recordCount (now file)) ⌝ }
+    ensures { λ b. ⌜ GoalTested (now (file .entry)) (now (own .entry)) i b ⌝ }
 {
-    let x = word(file, i, GOAL_X);
-    if !listed(variables, x) {
+    let v = variable(own, word(file, i, GOAL_X));
+    if v == 0 {
         return false;
     }
-    let t = type_of(file, variables, x);
+    let t = word(file, v, VARIABLE_TYPE);
     if t == 0 {
         return false;
     }
-    let start = functor_at(places, t, 0);
-    let first = word(file, i, SWITCH_ARMS);
     arms(
         file,
-        places,
-        called,
-        parameters,
-        variables,
-        regions,
-        first,
-        start,
+        table,
+        own,
+        word(file, i, SWITCH_ARMS),
+        functor(table, t, 0),
     )
 }
 
 // The arms from record first on against the functors from record start on.
 fn arms(
     file: &[u8],
-    places: &[usize; FUNCTOR_PLACES],
-    called: &[usize; MAX_PROCEDURES],
-    parameters: &[u16; MAX_RECORDS],
-    variables: &[usize; PLACES],
-    regions: &[usize; PLACES],
+    table: &[u16; FILE_PLACES],
+    own: &[u16; OWN_PLACES],
     first: usize,
     start: usize,
 ) -> bool
-    requires { ⌜ Setting (now file) (now places) (now called) (now parameters) (now variables) (now regions) ⌝ }
+    requires { ⌜ Declares (now file) (now table) × Own (now file) (now own) ⌝ }
     requires { ⌜ Stands (now file) arms first × Stands (now file) functors start ⌝ }
-    ensures { λ r. ⌜ ArmsTested (now (file .entry)) (now (variables .entry)) (now (regions .entry)) first start r ⌝ }
+    ensures { λ b. ⌜ ArmsTested (now (file .entry)) (now (own .entry)) first start b ⌝ }
 {
     let mut i = first;
     let mut g = start;
     let mut n = 0;
     while i != 0 {
-        if !arm_fits(file, variables, g, n, i) {
+        if !arm_fits(file, own, g, n, i) {
             return false;
         }
-        let part = word(file, i, ARM_GOALS);
-        if !goals(file, places, called, parameters, variables, regions, part) {
+        if !goals(file, table, own, word(file, i, ARM_GOALS)) {
             return false;
         }
         n += 1;

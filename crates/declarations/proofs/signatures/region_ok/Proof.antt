@@ -1,49 +1,48 @@
 -- `region_ok` meets its contract.
-use borrow.Author.Needs.{needs}
-use Rattle.chains.specs.Is.{region-else}
+use native.Mathlib.Omega.{arith}
+use mathlib.Core.Path.{refl}
+use Rattle.chains.specs.Is.{region-is}
 use Rattle.chains.specs.Declared.{region-at}
-use Rattle.declarations.specs.Names.{stands-same}
-use Rattle.declarations.specs.Signatures.{region-type, region-number, region-class, region-edges}
+use Rattle.declarations.specs.Functors.{stands-same}
+use Rattle.declarations.specs.Declares.{functor-stands}
+use Rattle.declarations.specs.Signatures.{region-type, region-class, region-edges}
+use borrow.Author.Needs.{needs}
 use Rattle.declarations.proofs.signatures.region_ok.Statement.{statement}
 use Rattle.declarations.proofs.signatures.region_ok.Tie as tie
 
-record-at-requires : tie.Need-record-at-requires
-record-at-requires c κs = search needs
+word-requires : tie.Need-word-requires
+word-requires c κs = (c .before .pre .0 .0 .formed, (omega arith, c .before .pre .1 .0 .below))
 
-enum-known-of-type : tie.Need-enum-known-of-type
-enum-known-of-type c = search needs
+functor-requires : tie.Need-functor-requires
+functor-requires c κs = search needs
 
 returns : tie.Need-returns
-returns c = let s = c .before .before .before .before .before in absurd (region-else (s .pre .1 .1 .0) (s .pre .1 .1 .1) (c .before .record-at .ensures) (c .match .keys2))
+returns c = region-type (c .before .before .before .before .pre .0 .0) _ _ (c .before .before .word .ensures .0) (c .before .functor .ensures) (c .if1 .taken)
+
+word-requires-2 : tie.Need-word-requires-2
+word-requires-2 c κs = (c .before .before .before .before .pre .0 .0 .formed, (omega arith, c .before .before .before .before .pre .1 .0 .below))
 
 returns-2 : tie.Need-returns-2
-returns-2 c = region-type _ _ _ (region-at (c .before .before .before .before .before .before .before .before .pre .0) (c .before .before .before .before .record-at .ensures) (c .before .before .of-type .given .1)) (c .if1 .taken)
+returns-2 c = region-class (c .before .before .before .before .before .before .pre .0 .0) _ _ (c .before .before .before .before .word .ensures .0) (c .before .before .before .functor .ensures) (c .before .before .if1 .left) (c .before .word2 .ensures .0) (c .if2 .taken)
 
-returns-3 : tie.Need-returns-3
-returns-3 c = region-number _ _ _ (region-at (c .before .before .before .before .before .before .before .before .before .pre .0) (c .before .before .before .before .before .record-at .ensures) (c .before .before .before .of-type .given .1)) (c .before .if1 .left) (c .if2 .taken)
-
-returns-4 : tie.Need-returns-4
-returns-4 c = region-class _ _ _ (region-at (c .before .before .before .before .before .before .before .before .before .before .pre .0) (c .before .before .before .before .before .before .record-at .ensures) (c .before .before .before .before .of-type .given .1)) (c .before .before .if1 .left) (c .before .if2 .left) (c .if3 .taken)
-
-word-of-requires : tie.Need-word-of-requires
-word-of-requires c κs = search needs
+word-requires-3 : tie.Need-word-requires-3
+word-requires-3 c κs = (c .before .before .before .before .before .before .pre .0 .0 .formed, (omega arith, c .before .before .before .before .before .before .pre .1 .0 .below))
 
 edges-ok-requires : tie.Need-edges-ok-requires
-edges-ok-requires c κs = let s = c .before .before .before .before .before .before .before .before .before .before .before in (s .pre .0, (stands-same (c .word-of .ensures) (s .pre .1 .0 .starts _), (region-at (c .before .before .before .before .before .before .before .before .before .before .before .pre .0) (c .before .before .before .before .before .before .before .record-at .ensures) (c .before .before .before .before .before .of-type .given .1)) .to-edges .stands))
+edges-ok-requires c κs = ((c .before .before .before .before .before .before .before .pre .0 .0 .formed, c .before .before .before .before .before .before .before .pre .0 .1), (stands-same (c .before .before .before .before .functor .ensures) (functor-stands (c .before .before .before .before .before .before .before .pre .0 .0) _ _), stands-same (c .word3 .ensures .0) (region-at (c .before .before .before .before .before .before .before .pre .0 .0 .formed) refl (region-is (c .before .before .before .before .before .before .before .pre .1 .0) (c .before .before .before .before .before .before .before .pre .1 .1)) .to-edges .stands)))
 
-returns-5 : tie.Need-returns-5
-returns-5 c = region-edges _ _ _ (region-at (c .before .before .before .before .before .before .before .before .before .before .before .before .pre .0) (c .before .before .before .before .before .before .before .before .record-at .ensures) (c .before .before .before .before .before .before .of-type .given .1)) (c .before .before .before .before .if1 .left) (c .before .before .before .if2 .left) (c .before .before .before .before .before .before .before .before .before .before .before .before .pre .1 .0) (c .before .before .if3 .left) (c .before .word-of .ensures) (c .edges-ok .ensures)
+returns-3 : tie.Need-returns-3
+returns-3 c = region-edges (c .before .before .before .before .before .before .before .before .pre .0 .0) _ _ (c .before .before .before .before .before .before .word .ensures .0) (c .before .before .before .before .before .functor .ensures) (c .before .before .before .before .if1 .left) (c .before .before .before .word2 .ensures .0) (c .before .before .if2 .left) (c .before .word3 .ensures .0) (c .edges-ok .ensures)
 
 pub region-ok-spec : {M : Type 1} → statement M
 region-ok-spec =
     tie.close
     (tie.spec
-    record-at-requires
-    enum-known-of-type
+    word-requires
+    functor-requires
     returns
+    word-requires-2
     returns-2
-    returns-3
-    returns-4
-    word-of-requires
+    word-requires-3
     edges-ok-requires
-    returns-5)
+    returns-3)

@@ -1,23 +1,47 @@
 -- `variable_ok` meets its contract.
+use native.Mathlib.Omega.{arith}
+use Rattle.declarations.specs.Signatures.{variable-mode, variable-number, variable-type, variable-cell}
 use borrow.Author.Needs.{needs}
-use Rattle.declarations.specs.Signatures.{variable-mode, variable-type, variable-number, variable-cell}
 use Rattle.declarations.proofs.signatures.variable_ok.Statement.{statement}
 use Rattle.declarations.proofs.signatures.variable_ok.Tie as tie
 
+word-requires : tie.Need-word-requires
+word-requires c κs = (c .before .pre .0 .0 .formed, (omega arith, c .before .pre .1 .below))
+
 returns : tie.Need-returns
-returns c = variable-mode _ _ _ _ _ _ (c .if1 .taken)
+returns c = variable-mode (c .before .before .before .pre .0 .0) _ _ (c .before .word .ensures .0) (c .if1 .taken)
+
+word-requires-2 : tie.Need-word-requires-2
+word-requires-2 c κs = (c .before .before .before .pre .0 .0 .formed, (omega arith, c .before .before .before .pre .1 .below))
+
+word-requires-3 : tie.Need-word-requires-3
+word-requires-3 c κs = (c .before .before .before .before .pre .0 .0 .formed, (omega arith, c .before .before .before .before .pre .1 .below))
 
 returns-2 : tie.Need-returns-2
-returns-2 c = variable-type _ _ _ _ _ _ (c .before .if1 .left) (c .if2 .taken)
+returns-2 c = variable-number (c .before .before .before .before .before .before .pre .0 .0) _ _ (c .before .before .before .before .word .ensures .0) (c .before .before .before .if1 .left) (c .before .before .word2 .ensures .0) (c .before .word3 .ensures .0) (c .if2 .taken)
+
+functor-requires : tie.Need-functor-requires
+functor-requires c κs = search needs
 
 returns-3 : tie.Need-returns-3
-returns-3 c = variable-number _ _ _ _ _ _ (c .before .before .if1 .left) (c .before .if2 .left) (c .if3 .taken)
+returns-3 c = variable-type (c .before .before .before .before .before .before .before .before .pre .0 .0) _ _ (c .before .before .before .before .before .before .word .ensures .0) (c .before .before .before .before .before .if1 .left) (c .before .before .before .before .word2 .ensures .0) (c .before .before .before .word3 .ensures .0) (c .before .before .if2 .left) (c .before .functor .ensures) (c .if3 .taken)
 
 is-region-of-requires : tie.Need-is-region-of-requires
-is-region-of-requires c κs = search needs
+is-region-of-requires c κs = (c .before .before .before .before .before .before .before .before .pre .0 .0 .formed, c .before .before .before .before .before .before .before .before .pre .0 .1)
 
 returns-4 : tie.Need-returns-4
-returns-4 c = variable-cell _ _ _ _ _ _ (c .before .before .before .if1 .left) (c .before .before .if2 .left) (c .before .if3 .left) (c .is-region-of .ensures)
+returns-4 c = variable-cell (c .before .before .before .before .before .before .before .before .before .pre .0 .0) _ _ (c .before .before .before .before .before .before .before .word .ensures .0) (c .before .before .before .before .before .before .if1 .left) (c .before .before .before .before .before .word2 .ensures .0) (c .before .before .before .before .word3 .ensures .0) (c .before .before .before .if2 .left) (c .before .before .functor .ensures) (c .before .if3 .left) (c .is-region-of .ensures)
 
 pub variable-ok-spec : {M : Type 1} → statement M
-variable-ok-spec = tie.close (tie.spec returns returns-2 returns-3 is-region-of-requires returns-4)
+variable-ok-spec =
+    tie.close
+    (tie.spec
+    word-requires
+    returns
+    word-requires-2
+    word-requires-3
+    returns-2
+    functor-requires
+    returns-3
+    is-region-of-requires
+    returns-4)

@@ -1,63 +1,42 @@
 -- `variables_ok` meets its contract: the rest of the chain decides as the whole does.
+use native.Mathlib.Omega.{arith}
 use mathlib.Core.Path.{_≡_, refl, _∙_}
 use borrow.Author.Tests.{not-true, not-false}
-use borrow.Author.Needs.{needs}
 use Rattle.language.specs.Lists.{all}
 use Rattle.language.specs.File.{variables}
+use Rattle.language.specs.Answers.{program}
+use Rattle.language.specs.Typing.{variableOk}
 use Rattle.chains.specs.Formed.{Stands, variablesAt, variables-none, ahead}
 use Rattle.chains.specs.Is.{chain-next}
 use Rattle.laws.specs.Lists.{all-end, all-no, all-yes}
-use Rattle.declarations.specs.Signatures.{variableFits, variable-here}
+use Rattle.declarations.specs.Own.{declared}
+use Rattle.declarations.specs.Signatures.{variables-step}
 use Rattle.declarations.proofs.signatures.variables_ok.Statement.{statement}
 use Rattle.declarations.proofs.signatures.variables_ok.Tie as tie
 
 abbrev Inv-loop : tie.InvT-loop
-Inv-loop file table n start i₀ i = Stands file variables i × (all (variableFits file table n) (variablesAt file i) ≡ all (variableFits file table n) (variablesAt file start))
+Inv-loop file table own start i₀ i = Stands file variables i × (all (variableOk (program file .types) (declared file own)) (variablesAt file i) ≡ all (variableOk (program file .types) (declared file own)) (variablesAt file start))
 
 abbrev μ-loop : tie.MeasureT-loop
-μ-loop file table n start i₀ i = ahead file i
+μ-loop file table own start i₀ i = ahead file i
 
 loop-holds : tie.Need-loop-holds Inv-loop μ-loop
-loop-holds c = let s = c .before .before in (s .pre .1, refl)
-
-word-requires : tie.Need-word-requires Inv-loop μ-loop
-word-requires c κs = search needs
-
-word-requires-2 : tie.Need-word-requires-2 Inv-loop μ-loop
-word-requires-2 c κs = search needs
-
-word-requires-3 : tie.Need-word-requires-3 Inv-loop μ-loop
-word-requires-3 c κs = search needs
+loop-holds c = (c .before .pre .1, refl)
 
 variable-ok-requires : tie.Need-variable-ok-requires Inv-loop μ-loop
-variable-ok-requires c κs = search needs
+variable-ok-requires c κs = (c .before .before .before .pre .0, c .before .loop .inv .0)
 
 returns : tie.Need-returns Inv-loop μ-loop
-returns c =
-    let b = c .before in
-    let w = b .before in
-    let t = w .before .before .before in
-    let l = t .before in
-    let v = variable-here (l .before .before .before .pre .0) (l .loop .inv .0) (t .loop-test .taken) refl (w .before .before .word .ensures .0) (w .before .word2 .ensures .0) (w .word3 .ensures .0) in
-    all-no _ (v .view) (b .variable-ok .ensures) (not-true _ (c .if1 .taken)) ∙ l .loop .inv .1
+returns c = all-no _ (variables-step (c .before .before .before .before .before .pre .0 .0 .formed) (c .before .before .before .loop .inv .0) (c .before .before .loop-test .taken)) (c .before .variable-ok .ensures) (not-true _ (c .if1 .taken)) ∙ c .before .before .before .loop .inv .1
 
-word-requires-4 : tie.Need-word-requires-4 Inv-loop μ-loop
-word-requires-4 c κs = search needs
+word-requires : tie.Need-word-requires Inv-loop μ-loop
+word-requires c κs = (c .before .before .before .before .before .pre .0 .0 .formed, (omega arith, c .before .before .before .loop .inv .0 .below))
 
 loop-less : tie.Need-loop-less Inv-loop μ-loop
-loop-less c =
-    let t = c .before .before .before .before .before .before in
-    let l = t .before in
-    chain-next (l .before .before .before .pre .0) (l .loop .inv .0) (t .loop-test .taken) (c .word4 .ensures .0) .falls
+loop-less c = chain-next (c .before .before .before .before .before .before .pre .0 .0 .formed) (c .before .before .before .before .loop .inv .0) (c .before .before .before .loop-test .taken) (c .word .ensures .0) .falls
 
 loop-again : tie.Need-loop-again Inv-loop μ-loop
-loop-again c =
-    let b = c .before .before in
-    let w = b .before in
-    let t = w .before .before .before in
-    let l = t .before in
-    let v = variable-here (l .before .before .before .pre .0) (l .loop .inv .0) (t .loop-test .taken) (c .word4 .ensures .0) (w .before .before .word .ensures .0) (w .before .word2 .ensures .0) (w .word3 .ensures .0) in
-    (v .to-next .stands, all-yes _ (v .view) (b .variable-ok .ensures) (not-false _ (c .before .if1 .left)) ∙ l .loop .inv .1)
+loop-again c = (chain-next (c .before .before .before .before .before .before .pre .0 .0 .formed) (c .before .before .before .before .loop .inv .0) (c .before .before .before .loop-test .taken) (c .word .ensures .0) .stands, rw (c .word .ensures .0) (all-yes _ (variables-step (c .before .before .before .before .before .before .pre .0 .0 .formed) (c .before .before .before .before .loop .inv .0) (c .before .before .before .loop-test .taken)) (c .before .before .variable-ok .ensures) (not-false _ (c .before .if1 .left))) ∙ c .before .before .before .before .loop .inv .1)
 
 returns-2 : tie.Need-returns-2 Inv-loop μ-loop
 returns-2 c = all-end _ (variables-none _ (c .loop-test .left)) ∙ c .before .loop .inv .1
@@ -69,12 +48,9 @@ variables-ok-spec =
     Inv-loop
     μ-loop
     loop-holds
-    word-requires
-    word-requires-2
-    word-requires-3
     variable-ok-requires
     returns
-    word-requires-4
+    word-requires
     loop-less
     loop-again
     returns-2)

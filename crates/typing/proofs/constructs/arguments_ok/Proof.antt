@@ -3,19 +3,18 @@ use Prim.Native.Nat.{_-_}
 use native.Mathlib.Omega.{arith}
 use mathlib.Core.Path.{_≡_, refl, _∙_}
 use borrow.Author.Tests.{not-true, not-false}
-use borrow.Author.Needs.{needs}
+use Rattle.language.specs.Format.{maxArity}
+use Rattle.declarations.specs.Own.{declared}
 use Rattle.typing.specs.Arguments.{slotsLeft, slots-whole, slots-stop, slots-on, slots-end}
+use borrow.Author.Needs.{needs}
 use Rattle.typing.proofs.constructs.arguments_ok.Statement.{statement}
 use Rattle.typing.proofs.constructs.arguments_ok.Tie as tie
 
 abbrev Inv-loop : tie.InvT-loop
-Inv-loop file variables g i arity k₀ k = slotsLeft file variables g i arity k ≡ slotsLeft file variables g i arity 0
+Inv-loop file own g i k₀ k = slotsLeft file (declared file own) g i k ≡ slotsLeft file (declared file own) g i 0
 
 abbrev μ-loop : tie.MeasureT-loop
-μ-loop file variables g i arity k₀ k = 4 - k
-
-word-requires : tie.Need-word-requires Inv-loop μ-loop
-word-requires c κs = search needs
+μ-loop file own g i k₀ k = maxArity - k
 
 loop-holds : tie.Need-loop-holds Inv-loop μ-loop
 loop-holds c = refl
@@ -24,10 +23,7 @@ argument-ok-requires : tie.Need-argument-ok-requires Inv-loop μ-loop
 argument-ok-requires c κs = search needs
 
 returns : tie.Need-returns Inv-loop μ-loop
-returns c =
-    let t = c .before .before in
-    let l = t .before in
-    slots-stop _ _ _ _ _ (t .loop-test .taken) (c .before .argument-ok .ensures) (not-true _ (c .if1 .taken)) ∙ l .loop .inv ∙ slots-whole _ _ _ _ _ (l .before .word .ensures .0)
+returns c = slots-stop _ _ _ _ (c .before .before .loop-test .taken) (c .before .argument-ok .ensures) (not-true _ (c .if1 .taken)) ∙ c .before .before .before .loop .inv ∙ slots-whole _ _ _ _
 
 add-k : tie.Need-add-k Inv-loop μ-loop
 add-k c = search needs
@@ -36,14 +32,10 @@ loop-less : tie.Need-loop-less Inv-loop μ-loop
 loop-less c = omega arith
 
 loop-again : tie.Need-loop-again Inv-loop μ-loop
-loop-again c =
-    let t = c .before .before in
-    slots-on _ _ _ _ _ (t .loop-test .taken) (c .before .argument-ok .ensures) (not-false _ (c .if1 .left)) ∙ t .before .loop .inv
+loop-again c = slots-on _ _ _ _ (c .before .before .loop-test .taken) (c .before .argument-ok .ensures) (not-false _ (c .if1 .left)) ∙ c .before .before .before .loop .inv
 
 returns-2 : tie.Need-returns-2 Inv-loop μ-loop
-returns-2 c =
-    let l = c .before in
-    slots-end _ _ _ _ _ (c .loop-test .left) ∙ l .loop .inv ∙ slots-whole _ _ _ _ _ (l .before .word .ensures .0)
+returns-2 c = slots-end _ _ _ _ (c .loop-test .left) ∙ c .before .loop .inv ∙ slots-whole _ _ _ _
 
 pub arguments-ok-spec : {M : Type 1} → statement M
 arguments-ok-spec =
@@ -51,7 +43,6 @@ arguments-ok-spec =
     (tie.spec
     Inv-loop
     μ-loop
-    word-requires
     loop-holds
     argument-ok-requires
     returns

@@ -1,47 +1,50 @@
 -- `construct_ok` meets its contract.
-use Rattle.typing.specs.Arguments.{construct-unlisted, construct-none, construct-some}
-use borrow.Author.Tests.{not-true, not-false}
+use native.Mathlib.Omega.{arith}
+use Rattle.declarations.specs.Functors.{stands-same}
+use Rattle.declarations.specs.Declares.{functor-stands}
+use Rattle.declarations.specs.Own.{variable-stands}
+use Rattle.typing.specs.Steps.{construct-unlisted, construct-none, construct-all}
 use borrow.Author.Needs.{needs}
 use Rattle.typing.proofs.constructs.construct_ok.Statement.{statement}
 use Rattle.typing.proofs.constructs.construct_ok.Tie as tie
 
 word-requires : tie.Need-word-requires
-word-requires c κs = search needs
+word-requires c κs = (c .before .pre .0 .0 .formed, (omega arith, c .before .pre .1 .1))
 
-listed-requires : tie.Need-listed-requires
-listed-requires c κs = search needs
+variable-requires : tie.Need-variable-requires
+variable-requires c κs = search needs
 
 returns : tie.Need-returns
-returns c = construct-unlisted _ _ _ _ (c .before .before .word .ensures .0) (c .before .listed .ensures) (not-true _ (c .if1 .taken))
-
-type-of-requires : tie.Need-type-of-requires
-type-of-requires c κs = search needs
+returns c = construct-unlisted (c .before .before .before .before .pre .0 .0 .formed) (c .before .before .before .before .pre .0 .1) _ (c .before .before .word .ensures .0) (c .before .variable .ensures) (c .before .before .before .before .pre .1 .0) (c .if1 .taken)
 
 word-requires-2 : tie.Need-word-requires-2
-word-requires-2 c κs = search needs
+word-requires-2 c κs = (c .before .before .before .before .pre .0 .0 .formed, (omega arith, stands-same (c .before .variable .ensures) (variable-stands (c .before .before .before .before .pre .0 .0 .formed) (c .before .before .before .before .pre .0 .1) _) .below))
 
-functor-at-requires : tie.Need-functor-at-requires
-functor-at-requires c κs = search needs
+word-requires-3 : tie.Need-word-requires-3
+word-requires-3 c κs = (c .before .before .before .before .before .pre .0 .0 .formed, (omega arith, c .before .before .before .before .before .pre .1 .1))
+
+functor-requires : tie.Need-functor-requires
+functor-requires c κs = search needs
 
 returns-2 : tie.Need-returns-2
-returns-2 c = let s = c .before .before .before .before .before .before .before .before .before .before .pre in construct-none _ _ _ _ (c .before .before .before .before .before .before .word .ensures .0) (c .before .before .before .before .before .listed .ensures) (s .0) (s .1) (not-false _ (c .before .before .before .before .if1 .left)) (c .before .before .before .type-of .ensures) (c .before .before .word2 .ensures .0) (c .before .functor-at .ensures) (c .if2 .taken)
+returns-2 c = construct-none (c .before .before .before .before .before .before .before .before .pre .0 .0 .formed) (c .before .before .before .before .before .before .before .before .pre .0 .1) _ (c .before .before .before .before .before .before .word .ensures .0) (c .before .before .before .before .before .variable .ensures) (c .before .before .before .before .before .before .before .before .pre .1 .0) (c .before .before .before .before .before .before .before .before .pre .0 .0) (c .before .before .before .before .if1 .left) (c .before .before .before .word2 .ensures .0) (c .before .before .word3 .ensures .0) (c .before .functor .ensures) (c .if2 .taken)
 
 arguments-ok-requires : tie.Need-arguments-ok-requires
-arguments-ok-requires c κs = search needs
+arguments-ok-requires c κs = ((c .before .before .before .before .before .before .before .before .pre .0 .0 .formed, c .before .before .before .before .before .before .before .before .pre .0 .1), (stands-same (c .before .functor .ensures) (functor-stands (c .before .before .before .before .before .before .before .before .pre .0 .0) _ _) .below, c .before .before .before .before .before .before .before .before .pre .1 .1))
 
 returns-3 : tie.Need-returns-3
-returns-3 c = let s = c .before .before .before .before .before .before .before .before .before .before .before .pre in construct-some _ _ _ _ (c .before .before .before .before .before .before .before .word .ensures .0) (c .before .before .before .before .before .before .listed .ensures) (s .0) (s .1) (not-false _ (c .before .before .before .before .before .if1 .left)) (c .before .before .before .before .type-of .ensures) (c .before .before .before .word2 .ensures .0) (c .before .before .functor-at .ensures) (c .before .if2 .left) (c .arguments-ok .ensures)
+returns-3 c = construct-all (c .before .before .before .before .before .before .before .before .before .pre .0 .0 .formed) (c .before .before .before .before .before .before .before .before .before .pre .0 .1) _ (c .before .before .before .before .before .before .before .word .ensures .0) (c .before .before .before .before .before .before .variable .ensures) (c .before .before .before .before .before .before .before .before .before .pre .1 .0) (c .before .before .before .before .before .before .before .before .before .pre .0 .0) (c .before .before .before .before .before .if1 .left) (c .before .before .before .before .word2 .ensures .0) (c .before .before .before .word3 .ensures .0) (c .before .before .functor .ensures) (c .before .if2 .left) (c .arguments-ok .ensures)
 
 pub construct-ok-spec : {M : Type 1} → statement M
 construct-ok-spec =
     tie.close
     (tie.spec
     word-requires
-    listed-requires
+    variable-requires
     returns
-    type-of-requires
     word-requires-2
-    functor-at-requires
+    word-requires-3
+    functor-requires
     returns-2
     arguments-ok-requires
     returns-3)

@@ -1,7 +1,7 @@
 -- `each_procedure_ok` meets its contract: the rest of the chain decides as the whole does.
+use native.Mathlib.Omega.{arith}
 use mathlib.Core.Path.{_≡_, refl, _∙_}
 use borrow.Author.Tests.{not-true, not-false}
-use borrow.Author.Needs.{needs}
 use Rattle.language.specs.Lists.{all}
 use Rattle.language.specs.File.{procedures}
 use Rattle.language.specs.Answers.{program}
@@ -14,22 +14,22 @@ use Rattle.typing.proofs.stage.each_procedure_ok.Statement.{statement}
 use Rattle.typing.proofs.stage.each_procedure_ok.Tie as tie
 
 abbrev Inv-loop : tie.InvT-loop
-Inv-loop file types places called parameters n start i₀ i = Stands file procedures i × (all (procedureOk (program file)) (proceduresAt file i) ≡ all (procedureOk (program file)) (proceduresAt file start))
+Inv-loop file table start i₀ i = Stands file procedures i × (all (procedureOk (program file)) (proceduresAt file i) ≡ all (procedureOk (program file)) (proceduresAt file start))
 
 abbrev μ-loop : tie.MeasureT-loop
-μ-loop file types places called parameters n start i₀ i = ahead file i
+μ-loop file table start i₀ i = ahead file i
 
 loop-holds : tie.Need-loop-holds Inv-loop μ-loop
-loop-holds c = (c .before .pre .1 .1, refl)
+loop-holds c = (c .before .pre .1, refl)
 
 procedure-ok-requires : tie.Need-procedure-ok-requires Inv-loop μ-loop
-procedure-ok-requires c κs = let s = c .before .before .before .pre in (s .0, (s .1 .0, (c .before .loop .inv .0, c .loop-test .taken)))
+procedure-ok-requires c κs = (c .before .before .before .pre .0, (c .before .loop .inv .0, c .loop-test .taken))
 
 returns : tie.Need-returns Inv-loop μ-loop
 returns c = procedures-no _ _ (c .before .before .before .before .before .pre .0 .formed) (c .before .before .before .loop .inv .0) (c .before .before .loop-test .taken) (c .before .procedure-ok .ensures) (not-true _ (c .if1 .taken)) ∙ c .before .before .before .loop .inv .1
 
 word-requires : tie.Need-word-requires Inv-loop μ-loop
-word-requires c κs = search needs
+word-requires c κs = (c .before .before .before .before .before .pre .0 .formed, (omega arith, c .before .before .before .loop .inv .0 .below))
 
 loop-less : tie.Need-loop-less Inv-loop μ-loop
 loop-less c = chain-next (c .before .before .before .before .before .before .pre .0 .formed) (c .before .before .before .before .loop .inv .0) (c .before .before .before .loop-test .taken) (c .word .ensures .0) .falls

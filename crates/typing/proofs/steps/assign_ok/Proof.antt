@@ -1,6 +1,8 @@
 -- `assign_ok` meets its contract.
-use Rattle.typing.specs.Arguments.{assign-none, assign-all}
-use borrow.Author.Tests.{not-true, not-false}
+use native.Mathlib.Omega.{arith}
+use Rattle.declarations.specs.Functors.{stands-same}
+use Rattle.declarations.specs.Own.{variable-stands}
+use Rattle.typing.specs.Steps.{assign-none, assign-all}
 use borrow.Author.Needs.{needs}
 use Rattle.typing.proofs.steps.assign_ok.Statement.{statement}
 use Rattle.typing.proofs.steps.assign_ok.Tie as tie
@@ -8,32 +10,32 @@ use Rattle.typing.proofs.steps.assign_ok.Tie as tie
 word-requires : tie.Need-word-requires
 word-requires c κs = search needs
 
-listed-requires : tie.Need-listed-requires
-listed-requires c κs = search needs
+variable-requires : tie.Need-variable-requires
+variable-requires c κs = search needs
 
 returns : tie.Need-returns
-returns c = assign-none _ _ _ (c .before .before .word .ensures .0) (c .before .listed .ensures) (not-true _ (c .if1 .taken))
-
-type-of-requires : tie.Need-type-of-requires
-type-of-requires c κs = search needs
+returns c = assign-none (c .before .before .before .before .pre .0 .0) (c .before .before .before .before .pre .0 .1) _ (c .before .before .word .ensures .0) (c .before .variable .ensures) (c .before .before .before .before .pre .1 .0) (c .if1 .taken)
 
 word-requires-2 : tie.Need-word-requires-2
-word-requires-2 c κs = search needs
+word-requires-2 c κs = (c .before .before .before .before .pre .0 .0, (omega arith, stands-same (c .before .variable .ensures) (variable-stands (c .before .before .before .before .pre .0 .0) (c .before .before .before .before .pre .0 .1) _) .below))
+
+word-requires-3 : tie.Need-word-requires-3
+word-requires-3 c κs = search needs
 
 has-type-requires : tie.Need-has-type-requires
 has-type-requires c κs = search needs
 
 returns-2 : tie.Need-returns-2
-returns-2 c = assign-all _ _ _ (c .before .before .before .before .before .word .ensures .0) (c .before .before .before .before .listed .ensures) (not-false _ (c .before .before .before .if1 .left)) (c .before .before .type-of .ensures) (c .before .word2 .ensures .0) (c .has-type .ensures)
+returns-2 c = assign-all (c .before .before .before .before .before .before .before .pre .0 .0) (c .before .before .before .before .before .before .before .pre .0 .1) _ (c .before .before .before .before .before .word .ensures .0) (c .before .before .before .before .variable .ensures) (c .before .before .before .before .before .before .before .pre .1 .0) (c .before .before .before .if1 .left) (c .before .before .word2 .ensures .0) (c .before .word3 .ensures .0) (c .has-type .ensures)
 
 pub assign-ok-spec : {M : Type 1} → statement M
 assign-ok-spec =
     tie.close
     (tie.spec
     word-requires
-    listed-requires
+    variable-requires
     returns
-    type-of-requires
     word-requires-2
+    word-requires-3
     has-type-requires
     returns-2)

@@ -1,5 +1,6 @@
 -- `is_number` meets its contract.
-use Rattle.declarations.specs.Names.{typed-same}
+use mathlib.Core.Path.{ap, _∙_}
+use Rattle.language.specs.Typing.{hasType}
 use borrow.Author.Needs.{needs}
 use Rattle.typing.proofs.steps.is_number.Statement.{statement}
 use Rattle.typing.proofs.steps.is_number.Tie as tie
@@ -11,7 +12,7 @@ has-type-requires : tie.Need-has-type-requires
 has-type-requires c κs = search needs
 
 returns : tie.Need-returns
-returns c = typed-same _ _ _ _ (c .before .word .ensures .0) (c .has-type .ensures)
+returns c = c .has-type .ensures ∙ ap (hasType _ 0) (c .before .word .ensures .0)
 
 pub is-number-spec : {M : Type 1} → statement M
 is-number-spec = tie.close (tie.spec word-requires has-type-requires returns)

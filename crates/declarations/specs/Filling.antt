@@ -1,0 +1,172 @@
+-- What fills the two tables: the functors type by type, then all that the file declares; what a procedure declares.
+use Prim.Native.Nat.{ℕ, zero, suc, _+_, _*_, _≤_, _<_}
+use native.Mathlib.Omega.{arith}
+use native.Mathlib.Decide.{decLt}
+use mathlib.Core.Path.{_≡_, refl, ap, sym, _∙_}
+use mathlib.Core.Bool.{true}
+use mathlib.Core.List.{List}
+use mathlib.Core.Logic.{inl, inr}
+use lib.ListN.{length, getD, replicate}
+use Rattle.language.specs.Format.{nextWord, headerTypes, headerProcedures, typeFunctors, maxFunctors, maxTypes, maxProcedures, maxVariables, maxRegions, places}
+use Rattle.language.specs.Lists.{nth, nth1}
+use Rattle.language.specs.File.{variables, regions, word, recordCount}
+use Rattle.language.specs.Typing.{typesOk}
+use Rattle.language.specs.Answers.{program}
+use Rattle.chains.specs.Fields.{fieldOf, field-none, field-some}
+use Rattle.chains.specs.Formed.{Formed, Stands, procedures-stand, program-procedures}
+use Rattle.chains.specs.Records.{chainRecords, records-none, records-step}
+use Rattle.chains.specs.Elements.{procedures-count}
+use Rattle.chains.specs.Tables.{nth-past}
+use Rattle.declarations.specs.Places.{procedurePlaces, functorPlaces, placeIn, place-past, place-there, place-same, functorIn, functor-past, functor-there, functor-same, regionPlaces, ownPlaces, variableIn, regionIn}
+use Rattle.declarations.specs.Listing.{Lists, lists-place, Left, blank-at}
+use Rattle.declarations.specs.Parameters.{Linked}
+use Rattle.declarations.specs.Declares.{typeStart, functors-length, few-functors, first-record, Declares}
+use Rattle.declarations.specs.Functors.{stands-same}
+use Rattle.declarations.specs.Own.{Own, signatureFrom, declared}
+use Rattle.declarations.specs.TypeLaws.{few-types, type-count}
+
+-- at most 64 types, so another one has room
+module _ {f : List ℕ} (F : Formed f) (ok : typesOk (program f .types) ≡ true) where
+  types-few : length (chainRecords f (word f 0 headerTypes)) ≤ maxTypes
+  types-few = omega (arith, type-count f (word f 0 headerTypes) F refl refl, few-types (program f .types) ok)
+
+  pub type-room : {n i : ℕ} → Left f (word f 0 headerTypes) n i → (i ≡ 0 → ⊥) → i < recordCount f → n < maxTypes
+  type-room {i = i} L z b = omega (arith, types-few, L .count, ap length (records-step {w = word f i nextWord} F z b refl))
+
+-- ---- the functors of the first n types
+pub record FunctorsSo (f t u : List ℕ) (n : ℕ) : Type 0 where
+  pub kept : length u ≡ length t
+  pub right : (ty m : ℕ) → ty ≤ n → m < maxFunctors → getD u (functorPlaces + maxFunctors * ty + m) 0 ≡ nth 0 (chainRecords f (typeStart f ty)) m
+  pub blank : (k : ℕ) → functorPlaces + maxFunctors * suc n ≤ k → getD u k 0 ≡ 0
+  pub other : (k : ℕ) → k < functorPlaces → getD u k 0 ≡ getD t k 0
+
+-- of all types
+pub record Functors (f t u : List ℕ) : Type 0 where
+  pub kept : length u ≡ length t
+  pub right : (ty m : ℕ) → functorIn u ty m ≡ nth 0 (chainRecords f (typeStart f ty)) m
+  pub other : (k : ℕ) → k < functorPlaces → getD u k 0 ≡ getD t k 0
+
+no-records : (f : List ℕ) {i : ℕ} (m : ℕ) → i ≡ 0 → nth 0 (chainRecords f i) m ≡ 0
+unfolding nth
+no-records f m z = ap (λ xs. nth 0 xs m) (records-none f z)
+
+-- where a type starts: no type has the number 0, and none a number past their count
+start-none : (f : List ℕ) → typeStart f 0 ≡ 0
+unfolding typeStart nth1
+start-none f = sym (field-none f typeFunctors refl)
+
+start-past : (f : List ℕ) (n : ℕ) → length (chainRecords f (word f 0 headerTypes)) ≤ n → typeStart f (suc n) ≡ 0
+unfolding typeStart nth1
+start-past f n h = sym (field-none f typeFunctors (nth-past (chainRecords f (word f 0 headerTypes)) n h))
+
+start-here : (f : List ℕ) (n : ℕ) {i start : ℕ} → nth 0 (chainRecords f (word f 0 headerTypes)) n ≡ i → (i ≡ 0 → ⊥) → start ≡ word f i typeFunctors → start ≡ typeStart f (suc n)
+unfolding typeStart nth1
+start-here f n {i} ei z es = es ∙ field-some f i typeFunctors z ∙ ap (λ j. fieldOf f j typeFunctors) (sym ei)
+
+pub functors-none : (f : List ℕ) {t : List ℕ} → ((k : ℕ) → functorPlaces ≤ k → getD t k 0 ≡ 0) → FunctorsSo f t t 0
+functors-none f b = record {
+  kept = refl;
+  right = λ ty m h l. let z : ty ≡ 0 = omega arith in b (functorPlaces + maxFunctors * ty + m) (omega arith) ∙ sym (no-records f m (ap (typeStart f) z ∙ start-none f));
+  blank = λ k h. b k (omega arith);
+  other = λ k h. refl;
+}
+
+module _ {f t u : List ℕ} {n : ℕ} (S : FunctorsSo f t u n) where
+  pub functors-blank : {at n′ : ℕ} → at ≡ functorPlaces + maxFunctors * n′ → n′ ≡ suc n → (m : ℕ) → m < maxFunctors → getD u (at + m) 0 ≡ 0
+  functors-blank {at} e en m l = S .blank (at + m) (omega arith)
+
+  pub functors-next : {i start at n′ : ℕ} {u′ : List ℕ} → nth 0 (chainRecords f (word f 0 headerTypes)) n ≡ i → (i ≡ 0 → ⊥) → start ≡ word f i typeFunctors
+      → at ≡ functorPlaces + maxFunctors * n′ → n′ ≡ suc n → Lists f start at maxFunctors u u′ → FunctorsSo f t u′ n′
+  functors-next {i} {start} {at} {n′} {u′} ei z es ea en L = record {
+    kept = L .kept ∙ S .kept;
+    right = there;
+    blank = λ k h. L .other k (inr (omega arith)) ∙ S .blank k (omega arith);
+    other = λ k h. L .other k (inl (omega arith)) ∙ S .other k h;
+  }
+    where
+      there : (ty m : ℕ) → ty ≤ n′ → m < maxFunctors → getD u′ (functorPlaces + maxFunctors * ty + m) 0 ≡ nth 0 (chainRecords f (typeStart f ty)) m
+      there ty m h l =
+          elim (decLt n ty) [
+            | yes d ↦ let q : ty ≡ suc n = omega arith in let p : functorPlaces + maxFunctors * suc n ≡ at = omega arith in rw (q, p, sym (start-here f n ei z es)) (L .here m l)
+            | no d ↦ L .other (functorPlaces + maxFunctors * ty + m) (inl (omega arith)) ∙ S .right ty m (omega arith) l
+          ]
+
+  module _ (F : Formed f) (ok : typesOk (program f .types) ≡ true) (e : n ≡ length (chainRecords f (word f 0 headerTypes))) where
+    there : (ty m : ℕ) → ty ≤ n → functorIn u ty m ≡ nth 0 (chainRecords f (typeStart f ty)) m
+    there ty m h = sym (functor-there u ty m (omega (arith, types-few F ok)) (sym (elim (decLt m maxFunctors) [
+      | yes l ↦ sym (place-there u (functorPlaces + maxFunctors * ty) maxFunctors m l) ∙ S .right ty m h l
+      | no l ↦ sym (place-past u (functorPlaces + maxFunctors * ty) maxFunctors m (omega arith)) ∙ sym (nth-past (chainRecords f (typeStart f ty)) m (omega (arith, functors-length F ty, few-functors (program f .types) ok ty)))
+    ])))
+
+    past : (ty m : ℕ) → n < ty → functorIn u ty m ≡ 0
+    past ty m h =
+        elim (decLt ty places) [
+          | yes l ↦ sym (functor-there u ty m l (elim (decLt m maxFunctors) [
+            | yes d ↦ sym (S .blank (functorPlaces + maxFunctors * ty + m) (omega arith)) ∙ place-there u (functorPlaces + maxFunctors * ty) maxFunctors m d
+            | no d ↦ place-past u (functorPlaces + maxFunctors * ty) maxFunctors m (omega arith)
+          ]))
+          | no l ↦ sym (functor-past u ty m (omega arith))
+        ]
+
+    pub functors-all : Functors f t u
+    functors-all = record { kept = S .kept; right = each; other = S .other }
+      where
+        each : (ty m : ℕ) → functorIn u ty m ≡ nth 0 (chainRecords f (typeStart f ty)) m
+        each zero m = there 0 m (omega arith)
+        each (suc k) m = elim (decLt n (suc k)) [ yes h ↦ past (suc k) m h ∙ sym (no-records f m (start-past f k (omega arith))) | no h ↦ there (suc k) m (omega arith) ]
+
+-- ---- all that the file declares
+module _ {f : List ℕ} (F : Formed f) {first : ℕ} (e : first ≡ word f 0 headerProcedures) {n : ℕ} (en : n ≡ length (chainRecords f first)) where
+  pub procedure-count : n ≡ length (program f .procedures)
+  procedure-count = rw e at en ∙ sym (ap length (program-procedures F) ∙ procedures-count F _ (procedures-stand F))
+
+  pub file-listed : {t0 t1 t2 t3 : List ℕ} → typesOk (program f .types) ≡ true → n ≤ maxProcedures → Lists f first procedurePlaces maxProcedures t0 t1 → Functors f t1 t2 → Linked f t2 t3 1 → Declares f t3
+  file-listed {t0} {t1} {t2} {t3} ok h L S K = record {
+    formed = F;
+    types-ok = ok;
+    functors = λ ty m. functor-same t2 ty m t3 (λ k l. K .other k (omega arith)) ∙ S .right ty m;
+    procedures = λ q. place-same t2 procedurePlaces maxProcedures q t3 (λ k a b. K .other k a) ∙ place-same t1 procedurePlaces maxProcedures q t2 (λ k a b. S .other k b) ∙ lists-place L (omega arith) q ∙ ap (λ i. nth 0 (chainRecords f i) q) e;
+    parameters = λ v s. K .right v (elim (decLt 0 v) [ yes l ↦ inr (omega arith) | no l ↦ inl (omega arith) ]) s;
+  }
+
+-- ---- what a procedure declares: its variables from record v on, its regions from record r on
+numbered : (f : List ℕ) (i : ℕ) (u : List ℕ) (at most : ℕ) → getD u at 0 ≡ 0 → ((n : ℕ) → n < most → getD u (at + 1 + n) 0 ≡ nth 0 (chainRecords f i) n)
+    → length (chainRecords f i) ≤ most → (x : ℕ) → placeIn u at (suc most) x ≡ nth1 0 (chainRecords f i) x
+unfolding nth1
+numbered f i u at most z h l zero = sym (place-there u at (suc most) 0 (omega arith)) ∙ ap (λ k. getD u k 0) (omega arith) ∙ z
+numbered f i u at most z h l (suc n) =
+    elim (decLt n most) [
+      | yes d ↦ sym (place-there u at (suc most) (suc n) (omega arith)) ∙ ap (λ k. getD u k 0) (omega arith) ∙ h n d
+      | no d ↦ sym (place-past u at (suc most) (suc n) (omega arith)) ∙ sym (nth-past (chainRecords f i) n (omega arith))
+    ]
+
+module _ {f : List ℕ} (F : Formed f) {v r : ℕ} (sv : Stands f variables v) (sr : Stands f regions r) {t0 t1 t2 : List ℕ} (e : t0 ≡ replicate ownPlaces 0)
+    (L : Lists f v 1 maxVariables t0 t1) (M : Lists f r (regionPlaces + 1) maxRegions t1 t2) (h : length (chainRecords f v) ≤ maxVariables) (k : length (chainRecords f r) ≤ maxRegions) where
+  variables-listed : (x : ℕ) → variableIn t2 x ≡ nth1 0 (chainRecords f v) x
+  variables-listed =
+      numbered f v t2 0 maxVariables (M .other 0 (inl (omega arith)) ∙ L .other 0 (inl (omega arith)) ∙ blank-at ownPlaces e 0)
+      (λ n l. M .other (1 + n) (inl (omega arith)) ∙ L .here n l) h
+
+  regions-listed : (x : ℕ) → regionIn t2 x ≡ nth1 0 (chainRecords f r) x
+  regions-listed =
+      numbered f r t2 regionPlaces maxRegions (M .other regionPlaces (inl (omega arith)) ∙ L .other regionPlaces (inr (omega arith)) ∙ blank-at ownPlaces e regionPlaces) (M .here) k
+
+  first-variable : variableIn t2 1 ≡ v
+  unfolding nth1
+  first-variable = variables-listed 1 ∙ first-record F sv
+
+  first-region : regionIn t2 1 ≡ r
+  unfolding nth1
+  first-region = regions-listed 1 ∙ first-record F sr
+
+  pub declared-same : declared f t2 ≡ signatureFrom f v r
+  unfolding declared
+  declared-same = ap (λ i. signatureFrom f i (regionIn t2 1)) first-variable ∙ ap (signatureFrom f v) first-region
+
+  pub own-listed : Own f t2
+  own-listed = record {
+    variables-stand = stands-same first-variable sv;
+    regions-stand = stands-same first-region sr;
+    variables = λ x. variables-listed x ∙ ap (λ i. nth1 0 (chainRecords f i) x) (sym first-variable);
+    regions = λ x. regions-listed x ∙ ap (λ i. nth1 0 (chainRecords f i) x) (sym first-region);
+  }
