@@ -3,17 +3,18 @@
 use mathlib.Core.Path.{_≡_, refl, sym, ap, _∙_}
 use mathlib.Core.Bool.{Bool, true, false, not, _&&_}
 use Prim.Native.Nat.{ℕ, zero, suc, _+_, _-_, _*_, _/_, _%_, _^_, _≤_, _<_}
-use native.Mathlib.Nat.{one-mul}
+use native.Mathlib.Nat.{one-mul, div-one}
 use native.Mathlib.Decide.{decLt}
 use native.Mathlib.Omega.{arith}
-use borrow.Author.Tests.{lt-ltb}
+use borrow.Author.Tests.{lt-ltb, eqb-false}
 use lib.Bits.{bitAnd, bitOr, and-mask}
-use lib.Count.{trailingZeros}
-use lib.Dec.{eqb, lit<}
+use lib.Count.{trailingZeros, trailing-le}
+use lib.Dec.{eqb, eqb·suc-suc, lit<}
 use lib.Pow.{shl-exact}
-use Rattle.sets.specs.Digits.{bit, bit-made, bit-and, bit-high, bit-not, bit-shr, trailing-low, trailing-here}
+use Rattle.sets.specs.Digits.{bit, bit-made, bit-and, bit-high, bit-not, bit-shr, bit-less-one, trailing-low, trailing-here}
 use Rattle.sets.specs.Tests.{_&_, neg}
-use Rattle.sets.specs.Sets.{member, emptySet, oneAt, single, _∪_, _∩_, _∖_, sameSet, subset, single-zero, single-high, member-ext, member-difference, stored, loaded}
+use Rattle.sets.specs.Sets.{member, emptySet, oneAt, single, _∪_, _∩_, _∖_, sameSet, subset, single-zero, single-high, member-ext, member-single, member-difference, stored, loaded}
+use Rattle.sets.specs.Walk.{Next}
 use Rattle.sets.specs.declared.Set.{Set}
 
 abbrev set : ℕ → Set
@@ -107,3 +108,33 @@ module _ (s : Set) (n : ℕ) where
       ∙ sym (at-place (n + zeros) (omega arith))
       ∙ ap (bit (s .bits / 2 ^ n)) (let e : n + zeros - n ≡ zeros = omega arith in e)
       ∙ trailing-here 64 (s .bits / 2 ^ n) h
+
+-- the lowest digit, and the number without it
+pub lowest-next : (s : Set) (r : ℕ) → r ≡ 1 + trailingZeros 64 (s .bits) → Next s 0 r
+lowest-next s r e =
+    let z : trailingZeros 64 (s .bits / 2 ^ 0) ≡ trailingZeros 64 (s .bits) = ap (trailingZeros 64) (div-one (s .bits)) in
+    let t = trailing-le 64 (s .bits) in
+    let q : r ≡ 0 + 1 + trailingZeros 64 (s .bits / 2 ^ 0) = omega arith in
+    record { low = omega arith; top = omega arith; none = λ k h l. after-low s 0 k h (omega arith); found = λ l. ap (member s) q ∙ after-here s 0 (omega arith) }
+
+pub some-bits : (s : Set) → sameSet s emptySet ≡ false → 1 ≤ s .bits
+unfolding sameSet
+some-bits s e = omega (arith, eqb-false (s .bits) 0 e)
+
+pub rest-made : (s : Set) (r : ℕ) → Next s 0 r → r < 65 → set (bitAnd (s .bits) (s .bits - 1)) ≡ s ∖ single r
+unfolding member _&_
+rest-made s zero N l = absurd (let z = N .low in omega arith)
+rest-made s (suc m) N l = member-ext (set (bitAnd (s .bits) (s .bits - 1))) (s ∖ single (suc m)) go
+  where
+    low : (j : ℕ) → j < m → bit (s .bits) j ≡ false
+    low j h = N .none (suc j) (omega arith) (omega arith)
+
+    here : bit (s .bits) m ≡ true
+    here = N .found l
+
+    go : (n : ℕ) → member (set (bitAnd (s .bits) (s .bits - 1))) n ≡ member (s ∖ single (suc m)) n
+    go zero = sym (member-difference s (single (suc m)) zero)
+    go (suc k) =
+        bit-less-one m (s .bits) low here k ∙ less-is (bit (s .bits) k) (eqb m k)
+        ∙ ap (λ (b : Bool). bit (s .bits) k & neg b) (sym (eqb·suc-suc m k) ∙ sym (member-single (suc m) (suc k) (omega arith) (omega arith)))
+        ∙ sym (member-difference s (single (suc m)) (suc k))

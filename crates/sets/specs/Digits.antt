@@ -1,12 +1,13 @@
 -- The binary digit of a number at a place, as a test, and what the operations on bits do to it. Plain arithmetic: no set.
 -- Assumes nothing.
 use mathlib.Core.Path.{_≡_, refl, sym, ap, ap₂, _∙_}
-use mathlib.Core.Bool.{Bool, true, false, not, _&&_, _||_, xor}
+use mathlib.Core.Bool.{Bool, true, false, false≢true, not, _&&_, _||_, xor}
 use mathlib.Core.Logic.{_⊎_, inl, inr}
 use Prim.Native.Nat.{ℕ, zero, suc, _+_, _-_, _*_, _/_, _%_, _^_, _≤_, _<_, min, max}
 use native.Mathlib.Nat.{mod-lt, div-add-mod', div-eq-of-lt, zero-div, div-one, pow-suc, mul-div-cancel, mul-mod-left, lt-of-lt-of-le}
 use native.Mathlib.Numerals.{one-add}
 use native.Mathlib.Omega.{arith}
+use borrow.Author.Tests.{eqb-true}
 use lib.Arith.{digits-mod, bin-ind}
 use lib.Count.{trailingZeros, under}
 use lib.Bits.{bitAnd, bitOr, bitXor, differ, and-step, or-step, xor-step, and-shr, or-shr, xor-shr}
@@ -186,3 +187,35 @@ trailing-here (suc j) x h = go (trailing-here j (x / 2)) (lowest x) h
     go : (t < j → bit (x / 2) t ≡ true) → (x % 2 ≡ 0) ⊎ (x % 2 ≡ 1) → under (x % 2) t < suc j → bit x (under (x % 2) t) ≡ true
     go ih (inl e) l = rw e (bit-step x t ∙ ih (let z : suc t < suc j = rw e at l in omega arith))
     go ih (inr e) l = rw e (bit-low x ∙ ap (λ (d : ℕ). eqb d 1) e)
+
+-- ---- one less: the lowest digit, at the place m, goes, and those above it stay
+same-and : (a b c : Bool) → b ≡ c → (a && b) ≡ (a && c)
+same-and a b c e = ap (λ (t : Bool). a && t) e
+
+kept : (b : Bool) → (b && b) ≡ (b && true)
+kept true = refl
+kept false = refl
+
+less-digits : (m x : ℕ) → ((j : ℕ) → j < m → bit x j ≡ false) → bit x m ≡ true → (k : ℕ) → (bit x k && bit (x - 1) k) ≡ (bit x k && not (eqb m k))
+less-digits zero x f t zero =
+    let o : x % 2 ≡ 1 = eqb-true (x % 2) 1 (sym (bit-low x) ∙ t) in
+    let e : (x - 1) % 2 ≡ 0 = omega arith in
+    same-and (bit x 0) _ _ (bit-low (x - 1) ∙ ap (λ (d : ℕ). eqb d 1) e)
+less-digits zero x f t (suc k) =
+    let o : x % 2 ≡ 1 = eqb-true (x % 2) 1 (sym (bit-low x) ∙ t) in
+    let e : (x - 1) / 2 ≡ x / 2 = omega arith in
+    let g : bit (x - 1) (suc k) ≡ bit x (suc k) = bit-step (x - 1) k ∙ ap (λ (d : ℕ). bit d k) e ∙ sym (bit-step x k) in
+    same-and (bit x (suc k)) _ _ g ∙ kept (bit x (suc k)) ∙ same-and (bit x (suc k)) true (not (eqb 0 (suc k))) (ap not (sym (eqb·zero-suc k)))
+less-digits (suc m) x f t zero = rw (f 0 (omega arith))
+less-digits (suc m) x f t (suc k) =
+    let o : x % 2 ≡ 0 = even (lowest x) in
+    let e : (x - 1) / 2 ≡ x / 2 - 1 = omega arith in
+    rw (bit-step x k, bit-step (x - 1) k, e, eqb·suc-suc m k)
+    (less-digits m (x / 2) (λ j l. sym (bit-step x j) ∙ f (suc j) (omega arith)) (sym (bit-step x m) ∙ t) k)
+  where
+    even : (x % 2 ≡ 0) ⊎ (x % 2 ≡ 1) → x % 2 ≡ 0
+    even (inl p) = p
+    even (inr p) = absurd (false≢true (sym (f 0 (omega arith)) ∙ bit-low x ∙ ap (λ (d : ℕ). eqb d 1) p))
+
+pub bit-less-one : (m x : ℕ) → ((j : ℕ) → j < m → bit x j ≡ false) → bit x m ≡ true → (k : ℕ) → bit (bitAnd x (x - 1)) k ≡ (bit x k && not (eqb m k))
+bit-less-one m x f t k = bit-and x (x - 1) k ∙ less-digits m x f t k

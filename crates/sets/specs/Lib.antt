@@ -8,3 +8,4 @@ pub mod Rising
 pub mod Size
 pub mod Walk
 pub mod Code
+pub mod Lowest

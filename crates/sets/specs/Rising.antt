@@ -4,12 +4,13 @@ use mathlib.Core.Path.{_≡_, refl, sym, ap₂, _∙_}
 use mathlib.Core.Bool.{Bool, true, false}
 use mathlib.Core.List.{List, [], _∷_}
 use mathlib.Core.Logic.{⊎-elim}
-use Prim.Native.Nat.{ℕ, zero, suc, _≤_, _<_}
+use Prim.Native.Nat.{ℕ, zero, suc, _-_, _≤_, _<_}
 use native.Mathlib.Omega.{arith}
 use Rattle.sets.specs.Tests.{same-truth}
 use Rattle.sets.specs.Sets.{member}
 use Rattle.sets.specs.Members.{consIf, membersFrom, members, setOf, inList, nil-in, cons-here, cons-later, cons-in, members-in, members-mk}
 use Rattle.sets.specs.MemberLaws.{setOf-in, setOf-mk}
+use Rattle.sets.specs.Walk.{above}
 use Rattle.sets.specs.declared.Set.{Set}
 
 -- each is above m, and above those in front of it
@@ -35,6 +36,10 @@ from-rising s (suc k) m l h =
 pub members-rising : (s : Set) → Rising 0 (members s)
 unfolding members
 members-rising s = from-rising s 64 1 0 (omega arith)
+
+pub above-rising : (s : Set) (n : ℕ) → Rising n (above s n)
+unfolding above
+above-rising s n = from-rising s (64 - n) (suc n) n (omega arith)
 
 -- ---- two rising lists of the same numbers are equal
 heads : {x y : ℕ} {xs ys : List ℕ} → Rising x xs → Rising y ys → inList x (y ∷ ys) ≡ true → inList y (x ∷ xs) ≡ true → x ≡ y

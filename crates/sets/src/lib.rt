@@ -1,6 +1,7 @@
 // A set of numbers from 1 to 64, by value: the number n is the bit at the place n - 1.
 ghost use mathlib.Core.Path.{_≡_};
-ghost use Rattle.sets.specs.Sets.{member, single, _∪_, _∩_, _∖_, sameSet, subset, stored, loaded};
+ghost use mathlib.Core.Bool.{false};
+ghost use Rattle.sets.specs.Sets.{member, emptySet, single, _∪_, _∩_, _∖_, sameSet, subset, stored, loaded};
 ghost use Rattle.sets.specs.Members.{nextMember};
 
 pub struct Set {
@@ -91,6 +92,31 @@ impl Set {
         let zeros = u64::trailing_zeros(rest) as usize;
         let found = n + 1 + zeros;
         if found < 65 { found } else { 65 }
+    }
+
+    // Whether there is no member.
+    pub fn is_empty(self) -> bool
+        ensures { λ r. ⌜ r ≡ sameSet self emptySet ⌝ }
+    {
+        self.bits == 0
+    }
+
+    // The least member, or 65 where there is none. A loop takes it off until the set is empty: the law `members-lowest`.
+    pub fn lowest(self) -> usize
+        ensures { λ r. ⌜ r ≡ nextMember self 0 ⌝ }
+    {
+        let zeros = u64::trailing_zeros(self.bits) as usize;
+        1 + zeros
+    }
+
+    // The members but for the least one.
+    pub fn without_lowest(self) -> Set
+        requires { ⌜ sameSet self emptySet ≡ false ⌝ }
+        ensures { λ r. ⌜ r ≡ self ∖ single (nextMember self 0) ⌝ }
+    {
+        Set {
+            bits: self.bits & (self.bits - 1),
+        }
     }
 
     // The set as one word of memory, for tables of sets; 0 is the empty set.
