@@ -5,13 +5,14 @@ use mathlib.Core.Path.{_≡_, refl, ap, sym, _∙_}
 use mathlib.Core.List.{List, [], _∷_, _++_, append-nil, append-assoc}
 use lib.ListN.{length, set, replicate, length-append, length-replicate}
 use Rattle.language.specs.File.{word, recordCount}
+use Rattle.language.specs.Format.{nextWord, maxRecords}
 use Rattle.chains.specs.Formed.{Formed, ahead, ahead-below}
 use Rattle.chains.specs.Records.{chainRecords, records-none, records-step, next-onward}
 use Rattle.chains.specs.Tables.{tableOf, table-none, table-more}
 
 pub record ListedTo (f : List ℕ) (i from size : ℕ) (t : List ℕ) (at n : ℕ) : Type 0 where
   pub below : at < recordCount f
-  pub fits : n + ahead f at < 4096
+  pub fits : n + ahead f at < maxRecords
   pub front : List ℕ
   pub whole : chainRecords f i ≡ front ++ chainRecords f at
   pub count : n ≡ length front
@@ -32,7 +33,7 @@ first {i = i} {size = size} from F q e =
     }
 
 pub next : {f : List ℕ} {i from size : ℕ} {t u : List ℕ} {at n w : ℕ} → Formed f → ListedTo f i from size t at n → (at ≡ 0 → ⊥) → u ≡ set t (from + n) at
-    → w ≡ word f at 1 → ListedTo f i from size u w (n + 1)
+    → w ≡ word f at nextWord → ListedTo f i from size u w (n + 1)
 next {f} {i} {from} {size} {t} {u} {at} {n} {w} F h z e g =
     let o = next-onward F z (h .below) g in
     record {

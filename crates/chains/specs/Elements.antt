@@ -1,10 +1,10 @@
 -- What stands in a chain is one element for each of its records: the element of record j, in words of j. Record 0, "none", has the element that
 -- the definitions take where there is none. A count of a chain is the count of its records: `variables-count` and its like, beside `chain_length`.
-use Prim.Native.Nat.{ℕ}
+use Prim.Native.Nat.{ℕ, _+_}
 use mathlib.Core.Path.{_≡_, refl, ap, _∙_}
 use mathlib.Core.List.{List, map}
 use lib.ListN.{length, length-map}
-use Rattle.language.specs.Format.{typeFunctors, functorArity, procedureVariables, procedureRegions, procedureGoals, variableMode, variableType, variableRegion, regionType, regionClass, regionEdges, edgeFunctor, edgePosition, edgeTarget, argumentVariable}
+use Rattle.language.specs.Format.{typeFunctors, functorArity, procedureVariables, procedureRegions, procedureGoals, variableMode, variableType, variableRegion, regionType, regionClass, regionEdges, edgeFunctor, edgePosition, edgeTarget, argumentVariable, functorTypes}
 use Rattle.language.specs.File.{types, functors, procedures, variables, regions, edges, arguments}
 use Rattle.language.specs.Program.{four, Functor, Variable, Edge, Region, Procedure}
 use Rattle.layout.specs.Chains.{real}
@@ -22,7 +22,10 @@ module _ (f : List ℕ) (j : ℕ) where
   functorsOfType = functorsAt f (fieldOf f j typeFunctors)
 
   abbrev pub functorFrom : Functor
-  functorFrom = record { arity = fieldOf f j functorArity; argumentTypes = four (fieldOf f j 3) (fieldOf f j 4) (fieldOf f j 5) (fieldOf f j 6) }
+  functorFrom = record {
+    arity = fieldOf f j functorArity;
+    argumentTypes = four (fieldOf f j functorTypes) (fieldOf f j (functorTypes + 1)) (fieldOf f j (functorTypes + 2)) (fieldOf f j (functorTypes + 3));
+  }
 
   abbrev pub variableFrom : Variable
   variableFrom = record { mode = fieldOf f j variableMode; type = fieldOf f j variableType; region = fieldOf f j variableRegion }
@@ -42,43 +45,54 @@ module _ {f : List ℕ} (F : Formed f) (i : ℕ) where
   unfolding real
   types-map =
       view-map F types refl (typesAt f) (functorsOfType f) (types-none f refl)
-      (λ j s z. rw (← field-some f j 2 z) (type-at F refl (type-is s z) .view)) i
+      (λ j s z. rw (← field-some f j typeFunctors z) (type-at F refl (type-is s z) .view)) i
 
   pub functors-map : Stands f functors i → functorsAt f i ≡ map (functorFrom f) (chainRecords f i)
   unfolding real
   functors-map =
       view-map F functors refl (functorsAt f) (functorFrom f) (functors-none f refl)
-      (λ j s z. rw (← field-some f j 2 z, ← field-some f j 3 z, ← field-some f j 4 z, ← field-some f j 5 z, ← field-some f j 6 z) (functor-at F refl (functor-is s z) .view)) i
+      (λ j s z. rw (
+        ← field-some f j functorArity z,
+        ← field-some f j functorTypes z,
+        ← field-some f j (functorTypes + 1) z,
+        ← field-some f j (functorTypes + 2) z,
+        ← field-some f j (functorTypes + 3) z,
+      )
+      (functor-at F refl (functor-is s z) .view)) i
 
   pub variables-map : Stands f variables i → variablesAt f i ≡ map (variableFrom f) (chainRecords f i)
   unfolding real
   variables-map =
       view-map F variables refl (variablesAt f) (variableFrom f) (variables-none f refl)
-      (λ j s z. rw (← field-some f j 2 z, ← field-some f j 3 z, ← field-some f j 4 z) (variable-at F refl (variable-is s z) .view)) i
+      (λ j s z. rw (← field-some f j variableMode z, ← field-some f j variableType z, ← field-some f j variableRegion z)
+      (variable-at F refl (variable-is s z) .view)) i
 
   pub edges-map : Stands f edges i → edgesAt f i ≡ map (edgeFrom f) (chainRecords f i)
   unfolding real
   edges-map =
       view-map F edges refl (edgesAt f) (edgeFrom f) (edges-none f refl)
-      (λ j s z. rw (← field-some f j 2 z, ← field-some f j 3 z, ← field-some f j 4 z) (edge-at F refl (edge-is s z) .view)) i
+      (λ j s z. rw (← field-some f j edgeFunctor z, ← field-some f j edgePosition z, ← field-some f j edgeTarget z)
+      (edge-at F refl (edge-is s z) .view)) i
 
   pub regions-map : Stands f regions i → regionsAt f i ≡ map (regionFrom f) (chainRecords f i)
   unfolding real
   regions-map =
       view-map F regions refl (regionsAt f) (regionFrom f) (regions-none f refl)
-      (λ j s z. rw (← field-some f j 2 z, ← field-some f j 3 z, ← field-some f j 4 z) (region-at F refl (region-is s z) .view)) i
+      (λ j s z. rw (← field-some f j regionType z, ← field-some f j regionClass z, ← field-some f j regionEdges z)
+      (region-at F refl (region-is s z) .view)) i
 
   pub procedures-map : Stands f procedures i → proceduresAt f i ≡ map (procedureFrom f) (chainRecords f i)
   unfolding real
   procedures-map =
       view-map F procedures refl (proceduresAt f) (procedureFrom f) (procedures-none f refl)
-      (λ j s z. rw (← field-some f j 2 z, ← field-some f j 3 z, ← field-some f j 4 z) (procedure-at F refl (procedure-is s z) .view)) i
+      (λ j s z. rw (← field-some f j procedureVariables z, ← field-some f j procedureRegions z, ← field-some f j procedureGoals z)
+      (procedure-at F refl (procedure-is s z) .view)) i
 
   pub arguments-map : Stands f arguments i → argumentsAt f i ≡ map (λ j. fieldOf f j argumentVariable) (chainRecords f i)
   unfolding real
   arguments-map =
       view-map F arguments refl (argumentsAt f) (λ j. fieldOf f j argumentVariable) (arguments-none f refl)
-      (λ j s z. rw (← field-some f j 2 z) (argument-at F refl (argument-is s z) .view)) i
+      (λ j s z. rw (← field-some f j argumentVariable z) (argument-at F refl (argument-is s z) .view)) i
 
   -- ---- as many as records
   pub types-count : Stands f types i → length (typesAt f i) ≡ length (chainRecords f i)

@@ -4,7 +4,7 @@
 -- How to use it:
 --   `requires` Formed (now file) and Stands (now file) variables start;
 --   a loop's invariant: Stands file variables i, and "what is done so far and the rest from i make the whole" over `variablesAt file i`; where a
---   count must fit, also n + ahead file i < 4096 (`ahead-below`); in a cycle of calls also ahead file i ≤ ahead file start;
+--   count must fit, also n + ahead file i < maxRecords (`ahead-below`); in a cycle of calls also ahead file i ≤ ahead file start;
 --   the measure: `ahead file i`; of a cycle 3 * ahead + 2 for goals and arms, 3 * ahead + 1 for the goal at record i, 3 * ahead for a switch or an if;
 --   a turn over words: `goal-here`, `switch-here`, `to-arms`, `arm-here` and their like (module Shapes), `chain-next` for word 1 (module Is);
 --   over a decoded record: `variable-at` and its like (modules Declared, Goals, Parts) give the view, the Stands of each reference and that the

@@ -2,7 +2,7 @@
 -- There: `absurd (variable-else S z (c .. .record-at .ensures) (c .match .keys2))`, with S the invariant's `Stands` and z : i ≡ 0 → ⊥, the loop's
 -- test; of a `match` with an arm for each goal `goal-else`; of any other `never`, the keys written out.
 -- Where a loop reads w1 itself and another function the record: `chain-next`, and for goals `goals-step`.
-use Prim.Native.Nat.{ℕ, zero, suc, _<_}
+use Prim.Native.Nat.{ℕ, zero, suc, _<_, _+_}
 use native.Mathlib.Omega.{arith}
 use mathlib.Core.Path.{_≡_, refl, ap, sym, subst, _∙_}
 use mathlib.Core.List.{List, [], _∷_}
@@ -16,6 +16,7 @@ use package.types.Run.{OneOf, miss}
 use Rattle.language.specs.File.{GoalKind, kLiteral, kSum, kAssign, kConstruct, kSwitch, kIf, kCall, kPrint, kCreate, kRemove, Kind, kGoal, Chain, nowhere, types, functors, procedures, variables, regions, edges, goals, arms, arguments, row, kindOf, word, recordCount}
 use Rattle.language.specs.Program.{Goals, _then_, Goal}
 use Rattle.language.specs.Reading.{inFront}
+use Rattle.language.specs.Format.{argumentVariable, armGoals, edgeFunctor, edgePosition, edgeTarget, functorArity, functorTypes, kindWord, nextWord, procedureGoals, procedureRegions, procedureVariables, regionClass, regionEdges, regionType, termArguments, termFunctor, typeFunctors, variableMode, variableRegion, variableType}
 use Rattle.layout.specs.Chains.{InChain, none-in, header-in, type-in, functor-in, procedure-in, variable-in, region-in, edge-in, arm-in, argument-in, goal-in, real, next-stays, starts-kind, types-kind, functors-kind, procedures-kind, variables-kind, regions-kind, edges-kind, arms-kind, arguments-kind, goals-kind}
 use Rattle.layout.specs.Known.{known-chain}
 use Rattle.layout.specs.Files.{header-kind}
@@ -28,54 +29,59 @@ use Rattle.chains.specs.Formed.{Formed, Stands, stands-starts, Onward, l
 use Rattle.chains.specs.Kinds.{same-read}
 
 module _ {f : List ℕ} {c : Chain} {i : ℕ} (s : Stands f c i) (z : i ≡ 0 → ⊥) where
-  kind-in : InChain c (kindOf (word f i 0))
+  kind-in : InChain c (kindOf (word f i kindWord))
   kind-in = starts-kind (word f) (recordCount f) i c (omega arith) (stands-starts s) .1
 
 -- ---- the constructor of each chain
 module _ {f : List ℕ} {i : ℕ} where
-  pub type-is : Stands f types i → (i ≡ 0 → ⊥) → recordAt f i ≡ TypeOf (word f i 1) (word f i 2)
+  pub type-is : Stands f types i → (i ≡ 0 → ⊥) → recordAt f i ≡ TypeOf (word f i nextWord) (word f i typeFunctors)
   type-is s z = same-read f i refl (types-kind (kind-in s z))
 
   pub functor-is : Stands f functors i → (i ≡ 0 → ⊥)
-      → recordAt f i ≡ Functor (word f i 1) (word f i 2) (word f i 3) (word f i 4) (word f i 5) (word f i 6)
+      → recordAt f i ≡ Functor (word f i nextWord) (word f i functorArity) (word f i functorTypes) (word f i (functorTypes + 1))
+      (word f i (functorTypes + 2)) (word f i (functorTypes + 3))
   functor-is s z = same-read f i refl (functors-kind (kind-in s z))
 
-  pub procedure-is : Stands f procedures i → (i ≡ 0 → ⊥) → recordAt f i ≡ Procedure (word f i 1) (word f i 2) (word f i 3) (word f i 4)
+  pub procedure-is : Stands f procedures i → (i ≡ 0 → ⊥)
+      → recordAt f i ≡ Procedure (word f i nextWord) (word f i procedureVariables) (word f i procedureRegions) (word f i procedureGoals)
   procedure-is s z = same-read f i refl (procedures-kind (kind-in s z))
 
-  pub variable-is : Stands f variables i → (i ≡ 0 → ⊥) → recordAt f i ≡ Variable (word f i 1) (word f i 2) (word f i 3) (word f i 4)
+  pub variable-is : Stands f variables i → (i ≡ 0 → ⊥)
+      → recordAt f i ≡ Variable (word f i nextWord) (word f i variableMode) (word f i variableType) (word f i variableRegion)
   variable-is s z = same-read f i refl (variables-kind (kind-in s z))
 
-  pub region-is : Stands f regions i → (i ≡ 0 → ⊥) → recordAt f i ≡ Region (word f i 1) (word f i 2) (word f i 3) (word f i 4)
+  pub region-is : Stands f regions i → (i ≡ 0 → ⊥)
+      → recordAt f i ≡ Region (word f i nextWord) (word f i regionType) (word f i regionClass) (word f i regionEdges)
   region-is s z = same-read f i refl (regions-kind (kind-in s z))
 
-  pub edge-is : Stands f edges i → (i ≡ 0 → ⊥) → recordAt f i ≡ Edge (word f i 1) (word f i 2) (word f i 3) (word f i 4)
+  pub edge-is : Stands f edges i → (i ≡ 0 → ⊥) → recordAt f i ≡ Edge (word f i nextWord) (word f i edgeFunctor) (word f i edgePosition) (word f i edgeTarget)
   edge-is s z = same-read f i refl (edges-kind (kind-in s z))
 
   pub arm-is : Stands f arms i → (i ≡ 0 → ⊥)
-      → recordAt f i ≡ Arm (word f i 1) (word f i 2) (word f i 3) (word f i 4) (word f i 5) (word f i 6) (word f i 7)
+      → recordAt f i ≡ Arm (word f i nextWord) (word f i armGoals) (word f i termFunctor) (word f i termArguments)
+      (word f i (termArguments + 1)) (word f i (termArguments + 2)) (word f i (termArguments + 3))
   arm-is s z = same-read f i refl (arms-kind (kind-in s z))
 
-  pub argument-is : Stands f arguments i → (i ≡ 0 → ⊥) → recordAt f i ≡ Argument (word f i 1) (word f i 2)
+  pub argument-is : Stands f arguments i → (i ≡ 0 → ⊥) → recordAt f i ≡ Argument (word f i nextWord) (word f i argumentVariable)
   argument-is s z = same-read f i refl (arguments-kind (kind-in s z))
 
 -- ---- on along the chain, whatever its sort: the code read w1
-pub chain-next : {f : List ℕ} {c : Chain} {i w : ℕ} → Formed f → Stands f c i → (i ≡ 0 → ⊥) → w ≡ word f i 1 → Onward f c i w
+pub chain-next : {f : List ℕ} {c : Chain} {i w : ℕ} → Formed f → Stands f c i → (i ≡ 0 → ⊥) → w ≡ word f i nextWord → Onward f c i w
 chain-next {f} {c} {i} F s z e =
     let r = known-chain (word f) (recordCount f) (F .form) (header-kind f (F .header) (F .form)) i (omega arith) (s .below) in
-    let k : row (kindOf (word f i 0)) .chain ≡ c = elim (s .sort) [ inl o ↦ absurd (z o) | inr k ↦ k ] in
+    let k : row (kindOf (word f i kindWord)) .chain ≡ c = elim (s .sort) [ inl o ↦ absurd (z o) | inr k ↦ k ] in
     rw e (leads-onward F (omega arith) (s .below) (next-stays (word f) (recordCount f) (F .form) i (s .below) c (ap real (sym k) ∙ r) k))
 
 first-front : {gs hs : Goals} {g : Goal} → gs ≡ g then hs → gs ≡ firstGoal gs then hs
 unfolding firstGoal
 first-front e = rw e
 
-goal-front : {f : List ℕ} {i : ℕ} → Formed f → (g : GoalKind) → kindOf (word f i 0) ≡ kGoal g → 0 < i → i < recordCount f
-    → goalsAt f i ≡ goalAt f i then goalsAt f (word f i 1)
+goal-front : {f : List ℕ} {i : ℕ} → Formed f → (g : GoalKind) → kindOf (word f i kindWord) ≡ kGoal g → 0 < i → i < recordCount f
+    → goalsAt f i ≡ goalAt f i then goalsAt f (word f i nextWord)
 unfolding goalsAt goalAt Steps.goalsAt inFront
 goal-front {f} {i} F g k p q = first-front (ap (λ s. s .asGoals) (Steps.sense-step (word f) (recordCount f) (F .form) i p q (kGoal g) k))
 
-pub goals-step : {f : List ℕ} {i w : ℕ} → Formed f → Stands f goals i → (i ≡ 0 → ⊥) → w ≡ word f i 1 → goalsAt f i ≡ goalAt f i then goalsAt f w
+pub goals-step : {f : List ℕ} {i w : ℕ} → Formed f → Stands f goals i → (i ≡ 0 → ⊥) → w ≡ word f i nextWord → goalsAt f i ≡ goalAt f i then goalsAt f w
 goals-step {f} {i} F s z e = let k = goals-kind (kind-in s z) in rw e (goal-front F (k .0) (k .1) (omega arith) (s .below))
 
 -- ---- no constructor of another chain

@@ -1,11 +1,12 @@
 -- Records of goals with parts, of arms and of arguments that the code has read: what the fields are, what stands there, and where each
 -- reference leads. In a turn: `switch-at F (c .. .record-at .ensures) (c .. .next .given .1)` has all of it, where `next` is the first name that
 -- the pattern binds: `.view` for the claim, `.to-arms .stands` for what is called and `.to-arms .falls` for its measure.
-use Prim.Native.Nat.{ℕ, _<_}
+use Prim.Native.Nat.{ℕ, _<_, _+_}
 use mathlib.Core.Path.{_≡_, refl, ap}
 use mathlib.Core.List.{List, _∷_}
 use Rattle.language.specs.File.{kSwitch, kIf, kCall, kArm, kArgument, kGoal, goals, arms, arguments, word, recordCount}
-use Rattle.language.specs.Program.{four, call, _then_, step, switch, ifLess, arm}
+use Rattle.language.specs.Program.{Four, four, call, _then_, step, switch, ifLess, arm}
+use Rattle.language.specs.Format.{argumentVariable, armGoals, callArguments, callProcedure, goalX, ifElse, ifThen, ifY, ifZ, nextWord, switchArms, termArguments, termFunctor}
 use Rattle.layout.specs.Table.{all-rows}
 use Rattle.layout.specs.Chains.{real, arm-goals, switch-arms, if-then, if-else, call-arguments}
 use Rattle.layout.specs.Steps
@@ -18,9 +19,9 @@ use Rattle.chains.specs.Kinds.{kindIn, known, onward}
 pub record SwitchAt (f : List ℕ) (i next x cs : ℕ) : Type 0 where
   pub some : 0 < i
   pub below : i < recordCount f
-  pub w1 : next ≡ word f i 1
-  pub w2 : x ≡ word f i 2
-  pub w3 : cs ≡ word f i 3
+  pub w1 : next ≡ word f i nextWord
+  pub w2 : x ≡ word f i goalX
+  pub w3 : cs ≡ word f i switchArms
   pub view : goalsAt f i ≡ switch x (armsAt f cs) then goalsAt f next
   pub goal : goalAt f i ≡ switch x (armsAt f cs)
   pub to-next : Onward f goals i next
@@ -31,9 +32,9 @@ pub switch-at : {f : List ℕ} {i next x cs : ℕ} {r : Record} → Formed f →
 unfolding goalsAt goalAt firstGoal armsAt all-rows real
 switch-at {f} {i} {next} {x} {cs} F e g =
     let h = known {k = (kGoal kSwitch)} F refl e (ap kindIn g) in
-    let e1 : next ≡ word f i 1 = cc (h .same) in
-    let e2 : x ≡ word f i 2 = cc (h .same) in
-    let e3 : cs ≡ word f i 3 = cc (h .same) in
+    let e1 : next ≡ word f i nextWord = cc (h .same) in
+    let e2 : x ≡ word f i goalX = cc (h .same) in
+    let e3 : cs ≡ word f i switchArms = cc (h .same) in
     let v : goalsAt f i ≡ switch x (armsAt f cs) then goalsAt f next = rw (e1, e2, e3) (Steps.switch-step (word f) (recordCount f) (F .form) i (h .some) (h .below) (h .kind)) in
     record {
       some = h .some;
@@ -47,16 +48,20 @@ switch-at {f} {i} {next} {x} {cs} F e g =
       to-arms = onward F h e3 (switch-arms (word f) (recordCount f) (F .form) i (h .below) (h .kind));
     }
 
+-- the argument words of a construct or an arm
+abbrev pub fourAt : List ℕ → ℕ → Four
+fourAt f i = four (word f i termArguments) (word f i (termArguments + 1)) (word f i (termArguments + 2)) (word f i (termArguments + 3))
+
 pub record ArmAt (f : List ℕ) (i next gs functor a1 a2 a3 a4 : ℕ) : Type 0 where
   pub some : 0 < i
   pub below : i < recordCount f
-  pub w1 : next ≡ word f i 1
-  pub w2 : gs ≡ word f i 2
-  pub w3 : functor ≡ word f i 3
-  pub w4 : a1 ≡ word f i 4
-  pub w5 : a2 ≡ word f i 5
-  pub w6 : a3 ≡ word f i 6
-  pub w7 : a4 ≡ word f i 7
+  pub w1 : next ≡ word f i nextWord
+  pub w2 : gs ≡ word f i armGoals
+  pub w3 : functor ≡ word f i termFunctor
+  pub w4 : a1 ≡ word f i termArguments
+  pub w5 : a2 ≡ word f i (termArguments + 1)
+  pub w6 : a3 ≡ word f i (termArguments + 2)
+  pub w7 : a4 ≡ word f i (termArguments + 3)
   pub view : armsAt f i ≡ arm functor (four a1 a2 a3 a4) (goalsAt f gs) (armsAt f next)
   pub to-next : Onward f arms i next
   pub to-goals : Onward f goals i gs
@@ -66,13 +71,13 @@ pub arm-at : {f : List ℕ} {i next gs functor a1 a2 a3 a4 : ℕ} {r : Record} �
 unfolding armsAt goalsAt all-rows real
 arm-at {f} {i} {next} {gs} {functor} {a1} {a2} {a3} {a4} F e g =
     let h = known {k = kArm} F refl e (ap kindIn g) in
-    let e1 : next ≡ word f i 1 = cc (h .same) in
-    let e2 : gs ≡ word f i 2 = cc (h .same) in
-    let e3 : functor ≡ word f i 3 = cc (h .same) in
-    let e4 : a1 ≡ word f i 4 = cc (h .same) in
-    let e5 : a2 ≡ word f i 5 = cc (h .same) in
-    let e6 : a3 ≡ word f i 6 = cc (h .same) in
-    let e7 : a4 ≡ word f i 7 = cc (h .same) in
+    let e1 : next ≡ word f i nextWord = cc (h .same) in
+    let e2 : gs ≡ word f i armGoals = cc (h .same) in
+    let e3 : functor ≡ word f i termFunctor = cc (h .same) in
+    let e4 : a1 ≡ word f i termArguments = cc (h .same) in
+    let e5 : a2 ≡ word f i (termArguments + 1) = cc (h .same) in
+    let e6 : a3 ≡ word f i (termArguments + 2) = cc (h .same) in
+    let e7 : a4 ≡ word f i (termArguments + 3) = cc (h .same) in
     record {
       some = h .some;
       below = h .below;
@@ -91,11 +96,11 @@ arm-at {f} {i} {next} {gs} {functor} {a1} {a2} {a3} {a4} F e g =
 pub record IfAt (f : List ℕ) (i next y z gs hs : ℕ) : Type 0 where
   pub some : 0 < i
   pub below : i < recordCount f
-  pub w1 : next ≡ word f i 1
-  pub w2 : y ≡ word f i 2
-  pub w3 : z ≡ word f i 3
-  pub w4 : gs ≡ word f i 4
-  pub w5 : hs ≡ word f i 5
+  pub w1 : next ≡ word f i nextWord
+  pub w2 : y ≡ word f i ifY
+  pub w3 : z ≡ word f i ifZ
+  pub w4 : gs ≡ word f i ifThen
+  pub w5 : hs ≡ word f i ifElse
   pub view : goalsAt f i ≡ ifLess y z (goalsAt f gs) (goalsAt f hs) then goalsAt f next
   pub goal : goalAt f i ≡ ifLess y z (goalsAt f gs) (goalsAt f hs)
   pub to-next : Onward f goals i next
@@ -107,11 +112,11 @@ pub if-at : {f : List ℕ} {i next y z gs hs : ℕ} {r : Record} → Formed f �
 unfolding goalsAt goalAt firstGoal all-rows real
 if-at {f} {i} {next} {y} {z} {gs} {hs} F e g =
     let h = known {k = (kGoal kIf)} F refl e (ap kindIn g) in
-    let e1 : next ≡ word f i 1 = cc (h .same) in
-    let e2 : y ≡ word f i 2 = cc (h .same) in
-    let e3 : z ≡ word f i 3 = cc (h .same) in
-    let e4 : gs ≡ word f i 4 = cc (h .same) in
-    let e5 : hs ≡ word f i 5 = cc (h .same) in
+    let e1 : next ≡ word f i nextWord = cc (h .same) in
+    let e2 : y ≡ word f i ifY = cc (h .same) in
+    let e3 : z ≡ word f i ifZ = cc (h .same) in
+    let e4 : gs ≡ word f i ifThen = cc (h .same) in
+    let e5 : hs ≡ word f i ifElse = cc (h .same) in
     let v : goalsAt f i ≡ ifLess y z (goalsAt f gs) (goalsAt f hs) then goalsAt f next = rw (e1, e2, e3, e4, e5) (Steps.if-step (word f) (recordCount f) (F .form) i (h .some) (h .below) (h .kind)) in
     record {
       some = h .some;
@@ -131,9 +136,9 @@ if-at {f} {i} {next} {y} {z} {gs} {hs} F e g =
 pub record CallAt (f : List ℕ) (i next q ys : ℕ) : Type 0 where
   pub some : 0 < i
   pub below : i < recordCount f
-  pub w1 : next ≡ word f i 1
-  pub w2 : q ≡ word f i 2
-  pub w3 : ys ≡ word f i 3
+  pub w1 : next ≡ word f i nextWord
+  pub w2 : q ≡ word f i callProcedure
+  pub w3 : ys ≡ word f i callArguments
   pub view : goalsAt f i ≡ step (call q (argumentsAt f ys)) then goalsAt f next
   pub goal : goalAt f i ≡ step (call q (argumentsAt f ys))
   pub to-next : Onward f goals i next
@@ -144,9 +149,9 @@ pub call-at : {f : List ℕ} {i next q ys : ℕ} {r : Record} → Formed f → r
 unfolding goalsAt goalAt firstGoal argumentsAt all-rows real
 call-at {f} {i} {next} {q} {ys} F e g =
     let h = known {k = (kGoal kCall)} F refl e (ap kindIn g) in
-    let e1 : next ≡ word f i 1 = cc (h .same) in
-    let e2 : q ≡ word f i 2 = cc (h .same) in
-    let e3 : ys ≡ word f i 3 = cc (h .same) in
+    let e1 : next ≡ word f i nextWord = cc (h .same) in
+    let e2 : q ≡ word f i callProcedure = cc (h .same) in
+    let e3 : ys ≡ word f i callArguments = cc (h .same) in
     let v : goalsAt f i ≡ step (call q (argumentsAt f ys)) then goalsAt f next = rw (e1, e2, e3) (Steps.call-step (word f) (recordCount f) (F .form) i (h .some) (h .below) (h .kind)) in
     record {
       some = h .some;
@@ -163,8 +168,8 @@ call-at {f} {i} {next} {q} {ys} F e g =
 pub record ArgumentAt (f : List ℕ) (i next y : ℕ) : Type 0 where
   pub some : 0 < i
   pub below : i < recordCount f
-  pub w1 : next ≡ word f i 1
-  pub w2 : y ≡ word f i 2
+  pub w1 : next ≡ word f i nextWord
+  pub w2 : y ≡ word f i argumentVariable
   pub view : argumentsAt f i ≡ y ∷ argumentsAt f next
   pub to-next : Onward f arguments i next
 
@@ -173,8 +178,8 @@ pub argument-at : {f : List ℕ} {i next y : ℕ} {r : Record} → Formed f → 
 unfolding argumentsAt all-rows real
 argument-at {f} {i} {next} {y} F e g =
     let h = known {k = kArgument} F refl e (ap kindIn g) in
-    let e1 : next ≡ word f i 1 = cc (h .same) in
-    let e2 : y ≡ word f i 2 = cc (h .same) in
+    let e1 : next ≡ word f i nextWord = cc (h .same) in
+    let e2 : y ≡ word f i argumentVariable = cc (h .same) in
     record {
       some = h .some;
       below = h .below;

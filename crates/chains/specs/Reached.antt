@@ -48,19 +48,19 @@ module _ {f : List ℕ} (F : Formed f) where
   field-stands c (suc j) k h = h (λ z. omega arith)
 
   pub type-functors : (j : ℕ) → Stands f types j → Stands f functors (fieldOf f j typeFunctors)
-  type-functors j s = field-stands functors j 2 (λ z. type-at F refl (type-is s z) .to-functors .stands)
+  type-functors j s = field-stands functors j typeFunctors (λ z. type-at F refl (type-is s z) .to-functors .stands)
 
   pub procedure-variables : (j : ℕ) → Stands f procedures j → Stands f variables (fieldOf f j procedureVariables)
-  procedure-variables j s = field-stands variables j 2 (λ z. procedure-at F refl (procedure-is s z) .to-variables .stands)
+  procedure-variables j s = field-stands variables j procedureVariables (λ z. procedure-at F refl (procedure-is s z) .to-variables .stands)
 
   pub procedure-regions : (j : ℕ) → Stands f procedures j → Stands f regions (fieldOf f j procedureRegions)
-  procedure-regions j s = field-stands regions j 3 (λ z. procedure-at F refl (procedure-is s z) .to-regions .stands)
+  procedure-regions j s = field-stands regions j procedureRegions (λ z. procedure-at F refl (procedure-is s z) .to-regions .stands)
 
   pub procedure-goals : (j : ℕ) → Stands f procedures j → Stands f goals (fieldOf f j procedureGoals)
-  procedure-goals j s = field-stands goals j 4 (λ z. procedure-at F refl (procedure-is s z) .to-goals .stands)
+  procedure-goals j s = field-stands goals j procedureGoals (λ z. procedure-at F refl (procedure-is s z) .to-goals .stands)
 
   pub region-edges : (j : ℕ) → Stands f regions j → Stands f edges (fieldOf f j regionEdges)
-  region-edges j s = field-stands edges j 4 (λ z. region-at F refl (region-is s z) .to-edges .stands)
+  region-edges j s = field-stands edges j regionEdges (λ z. region-at F refl (region-is s z) .to-edges .stands)
 
 -- ---- elements by their place
 pub nth-map : {A : Type 0} (el : ℕ → A) (d : A) → el 0 ≡ d → (xs : List ℕ) (k : ℕ) → nth d (map el xs) k ≡ el (nth 0 xs k)

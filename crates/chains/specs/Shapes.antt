@@ -1,22 +1,23 @@
 -- Records by the number of their kind, for code that reads words: what the record is, what stands there and where its words lead.
 -- A contract says `IsSwitch f i`; code that has read the kind into w and tested it has `w ≡ word f i kindWord` and `w ≡ switchKind`.
-use Prim.Native.Nat.{ℕ}
+use Prim.Native.Nat.{ℕ, _+_}
 use native.Mathlib.Omega.{arith}
 use mathlib.Core.Path.{_≡_, refl, sym, ap, _∙_}
 use mathlib.Core.List.{List}
 use mathlib.Core.Logic.{_⊎_, inl, inr}
 use Rattle.language.specs.Format
-use Rattle.language.specs.Format.{kindWord, nextWord, variableKind, literalKind, sumKind, assignKind, constructKind, switchKind, armKind, ifKind, callKind, printKind, createKind, removeKind}
-use Rattle.language.specs.File.{GoalKind, kLiteral, kSum, kAssign, kConstruct, kSwitch, kIf, kCall, kPrint, kCreate, kRemove, Kind, kNone, kVariable, kGoal, variables, goals, arms, arguments, row, kindOf, word, recordCount}
+use Rattle.language.specs.Format.{kindWord, nextWord, variableKind, literalKind, sumKind, assignKind, constructKind, switchKind, armKind, ifKind, callKind, printKind, createKind, removeKind, argumentVariable, armGoals, assignY, callArguments, callProcedure, goalX, ifElse, ifThen, ifY, ifZ, lifetimeRegion, literalValue, printY, sumOperation, sumY, sumZ, switchArms, termArguments, termFunctor}
+use Rattle.language.specs.File.{GoalKind, kLiteral, kSum, kAssign, kConstruct, kSwitch, kIf, kCall, kPrint, kCreate, kRemove, Kind, kNone, kVariable, kGoal, procedures, variables, regions, edges, goals, arms, arguments, row, kindOf, word, recordCount}
 use Rattle.language.specs.Program.{Step, _then_, Goal, step}
 use Rattle.layout.specs.Table.{all-rows, number-is, number-kind}
 use Rattle.layout.specs.Chains.{starts-kind, variables-kind, goals-kind}
 use Rattle.records.specs.Records.{recordAs, recordAt}
 use Rattle.chains.specs.Formed.{Formed, Stands, stands-starts, Onward, goalsAt}
 use Rattle.chains.specs.Kinds.{same-read}
+use Rattle.chains.specs.Declared.{ProcedureAt, VariableAt, RegionAt, EdgeAt, procedure-at, variable-at, region-at, edge-at}
 use Rattle.chains.specs.Goals.{LiteralAt, SumAt, AssignAt, ConstructAt, PrintAt, CreateAt, RemoveAt, literal-at, sum-at, assign-at, construct-at, print-at, create-at, remove-at}
 use Rattle.chains.specs.Parts.{SwitchAt, IfAt, CallAt, ArmAt, ArgumentAt, switch-at, if-at, call-at, arm-at, argument-at}
-use Rattle.chains.specs.Is.{arm-is, argument-is}
+use Rattle.chains.specs.Is.{procedure-is, variable-is, region-is, edge-is, arm-is, argument-is}
 
 -- ---- record i is of this kind
 module _ (f : List ℕ) (i : ℕ) where
@@ -70,55 +71,73 @@ goal-number w g e = kind-number w (kGoal g) e (goal-some g)
 pub variable-number : {f : List ℕ} {i : ℕ} → Stands f variables i → (i ≡ 0 → ⊥) → word f i kindWord ≡ variableKind
 unfolding all-rows
 variable-number {f} {i} s z =
-    kind-number (word f i 0) kVariable (variables-kind (starts-kind (word f) (recordCount f) i variables (omega arith) (stands-starts s) .1))
+    kind-number (word f i kindWord) kVariable (variables-kind (starts-kind (word f) (recordCount f) i variables (omega arith) (stands-starts s) .1))
     λ e. let q : _≡_ {A = ℕ} 0 1 = cc in omega arith
 
 -- the record that a number stands for
 pub by-number : (f : List ℕ) (i : ℕ) {w : ℕ} (k : Kind) → w ≡ word f i kindWord → w ≡ row k .kind → recordAt f i ≡ recordAs k (word f i)
-by-number f i k e n = same-read f i refl (number-is k (word f i 0) (sym e ∙ n))
+by-number f i k e n = same-read f i refl (number-is k (word f i kindWord) (sym e ∙ n))
 
 -- ---- what stands at a record of each kind
 module _ {f : List ℕ} {i : ℕ} (F : Formed f) {w : ℕ} (e : w ≡ word f i kindWord) where
-  pub literal-here : w ≡ literalKind → LiteralAt f i (word f i 1) (word f i 2) (word f i 3)
+  pub literal-here : w ≡ literalKind → LiteralAt f i (word f i nextWord) (word f i goalX) (word f i literalValue)
   unfolding all-rows
   literal-here k = literal-at F refl (by-number f i (kGoal kLiteral) e k)
 
-  pub sum-here : w ≡ sumKind → SumAt f i (word f i 1) (word f i 2) (word f i 3) (word f i 4) (word f i 5)
+  pub sum-here : w ≡ sumKind → SumAt f i (word f i nextWord) (word f i goalX) (word f i sumOperation) (word f i sumY) (word f i sumZ)
   unfolding all-rows
   sum-here k = sum-at F refl (by-number f i (kGoal kSum) e k)
 
-  pub assign-here : w ≡ assignKind → AssignAt f i (word f i 1) (word f i 2) (word f i 3)
+  pub assign-here : w ≡ assignKind → AssignAt f i (word f i nextWord) (word f i goalX) (word f i assignY)
   unfolding all-rows
   assign-here k = assign-at F refl (by-number f i (kGoal kAssign) e k)
 
   pub construct-here : w ≡ constructKind
-      → ConstructAt f i (word f i 1) (word f i 2) (word f i 3) (word f i 4) (word f i 5) (word f i 6) (word f i 7)
+      → ConstructAt f i (word f i nextWord) (word f i goalX) (word f i termFunctor) (word f i termArguments)
+      (word f i (termArguments + 1)) (word f i (termArguments + 2)) (word f i (termArguments + 3))
   unfolding all-rows
   construct-here k = construct-at F refl (by-number f i (kGoal kConstruct) e k)
 
-  pub switch-here : w ≡ switchKind → SwitchAt f i (word f i 1) (word f i 2) (word f i 3)
+  pub switch-here : w ≡ switchKind → SwitchAt f i (word f i nextWord) (word f i goalX) (word f i switchArms)
   unfolding all-rows
   switch-here k = switch-at F refl (by-number f i (kGoal kSwitch) e k)
 
-  pub if-here : w ≡ ifKind → IfAt f i (word f i 1) (word f i 2) (word f i 3) (word f i 4) (word f i 5)
+  pub if-here : w ≡ ifKind → IfAt f i (word f i nextWord) (word f i ifY) (word f i ifZ) (word f i ifThen) (word f i ifElse)
   unfolding all-rows
   if-here k = if-at F refl (by-number f i (kGoal kIf) e k)
 
-  pub call-here : w ≡ callKind → CallAt f i (word f i 1) (word f i 2) (word f i 3)
+  pub call-here : w ≡ callKind → CallAt f i (word f i nextWord) (word f i callProcedure) (word f i callArguments)
   unfolding all-rows
   call-here k = call-at F refl (by-number f i (kGoal kCall) e k)
 
-  pub print-here : w ≡ printKind → PrintAt f i (word f i 1) (word f i 2)
+  pub print-here : w ≡ printKind → PrintAt f i (word f i nextWord) (word f i printY)
   unfolding all-rows
   print-here k = print-at F refl (by-number f i (kGoal kPrint) e k)
 
-  pub create-here : w ≡ createKind → CreateAt f i (word f i 1) (word f i 2)
+  pub create-here : w ≡ createKind → CreateAt f i (word f i nextWord) (word f i lifetimeRegion)
   unfolding all-rows
   create-here k = create-at F refl (by-number f i (kGoal kCreate) e k)
 
-  pub remove-here : w ≡ removeKind → RemoveAt f i (word f i 1) (word f i 2)
+  pub remove-here : w ≡ removeKind → RemoveAt f i (word f i nextWord) (word f i lifetimeRegion)
   unfolding all-rows
   remove-here k = remove-at F refl (by-number f i (kGoal kRemove) e k)
+
+-- ---- what stands at a record of each kind of declaration
+module _ {f : List ℕ} {i : ℕ} (F : Formed f) (z : i ≡ 0 → ⊥) where
+  pub procedure-here : Stands f procedures i
+      → ProcedureAt f i (word f i nextWord) (word f i Format.procedureVariables) (word f i Format.procedureRegions) (word f i Format.procedureGoals)
+  procedure-here s = procedure-at F refl (procedure-is s z)
+
+  pub variable-here : Stands f variables i
+      → VariableAt f i (word f i nextWord) (word f i Format.variableMode) (word f i Format.variableType) (word f i Format.variableRegion)
+  variable-here s = variable-at F refl (variable-is s z)
+
+  pub region-here : Stands f regions i
+      → RegionAt f i (word f i nextWord) (word f i Format.regionType) (word f i Format.regionClass) (word f i Format.regionEdges)
+  region-here s = region-at F refl (region-is s z)
+
+  pub edge-here : Stands f edges i → EdgeAt f i (word f i nextWord) (word f i Format.edgeFunctor) (word f i Format.edgePosition) (word f i Format.edgeTarget)
+  edge-here s = edge-at F refl (edge-is s z)
 
 -- ---- where the words of a switch, an if and a call lead
 module _ {f : List ℕ} {i : ℕ} (F : Formed f) {w : ℕ} where
@@ -136,7 +155,9 @@ module _ {f : List ℕ} {i : ℕ} (F : Formed f) {w : ℕ} where
 
 -- ---- an arm, an argument
 module _ {f : List ℕ} {i : ℕ} (F : Formed f) (z : i ≡ 0 → ⊥) where
-  pub arm-here : Stands f arms i → ArmAt f i (word f i 1) (word f i 2) (word f i 3) (word f i 4) (word f i 5) (word f i 6) (word f i 7)
+  pub arm-here : Stands f arms i
+      → ArmAt f i (word f i nextWord) (word f i armGoals) (word f i termFunctor) (word f i termArguments)
+      (word f i (termArguments + 1)) (word f i (termArguments + 2)) (word f i (termArguments + 3))
   arm-here s = arm-at F refl (arm-is s z)
 
   pub arm-goals : {w : ℕ} → Stands f arms i → w ≡ word f i Format.armGoals → Onward f goals i w
@@ -145,19 +166,19 @@ module _ {f : List ℕ} {i : ℕ} (F : Formed f) (z : i ≡ 0 → ⊥) where
   pub arm-next : {w : ℕ} → Stands f arms i → w ≡ word f i nextWord → Onward f arms i w
   arm-next s e = rw e (arm-here s .to-next)
 
-  pub argument-here : Stands f arguments i → ArgumentAt f i (word f i 1) (word f i 2)
+  pub argument-here : Stands f arguments i → ArgumentAt f i (word f i nextWord) (word f i argumentVariable)
   argument-here s = argument-at F refl (argument-is s z)
 
 -- ---- any goal: its kind is one of the ten
 pub record GoalAt (f : List ℕ) (i : ℕ) : Type 0 where
   pub goal : Goal
-  pub view : goalsAt f i ≡ goal then goalsAt f (word f i 1)
-  pub to-next : Onward f goals i (word f i 1)
+  pub view : goalsAt f i ≡ goal then goalsAt f (word f i nextWord)
+  pub to-next : Onward f goals i (word f i nextWord)
 
 -- neither a switch nor an if
 pub record StepAt (f : List ℕ) (i : ℕ) : Type 0 where
   pub one : Step
-  pub view : goalsAt f i ≡ step one then goalsAt f (word f i 1)
+  pub view : goalsAt f i ≡ step one then goalsAt f (word f i nextWord)
 
 module _ {f : List ℕ} {i : ℕ} (s : Stands f goals i) (z : i ≡ 0 → ⊥) where
   pub goal-kind : (g : GoalKind) × (kindOf (word f i kindWord) ≡ kGoal g)
@@ -205,8 +226,8 @@ module _ {f : List ℕ} {i : ℕ} (F : Formed f) where
   step-of kSum k p q = record { one = _; view = sum-at F refl (same-read f i refl k) .view }
   step-of kAssign k p q = record { one = _; view = assign-at F refl (same-read f i refl k) .view }
   step-of kConstruct k p q = record { one = _; view = construct-at F refl (same-read f i refl k) .view }
-  step-of kSwitch k p q = absurd (p (goal-number (word f i 0) kSwitch k))
-  step-of kIf k p q = absurd (q (goal-number (word f i 0) kIf k))
+  step-of kSwitch k p q = absurd (p (goal-number (word f i kindWord) kSwitch k))
+  step-of kIf k p q = absurd (q (goal-number (word f i kindWord) kIf k))
   step-of kCall k p q = record { one = _; view = call-at F refl (same-read f i refl k) .view }
   step-of kPrint k p q = record { one = _; view = print-at F refl (same-read f i refl k) .view }
   step-of kCreate k p q = record { one = _; view = create-at F refl (same-read f i refl k) .view }

@@ -2,7 +2,7 @@
 -- a table, with xs the records of the chain.
 -- What stands at a place: `table-at`; of a table that is filled from 0 or from 1, `from-zero` and `from-one`, with `inl` of a place inside it, or with
 -- `inr` of a table that reaches to the end of xs.
-use Prim.Native.Nat.{ℕ, zero, suc, _+_, _-_, _≤_, _<_}
+use Prim.Native.Nat.{ℕ, zero, suc, _+_, _≤_, _<_}
 use native.Mathlib.Omega.{arith}
 use native.Mathlib.Decide.{decLt}
 use mathlib.Core.Path.{_≡_, refl, ap, sym, _∙_}

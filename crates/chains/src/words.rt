@@ -4,13 +4,14 @@ use records::word_in;
 ghost use mathlib.Core.Path.{_≡_};
 ghost use Prim.Native.Nat.{_<_};
 ghost use Rattle.language.specs.File.{word, recordCount};
+ghost use Rattle.records.specs.Sizes.{recordWords, wordEnd};
 ghost use Rattle.chains.specs.Formed.{Formed};
 
 // Word k of record i.
 pub fn word(file: &[u8], i: usize, k: usize) -> usize
     requires { ⌜ Formed (now file) ⌝ }
-    requires { ⌜ (k < 8) × (i < recordCount (now file)) ⌝ }
-    ensures { λ r. ⌜ (r ≡ word (now (file .entry)) i k) × (r < 65536) ⌝ }
+    requires { ⌜ (k < recordWords) × (i < recordCount (now file)) ⌝ }
+    ensures { λ r. ⌜ (r ≡ word (now (file .entry)) i k) × (r < wordEnd) ⌝ }
 {
     word_in(file, i, k)
 }

@@ -1,29 +1,30 @@
 -- The walk over goals, one law for each way through it, over the code's own values: the laws of every walk, with the procedure that the records belong
 -- to carried along.
-use Prim.Native.Nat.{ℕ, _<_, _≤_}
+use Prim.Native.Nat.{ℕ, _≤_}
 use native.Mathlib.Omega.{arith}
-use mathlib.Core.Path.{_≡_, refl, sym, ap, ap₂, _∙_}
+use mathlib.Core.Path.{_≡_, refl, ap, ap₂, _∙_}
 use mathlib.Core.Bool.{Bool, true, false}
 use mathlib.Core.List.{List}
 use Rattle.sets.specs.Sets.{member}
-use Rattle.sets.specs.Members.{setOf}
 use Rattle.sets.specs.declared.Set.{Set}
 use Rattle.language.specs.File.{goals, arms, word}
-use Rattle.language.specs.Program.{four, argumentsOf, Signature, Program, _then_, Goals, Goal, step, signatureOf}
+use Rattle.language.specs.Program.{Signature, Program, _then_, Goals, Goal, step, signatureOf}
 use Rattle.language.specs.Checking.{soundGiven}
 use Rattle.language.specs.Answers.{program}
+use Rattle.language.specs.Format.{kindWord, nextWord, armGoals, goalX, ifElse, ifKind, ifThen, ifY, ifZ, switchArms, switchKind}
 use Rattle.chains.specs.Formed.{Formed, Stands, Onward, ahead, goalsAt, goalAt}
 use Rattle.chains.specs.Is.{goals-step}
 use Rattle.chains.specs.Shapes.{IsSwitch, IsIf, goal-here, step-here}
+use Rattle.chains.specs.Parts.{fourAt}
 use Rattle.values.specs.Walk.{outcome, goesOn, Walker, walkGoals, chain-stop, chain-next, step-goes}
-use Rattle.values.specs.Along.{GoalsWalked, GoalWalked, ArmsWalked, none-walked, switch-stops, switch-walked, if-unread, if-unread-2, if-then-stops, if-else-stops, if-walked, arms-none-walked, arm-stops, arm-last, arm-rest-stops, arms-walked}
+use Rattle.values.specs.Along.{GoalsWalked, none-walked, switch-stops, switch-walked, if-unread, if-unread-2, if-then-stops, if-else-stops, if-walked, arms-none-walked, arm-stops, arm-last, arm-rest-stops, arms-walked}
 use Rattle.tables.specs.Rows.{givesIn}
-use Rattle.tables.specs.Filled.{StepAt}
+use Rattle.tables.specs.Filled.{Belongs}
 use Rattle.checking.specs.Checker.{State, carrying, checker}
 use Rattle.checking.specs.Carried.{heldIn, soundIn, state}
 use Rattle.checking.specs.Sound.{Reached}
 use Rattle.checking.specs.Rules.{StepChecked}
-use Rattle.checking.specs.Ready.{Ready, Belongs, GoalsChecked, GoalChecked, ArmsChecked}
+use Rattle.checking.specs.Ready.{Ready, GoalsChecked, GoalChecked, ArmsChecked}
 
 -- the walk of procedure q's goals
 abbrev walker : List ℕ → ℕ → Walker State
@@ -50,10 +51,10 @@ module _ {f rows own : List ℕ} {start : ℕ} {c₀ c : List ℕ} {i : ℕ} (F 
   walk-last z o q y p = none-walked (walker f q) f (state c) z ∙ w .rest o q y p .1
 
   module _ (z : i ≡ 0 → ⊥) where
-    here : goalsAt f i ≡ goalAt f i then goalsAt f (word f i 1)
+    here : goalsAt f i ≡ goalAt f i then goalsAt f (word f i nextWord)
     here = goals-step F (w .stands) z refl
 
-    pub walk-onward : {n : ℕ} → n ≡ word f i 1 → Onward f goals i n
+    pub walk-onward : {n : ℕ} → n ≡ word f i nextWord → Onward f goals i n
     walk-onward k = rw k (goal-here F (w .stands) z .to-next)
 
     module _ (c′ : List ℕ) (b : Bool) (m : GoalChecked f rows own i c b c′) where
@@ -62,7 +63,7 @@ module _ {f rows own : List ℕ} {start : ℕ} {c₀ c : List ℕ} {i : ℕ} (F 
           let r = w .rest o q y p in
           chain-stop (walker f q) (state c) (state c′) here (m o q y (r .0 z)) (state d) e ∙ r .1
 
-      pub walk-next : {n : ℕ} → b ≡ true → n ≡ word f i 1 → Walking f rows own start c₀ c′ n
+      pub walk-next : {n : ℕ} → b ≡ true → n ≡ word f i nextWord → Walking f rows own start c₀ c′ n
       walk-next {n} e j =
           let u = walk-onward j in
           record {
@@ -70,7 +71,7 @@ module _ {f rows own : List ℕ} {start : ℕ} {c₀ c : List ℕ} {i : ℕ} (F 
             near = omega (arith, u .falls, w .near);
             rest = λ o q y p.
                 let r = w .rest o q y p in (
-                  λ v. y .owning .to-next i (w .stands) z n j v ∙ r .0 z,
+                  λ v. y .owned .owning .to-next i (w .stands) z n j v ∙ r .0 z,
                   rw j (chain-next (walker f q) (state c) (state c′) here (m o q y (r .0 z)) e) ∙ r .1,
                 );
           }
@@ -80,52 +81,52 @@ same-goal : {gs hs ks : Goals} {g h : Goal} → gs ≡ g then hs → gs ≡ h th
 same-goal p q = cc
 
 pub step-checked : {f : List ℕ} (rows own : List ℕ) (i : ℕ) (c : List ℕ) (b : Bool) (c′ : List ℕ) {w : ℕ} → Formed f → Stands f goals i → (z : i ≡ 0 → ⊥)
-    → w ≡ word f i 0 → (w ≡ 12 → ⊥) → (w ≡ 14 → ⊥) → StepChecked rows own i c b c′ → GoalChecked f rows own i c b c′
+    → w ≡ word f i kindWord → (w ≡ switchKind → ⊥) → (w ≡ ifKind → ⊥) → StepChecked rows own i c b c′ → GoalChecked f rows own i c b c′
 step-checked {f} rows own i c b c′ F s z e p r m o q y h =
     let t = step-here F s z e p r in
     let v : goalAt f i ≡ step (t .one) = same-goal (goals-step F s z refl) (t .view) in
-    step-goes (walker f q) (state c) (state c′) b v (m f o q (t .one) (y .accessed) (y .effected) (y .window) (record { stands = s; some = z; view = v }) h)
+    step-goes (walker f q) (state c) (state c′) b v (m f o q (t .one) (y .accessed) (y .owned .effected) (y .window) (record { stands = s; some = z; view = v }) h)
 
 -- ---- a switch
 module _ {f : List ℕ} (rows own : List ℕ) {i : ℕ} (c : List ℕ) (F : Formed f) (k : IsSwitch f i) {t : Set} {x : ℕ} {b : Bool} (et : t ≡ soundIn c)
-    (j : x ≡ word f i 2) (e : b ≡ member t x) where
+    (j : x ≡ word f i goalX) (e : b ≡ member t x) where
   pub switch-broken : (d : List ℕ) → b ≡ false → GoalChecked f rows own i c false d
   switch-broken d p o q y h = switch-stops (walker f q) f F i k (state c) j (test-of f c et q x e) (state d) p
 
-  pub switch-done : {w : ℕ} (r : Bool) (d : List ℕ) → b ≡ true → w ≡ word f i 3 → ArmsChecked f rows own w c r d → GoalChecked f rows own i c r d
+  pub switch-done : {w : ℕ} (r : Bool) (d : List ℕ) → b ≡ true → w ≡ word f i switchArms → ArmsChecked f rows own w c r d → GoalChecked f rows own i c r d
   switch-done {w} r d p l m o q y h =
       switch-walked (walker f q) f F i k (state c) j (test-of f c et q x e) p (state d) r l
-      (m o q y (λ v. y .owning .to-arms i k w l v ∙ h))
+      (m o q y (λ v. y .owned .owning .to-arms i k w l v ∙ h))
 
 -- ---- an if
 module _ {f : List ℕ} (rows own : List ℕ) {i : ℕ} (c : List ℕ) (F : Formed f) (k : IsIf f i) {t : Set} {x : ℕ} {b : Bool} (et : t ≡ soundIn c)
-    (j : x ≡ word f i 2) (e : b ≡ member t x) where
+    (j : x ≡ word f i ifY) (e : b ≡ member t x) where
   pub if-broken : (d : List ℕ) → b ≡ false → GoalChecked f rows own i c false d
   if-broken d p o q y h = if-unread (walker f q) f F i k (state c) j (test-of f c et q x e) (state d) p
 
-  module _ {x′ : ℕ} {b′ : Bool} (p : b ≡ true) (j′ : x′ ≡ word f i 3) (e′ : b′ ≡ member t x′) where
+  module _ {x′ : ℕ} {b′ : Bool} (p : b ≡ true) (j′ : x′ ≡ word f i ifZ) (e′ : b′ ≡ member t x′) where
     pub if-broken-2 : (d : List ℕ) → b′ ≡ false → GoalChecked f rows own i c false d
     if-broken-2 d p′ o q y h =
         if-unread-2 (walker f q) f F i k (state c) j (test-of f c et q x e) p j′ (test-of f c et q x′ e′) (state d) p′
 
     -- after the first part, whether it is broken or goes on to the second
-    module _ (p′ : b′ ≡ true) {u : ℕ} (eu : u ≡ word f i 4) (c₁ : List ℕ) (a₁ : Bool) (m₁ : GoalsChecked f rows own u c a₁ c₁) where
+    module _ (p′ : b′ ≡ true) {u : ℕ} (eu : u ≡ word f i ifThen) (c₁ : List ℕ) (a₁ : Bool) (m₁ : GoalsChecked f rows own u c a₁ c₁) where
       pub then-broken : (d : List ℕ) → a₁ ≡ false → GoalChecked f rows own i c false d
       then-broken d e₁ o q y h =
-          if-then-stops (walker f q) f F i k (state c) j (test-of f c et q x e) p j′ (test-of f c et q x′ e′) p′ (state c₁) a₁ eu (m₁ o q y (λ v. y .owning .to-then i k u eu v ∙ h)) (state d) e₁
+          if-then-stops (walker f q) f F i k (state c) j (test-of f c et q x e) p j′ (test-of f c et q x′ e′) p′ (state c₁) a₁ eu (m₁ o q y (λ v. y .owned .owning .to-then i k u eu v ∙ h)) (state d) e₁
 
-      module _ (e₁ : a₁ ≡ true) {v : ℕ} (ev : v ≡ word f i 5) (c₂ : List ℕ) (eh : heldIn c₂ ≡ heldIn c) (es : soundIn c₂ ≡ soundIn c) (c₃ : List ℕ) (a₂ : Bool)
+      module _ (e₁ : a₁ ≡ true) {v : ℕ} (ev : v ≡ word f i ifElse) (c₂ : List ℕ) (eh : heldIn c₂ ≡ heldIn c) (es : soundIn c₂ ≡ soundIn c) (c₃ : List ℕ) (a₂ : Bool)
           (m₂ : GoalsChecked f rows own v c₂ a₂ c₃) where
         pub else-broken : (d : List ℕ) → a₂ ≡ false → GoalChecked f rows own i c false d
         else-broken d e₂ o q y h =
-            if-else-stops (walker f q) f F i k (state c) j (test-of f c et q x e) p j′ (test-of f c et q x′ e′) p′ (state c₁) a₁ eu (m₁ o q y (λ n. y .owning .to-then i k u eu n ∙ h)) e₁
-            (state c₂) (ap₂ carrying eh es) (state c₃) a₂ ev (m₂ o q y (λ n. y .owning .to-else i k v ev n ∙ h)) (state d) e₂
+            if-else-stops (walker f q) f F i k (state c) j (test-of f c et q x e) p j′ (test-of f c et q x′ e′) p′ (state c₁) a₁ eu (m₁ o q y (λ n. y .owned .owning .to-then i k u eu n ∙ h)) e₁
+            (state c₂) (ap₂ carrying eh es) (state c₃) a₂ ev (m₂ o q y (λ n. y .owned .owning .to-else i k v ev n ∙ h)) (state d) e₂
 
         pub if-done : (r : Bool) (d : List ℕ) {g s : Set} → a₂ ≡ true → g ≡ heldIn c₁ → s ≡ soundIn c₁
             → ((P : Program) (S : Signature) → outcome r (state d) ≡ checker P S .join (carrying g s) (state c₃)) → GoalChecked f rows own i c r d
         if-done r d {g} {s} e₂ eg ef n o q y h =
-            if-walked (walker f q) f F i k (state c) j (test-of f c et q x e) p j′ (test-of f c et q x′ e′) p′ (state c₁) a₁ eu (m₁ o q y (λ n. y .owning .to-then i k u eu n ∙ h)) e₁
-            (state c₂) (ap₂ carrying eh es) (state c₃) a₂ ev (m₂ o q y (λ n. y .owning .to-else i k v ev n ∙ h)) (state d) r (carrying g s) (ap₂ carrying eg ef) e₂
+            if-walked (walker f q) f F i k (state c) j (test-of f c et q x e) p j′ (test-of f c et q x′ e′) p′ (state c₁) a₁ eu (m₁ o q y (λ n. y .owned .owning .to-then i k u eu n ∙ h)) e₁
+            (state c₂) (ap₂ carrying eh es) (state c₃) a₂ ev (m₂ o q y (λ n. y .owned .owning .to-else i k v ev n ∙ h)) (state d) r (carrying g s) (ap₂ carrying eg ef) e₂
             (n (program f) (signatureOf (program f) q))
 
 -- ---- arms
@@ -134,9 +135,9 @@ arms-none-checked f rows own i c z o q y p = arms-none-walked (walker f q) f (st
 
 module _ {f : List ℕ} (rows own : List ℕ) (i : ℕ) (c : List ℕ) (F : Formed f) (st : Stands f arms i) (z : i ≡ 0 → ⊥) (c₁ : List ℕ) (eh : heldIn c₁ ≡ heldIn c)
     (es : (S : Signature) → Reached S own → soundIn c₁ ≡ soundGiven S (givesIn rows i) (heldIn c) (soundIn c))
-    {g : ℕ} (eg : g ≡ word f i 2) (c₂ : List ℕ) (a₁ : Bool) (m₁ : GoalsChecked f rows own g c₁ a₁ c₂) where
+    {g : ℕ} (eg : g ≡ word f i armGoals) (c₂ : List ℕ) (a₁ : Bool) (m₁ : GoalsChecked f rows own g c₁ a₁ c₂) where
   module _ (o : ℕ → ℕ) (q : ℕ) (y : Ready f rows own o q) where
-    entered : outcome true (state c₁) ≡ walker f q .enter (four (word f i 4) (word f i 5) (word f i 6) (word f i 7)) (state c)
+    entered : outcome true (state c₁) ≡ walker f q .enter (fourAt f i) (state c)
     unfolding outcome checker
     entered =
         ap₂ (λ (h s : Set). goesOn (carrying h s)) eh
@@ -144,13 +145,13 @@ module _ {f : List ℕ} (rows own : List ℕ) (i : ℕ) (c : List ℕ) (F : Form
         ∙ ap (λ (u : Set). soundGiven (signatureOf (program f) q) u (heldIn c) (soundIn c)) (y .accessed .arm-gives i st z))
 
     inside : o i ≡ q → GoalsWalked (walker f q) f g (state c₁) a₁ (state c₂)
-    inside h = m₁ o q y (λ n. y .owning .arm-goals i st z g eg n ∙ h)
+    inside h = m₁ o q y (λ n. y .owned .owning .arm-goals i st z g eg n ∙ h)
 
   pub arm-broken : (d : List ℕ) → a₁ ≡ false → ArmsChecked f rows own i c false d
   arm-broken d e o q y p =
       arm-stops (walker f q) f F st z (state c) (state c₁) (entered o q y) refl (state c₂) a₁ eg (inside o q y (p z)) (state d) e
 
-  module _ (e₁ : a₁ ≡ true) {n : ℕ} (en : n ≡ word f i 1) where
+  module _ (e₁ : a₁ ≡ true) {n : ℕ} (en : n ≡ word f i nextWord) where
     pub arm-ended : n ≡ 0 → ArmsChecked f rows own i c true c₂
     arm-ended e o q y p =
         arm-last (walker f q) f F st z (state c) (state c₁) (entered o q y) refl (state c₂) a₁ eg (inside o q y (p z)) e₁ en e
@@ -160,11 +161,11 @@ module _ {f : List ℕ} (rows own : List ℕ) (i : ℕ) (c : List ℕ) (F : Form
       pub rest-broken : (d : List ℕ) → a₂ ≡ false → ArmsChecked f rows own i c false d
       rest-broken d e₂ o q y p =
           arm-rest-stops (walker f q) f F st z (state c) (state c₁) (entered o q y) refl (state c₂) a₁ eg (inside o q y (p z)) e₁ en z′ (state c₃)
-          (ap₂ carrying eh₃ es₃) (state c₄) a₂ (m₂ o q y (λ v. y .owning .arm-next i st z n en v ∙ p z)) (state d) e₂
+          (ap₂ carrying eh₃ es₃) (state c₄) a₂ (m₂ o q y (λ v. y .owned .owning .arm-next i st z n en v ∙ p z)) (state d) e₂
 
       pub arm-more : (r : Bool) (d : List ℕ) {g s : Set} → a₂ ≡ true → g ≡ heldIn c₂ → s ≡ soundIn c₂
           → ((P : Program) (S : Signature) → outcome r (state d) ≡ checker P S .join (carrying g s) (state c₄)) → ArmsChecked f rows own i c r d
       arm-more r d {g} {s} e₂ ek ex x o q y p =
           arms-walked (walker f q) f F st z (state c) (state c₁) (entered o q y) refl (state c₂) a₁ eg (inside o q y (p z)) e₁ en z′ (state c₃)
-          (ap₂ carrying eh₃ es₃) (state c₄) a₂ (m₂ o q y (λ v. y .owning .arm-next i st z n en v ∙ p z)) (state d) r (carrying g s) (ap₂ carrying ek ex) e₂
+          (ap₂ carrying eh₃ es₃) (state c₄) a₂ (m₂ o q y (λ v. y .owned .owning .arm-next i st z n en v ∙ p z)) (state d) r (carrying g s) (ap₂ carrying ek ex) e₂
           (x (program f) (signatureOf (program f) q))

@@ -1,9 +1,7 @@
 -- The checker's stages: those before the tables are made, and those after.
-use Prim.Native.Nat.{ℕ, _≤_}
-use native.Mathlib.Omega.{arith}
+use Prim.Native.Nat.{ℕ}
 use mathlib.Core.List.{List, [], _∷_, _++_}
 use mathlib.Core.Path.{_≡_, refl, sym, ap, _∙_}
-use lib.ListN.{length, replicate, length-replicate}
 use Rattle.language.specs.declared.Refusal.{Refusal}
 use Rattle.language.specs.declared.Refusal.the-variants.{Rules}
 use Rattle.language.specs.declared.Verdict.{Verdict}
@@ -33,7 +31,3 @@ module _ (f : List ℕ) {v : Verdict} (e : v ≡ lowest (typingStages f)) where
   pub checker-goes : {w : Verdict} → v ≡ Accepted → w ≡ lowest (ruleStages f) → w ≡ checked f
   unfolding after
   checker-goes g h = h ∙ sym (checked-by f ∙ ap (λ (u : Verdict). after u (lowest (ruleStages f))) (sym e ∙ g))
-
--- a table of zeros is as long as it was made
-pub blank-fits : (n : ℕ) {t : List ℕ} → t ≡ replicate n 0 → n ≤ length t
-blank-fits n e = omega (arith, ap length e, length-replicate {A = ℕ} n 0)

@@ -1,6 +1,6 @@
 -- Number 8 is a walk: what is carried are the held regions and the sound variables.
 use Prim.Native.Nat.{ℕ}
-use mathlib.Core.Path.{_≡_, refl, sym, ap, ap₂, _∙_}
+use mathlib.Core.Path.{_≡_, refl, sym, ap₂, _∙_}
 use mathlib.Core.Bool.{Bool, true, false}
 use Rattle.sets.specs.Tests.{_&_}
 use Rattle.sets.specs.Sets.{member, _∩_, sameSet}

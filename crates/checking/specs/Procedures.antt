@@ -2,26 +2,26 @@
 use Prim.Native.Nat.{ℕ, _-_, _≤_, _<_}
 use mathlib.Core.Bool.{Bool, true, false}
 use mathlib.Core.List.{List, [], _∷_}
-use mathlib.Core.Path.{_≡_, refl, sym, ap, ap₂, _∙_}
+use mathlib.Core.Path.{_≡_, refl, sym, ap, _∙_}
 use lib.ListN.{length, getD, take, drop, length-drop}
 use Rattle.sets.specs.Tests.{_&_}
 use Rattle.sets.specs.Sets.{_∪_, sameSet, subset}
 use Rattle.sets.specs.declared.Set.{Set}
 use Rattle.language.specs.File.{goals}
 use Rattle.language.specs.Program.{Signature, Program, procedureAt, signatureOf}
-use Rattle.language.specs.Values.{insOf, outsOf}
+use Rattle.language.specs.Values.{insOf}
 use Rattle.language.specs.Lifetimes
 use Rattle.language.specs.Lifetimes.{startHeld}
 use Rattle.language.specs.Lists.{all}
-use Rattle.language.specs.Checking.{broken, checkGoals, endRules, procedureRules, rulesOk}
+use Rattle.language.specs.Checking.{endRules, procedureRules, rulesOk}
 use Rattle.language.specs.Answers.{program}
-use Rattle.chains.specs.Formed.{Formed, Stands, goalsAt}
-use Rattle.tables.specs.Window.{Window, WindowOf, FileTable, setIn, bodyPlace, insPlace, outsPlace, bornPlace, deadPlace, keptPlace}
-use Rattle.tables.specs.Filled.{Prepared}
+use Rattle.chains.specs.Formed.{Stands, goalsAt}
+use Rattle.tables.specs.Window.{WindowOf, setIn, bodyPlace, insPlace, outsPlace, bornPlace, deadPlace, keptPlace}
+use Rattle.tables.specs.Filled.{Belongs, Prepared}
 use Rattle.checking.specs.Carried.{heldIn, soundIn, state}
-use Rattle.values.specs.Walk.{outcome, goesOn, walkGoals}
-use Rattle.checking.specs.Checker.{State, carrying, checker, told, goals-agree}
-use Rattle.checking.specs.Ready.{Ready, Belongs, GoalsChecked}
+use Rattle.values.specs.Walk.{outcome, walkGoals}
+use Rattle.checking.specs.Checker.{carrying, checker, told, goals-agree}
+use Rattle.checking.specs.Ready.{Ready, GoalsChecked}
 
 -- what `window_ok` answers
 abbrev pub WindowChecked : List ℕ → List ℕ → List ℕ → Bool → Type 0
@@ -84,7 +84,7 @@ module _ {f table rows : List ℕ} (h : Prepared f table rows) (q : ℕ) (l : q 
   pub procedure-checked : {b : Bool} → WindowChecked f rows (take (length table - s) (drop s table)) b → b ≡ procedureRules (program f) (procedureAt (program f) q)
   unfolding signatureOf
   procedure-checked m =
-      (rw (part-whole table s) at m) (h .owner) q (record { accessed = h .accessed; effected = h .effected; owning = h .owning; window = of-window .window })
+      (rw (part-whole table s) at m) (h .owner) q (record { accessed = h .accessed; owned = record { effected = h .effected; owning = h .owning }; window = of-window .window })
       (h .owning .to-body q l _ (rw e (h .windows .body q l))) (of-window .body)
 
 pub rules-all : (P : Program) → all (procedureRules P) (P .procedures) ≡ rulesOk P

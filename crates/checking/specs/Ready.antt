@@ -6,7 +6,7 @@ use mathlib.Core.Path.{_≡_}
 use Rattle.language.specs.Program.{signatureOf}
 use Rattle.language.specs.Answers.{program}
 use Rattle.tables.specs.Window.{Window}
-use Rattle.tables.specs.Filled.{Accessed, Effected, Owning}
+use Rattle.tables.specs.Filled.{Accessed, Belongs, Owned}
 use Rattle.values.specs.Along.{GoalsWalked, GoalWalked, ArmsWalked}
 use Rattle.checking.specs.Checker.{checker}
 use Rattle.checking.specs.Carried.{state}
@@ -14,13 +14,8 @@ use Rattle.checking.specs.Carried.{state}
 -- the rows are those of the file, the window is that of procedure q
 pub record Ready (f rows own : List ℕ) (o : ℕ → ℕ) (q : ℕ) : Type 0 where
   pub accessed : Accessed f rows
-  pub effected : Effected f o rows
-  pub owning : Owning f o
+  pub owned : Owned f rows o
   pub window : Window f (signatureOf (program f) q) own
-
--- record i belongs to procedure q, if there is such a record
-abbrev pub Belongs : (ℕ → ℕ) → ℕ → ℕ → Type 0
-Belongs o q i = (i ≡ 0 → ⊥) → o i ≡ q
 
 -- ---- b, and what is carried afterwards, is number 8 of the goals, the goal, the arms
 module _ (f rows own : List ℕ) (i : ℕ) (c : List ℕ) (b : Bool) (c′ : List ℕ) where

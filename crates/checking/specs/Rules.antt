@@ -6,9 +6,9 @@ use mathlib.Core.Path.{_≡_, refl, sym, ap, ap₂, _∙_}
 use Rattle.sets.specs.Tests.{_&_}
 use Rattle.sets.specs.Sets.{emptySet, _∪_, _∩_, _∖_, sameSet, subset, apart}
 use Rattle.sets.specs.declared.Set.{Set}
-use Rattle.language.specs.Program.{Step, step, Signature, Program, signatureOf}
+use Rattle.language.specs.Program.{Step, Signature, signatureOf}
 use Rattle.language.specs.Values.{reads, gives}
-use Rattle.language.specs.Lifetimes.{kept, heldAfter, effect}
+use Rattle.language.specs.Lifetimes.{kept, heldAfter}
 use Rattle.language.specs.Checking.{broken, carries, requireRule, soundGiven, soundWithout, stepRules, checkStep}
 use Rattle.language.specs.Answers.{program}
 use Rattle.tables.specs.Window.{Window, keptPlace, setIn}

@@ -1,31 +1,25 @@
 -- Which variables are sound: going through the members of a set by `Set::after`, those kept so far, with those kept ahead, are all that are kept.
-use Prim.Native.Nat.{ℕ, _-_, _≤_, _<_}
-use native.Mathlib.Omega.{arith}
+use Prim.Native.Nat.{ℕ, _≤_, _<_}
 use mathlib.Core.Bool.{Bool, true, false}
-use mathlib.Core.Path.{_≡_, refl, sym, ap, ap₂, _∙_, fun-ext}
+use mathlib.Core.Path.{_≡_, sym, ap, ap₂, _∙_, fun-ext}
 use mathlib.Core.List.{List}
 use Rattle.sets.specs.Tests.{same-truth}
-use Rattle.sets.specs.Sets.{member, member-ext, member-empty, emptySet, single, _∪_, _∩_, _∖_, sameSet, same-eq, subset, apart, Small}
+use Rattle.sets.specs.Sets.{member-ext, member-empty, emptySet, single, _∪_, _∩_, _∖_, sameSet, same-eq, subset, apart, Small}
 use Rattle.sets.specs.SetLaws.{union-empty, empty-union, union-assoc, small-top, apart-mk}
 use Rattle.sets.specs.Members.{nextMember, setOf, filtered, keep}
 use Rattle.sets.specs.MemberLaws.{keep-in, keep-mk}
-use Rattle.sets.specs.Walk.{above, next-is, keep-start, keep-end, keep-take, keep-skip}
+use Rattle.sets.specs.Walk.{above, keep-start, keep-end, keep-take, keep-skip}
 use Rattle.sets.specs.declared.Set.{Set}
 use Rattle.language.specs.Program.{Signature}
 use Rattle.language.specs.Regions.{reach}
 use Rattle.language.specs.Checking.{soundGiven, soundWithout}
+use Rattle.language.specs.Format.{places}
 use Rattle.tables.specs.Window.{reachIn}
+use Rattle.tables.specs.Walks.{next-ends}
 
 -- the window has what each variable reaches
 abbrev pub Reached : Signature → List ℕ → Type 0
 Reached S t = (x : ℕ) → reachIn t x ≡ reach S x
-
--- ---- the next member is above, or there is none
-pub next-falls : (s : Set) {x y : ℕ} → x < 65 → y ≡ nextMember s x → 65 - y < 65 - x
-next-falls s {x} {y} l e = let n = next-is s x .low in omega (arith, e)
-
-next-ends : (s : Set) (n : ℕ) {x : ℕ} → x ≡ nextMember s n → 65 ≤ x → nextMember s n ≡ 65
-next-ends s n e l = let t = next-is s n .top in omega (arith, e)
 
 -- x is the next member, or 65
 pub record Keeping (p : ℕ → Bool) (s found : Set) (x : ℕ) : Type 0 where
@@ -38,17 +32,17 @@ module _ (p : ℕ → Bool) (s : Set) where
   keep-first e = record { done = 0; next = e; whole = empty-union _ ∙ keep-start p s }
 
   module _ {found : Set} {x : ℕ} (h : Keeping p s found x) where
-    pub keep-one : {u found′ : Set} {x′ : ℕ} → x < 65 → p x ≡ true → u ≡ single x → found′ ≡ found ∪ u → x′ ≡ nextMember s x → Keeping p s found′ x′
+    pub keep-one : {u found′ : Set} {x′ : ℕ} → x < places → p x ≡ true → u ≡ single x → found′ ≡ found ∪ u → x′ ≡ nextMember s x → Keeping p s found′ x′
     keep-one l t e g n =
         let r = keep-take p s (h .done) x (sym (h .next)) l t in
         record { done = x; next = n; whole = rw (g, e) (union-assoc found (single x) _ ∙ ap (λ (y : Set). found ∪ y) (sym r) ∙ h .whole) }
 
-    pub keep-none : {x′ : ℕ} → x < 65 → p x ≡ false → x′ ≡ nextMember s x → Keeping p s found x′
+    pub keep-none : {x′ : ℕ} → x < places → p x ≡ false → x′ ≡ nextMember s x → Keeping p s found x′
     keep-none l t n =
         let r = keep-skip p s (h .done) x (sym (h .next)) l t in
         record { done = x; next = n; whole = ap (λ (y : Set). found ∪ y) (sym r) ∙ h .whole }
 
-    pub keep-last : 65 ≤ x → found ≡ keep p s
+    pub keep-last : places ≤ x → found ≡ keep p s
     keep-last l =
         sym (union-empty found) ∙ ap (λ (y : Set). found ∪ y) (sym (keep-end p s (h .done) (next-ends s (h .done) (h .next) l))) ∙ h .whole
 

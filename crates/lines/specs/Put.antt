@@ -1,10 +1,10 @@
 -- Bytes put into lent memory, one text after another.
-use Prim.Native.Nat.{ℕ, zero, suc, _+_, _≤_, _<_}
+use Prim.Native.Nat.{ℕ, suc, _+_, _≤_, _<_}
 use mathlib.Core.List.{List, [], _∷_, _++_}
 use mathlib.Core.Path.{_≡_, refl, ap, sym, _∙_}
 use native.Mathlib.Omega.{arith}
 use native.Mathlib.Numerals.{add-one}
-use lib.ListN.{length, set, getD, take, drop, length-append, length-set}
+use lib.ListN.{length, set, getD, take, drop, length-append}
 use lib.Seq.{sets, sets-eq, length-sets, take-suc, take-all, take-at}
 use Rattle.language.specs.Lists.{frontWritten}
 

@@ -8,7 +8,9 @@ use lib.ListN.{length, getD, set, drop, replicate, length-set, length-append, le
 use lib.Seq.{getD-set-same, getD-set-other, set-append-left, drop-append-seam}
 use Rattle.language.specs.Lists.{count}
 use Rattle.language.specs.File.{Kind, kNone, kHeader, kType, kFunctor, kProcedure, kVariable, kRegion, kEdge, kArm, kArgument, kGoal, word, recordCount}
+use Rattle.language.specs.Format.{nextWord}
 use Rattle.laws.specs.Counts.{hit, hit-same}
+use Rattle.records.specs.Sizes.{wordEnd}
 use Rattle.chains.specs.Formed.{Formed, counted}
 use Rattle.owners.specs.Referred.{refers-up, times-refers}
 use Rattle.owners.specs.Owner.{nextMore, hand, handEach, kindHere, partsHere, handOn, ownersUpTo, ownersOf}
@@ -28,16 +30,16 @@ each-append (w ∷ ws) t r x h =
     ap (λ u. handEach u ws x) (hand-append t r x w (h w (count-first w ws)))
     ∙ each-append ws (hand t w x) r x (λ v l. omega (arith, hand-length t x w, h v (count-later v w ws l)))
 
-on-append : (f : List ℕ) (i : ℕ) (t r : List ℕ) → i < length t → word f i 1 < length t → ((w : ℕ) → 0 < count w (partsHere f i) → w < length t)
+on-append : (f : List ℕ) (i : ℕ) (t r : List ℕ) → i < length t → word f i nextWord < length t → ((w : ℕ) → 0 < count w (partsHere f i) → w < length t)
     → handOn f i (t ++ r) ≡ handOn f i t ++ r
 unfolding handOn
 on-append f i t r l n h =
     let x = getD t i 0 + nextMore (kindHere f i) in
-    rw (List·getD-append t r 0 i l, hand-append t r x (word f i 1) n)
-    (each-append (partsHere f i) (hand t (word f i 1) x) r (getD t i 0) (λ w c. omega (arith, hand-length t x (word f i 1), h w c)))
+    rw (List·getD-append t r 0 i l, hand-append t r x (word f i nextWord) n)
+    (each-append (partsHere f i) (hand t (word f i nextWord) x) r (getD t i 0) (λ w c. omega (arith, hand-length t x (word f i nextWord), h w c)))
 
 -- what a record hands to is a record
-handed-below : {f : List ℕ} → Formed f → (i w : ℕ) → i < recordCount f → 0 < hit (word f i 1) w + count w (partsHere f i) → w < recordCount f
+handed-below : {f : List ℕ} → Formed f → (i w : ℕ) → i < recordCount f → 0 < hit (word f i nextWord) w + count w (partsHere f i) → w < recordCount f
 handed-below {f} F i w q h =
     elim (decLt 0 w) [
       | yes p ↦ refers-up F p (times-refers i w q (omega (arith, hands-few f i w)) .2) .below
@@ -86,8 +88,8 @@ unfolding ownersUpTo handOn
 up-to-low f zero k = omega (arith, replicate-zero (recordCount f) k)
 up-to-low f (suc m) k =
     let t = ownersUpTo f m in
-    each-low (partsHere f m) (hand t (word f m 1) (getD t m 0 + nextMore (kindHere f m))) (getD t m 0) (suc m)
-    (hand-low t _ (word f m 1) (suc m) (λ j. omega (arith, up-to-low f m j)) (omega (arith, up-to-low f m m, more-one (kindHere f m))))
+    each-low (partsHere f m) (hand t (word f m nextWord) (getD t m 0 + nextMore (kindHere f m))) (getD t m 0) (suc m)
+    (hand-low t _ (word f m nextWord) (suc m) (λ j. omega (arith, up-to-low f m j)) (omega (arith, up-to-low f m m, more-one (kindHere f m))))
     (omega (arith, up-to-low f m m)) k
 
 -- ---- the invariant: t is the table, n how many records there are, `behind` the places behind theirs
@@ -108,7 +110,7 @@ first {f} {t} n d e g = record { count = e; most = omega arith; table = g ∙ rw
 
 module _ {f behind t : List ℕ} {n i : ℕ} (F : Formed f) (h : Passed f behind t n i) where
   -- what `hand_on` asks
-  pub asks : i < n → (i < length t) × (getD t i 0 < 65535)
+  pub asks : i < n → (i < length t) × (getD t i 0 + 1 < wordEnd)
   asks l =
       let a : i < length (ownersUpTo f i) = omega (arith, up-to-length f i, h .count) in (
         rw (h .table) (omega (arith, length-append (ownersUpTo f i) behind)),
@@ -119,14 +121,14 @@ module _ {f behind t : List ℕ} {n i : ℕ} (F : Formed f) (h : Passed f behind
   unfolding ownersUpTo
   next l e =
       let z : i + 1 ≡ suc i = omega arith in
-      let b : (w : ℕ) → 0 < hit (word f i 1) w + count w (partsHere f i) → w < length (ownersUpTo f i) =
+      let b : (w : ℕ) → 0 < hit (word f i nextWord) w + count w (partsHere f i) → w < length (ownersUpTo f i) =
       λ w c. omega (arith, handed-below F i w (omega (arith, h .count)) c, up-to-length f i) in
       record {
         count = h .count;
         most = omega (arith, h .most);
         table =
             rw z (e ∙ ap (handOn f i) (h .table)
-            ∙ on-append f i (ownersUpTo f i) behind (omega (arith, up-to-length f i, h .count)) (b (word f i 1) (omega (arith, hit-same (word f i 1)))) (λ w c. b w (omega arith)));
+            ∙ on-append f i (ownersUpTo f i) behind (omega (arith, up-to-length f i, h .count)) (b (word f i nextWord) (omega (arith, hit-same (word f i nextWord)))) (λ w c. b w (omega arith)));
       }
 
 pub last : {f u t : List ℕ} {n i : ℕ} (d : List ℕ) → Passed f (drop n u) t n i → u ≡ replicate n 0 ++ drop n d → n ≤ i

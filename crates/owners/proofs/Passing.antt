@@ -1,12 +1,12 @@
 -- The pass in code, step by step: one law for each way through, over plain values.
 use Prim.Native.Nat.{ℕ, zero, suc, _+_, _≤_}
 use native.Mathlib.Omega.{arith}
-use mathlib.Core.Path.{_≡_, refl, ap, sym, _∙_}
+use mathlib.Core.Path.{_≡_, refl, sym, _∙_}
 use mathlib.Core.List.{List, [], _∷_, map}
 use lib.ListN.{length, getD, set}
 use lib.Seq.{set-out}
 use Rattle.language.specs.File.{kLiteral, kSum, kAssign, kConstruct, kSwitch, kIf, kCall, kPrint, kCreate, kRemove, Kind, kNone, kHeader, kType, kFunctor, kProcedure, kVariable, kRegion, kEdge, kArm, kArgument, kGoal, row, kindOf, word}
-use Rattle.language.specs.Format.{procedureKind, regionKind, switchKind, armKind, ifKind, callKind}
+use Rattle.language.specs.Format.{procedureKind, regionKind, switchKind, armKind, ifKind, callKind, kindWord, nextWord}
 use Rattle.chains.specs.Layout.{all-rows, number-is, number-kind}
 use mathlib.Core.Logic.{_⊎_, inl, inr}
 use Rattle.owners.specs.Owner.{partWords, nextMore, hand, handEach, kindHere, partsHere, handOn}
@@ -113,7 +113,7 @@ module _ (n own : ℕ) where
   more-none z = omega (arith, more-other n z (kindOf n) (number-kind n))
 
 -- ---- one record
-pub handed-on : (f : List ℕ) (i : ℕ) (t : List ℕ) {k x : ℕ} {u r : List ℕ} → k ≡ word f i 0 → x ≡ getD t i 0 + nextMore (kindOf k)
-    → u ≡ hand t (word f i 1) x → r ≡ handEach u (map (word f i) (partWords (kindOf k))) (getD t i 0) → r ≡ handOn f i t
+pub handed-on : (f : List ℕ) (i : ℕ) (t : List ℕ) {k x : ℕ} {u r : List ℕ} → k ≡ word f i kindWord → x ≡ getD t i 0 + nextMore (kindOf k)
+    → u ≡ hand t (word f i nextWord) x → r ≡ handEach u (map (word f i) (partWords (kindOf k))) (getD t i 0) → r ≡ handOn f i t
 unfolding handOn partsHere kindHere
 handed-on f i t e h m n = n ∙ rw (m, h, e)

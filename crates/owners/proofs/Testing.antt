@@ -7,7 +7,7 @@ use mathlib.Core.Logic.{_⊎_, inl, inr}
 use mathlib.Core.Path.{_≡_, refl, ap, sym, _∙_}
 use Rattle.sets.specs.Tests.{_&_}
 use Rattle.language.specs.Lists.{all, upFrom}
-use Rattle.language.specs.Format.{createKind, removeKind}
+use Rattle.language.specs.Format.{createKind, removeKind, kindWord}
 use Rattle.language.specs.File.{kLiteral, kSum, kAssign, kConstruct, kSwitch, kIf, kCall, kPrint, kCreate, kRemove, Kind, kNone, kHeader, kType, kFunctor, kProcedure, kVariable, kRegion, kEdge, kArm, kArgument, kGoal, row, kindOf, word, recordCount}
 use Rattle.language.specs.Annotation.{unannotated}
 use Rattle.language.specs.Answers.{program}
@@ -50,29 +50,29 @@ pub record Left (f : List ℕ) (n i : ℕ) : Type 0 where
   pub count : n ≡ recordCount f
   pub some : 0 < i
   pub most : i ≤ n
-  pub rest : unannotated (program f) ≡ all (λ j. plainKind (kindOf (word f j 0))) (upFrom i (n - i))
+  pub rest : unannotated (program f) ≡ all (λ j. plainKind (kindOf (word f j kindWord))) (upFrom i (n - i))
 
 pub first : {f : List ℕ} {n : ℕ} → Formed f → n ≡ recordCount f → Left f n 1
 first F e = record { count = e; some = omega arith; most = omega (arith, counted F .some); rest = plain-records F ∙ rw e }
 
 module _ {f : List ℕ} {n i : ℕ} (h : Left f n i) where
-  here : i < n → unannotated (program f) ≡ (plainKind (kindOf (word f i 0)) & all (λ j. plainKind (kindOf (word f j 0))) (upFrom (i + 1) (n - (i + 1))))
+  here : i < n → unannotated (program f) ≡ (plainKind (kindOf (word f i kindWord)) & all (λ j. plainKind (kindOf (word f j kindWord))) (upFrom (i + 1) (n - (i + 1))))
   unfolding all
-  here l = h .rest ∙ ap (all (λ j. plainKind (kindOf (word f j 0)))) (from-here n i l)
+  here l = h .rest ∙ ap (all (λ j. plainKind (kindOf (word f j kindWord)))) (from-here n i l)
 
-  stop : i < n → plainKind (kindOf (word f i 0)) ≡ false → false ≡ unannotated (program f)
+  stop : i < n → plainKind (kindOf (word f i kindWord)) ≡ false → false ≡ unannotated (program f)
   unfolding _&_
   stop l e = sym (here l ∙ rw e)
 
-  pub stop-create : {w : ℕ} → i < n → w ≡ word f i 0 → w ≡ createKind → false ≡ unannotated (program f)
+  pub stop-create : {w : ℕ} → i < n → w ≡ word f i kindWord → w ≡ createKind → false ≡ unannotated (program f)
   unfolding all-rows plainKind
-  stop-create l e g = stop l (not-plain (word f i 0) (kGoal kCreate) (sym e ∙ g) refl)
+  stop-create l e g = stop l (not-plain (word f i kindWord) (kGoal kCreate) (sym e ∙ g) refl)
 
-  pub stop-remove : {w : ℕ} → i < n → w ≡ word f i 0 → w ≡ removeKind → false ≡ unannotated (program f)
+  pub stop-remove : {w : ℕ} → i < n → w ≡ word f i kindWord → w ≡ removeKind → false ≡ unannotated (program f)
   unfolding all-rows plainKind
-  stop-remove l e g = stop l (not-plain (word f i 0) (kGoal kRemove) (sym e ∙ g) refl)
+  stop-remove l e g = stop l (not-plain (word f i kindWord) (kGoal kRemove) (sym e ∙ g) refl)
 
-  pub next : {w : ℕ} → i < n → w ≡ word f i 0 → (w ≡ createKind → ⊥) → (w ≡ removeKind → ⊥) → Left f n (i + 1)
+  pub next : {w : ℕ} → i < n → w ≡ word f i kindWord → (w ≡ createKind → ⊥) → (w ≡ removeKind → ⊥) → Left f n (i + 1)
   unfolding _&_
   next {w} l e a b =
       record {
@@ -84,4 +84,4 @@ module _ {f : List ℕ} {n i : ℕ} (h : Left f n i) where
 
   pub last : n ≤ i → true ≡ unannotated (program f)
   unfolding all
-  last l = sym (h .rest ∙ ap (all (λ j. plainKind (kindOf (word f j 0)))) (from-end n i l))
+  last l = sym (h .rest ∙ ap (all (λ j. plainKind (kindOf (word f j kindWord)))) (from-end n i l))

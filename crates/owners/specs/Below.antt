@@ -8,10 +8,8 @@ use mathlib.Core.Path.{_≡_, refl, ap}
 use lib.ListN.{length}
 use Rattle.language.specs.File.{kLiteral, kSum, kAssign, kConstruct, kSwitch, kIf, kCall, kPrint, kCreate, kRemove, Kind, kNone, kHeader, kType, kFunctor, kProcedure, kVariable, kRegion, kEdge, kArm, kArgument, kGoal, Chain, nowhere, types, functors, procedures, variables, regions, edges, goals, arms, arguments, row, kindOf, word, recordCount}
 use Rattle.language.specs.Answers.{program}
-use Rattle.chains.specs.Layout.{all-rows}
-use Rattle.chains.specs.Layout.{real}
-use Rattle.chains.specs.Layout.{known-chain}
-use Rattle.chains.specs.Layout.{header-kind}
+use Rattle.language.specs.Format.{kindWord, nextWord}
+use Rattle.chains.specs.Layout.{all-rows, real, known-chain, header-kind}
 use Rattle.records.specs.Table.{uses}
 use Rattle.chains.specs.Formed.{Formed, Stands, proceduresAt, program-procedures}
 use Rattle.chains.specs.Kinds.{same-read}
@@ -41,13 +39,13 @@ module _ (f : List ℕ) (m : ℕ) where
   low-on l b z = omega (arith, b z)
 
   module _ (F : Formed f) (i : ℕ) (p : 0 < i) (q : i < recordCount f) where
-    procedure-few : kindOf (word f i 0) ≡ kProcedure → ownerOf f i + length (proceduresAt f i) ≡ m
-        → (ownerOf f i < m) × ((word f i 1 ≡ 0 → ⊥) → ownerOf f (word f i 1) + length (proceduresAt f (word f i 1)) ≡ m)
+    procedure-few : kindOf (word f i kindWord) ≡ kProcedure → ownerOf f i + length (proceduresAt f i) ≡ m
+        → (ownerOf f i < m) × ((word f i nextWord ≡ 0 → ⊥) → ownerOf f (word f i nextWord) + length (proceduresAt f (word f i nextWord)) ≡ m)
     procedure-few e h =
         let v = ap length (procedure-at F refl (same-read f i refl e) .view) in
         (omega (arith, v), λ z. omega (arith, v, procedure-next F i q e z))
 
-    few-step : (k : Kind) → kindOf (word f i 0) ≡ k → real (row k .chain) ≡ true → Few (row k .chain) i → Each Few (word f i) 1 (uses (row k))
+    few-step : (k : Kind) → kindOf (word f i kindWord) ≡ k → real (row k .chain) ≡ true → Few (row k .chain) i → Each Few (word f i) 1 (uses (row k))
     unfolding all-rows uses real Few
     few-step kNone e r h = absurd (false≢true r)
     few-step kHeader e r h = absurd (false≢true r)
@@ -81,7 +79,7 @@ module _ {f : List ℕ} (F : Formed f) where
   unfolding sortOf usesOf
   all-few =
       outward F (Few f (length (program f .procedures))) header-few
-      (λ i p q l. few-step f _ F i p q (kindOf (word f i 0)) refl (known-chain (word f) (recordCount f) (F .form) (header-kind f (F .header) (F .form)) i p q) l)
+      (λ i p q l. few-step f _ F i p q (kindOf (word f i kindWord)) refl (known-chain (word f) (recordCount f) (F .form) (header-kind f (F .header) (F .form)) i p q) l)
 
   module _ {i : ℕ} (z : i ≡ 0 → ⊥) where
     few-in : {c : Chain} → Stands f c i → Few f (length (program f .procedures)) c i

@@ -8,6 +8,7 @@ use lib.ListN.{length, getD, length-set, length-replicate}
 use lib.Seq.{getD-set-same, getD-set-other}
 use Rattle.language.specs.Lists.{count}
 use Rattle.language.specs.File.{kLiteral, kSum, kAssign, kConstruct, kSwitch, kIf, kCall, kPrint, kCreate, kRemove, Kind, kNone, kHeader, kType, kFunctor, kProcedure, kVariable, kRegion, kEdge, kArm, kArgument, kGoal, row, kindOf, kindAt, word, recordCount, leading, references}
+use Rattle.language.specs.Format.{kindWord, nextWord}
 use Rattle.chains.specs.Layout.{all-rows}
 use Rattle.laws.specs.Counts.{hit, hit-same, hit-other, count-none, count-cons}
 use Rattle.owners.specs.Referred.{times}
@@ -81,33 +82,33 @@ parts-few W n j (kGoal kRemove) i = omega arith
 
 module _ (f : List ℕ) (j i : ℕ) where
   -- w1 and the parts together
-  pub hands-few : hit (word f j 1) i + count i (partsHere f j) ≤ times f j i
+  pub hands-few : hit (word f j nextWord) i + count i (partsHere f j) ≤ times f j i
   unfolding partsHere kindHere times references kindAt
   hands-few =
-      omega (arith, parts-few (word f) (recordCount f) j (kindOf (word f j 0)) i, count-cons i (word f j 1) (leading (word f) (recordCount f) j 2 (row (kindOf (word f j 0)) .words)))
+      omega (arith, parts-few (word f) (recordCount f) j (kindOf (word f j kindWord)) i, count-cons i (word f j nextWord) (leading (word f) (recordCount f) j 2 (row (kindOf (word f j kindWord)) .words)))
 
   on-other : (t : List ℕ) → (0 < i → times f j i ≡ 0) → getD (handOn f j t) i 0 ≡ getD t i 0
   unfolding handOn
   on-other t h =
       each-other (partsHere f j) _ (getD t j 0) i (λ p. omega (arith, h p, hands-few))
-      ∙ hand-other t _ (word f j 1) i (λ p. omega (arith, h p, hands-few))
+      ∙ hand-other t _ (word f j nextWord) i (λ p. omega (arith, h p, hands-few))
 
-  pub on-next : (t : List ℕ) → 0 < i → i < length t → times f j i ≤ 1 → word f j 1 ≡ i → getD (handOn f j t) i 0 ≡ getD t j 0 + nextMore (kindHere f j)
+  pub on-next : (t : List ℕ) → 0 < i → i < length t → times f j i ≤ 1 → word f j nextWord ≡ i → getD (handOn f j t) i 0 ≡ getD t j 0 + nextMore (kindHere f j)
   unfolding handOn
   on-next t p q h e =
-      let s : hit (word f j 1) i ≡ 1 = ap (λ w. hit w i) e ∙ hit-same i in
+      let s : hit (word f j nextWord) i ≡ 1 = ap (λ w. hit w i) e ∙ hit-same i in
       each-other (partsHere f j) _ (getD t j 0) i (λ l. omega (arith, hands-few))
       ∙ rw e (hand-same t _ i p q)
 
   pub on-part : (t : List ℕ) → 0 < i → i < length t → 0 < count i (partsHere f j) → getD (handOn f j t) i 0 ≡ getD t j 0
   unfolding handOn
-  on-part t p q h = each-in (partsHere f j) _ (getD t j 0) i p (omega (arith, hand-length t (getD t j 0 + nextMore (kindHere f j)) (word f j 1))) h
+  on-part t p q h = each-in (partsHere f j) _ (getD t j 0) i p (omega (arith, hand-length t (getD t j 0 + nextMore (kindHere f j)) (word f j nextWord))) h
 
 -- ---- the pass
 module _ (f : List ℕ) where
   pub on-length : (j : ℕ) (t : List ℕ) → length (handOn f j t) ≡ length t
   unfolding handOn
-  on-length j t = each-length (partsHere f j) _ (getD t j 0) ∙ hand-length t _ (word f j 1)
+  on-length j t = each-length (partsHere f j) _ (getD t j 0) ∙ hand-length t _ (word f j nextWord)
 
   pub up-to-length : (m : ℕ) → length (ownersUpTo f m) ≡ recordCount f
   unfolding ownersUpTo

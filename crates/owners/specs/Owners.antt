@@ -12,8 +12,7 @@ use Rattle.language.specs.Format.{kindWord, nextWord, headerProcedures, procedu
 use Rattle.language.specs.File.{GoalKind, kSwitch, kIf, kCall, Kind, kHeader, kProcedure, kVariable, kRegion, kEdge, kArm, kArgument, kGoal, procedures, goals, kindOf, word, recordCount}
 use Rattle.language.specs.Answers.{program}
 use Rattle.laws.specs.Counts.{hit-same, count-cons}
-use Rattle.chains.specs.Layout.{header-kind}
-use Rattle.chains.specs.Layout.{real, chain-kind, goals-kind}
+use Rattle.chains.specs.Layout.{header-kind, real, chain-kind, goals-kind}
 use Rattle.records.specs.Records.{recordAt}
 use Rattle.records.specs.declared.Record.{Record}
 use Rattle.records.specs.declared.Record.the-variants.{Procedure, Switch, Arm, If}

@@ -9,6 +9,7 @@ use Rattle.language.specs.File.{kLiteral, kSum, kAssign, kConstruct, kSwitch, k
 use Rattle.language.specs.Program.{Goals, done, _then_, Goal, step, switch, ifLess, Arms, noArms, arm, Program}
 use Rattle.language.specs.Annotation.{plainStep, plainGoals, plainGoal, plainArms, unannotated}
 use Rattle.language.specs.Answers.{program}
+use Rattle.language.specs.Format.{kindWord}
 use Rattle.records.specs.Lists.{all-same}
 use Rattle.chains.specs.Formed.{Formed, goalAt}
 use Rattle.chains.specs.Kinds.{same-read}
@@ -68,7 +69,7 @@ plainKind (kGoal kCreate) = false
 plainKind (kGoal kRemove) = false
 
 module _ {f : List ℕ} (F : Formed f) where
-  plain-here : (i : ℕ) (k : Kind) → kindOf (word f i 0) ≡ k → ifGoal k (plainHere (goalAt f i)) ≡ plainKind k
+  plain-here : (i : ℕ) (k : Kind) → kindOf (word f i kindWord) ≡ k → ifGoal k (plainHere (goalAt f i)) ≡ plainKind k
   unfolding ifGoal plainHere plainStep plainKind
   plain-here i kNone e = refl
   plain-here i kHeader e = refl
@@ -92,8 +93,8 @@ module _ {f : List ℕ} (F : Formed f) where
   plain-here i (kGoal kRemove) e = ap plainHere (remove-at F refl (same-read f i refl e) .goal)
 
   -- THE LOOP: every record from 1 on
-  pub plain-records : unannotated (program f) ≡ all (λ i. plainKind (kindOf (word f i 0))) (upFrom 1 (recordCount f - 1))
+  pub plain-records : unannotated (program f) ≡ all (λ i. plainKind (kindOf (word f i kindWord))) (upFrom 1 (recordCount f - 1))
   unfolding everyRecord
   plain-records =
       plain-program (program f) ∙ every-record (λ q. plainHere) F
-      ∙ all-same (recordCount f - 1) 1 _ _ (λ i p q. record-kind (λ o. plainHere) F i (kindOf (word f i 0)) refl ∙ plain-here i _ refl)
+      ∙ all-same (recordCount f - 1) 1 _ _ (λ i p q. record-kind (λ o. plainHere) F i (kindOf (word f i kindWord)) refl ∙ plain-here i _ refl)

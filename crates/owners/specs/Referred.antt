@@ -9,8 +9,8 @@ use mathlib.Core.Bool.{false≢true}
 use mathlib.Core.Logic.{inl, inr}
 use Rattle.language.specs.Lists.{nth, nth1, count}
 use Rattle.language.specs.File.{kHeader, Chain, Use, number, unused, first, row, kindOf, kindAt, word, recordCount, references}
-use Rattle.chains.specs.Layout.{Leads, Used, once, next-leads, record-used}
-use Rattle.chains.specs.Layout.{header-kind}
+use Rattle.language.specs.Format.{kindWord}
+use Rattle.chains.specs.Layout.{Leads, Used, once, next-leads, record-used, header-kind}
 use Rattle.records.specs.Table.{uses}
 use Rattle.records.specs.Form.{references-by-uses}
 use Rattle.chains.specs.Formed.{Formed}
@@ -18,11 +18,11 @@ use Rattle.owners.specs.Counting.{counts-at, counts-twice, count-at, hit
 
 -- the sort of chain that record i stands in
 unfoldable pub sortOf : List ℕ → ℕ → Chain
-sortOf f i = row (kindOf (word f i 0)) .chain
+sortOf f i = row (kindOf (word f i kindWord)) .chain
 
 -- the uses of record i's words, from w1 on
 unfoldable pub usesOf : List ℕ → ℕ → List Use
-usesOf f i = uses (row (kindOf (word f i 0)))
+usesOf f i = uses (row (kindOf (word f i kindWord)))
 
 -- how often record j refers to record i
 unfoldable pub times : List ℕ → ℕ → ℕ → ℕ
@@ -101,7 +101,7 @@ module _ {f : List ℕ} (F : Formed f) where
 
   each-leads : (i : ℕ) → i < recordCount f → EachOf (Leads (word f) (recordCount f) i) f i
   unfolding usesOf uses
-  each-leads i q = (next-leads (word f) (recordCount f) (F .form) i q, used-each i (row (kindOf (word f i 0)) .words) 2 (record-used (word f) (recordCount f) (F .form) i q))
+  each-leads i q = (next-leads (word f) (recordCount f) (F .form) i q, used-each i (row (kindOf (word f i kindWord)) .words) 2 (record-used (word f) (recordCount f) (F .form) i q))
 
   pub refers-up : {j k i : ℕ} {c : Chain} → 0 < i → Refers f j k c i → Upward f j c i
   unfolding sortOf

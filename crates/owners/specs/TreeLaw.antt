@@ -8,14 +8,11 @@ use mathlib.Core.List.{List, [], _∷_}
 use mathlib.Core.Path.{_≡_, refl, ap, sym, _∙_}
 use Rattle.sets.specs.Tests.{_&_, and-true, true-and, same-truth}
 use Rattle.laws.specs.Numbers.{all-at, at-all}
-use Rattle.language.specs.Format.{headerProcedures}
+use Rattle.language.specs.Format.{headerProcedures, kindWord, nextWord, armGoals, ifElse, ifThen, procedureGoals, switchArms}
 use Rattle.language.specs.File.{kLiteral, kSum, kAssign, kConstruct, kSwitch, kIf, kCall, kPrint, kCreate, kRemove, Kind, kNone, kHeader, kType, kFunctor, kProcedure, kVariable, kRegion, kEdge, kArm, kArgument, kGoal, Chain, nowhere, types, functors, procedures, variables, regions, edges, goals, arms, arguments, Use, number, unused, first, row, kindOf, word, recordCount}
 use Rattle.language.specs.Program.{Step, _then_, Goal, step, switch, ifLess}
 use Rattle.language.specs.Answers.{program}
-use Rattle.chains.specs.Layout.{all-rows}
-use Rattle.chains.specs.Layout.{real}
-use Rattle.chains.specs.Layout.{known-chain}
-use Rattle.chains.specs.Layout.{header-kind}
+use Rattle.chains.specs.Layout.{all-rows, real, known-chain, header-kind}
 use Rattle.records.specs.Table.{uses}
 use Rattle.chains.specs.Formed.{Formed, Stands, counted, goalsAt, goalAt, armsAt, proceduresAt, goals-none, arms-none, procedures-none, program-procedures}
 use Rattle.chains.specs.Kinds.{same-read}
@@ -124,37 +121,39 @@ module _ (L : ℕ → Goal → Bool) {f : List ℕ} (F : Formed f) (i : ℕ) (q 
   here = L (ownerOf f i) (goalAt f i)
 
   -- a goal without parts
-  plain-goal : {s : Step} → goalsAt f i ≡ step s then goalsAt f (word f i 1) → goalAt f i ≡ step s → Belongs f (ownerOf f i) (word f i 1)
-      → chainTest L f goals i ≡ (here & (chainTest L f goals (word f i 1) & true))
+  plain-goal : {s : Step} → goalsAt f i ≡ step s then goalsAt f (word f i nextWord) → goalAt f i ≡ step s → Belongs f (ownerOf f i) (word f i nextWord)
+      → chainTest L f goals i ≡ (here & (chainTest L f goals (word f i nextWord) & true))
   unfolding chainTest allGoals
   plain-goal v g b = rw (v, g, owned-goals L f b) (one-swap _ _)
 
-  switch-goal : {x : ℕ} → goalsAt f i ≡ switch x (armsAt f (word f i 3)) then goalsAt f (word f i 1) → goalAt f i ≡ switch x (armsAt f (word f i 3))
-      → Belongs f (ownerOf f i) (word f i 1) → Belongs f (ownerOf f i) (word f i 3)
-      → chainTest L f goals i ≡ (here & (chainTest L f goals (word f i 1) & (chainTest L f arms (word f i 3) & true)))
+  switch-goal : {x : ℕ} → goalsAt f i ≡ switch x (armsAt f (word f i switchArms)) then goalsAt f (word f i nextWord)
+      → goalAt f i ≡ switch x (armsAt f (word f i switchArms))
+      → Belongs f (ownerOf f i) (word f i nextWord) → Belongs f (ownerOf f i) (word f i switchArms)
+      → chainTest L f goals i ≡ (here & (chainTest L f goals (word f i nextWord) & (chainTest L f arms (word f i switchArms) & true)))
   unfolding chainTest allGoals
   switch-goal v g b c = rw (v, g, owned-goals L f b, owned-arms L f c) (three-swap _ _ _)
 
-  if-goal : {y z : ℕ} → goalsAt f i ≡ ifLess y z (goalsAt f (word f i 4)) (goalsAt f (word f i 5)) then goalsAt f (word f i 1)
-      → goalAt f i ≡ ifLess y z (goalsAt f (word f i 4)) (goalsAt f (word f i 5))
-      → Belongs f (ownerOf f i) (word f i 1) → Belongs f (ownerOf f i) (word f i 4) → Belongs f (ownerOf f i) (word f i 5)
-      → chainTest L f goals i ≡ (here & (chainTest L f goals (word f i 1) & (chainTest L f goals (word f i 4) & (chainTest L f goals (word f i 5) & true))))
+  if-goal : {y z : ℕ} → goalsAt f i ≡ ifLess y z (goalsAt f (word f i ifThen)) (goalsAt f (word f i ifElse)) then goalsAt f (word f i nextWord)
+      → goalAt f i ≡ ifLess y z (goalsAt f (word f i ifThen)) (goalsAt f (word f i ifElse))
+      → Belongs f (ownerOf f i) (word f i nextWord) → Belongs f (ownerOf f i) (word f i ifThen) → Belongs f (ownerOf f i) (word f i ifElse)
+      → chainTest L f goals i ≡ (here & (chainTest L f goals (word f i nextWord) & (chainTest L f goals (word f i ifThen) & (chainTest L f goals (word f i ifElse) & true))))
   unfolding chainTest allGoals
   if-goal v g b c d = rw (v, g, owned-goals L f b, owned-goals L f c, owned-goals L f d) (four-swap _ _ _ _)
 
-  arm-record : kindOf (word f i 0) ≡ kArm → chainTest L f arms i ≡ (chainTest L f arms (word f i 1) & (chainTest L f goals (word f i 2) & true))
+  arm-record : kindOf (word f i kindWord) ≡ kArm
+      → chainTest L f arms i ≡ (chainTest L f arms (word f i nextWord) & (chainTest L f goals (word f i armGoals) & true))
   unfolding chainTest allGoals
   arm-record e =
       rw (arm-at F refl (same-read f i refl e) .view, owned-arms L f (arm-next F i q e), owned-goals L f (arm-goals F i q e)) (two-swap _ _)
 
-  procedure-record : kindOf (word f i 0) ≡ kProcedure
-      → chainTest L f procedures i ≡ (chainTest L f procedures (word f i 1) & (chainTest L f goals (word f i 4) & true))
+  procedure-record : kindOf (word f i kindWord) ≡ kProcedure
+      → chainTest L f procedures i ≡ (chainTest L f procedures (word f i nextWord) & (chainTest L f goals (word f i procedureGoals) & true))
   unfolding chainTest allFrom
   procedure-record e =
       let n : suc (ownerOf f i) ≡ ownerOf f i + 1 = omega arith in
       rw (procedure-at F refl (same-read f i refl e) .view, n, owned-procedures L f (procedure-next F i q e), owned-goals L f (procedure-goals F i q e)) (two-swap _ _)
 
-  record-step : (k : Kind) → kindOf (word f i 0) ≡ k → real (row k .chain) ≡ true
+  record-step : (k : Kind) → kindOf (word f i kindWord) ≡ k → real (row k .chain) ≡ true
       → chainTest L f (row k .chain) i ≡ (ifGoal k here & wordsTest L f (word f i) 1 (uses (row k)))
   unfolding all-rows uses real ifGoal wordsTest chainTest _&_
   record-step kNone e r = absurd (false≢true r)
@@ -182,7 +181,7 @@ module _ (L : ℕ → Goal → Bool) {f : List ℕ} (F : Formed f) where
   chain-record : (i : ℕ) → 0 < i → i < recordCount f → chainTest L f (sortOf f i) i ≡ (recordTest L f i & wordsTest L f (word f i) 1 (usesOf f i))
   unfolding sortOf usesOf recordTest
   chain-record i p q =
-      record-step L F i q (kindOf (word f i 0)) refl (known-chain (word f) (recordCount f) (F .form) (header-kind f (F .header) (F .form)) i p q)
+      record-step L F i q (kindOf (word f i kindWord)) refl (known-chain (word f) (recordCount f) (F .form) (header-kind f (F .header) (F .form)) i p q)
 
   whole : everyGoal L (program f) ≡ chainTest L f procedures (word f 0 headerProcedures)
   unfolding everyGoal
@@ -211,7 +210,7 @@ module _ (L : ℕ → Goal → Bool) {f : List ℕ} (F : Formed f) where
       (λ e. records-goals (λ i p q. all-at (recordCount f - 1) 1 (recordTest L f) e i p (omega arith)))
 
   -- ---- the test of one record, by its kind
-  pub record-kind : (i : ℕ) (k : Kind) → kindOf (word f i 0) ≡ k → recordTest L f i ≡ ifGoal k (L (ownerOf f i) (goalAt f i))
+  pub record-kind : (i : ℕ) (k : Kind) → kindOf (word f i kindWord) ≡ k → recordTest L f i ≡ ifGoal k (L (ownerOf f i) (goalAt f i))
   unfolding recordTest
   record-kind i k e = rw e
 

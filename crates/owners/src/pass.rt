@@ -7,6 +7,7 @@ ghost use mathlib.Core.List.{_++_, map};
 ghost use Prim.Native.Nat.{_+_, _≤_, _<_};
 ghost use lib.ListN.{length, getD, drop, replicate};
 ghost use Rattle.language.specs.File.{word, kindOf, recordCount};
+ghost use Rattle.records.specs.Sizes.{recordWords, wordEnd};
 ghost use Rattle.chains.specs.Formed.{Formed};
 ghost use Rattle.owners.specs.Owner.{partWords, nextMore, hand, handEach, handOn, ownersOf};
 
@@ -40,7 +41,7 @@ fn clear(owners: &mut [u16], n: usize)
 // Hands on the entry of record i.
 fn hand_on(file: &[u8], i: usize, owners: &mut [u16])
     requires { ⌜ i < length (now owners) ⌝ }
-    requires { ⌜ getD (now owners) i 0 < 65535 ⌝ }
+    requires { ⌜ getD (now owners) i 0 + 1 < wordEnd ⌝ }
     ensures { λ _. ⌜ now (owners .exit) ≡ handOn (now (file .entry)) i (now (owners .entry)) ⌝ }
 {
     let own = owners[i];
@@ -51,7 +52,7 @@ fn hand_on(file: &[u8], i: usize, owners: &mut [u16])
 
 // What a record hands to the next of its chain: the next procedure has the next number.
 fn for_next(kind: usize, own: u16) -> u16
-    requires { ⌜ own < 65535 ⌝ }
+    requires { ⌜ own + 1 < wordEnd ⌝ }
     ensures { λ r. ⌜ r ≡ own + nextMore (kindOf kind) ⌝ }
 {
     if kind == format::PROCEDURE {
@@ -85,7 +86,7 @@ fn hand_parts(file: &[u8], i: usize, kind: usize, x: u16, owners: &mut [u16])
 
 // Hands x to the record that word k of record i refers to; 0 is no record.
 fn hand_word(file: &[u8], i: usize, k: usize, x: u16, owners: &mut [u16])
-    requires { ⌜ k < 8 ⌝ }
+    requires { ⌜ k < recordWords ⌝ }
     ensures { λ _. ⌜ now (owners .exit) ≡ hand (now (owners .entry)) (word (now (file .entry)) i k) x ⌝ }
 {
     let w = word(file, i, k);

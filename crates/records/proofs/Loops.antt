@@ -6,14 +6,14 @@ use mathlib.Core.Bool.{Bool, true, false, _&&_, false≢true}
 use mathlib.Core.List.{List, [], _∷_}
 use lib.Dec.{eqb}
 use lib.ListN.{length, getD, replicate}
-use borrow.Author.Tests.{eq-eqb, ne-eqb}
 use Rattle.sets.specs.Tests.{_&_}
 use Rattle.language.specs.Lists.{all, upFrom}
-use Rattle.language.specs.Format.{maxRecords}
+use Rattle.language.specs.Format.{maxRecords, kindWord}
 use Rattle.language.specs.File.{Use, number, unused, first, row, kindOf, kindAt, recordOk, leading, references, referencesOf, onceIn, formOk}
 use Rattle.records.specs.Lists.{all-same, from-here, from-end, tally, tally-append, tally-once}
 use Rattle.records.specs.Table.{digit, pack, packed, uses, seven, pack-first, pack-rest}
 use Rattle.records.specs.Form.{Tallied, useOk, refers, leads, refersOk, spareOk, leading-cons, references-by-uses, record-apart}
+use Rattle.records.specs.Sizes.{digitEnd, recordWords}
 
 and-first : {a b : Bool} → a ≡ true → (a & b) ≡ b
 unfolding _&_
@@ -37,19 +37,19 @@ and-last false = refl
 module _ (W : ℕ → ℕ → ℕ) (n i : ℕ) where
   pub record Words (seen₀ seen : List ℕ) (digits k : ℕ) : Type 0 where
     pub ahead : List Use
-    pub many : k + length ahead ≡ 8
+    pub many : k + length ahead ≡ recordWords
     pub packs : digits ≡ pack ahead
     pub same : length seen ≡ length seen₀
     pub says : refersOk W n i ≡ refers W n i k ahead
     pub counts : tally seen (leading W n i k ahead) ≡ tally seen₀ (references W n i)
 
-  pub words-first : (seen : List ℕ) {w p : ℕ} → w ≡ W i 0 → p ≡ packed (kindOf w) → Words seen seen (p / 16) 1
+  pub words-first : (seen : List ℕ) {w p : ℕ} → w ≡ W i kindWord → p ≡ packed (kindOf w) → Words seen seen (p / digitEnd) 1
   unfolding packed kindAt refersOk
   words-first seen {w = w} e h =
       record {
         ahead = uses (row (kindAt W n i));
         many = omega (arith, seven (kindAt W n i));
-        packs = ap (λ x. x / 16) (h ∙ ap (λ x. packed (kindOf x)) e) ∙ pack-rest _ _;
+        packs = ap (λ x. x / digitEnd) (h ∙ ap (λ x. packed (kindOf x)) e) ∙ pack-rest _ _;
         same = refl;
         says = refl;
         counts = ap (tally seen) (sym (references-by-uses W n i));
@@ -60,30 +60,30 @@ module _ (W : ℕ → ℕ → ℕ) (n i : ℕ) where
   Said k d b seen after = (u : Use) → d ≡ digit u → Tallied b (useOk W n i k u) (leads W n i k u) seen after
 
   -- while a digit is left there is a word
-  pub words-some : {seen₀ seen : List ℕ} {digits k : ℕ} → Words seen₀ seen digits k → (digits ≡ 0 → ⊥) → k < 8
+  pub words-some : {seen₀ seen : List ℕ} {digits k : ℕ} → Words seen₀ seen digits k → (digits ≡ 0 → ⊥) → k < recordWords
   unfolding pack
   words-some {digits = digits} {k = k} h l = go (h .ahead) (h .many) (h .packs)
     where
-      go : (us : List Use) → k + length us ≡ 8 → digits ≡ pack us → k < 8
+      go : (us : List Use) → k + length us ≡ recordWords → digits ≡ pack us → k < recordWords
       go [] e p = absurd (l p)
       go (u ∷ us) e p = omega arith
 
   module _ {seen₀ seen after : List ℕ} {digits k : ℕ} {b : Bool} (h : Words seen₀ seen digits k) (l : digits ≡ 0 → ⊥)
-      (s : Said k (digits % 16) b seen after) where
-    pub words-next : b ≡ true → length after ≡ length seen → Words seen₀ after (digits / 16) (k + 1)
+      (s : Said k (digits % digitEnd) b seen after) where
+    pub words-next : b ≡ true → length after ≡ length seen → Words seen₀ after (digits / digitEnd) (k + 1)
     unfolding pack refers
     words-next t m = go (h .ahead) (h .many) (h .packs) (h .says) (h .counts)
       where
-        go : (us : List Use) → k + length us ≡ 8 → digits ≡ pack us → refersOk W n i ≡ refers W n i k us
-            → tally seen (leading W n i k us) ≡ tally seen₀ (references W n i) → Words seen₀ after (digits / 16) (k + 1)
+        go : (us : List Use) → k + length us ≡ recordWords → digits ≡ pack us → refersOk W n i ≡ refers W n i k us
+            → tally seen (leading W n i k us) ≡ tally seen₀ (references W n i) → Words seen₀ after (digits / digitEnd) (k + 1)
         go [] e p q r = absurd (l p)
         go (u ∷ us) e p q r =
             let g : suc k ≡ k + 1 = omega arith in
-            let w = s u (ap (λ x. x % 16) p ∙ pack-first u us) in
+            let w = s u (ap (λ x. x % digitEnd) p ∙ pack-first u us) in
             record {
               ahead = us;
               many = omega arith;
-              packs = ap (λ x. x / 16) p ∙ pack-rest u us;
+              packs = ap (λ x. x / digitEnd) p ∙ pack-rest u us;
               same = m ∙ h .same;
               says = q ∙ and-first (sym (w .says) ∙ t) ∙ ap (λ j. refers W n i j us) g;
               counts =
@@ -98,7 +98,7 @@ module _ (W : ℕ → ℕ → ℕ) (n i : ℕ) where
         go : (us : List Use) → digits ≡ pack us → refersOk W n i ≡ refers W n i k us → false ≡ refersOk W n i
         go [] p q = absurd (l p)
         go (u ∷ us) p q =
-            let w = s u (ap (λ x. x % 16) p ∙ pack-first u us) in
+            let w = s u (ap (λ x. x % digitEnd) p ∙ pack-first u us) in
             sym (q ∙ and-none _ (sym (w .says) ∙ t))
 
   -- where no digit is left, no word leads anywhere

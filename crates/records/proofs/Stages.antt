@@ -10,31 +10,32 @@ use borrow.Author.Tests.{le-leb, lt-leb, eq-eqb, ne-eqb}
 use Rattle.sets.specs.Tests.{_&_}
 use Rattle.language.specs.declared.Refusal.the-variants.{Header, Form}
 use Rattle.language.specs.declared.Verdict.the-variants.{Refused, Accepted}
-use Rattle.language.specs.Format.{headerCount, maxRecords}
+use Rattle.language.specs.Format.{headerCount, maxRecords, kindWord, maxBytes, recordBytes}
 use Rattle.language.specs.File.{word, recordCount, headerOk, formOk}
 use Rattle.language.specs.Answers.{lowest}
 use Rattle.records.specs.Words.{header-in}
 use Rattle.records.specs.Verdicts.{formStages, formVerdict}
 
 module _ (f : List ℕ) where
-  pub header-short : length f < 16 → false ≡ headerOk f
+  pub header-short : length f < recordBytes → false ≡ headerOk f
   unfolding headerOk _&_
-  header-short h = rw (lt-leb 16 (length f) h)
+  header-short h = rw (lt-leb recordBytes (length f) h)
 
-  pub header-long : 16 ≤ length f → 65536 < length f → false ≡ headerOk f
+  pub header-long : recordBytes ≤ length f → maxBytes < length f → false ≡ headerOk f
   unfolding headerOk _&_
-  header-long l h = rw (le-leb 16 (length f) l, lt-leb (length f) 65536 h)
+  header-long l h = rw (le-leb recordBytes (length f) l, lt-leb (length f) maxBytes h)
 
-  pub header-count : 16 ≤ length f → length f ≤ 65536 → {w : ℕ} → w ≡ word f 0 3 → (length f ≡ 16 * w → ⊥) → false ≡ headerOk f
+  pub header-count : recordBytes ≤ length f → length f ≤ maxBytes → {w : ℕ} → w ≡ word f 0 headerCount → (length f ≡ recordBytes * w → ⊥) → false ≡ headerOk f
   unfolding headerOk _&_ recordCount
-  header-count l h e n = rw (le-leb 16 (length f) l, le-leb (length f) 65536 h, ← e, ne-eqb (length f) _ n)
+  header-count l h e n = rw (le-leb recordBytes (length f) l, le-leb (length f) maxBytes h, ← e, ne-eqb (length f) _ n)
 
-  pub header-kind : 16 ≤ length f → length f ≤ 65536 → {w v : ℕ} → w ≡ word f 0 3 → length f ≡ 16 * w → v ≡ word f 0 0 → eqb v 1 ≡ headerOk f
+  pub header-kind : recordBytes ≤ length f → length f ≤ maxBytes → {w v : ℕ} → w ≡ word f 0 headerCount → length f ≡ recordBytes * w → v ≡ word f 0 kindWord
+      → eqb v 1 ≡ headerOk f
   unfolding headerOk _&_ recordCount
-  header-kind l h e s g = rw (le-leb 16 (length f) l, le-leb (length f) 65536 h, ← e, eq-eqb (length f) _ s, g)
+  header-kind l h e s g = rw (le-leb recordBytes (length f) l, le-leb (length f) maxBytes h, ← e, eq-eqb (length f) _ s, g)
 
   -- the record count as the code reads it
-  pub count-most : {b : Bool} {n : ℕ} → b ≡ headerOk f → b ≡ true → n ≡ word f 0 headerCount → (n ≤ maxRecords) × (16 * n ≤ length f)
+  pub count-most : {b : Bool} {n : ℕ} → b ≡ headerOk f → b ≡ true → n ≡ word f 0 headerCount → (n ≤ maxRecords) × (recordBytes * n ≤ length f)
   unfolding recordCount
   count-most e t c = let s = header-in f (sym e ∙ t) in (omega arith, omega arith)
 
@@ -42,7 +43,7 @@ module _ (f : List ℕ) where
   unfolding formVerdict formStages lowest
   form-header e h = rw (← e, h)
 
-  module _ {a b : Bool} {n : ℕ} (e : a ≡ headerOk f) (c : n ≡ word f 0 3) (g : b ≡ formOk (word f) n) where
+  module _ {a b : Bool} {n : ℕ} (e : a ≡ headerOk f) (c : n ≡ word f 0 headerCount) (g : b ≡ formOk (word f) n) where
     formed : b ≡ formOk (word f) (recordCount f)
     unfolding recordCount
     formed = g ∙ ap (formOk (word f)) c

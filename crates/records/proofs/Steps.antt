@@ -12,8 +12,9 @@ use Rattle.records.specs.Lists.{counted, tally}
 use Rattle.records.specs.Table.{digit, packed, uses, lowMost, highMost, pack-first}
 use Rattle.records.specs.Form.{Tallied, useOk, leads, spareOk}
 use Rattle.records.specs.Spare.{LowWords, HighWords, zeros-small}
+use Rattle.records.specs.Sizes.{digitEnd}
 
-packed-chain : (k : Kind) → packed k % 16 ≡ digit (first (row k .chain))
+packed-chain : (k : Kind) → packed k % digitEnd ≡ digit (first (row k .chain))
 unfolding packed
 packed-chain k = pack-first (first (row k .chain)) (uses (row k))
 
@@ -42,7 +43,7 @@ module _ (W : ℕ → ℕ → ℕ) (n i : ℕ) (c : Chain) (r : ℕ) where
   reference-up z h l = rw (ne-eqb r 0 z, lt-ltb i r h, lt-ltb r n l)
 
   pub reference-chain : {w p d : ℕ} → (r ≡ 0 → ⊥) → i < r → r < n → w ≡ W r 0 → p ≡ packed (kindOf w) → d ≡ digit (first c)
-      → eqb (p % 16) d ≡ referenceOk W n i c r
+      → eqb (p % digitEnd) d ≡ referenceOk W n i c r
   unfolding standsIn digit
   reference-chain {w = w} z h l a b e =
       rw (b, packed-chain (kindOf w), e, same-digit (code (row (kindOf w) .chain)) (code c), a) (sym (reference-up z h l))

@@ -1,3 +1,4 @@
+pub mod Sizes
 pub mod Blank
 pub mod Lists
 pub mod Words

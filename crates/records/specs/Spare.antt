@@ -1,5 +1,5 @@
 -- The unused words of a record are 0 exactly if w2 and w3, and w4 to w7, are small as numbers. Assumes nothing.
-use Prim.Native.Nat.{ℕ, _+_, _*_, _≤_, _<_, _^_, _-_, min}
+use Prim.Native.Nat.{ℕ, _+_, _*_, _≤_, _<_, _^_, _-_}
 use native.Mathlib.Omega.{arith}
 use mathlib.Core.Path.{_≡_, refl, sym, _∙_}
 use mathlib.Core.Bool.{Bool, true}
@@ -10,13 +10,14 @@ use Rattle.sets.specs.Tests.{_&_, same-truth, and-true, true-and}
 use Rattle.language.specs.File.{kLiteral, kSum, kAssign, kConstruct, kSwitch, kIf, kCall, kPrint, kCreate, kRemove, Kind, kNone, kHeader, kType, kFunctor, kProcedure, kVariable, kRegion, kEdge, kArm, kArgument, kGoal, row, rowIn, padded}
 use Rattle.records.specs.Table.{listed, lowMost, highMost}
 use Rattle.records.specs.Form.{zeros}
+use Rattle.records.specs.Sizes.{wordEnd}
 
 -- w2 and w3 of a record as one number, and w4 to w7
 abbrev pub LowWords : (ℕ → ℕ) → ℕ → Type 0
-LowWords w r = (r ≡ w 2 + 65536 * w 3) × (w 2 < 65536) × (w 3 < 65536)
+LowWords w r = (r ≡ w 2 + wordEnd * w 3) × (w 2 < wordEnd) × (w 3 < wordEnd)
 
 abbrev pub HighWords : (ℕ → ℕ) → ℕ → Type 0
-HighWords w r = (r ≡ w 4 + 65536 * (w 5 + 65536 * (w 6 + 65536 * w 7))) × (w 4 < 65536) × (w 5 < 65536) × (w 6 < 65536) × (w 7 < 65536)
+HighWords w r = (r ≡ w 4 + wordEnd * (w 5 + wordEnd * (w 6 + wordEnd * w 7))) × (w 4 < wordEnd) × (w 5 < wordEnd) × (w 6 < wordEnd) × (w 7 < wordEnd)
 
 -- ---- words that are all 0
 unfoldable nil : List ℕ → Bool
@@ -55,27 +56,27 @@ module _ (W : ℕ → ℕ → ℕ) (i : ℕ) {a b : ℕ} (l : LowWords (W i) a) 
   unfolding sum
   used0 = small _ _ _ (λ z. (omega arith, omega arith)) (λ p q. omega arith)
 
-  used1 : Small 65535 0 (W i 3 ∷ W i 4 ∷ W i 5 ∷ W i 6 ∷ W i 7 ∷ [])
+  used1 : Small (wordEnd - 1) 0 (W i 3 ∷ W i 4 ∷ W i 5 ∷ W i 6 ∷ W i 7 ∷ [])
   unfolding sum
   used1 = small _ _ _ (λ z. (omega arith, omega arith)) (λ p q. omega arith)
 
-  used2 : Small 4294967295 0 (W i 4 ∷ W i 5 ∷ W i 6 ∷ W i 7 ∷ [])
+  used2 : Small (wordEnd ^ 2 - 1) 0 (W i 4 ∷ W i 5 ∷ W i 6 ∷ W i 7 ∷ [])
   unfolding sum
   used2 = small _ _ _ (λ z. (omega arith, omega arith)) (λ p q. omega arith)
 
-  used3 : Small 4294967295 65535 (W i 5 ∷ W i 6 ∷ W i 7 ∷ [])
+  used3 : Small (wordEnd ^ 2 - 1) (wordEnd - 1) (W i 5 ∷ W i 6 ∷ W i 7 ∷ [])
   unfolding sum
   used3 = small _ _ _ (λ z. (omega arith, omega arith)) (λ p q. omega arith)
 
-  used4 : Small 4294967295 4294967295 (W i 6 ∷ W i 7 ∷ [])
+  used4 : Small (wordEnd ^ 2 - 1) (wordEnd ^ 2 - 1) (W i 6 ∷ W i 7 ∷ [])
   unfolding sum
   used4 = small _ _ _ (λ z. (omega arith, omega arith)) (λ p q. omega arith)
 
-  used5 : Small 4294967295 281474976710655 (W i 7 ∷ [])
+  used5 : Small (wordEnd ^ 2 - 1) (wordEnd ^ 3 - 1) (W i 7 ∷ [])
   unfolding sum
   used5 = small _ _ _ (λ z. (omega arith, omega arith)) (λ p q. omega arith)
 
-  used6 : Small 4294967295 18446744073709551615 []
+  used6 : Small (wordEnd ^ 2 - 1) (wordEnd ^ 4 - 1) []
   unfolding sum
   used6 = small _ _ _ (λ z. (omega arith, omega arith)) (λ p q. omega arith)
 

@@ -1,12 +1,12 @@
 -- The record table as numbers: one hex digit a word for the references, and the most that the other words may be. Assumes nothing.
 use Prim.Native.Nat.{ℕ, zero, suc, _+_, _-_, _*_, _/_, _%_, _^_, _≤_, _<_, min}
 use native.Mathlib.Omega.{arith}
-use mathlib.Core.Path.{_≡_, refl, sym, ap, _∙_}
+use mathlib.Core.Path.{_≡_, refl, sym, ap}
 use mathlib.Core.List.{List, [], _∷_, map}
 use lib.ListN.{length, getD}
 use Rattle.language.specs.Lists.{nth}
-use Rattle.language.specs.File.{Chain, nowhere, types, functors, procedures, variables, regions, edges, goals, arms, arguments, Use, number, unused, first, Row, row, rowIn, padded, kinds, kindOf, code}
-use Rattle.language.specs.File.{kLiteral, kSum, kAssign, kConstruct, kSwitch, kIf, kCall, kPrint, kCreate, kRemove, Kind, kNone, kHeader, kType, kFunctor, kProcedure, kVariable, kRegion, kEdge, kArm, kArgument, kGoal}
+use Rattle.language.specs.File.{Chain, nowhere, types, functors, procedures, variables, regions, edges, goals, arms, arguments, Use, number, unused, first, Row, row, rowIn, padded, kinds, kindOf, code, kLiteral, kSum, kAssign, kConstruct, kSwitch, kIf, kCall, kPrint, kCreate, kRemove, Kind, kNone, kHeader, kType, kFunctor, kProcedure, kVariable, kRegion, kEdge, kArm, kArgument, kGoal}
+use Rattle.records.specs.Sizes.{digitEnd, kindsEnd, wordEnd}
 
 -- what a word leads to: 0 for no reference, else the chain, from 1 on
 unfoldable pub digit : Use → ℕ
@@ -17,7 +17,7 @@ digit (first c) = 1 + code c
 -- digits, the first one lowest
 unfoldable pub pack : List Use → ℕ
 pack [] = 0
-pack (u ∷ us) = digit u + 16 * pack us
+pack (u ∷ us) = digit u + digitEnd * pack us
 
 -- the use of w1 to w7
 unfoldable pub uses : Row → List Use
@@ -36,10 +36,10 @@ listed (first c ∷ us) = suc (listed us)
 
 -- the most that w2 and w3 may be as one number where the unused words are 0, and w4 to w7
 unfoldable pub lowMost : Kind → ℕ
-lowMost k = 65536 ^ min 2 (listed (row k .words)) - 1
+lowMost k = wordEnd ^ min 2 (listed (row k .words)) - 1
 
 unfoldable pub highMost : Kind → ℕ
-highMost k = 65536 ^ (listed (row k .words) - 2) - 1
+highMost k = wordEnd ^ (listed (row k .words) - 2) - 1
 
 -- every row has seven words
 pub seven : (k : Kind) → length (uses (row k)) ≡ 7
@@ -78,17 +78,17 @@ code-low goals = omega arith
 code-low arms = omega arith
 code-low arguments = omega arith
 
-digit-low : (u : Use) → digit u < 16
+digit-low : (u : Use) → digit u < digitEnd
 unfolding digit
 digit-low number = omega arith
 digit-low unused = omega arith
 digit-low (first c) = omega (arith, code-low c)
 
-pub pack-first : (u : Use) (us : List Use) → pack (u ∷ us) % 16 ≡ digit u
+pub pack-first : (u : Use) (us : List Use) → pack (u ∷ us) % digitEnd ≡ digit u
 unfolding pack
 pack-first u us = omega (arith, digit-low u)
 
-pub pack-rest : (u : Use) (us : List Use) → pack (u ∷ us) / 16 ≡ pack us
+pub pack-rest : (u : Use) (us : List Use) → pack (u ∷ us) / digitEnd ≡ pack us
 unfolding pack
 pack-rest u us = omega (arith, digit-low u)
 
@@ -103,7 +103,7 @@ module _ (f : Kind → ℕ) where
   at-kind (k ∷ ks) zero h = refl
   at-kind (k ∷ ks) (suc n) h = at-kind ks n (omega arith)
 
-  pub table-at : (n : ℕ) → n < 20 → getD (tableOf f) n 0 ≡ f (kindOf n)
+  pub table-at : (n : ℕ) → n < kindsEnd → getD (tableOf f) n 0 ≡ f (kindOf n)
   unfolding tableOf kindOf kinds
   table-at n h = at-kind kinds n h
 
@@ -113,11 +113,11 @@ nth-past d [] n h = refl
 nth-past d (x ∷ xs) zero h = absurd (omega arith)
 nth-past d (x ∷ xs) (suc n) h = nth-past d xs n (omega arith)
 
--- a number above 19 is no kind
-pub kind-high : (n : ℕ) → 20 ≤ n → kindOf n ≡ kNone
+-- a number past 19 is no kind
+pub kind-high : (n : ℕ) → kindsEnd ≤ n → kindOf n ≡ kNone
 unfolding kindOf kinds
 kind-high n h = nth-past kNone kinds n h
 
-pub table-past : (f : Kind → ℕ) (n : ℕ) → 20 ≤ n → getD (tableOf f) 0 0 ≡ f (kindOf n)
+pub table-past : (f : Kind → ℕ) (n : ℕ) → kindsEnd ≤ n → getD (tableOf f) 0 0 ≡ f (kindOf n)
 unfolding tableOf kinds
 table-past f n h = ap f (sym (kind-high n h))

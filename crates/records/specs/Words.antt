@@ -8,24 +8,27 @@ use lib.ListN.{length, getD, List·getD-eq-default}
 use borrow.Author.Tests.{le-leb, eq-eqb, leb-true, eqb-true}
 use Rattle.sets.specs.Tests.{_&_, and-true}
 use Rattle.language.specs.File.{word, recordCount, headerOk}
+use Rattle.language.specs.Format.{headerKind, kindWord, maxBytes, maxRecords, recordBytes}
+use Rattle.records.specs.Sizes.{byteEnd, wordEnd}
 
 module _ (f : List ℕ) (i k : ℕ) where
   -- what is past the end is 0
-  pub word-past : length f ≤ 16 * i → word f i k ≡ 0
+  pub word-past : length f ≤ recordBytes * i → word f i k ≡ 0
   unfolding word
-  word-past h = rw (List·getD-eq-default f 0 {n = 16 * i + 2 * k} (omega arith), List·getD-eq-default f 0 {n = 16 * i + 2 * k + 1} (omega arith))
+  word-past h =
+      rw (List·getD-eq-default f 0 {n = recordBytes * i + 2 * k} (omega arith), List·getD-eq-default f 0 {n = recordBytes * i + 2 * k + 1} (omega arith))
 
   -- of bytes, a word is below 65,536
-  pub word-below : ((p : ℕ) → getD f p 0 < 256) → word f i k < 65536
+  pub word-below : ((p : ℕ) → getD f p 0 < byteEnd) → word f i k < wordEnd
   unfolding word
-  word-below h = omega (arith, h (16 * i + 2 * k), h (16 * i + 2 * k + 1))
+  word-below h = omega (arith, h (recordBytes * i + 2 * k), h (recordBytes * i + 2 * k + 1))
 
 -- what number 1 says of a file that passes it
 pub record Sized (f : List ℕ) : Type 0 where
   pub some : 0 < recordCount f
-  pub most : recordCount f ≤ 4096
-  pub size : length f ≡ 16 * recordCount f
-  pub begins : word f 0 0 ≡ 1
+  pub most : recordCount f ≤ maxRecords
+  pub size : length f ≡ recordBytes * recordCount f
+  pub begins : word f 0 kindWord ≡ headerKind
 
 module _ (f : List ℕ) where
   pub header-in : headerOk f ≡ true → Sized f
@@ -34,12 +37,12 @@ module _ (f : List ℕ) where
       let a = and-true e in
       let b = and-true (a .1) in
       let c = and-true (b .1) in
-      let low : 16 ≤ length f = leb-true _ _ (a .0) in
-      let high : length f ≤ 65536 = leb-true _ _ (b .0) in
-      let size : length f ≡ 16 * recordCount f = eqb-true _ _ (c .0) in
+      let low : recordBytes ≤ length f = leb-true _ _ (a .0) in
+      let high : length f ≤ maxBytes = leb-true _ _ (b .0) in
+      let size : length f ≡ recordBytes * recordCount f = eqb-true _ _ (c .0) in
       record { some = omega arith; most = omega arith; size = size; begins = eqb-true _ _ (c .1) }
 
   pub header-mk : Sized f → headerOk f ≡ true
   unfolding headerOk _&_
   header-mk s =
-      rw (le-leb 16 (length f) (omega arith), le-leb (length f) 65536 (omega arith), eq-eqb (length f) (16 * recordCount f) (s .size), eq-eqb (word f 0 0) 1 (s .begins))
+      rw (le-leb recordBytes (length f) (omega arith), le-leb (length f) maxBytes (omega arith), eq-eqb (length f) (recordBytes * recordCount f) (s .size), eq-eqb (word f 0 kindWord) headerKind (s .begins))

@@ -1,5 +1,6 @@
 // Tables of zeros, one function for each shape.
 use language::format::MAX_BYTES;
+use language::format::MAX_FUNCTORS;
 use language::format::MAX_PROCEDURES;
 use language::format::MAX_RECORDS;
 use language::format::PLACES;
@@ -9,7 +10,7 @@ ghost use Rattle.language.specs.Format.{places, maxRecords, maxProcedures};
 ghost use Rattle.records.specs.Blank.{functorPlaces, classWords, fileWords, rowWords, inputBytes};
 
 // A place for each functor of each type, as far as 32 of 65 types.
-pub const FUNCTOR_PLACES: usize = 32 * PLACES;
+pub const FUNCTOR_PLACES: usize = MAX_FUNCTORS * PLACES;
 
 // Three words a procedure: born, dead and kept regions.
 pub const CLASS_WORDS: usize = 3 * MAX_PROCEDURES;

@@ -1,5 +1,6 @@
 // Number 2: a pass over the records, each by its unused words and its references, and a look at the counts.
 use crate::blank::blank_marks;
+use crate::words::WORD_END;
 use crate::words::word_in;
 use language::format::KIND;
 ghost use mathlib.Core.Path.{_≡_};
@@ -8,15 +9,18 @@ ghost use Prim.Native.Nat.{ℕ, _+_, _-_, _*_, _≤_, _<_, min};
 ghost use lib.Dec.{eqb};
 ghost use lib.ListN.{length, getD};
 ghost use Rattle.language.specs.Lists.{all, upFrom};
-ghost use Rattle.language.specs.Format.{maxRecords};
+ghost use Rattle.language.specs.Format.{maxRecords, recordBytes};
 ghost use Rattle.language.specs.File.{word, Kind, Chain, Use, first, kindOf, referenceOk, recordOk, references, referencesOf, formOk};
 ghost use Rattle.records.specs.Lists.{counted};
 ghost use Rattle.records.specs.Table.{tableOf, digit, packed, lowMost, highMost};
 ghost use Rattle.records.specs.Spare.{LowWords, HighWords};
 ghost use Rattle.records.specs.Form.{Tallied, useOk, leads, refersOk, spareOk};
+ghost use Rattle.records.specs.Sizes.{recordWords};
 
-// Kinds' numbers are below this.
+// Kinds' numbers are below this, and the digits of the record table.
 const KINDS: usize = 20;
+
+const DIGIT_END: usize = 16;
 
 // The record table, a row for each kind's number. Hex digit k, from the right, is the chain that word k leads to: 0 none at all, 1 nowhere,
 // 2 types, 3 functors, 4 procedures, 5 variables, 6 regions, 7 edges, 8 goals, 9 arms, a arguments. Digit 0 is the chain that the kind stands in.
@@ -118,30 +122,30 @@ fn row_of(table: &[usize; KINDS], kind: usize) -> usize
 
 // w2 and w3 of record i as one number.
 fn low_words(file: &[u8], i: usize) -> usize
-    requires { ⌜ 16 * i + 16 ≤ length (now file) ⌝ }
+    requires { ⌜ recordBytes * i + recordBytes ≤ length (now file) ⌝ }
     ensures { λ r. ⌜ LowWords (word (now (file .entry)) i) r ⌝ }
 {
     let w2 = word_in(file, i, 2);
     let w3 = word_in(file, i, 3);
-    w2 + 65536 * w3
+    w2 + WORD_END * w3
 }
 
 // w4 to w7 of record i as one number.
 fn high_words(file: &[u8], i: usize) -> usize
-    requires { ⌜ 16 * i + 16 ≤ length (now file) ⌝ }
+    requires { ⌜ recordBytes * i + recordBytes ≤ length (now file) ⌝ }
     ensures { λ r. ⌜ HighWords (word (now (file .entry)) i) r ⌝ }
 {
     let w4 = word_in(file, i, 4);
     let w5 = word_in(file, i, 5);
     let w6 = word_in(file, i, 6);
     let w7 = word_in(file, i, 7);
-    w4 + 65536 * (w5 + 65536 * (w6 + 65536 * w7))
+    w4 + WORD_END * (w5 + WORD_END * (w6 + WORD_END * w7))
 }
 
 // Whether the words of record i that its kind does not use are 0.
 fn spare_ok(low: &[usize; KINDS], high: &[usize; KINDS], file: &[u8], i: usize) -> bool
     requires { ⌜ (now low ≡ tableOf lowMost) × (now high ≡ tableOf highMost) ⌝ }
-    requires { ⌜ 16 * i + 16 ≤ length (now file) ⌝ }
+    requires { ⌜ recordBytes * i + recordBytes ≤ length (now file) ⌝ }
     ensures { λ b. ⌜ b ≡ spareOk (word (now (file .entry))) i ⌝ }
 {
     let kind = word_in(file, i, KIND);
@@ -163,7 +167,7 @@ fn reference_ok(
     chain: usize,
 ) -> bool
     requires { ⌜ now rows ≡ tableOf packed ⌝ }
-    requires { ⌜ (i < n) × (16 * n ≤ length (now file)) ⌝ }
+    requires { ⌜ (i < n) × (recordBytes * n ≤ length (now file)) ⌝ }
     ensures { λ b. ⌜ ((c : Chain) → chain ≡ digit (first c) → b ≡ referenceOk (word (now (file .entry))) n i c r) × (b ≡ true → r < n) ⌝ }
 {
     if r == 0 {
@@ -175,7 +179,7 @@ fn reference_ok(
     if n <= r {
         return false;
     }
-    row_of(rows, word_in(file, r, KIND)) % 16 == chain
+    row_of(rows, word_in(file, r, KIND)) % DIGIT_END == chain
 }
 
 fn one_more(x: u8) -> u8
@@ -207,7 +211,7 @@ fn word_ok(
     chain: usize,
 ) -> bool
     requires { ⌜ now rows ≡ tableOf packed ⌝ }
-    requires { ⌜ (k < 8) × (i < n) × (n ≤ length (now seen)) × (16 * n ≤ length (now file)) ⌝ }
+    requires { ⌜ (k < recordWords) × (i < n) × (n ≤ length (now seen)) × (recordBytes * n ≤ length (now file)) ⌝ }
     ensures { λ b. ⌜ ((u : Use) → chain ≡ digit u → Tallied b (useOk (word (now (file .entry))) n i k u) (leads (word (now (file .entry))) n i k u) (now (seen .entry)) (now (seen .exit))) ⌝ }
 {
     if chain == 0 {
@@ -224,16 +228,16 @@ fn word_ok(
 // Whether the references of record i are in order. Counts what they refer to.
 fn refers_ok(rows: &[usize; KINDS], file: &[u8], seen: &mut [u8], n: usize, i: usize) -> bool
     requires { ⌜ now rows ≡ tableOf packed ⌝ }
-    requires { ⌜ (i < n) × (n ≤ length (now seen)) × (16 * n ≤ length (now file)) ⌝ }
+    requires { ⌜ (i < n) × (n ≤ length (now seen)) × (recordBytes * n ≤ length (now file)) ⌝ }
     ensures { λ b. ⌜ Tallied b (refersOk (word (now (file .entry))) n i) (references (word (now (file .entry))) n i) (now (seen .entry)) (now (seen .exit)) ⌝ }
 {
-    let mut row = row_of(rows, word_in(file, i, KIND)) / 16;
+    let mut row = row_of(rows, word_in(file, i, KIND)) / DIGIT_END;
     let mut k: usize = 1;
     while row != 0 {
-        if !word_ok(rows, file, seen, n, i, k, row % 16) {
+        if !word_ok(rows, file, seen, n, i, k, row % DIGIT_END) {
             return false;
         }
-        row = row / 16;
+        row = row / DIGIT_END;
         k += 1;
     }
     true
@@ -250,7 +254,7 @@ fn record_ok(
     i: usize,
 ) -> bool
     requires { ⌜ (now rows ≡ tableOf packed) × (now low ≡ tableOf lowMost) × (now high ≡ tableOf highMost) ⌝ }
-    requires { ⌜ (i < n) × (n ≤ length (now seen)) × (16 * n ≤ length (now file)) ⌝ }
+    requires { ⌜ (i < n) × (n ≤ length (now seen)) × (recordBytes * n ≤ length (now file)) ⌝ }
     ensures { λ b. ⌜ Tallied b (recordOk (word (now (file .entry))) n i) (references (word (now (file .entry))) n i) (now (seen .entry)) (now (seen .exit)) ⌝ }
 {
     if !spare_ok(low, high, file, i) {
@@ -261,7 +265,7 @@ fn record_ok(
 
 // Whether every record is. Counts what they refer to.
 fn records_ok(file: &[u8], seen: &mut [u8], n: usize) -> bool
-    requires { ⌜ (n ≤ length (now seen)) × (16 * n ≤ length (now file)) ⌝ }
+    requires { ⌜ (n ≤ length (now seen)) × (recordBytes * n ≤ length (now file)) ⌝ }
     ensures { λ b. ⌜ Tallied b (all (recordOk (word (now (file .entry))) n) (upFrom 0 n)) (referencesOf (word (now (file .entry))) n (upFrom 0 n)) (now (seen .entry)) (now (seen .exit)) ⌝ }
 {
     let table = rows();
@@ -293,7 +297,7 @@ fn all_once(seen: &[u8], n: usize) -> bool
 
 // Number 2, over the words of n records.
 pub(crate) fn form_ok(file: &[u8], n: usize) -> bool
-    requires { ⌜ (n ≤ maxRecords) × (16 * n ≤ length (now file)) ⌝ }
+    requires { ⌜ (n ≤ maxRecords) × (recordBytes * n ≤ length (now file)) ⌝ }
     ensures { λ b. ⌜ b ≡ formOk (word (now (file .entry))) n ⌝ }
 {
     let mut seen = blank_marks();

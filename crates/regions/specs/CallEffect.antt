@@ -1,43 +1,42 @@
 -- A call: number 5 of it, and its effect, by its mapping and the window of its callee.
-use Prim.Native.Nat.{ℕ, _≤_, _<_}
+use Prim.Native.Nat.{ℕ, _≤_}
 use native.Mathlib.Omega.{arith}
 use native.Mathlib.Decide.{ℕ-discrete, decLt}
-use mathlib.Core.Bool.{Bool, true, false, false≢true}
-use mathlib.Core.List.{List, [], _∷_, map}
-use mathlib.Core.Logic.{_≢_, _⊎_, inl, inr, ⊎-elim}
-use mathlib.Core.Path.{_≡_, refl, sym, ap, ap₂, _∙_, fun-ext}
+use mathlib.Core.Bool.{Bool, true, false}
+use mathlib.Core.List.{List, map}
+use mathlib.Core.Logic.{_⊎_, inl, inr, ⊎-elim}
+use mathlib.Core.Path.{_≡_, refl, sym, ap, _∙_, fun-ext}
 use borrow.Author.Tests.{ltb-true}
 use lib.ListN.{length, getD, replicate, getD-replicate, length-replicate, List·getD-eq-default}
 use Rattle.sets.specs.Tests.{and-true}
-use Rattle.sets.specs.Sets.{member, _∪_}
+use Rattle.sets.specs.Sets.{_∪_}
 use Rattle.sets.specs.Members.{inList, image, cons-here, cons-later}
-use Rattle.sets.specs.declared.Set.{Set}
 use Rattle.language.specs.File.{kCall, word, arguments}
-use Rattle.language.specs.Format.{kindWord, callKind, callProcedure, callArguments}
-use Rattle.language.specs.Program.{Functor, call, step, Signature, regionOf, signatureOf, parametersOf, parameterVariables}
+use Rattle.language.specs.Format.{callProcedure, callArguments, maxRegions, places}
+use Rattle.language.specs.Program.{Functor, call, Signature, regionOf, signatureOf, parametersOf, parameterVariables}
 use Rattle.language.specs.Typing.{signatureOk, stepOk, haveTypes, parameterTypes}
 use Rattle.language.specs.Regions.{targets, Mapping, images, imageIn, oneWay, mapping, regionsOf, stepRegions}
-use Rattle.language.specs.Lifetimes.{inputs, outputs, born, dead, kept, unsharedIn, callEffect, effect}
+use Rattle.language.specs.Lifetimes.{inputs, outputs, born, dead, kept, callEffect, effect}
 use Rattle.language.specs.Answers.{program}
-use Rattle.region_graph.specs.Laws.{Called, shared}
+use Rattle.region_graph.specs.Laws.{shared}
 use Rattle.region_graph.specs.Typed.{regions-few, signature-typed}
 use Rattle.region_graph.specs.Procedure.{declared}
 use Rattle.region_graph.specs.Shared.{region-top, shared-ranged, shared-closed, parameter-own}
 use Rattle.region_graph.specs.Alike.{parameterRegions, Paired, paired-nil, paired-cons, Alike, region-some, targets-alike}
 use Rattle.region_graph.specs.Mapping.{Due, Image, Outcome, mapping-outcome}
 use Rattle.region_graph.specs.Calls.{listed-image, regions-map, arguments-paired, called-typed}
-use Rattle.chains.specs.Formed.{Formed, Stands, goalAt, argumentsAt}
+use Rattle.chains.specs.Formed.{Stands, argumentsAt}
 use Rattle.chains.specs.Shapes.{IsCall, call-here, to-arguments}
 use Rattle.owners.specs.Everywhere.{recordTest}
 use Rattle.tables.specs.Window.{Window, FileTable}
 use Rattle.tables.specs.Starts.{windowIn, window-here}
 use Rattle.tables.specs.declared.Effect.{Effect}
-use Rattle.regions.specs.Pairs.{imagesIn, answer, Sides, Standing, window-stands}
+use Rattle.regions.specs.Pairs.{imagesIn, answer, Standing, window-stands}
 use Rattle.regions.specs.CallMap.{Blank, CallMapped}
 use Rattle.regions.specs.Images.{Imaged, ImageEffect}
 use Rattle.regions.specs.Single.{agreesHere, agrees}
 use Rattle.regions.specs.Here.{signatureAt, Here, call-kind, goal-test, step-typed}
-use Rattle.regions.specs.Effects.{Effects, EffectAt, effect-made}
+use Rattle.regions.specs.Effects.{EffectAt, effect-made}
 
 -- ---- only the callee's input and output regions have images
 module _ (T : List (List Functor)) (C Q : Signature) (okC : signatureOk T C ≡ true) (okQ : signatureOk T Q ≡ true) (ys : List ℕ)
@@ -84,14 +83,14 @@ unfolding answer
 images-answer b t e = rw e refl
 
 -- a table of zeros
-pub blank : {t : List ℕ} → t ≡ replicate 65 0 → Blank t
-blank e = rw e (record { room = length-replicate {A = ℕ} 65 0; none = none })
+pub blank : {t : List ℕ} → t ≡ replicate places 0 → Blank t
+blank e = rw e (record { room = length-replicate {A = ℕ} places 0; none = none })
   where
-    none : (q : ℕ) → getD {A = ℕ} (replicate 65 0) q 0 ≡ 0
+    none : (q : ℕ) → getD {A = ℕ} (replicate places 0) q 0 ≡ 0
     none q =
-        elim (decLt q 65) [
-          | yes l ↦ getD-replicate 65 q 0 0 l
-          | no l ↦ (let m : length {A = ℕ} (replicate 65 0) ≤ q = omega (arith, length-replicate {A = ℕ} 65 0) in List·getD-eq-default (replicate 65 0) 0 m)
+        elim (decLt q places) [
+          | yes l ↦ getD-replicate places q 0 0 l
+          | no l ↦ (let m : length {A = ℕ} (replicate places 0) ≤ q = omega (arith, length-replicate {A = ℕ} places 0) in List·getD-eq-default (replicate places 0) 0 m)
         ]
 
 -- the call at record i, own the window of its procedure, theirs that of its callee
@@ -164,7 +163,7 @@ module _ {f own theirs : List ℕ} {i : ℕ} (K : CallHere f own theirs i) where
           let D = declared (program f .types) Q okQ in
           let c = called-typed (program f .types) C Q okC okQ ys matches (ap oneWay found) in
           let m : (p : ℕ) → c .image p ≡ imagesIn t′ p = λ p. ap (λ (a : Mapping). imageIn a p) (sym (c .mapped) ∙ found) in
-          let top : (p : ℕ) → shared Q p → (1 ≤ imagesIn t′ p) × (imagesIn t′ p ≤ 64) =
+          let top : (p : ℕ) → shared Q p → (1 ≤ imagesIn t′ p) × (imagesIn t′ p ≤ maxRegions) =
           λ p s. rw (← m p) (region-top (program f .types) C (declared (program f .types) C okC) (c .image p) (c .region p s)) in
           record {
             only = only-passed (program f .types) C Q okC okQ ys matches (imagesIn t′) found;

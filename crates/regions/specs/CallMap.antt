@@ -7,7 +7,7 @@ use mathlib.Core.Logic.{_≢_}
 use mathlib.Core.Path.{_≡_, refl, sym, ap, ap₂, _∙_, fun-ext}
 use lib.ListN.{length, getD, length-append}
 use Rattle.language.specs.File.{variables, arguments, word}
-use Rattle.language.specs.Format.{nextWord, argumentVariable}
+use Rattle.language.specs.Format.{nextWord, argumentVariable, variableMode, variableRegion, places}
 use Rattle.language.specs.Lists.{nth, nth1}
 use Rattle.language.specs.Program.{Variable, Signature, Parameter, regionOf, variableAt, parameterIn, parametersFrom, parametersOf, parameterVariables}
 use Rattle.language.specs.Typing.{haveTypes, parameterTypes}
@@ -16,9 +16,8 @@ use Rattle.region_graph.specs.Typed.{regions-few}
 use Rattle.region_graph.specs.Alike.{Paired, Alike, arguments-alike}
 use Rattle.region_graph.specs.Unmapped.{unmapped-all}
 use Rattle.chains.specs.Formed.{Formed, Stands, variablesAt, argumentsAt}
-use Rattle.chains.specs.Declared.{VariableAt, variable-at}
-use Rattle.chains.specs.Parts.{argument-at}
-use Rattle.chains.specs.Is.{variable-is, argument-is}
+use Rattle.chains.specs.Shapes
+use Rattle.chains.specs.Shapes.{variable-here}
 use Rattle.tables.specs.Window.{Window, homeIn, firstPlace}
 use Rattle.regions.specs.Pairs.{imagesIn, answer, Sides, ListsMapped, RestMapped}
 
@@ -108,9 +107,9 @@ pub rest-skips : (f own theirs : List ℕ) {rs₀ us₀ t₀ rs rs′ us t : Lis
 rest-skips f own theirs e h = rw (← e) h
 
 -- ---- the definition's mapping
--- a table of 65 places without an image
+-- a table of places places without an image
 pub record Blank (t : List ℕ) : Type 0 where
-  pub room : length t ≡ 65
+  pub room : length t ≡ places
   pub none : (q : ℕ) → getD t q 0 ≡ 0
 
 abbrev pub CallMapped : List ℕ → List ℕ → List ℕ → ℕ → List ℕ → Bool → List ℕ → Type 0
@@ -143,17 +142,15 @@ call-mapped f own theirs {ps} args t b t′ e h C Q s y k =
 
 -- ---- one at a time, over the words that the code has read
 module _ (f : List ℕ) (x : ℕ) (F : Formed f) (s : Stands f variables x) (z : x ≡ 0 → ⊥) where
-  variable-view : VariableAt f x (word f x 1) (word f x 2) (word f x 3) (word f x 4)
-  variable-view = variable-at F refl (variable-is s z)
-
   -- a variable of the callee's own
-  pub parameter-passed : {m w : ℕ} → m ≡ word f x 2 → m ≡ 0 → w ≡ word f x 1 → regionsOfParameters (variablesAt f x) ≡ regionsOfParameters (variablesAt f w)
-  parameter-passed e q h = rw h (parameters-local (variable-view .view) (sym e ∙ q))
+  pub parameter-passed : {m w : ℕ} → m ≡ word f x variableMode → m ≡ 0 → w ≡ word f x nextWord
+      → regionsOfParameters (variablesAt f x) ≡ regionsOfParameters (variablesAt f w)
+  parameter-passed e q h = rw h (parameters-local (variable-here F z s .view) (sym e ∙ q))
 
-  pub parameter-here : {m w r : ℕ} → m ≡ word f x 2 → m ≢ 0 → w ≡ word f x 1 → r ≡ word f x 4
+  pub parameter-here : {m w r : ℕ} → m ≡ word f x variableMode → m ≢ 0 → w ≡ word f x nextWord → r ≡ word f x variableRegion
       → regionsOfParameters (variablesAt f x) ≡ r ∷ regionsOfParameters (variablesAt f w)
-  parameter-here e n h g = rw (h, g) (parameters-next (variable-view .view) (λ q. n (e ∙ q)))
+  parameter-here e n h g = rw (h, g) (parameters-next (variable-here F z s .view) (λ q. n (e ∙ q)))
 
 pub argument-here : (f t : List ℕ) (a : ℕ) → Formed f → Stands f arguments a → (a ≡ 0 → ⊥) → {y u w : ℕ} → y ≡ word f a argumentVariable
     → u ≡ homeIn t y → w ≡ word f a nextWord → homesIn t (argumentsAt f a) ≡ u ∷ homesIn t (argumentsAt f w)
-argument-here f t a F s z e h k = rw k (homes-next t (argument-at F refl (argument-is s z) .view) (h ∙ ap (homeIn t) e))
+argument-here f t a F s z e h k = rw k (homes-next t (Shapes.argument-here F z s .view) (h ∙ ap (homeIn t) e))

@@ -10,6 +10,7 @@ use Rattle.sets.specs.Sets.{member, emptySet, single, _∪_, _∩_, member-pos,
 use Rattle.sets.specs.Members.{nextMember}
 use Rattle.sets.specs.Walk.{next-is}
 use Rattle.sets.specs.declared.Set.{Set}
+use Rattle.language.specs.Format.{maxRegions, places}
 
 -- n is the image of two members of rs
 pub record Shared (m : ℕ → ℕ) (rs : Set) (n : ℕ) : Type 0 where
@@ -18,7 +19,7 @@ pub record Shared (m : ℕ → ℕ) (rs : Set) (n : ℕ) : Type 0 where
   pub one-in : member rs one ≡ true
   pub two-in : member rs two ≡ true
   pub order : one < two
-  pub top : two ≤ 64
+  pub top : two ≤ maxRegions
   pub image-one : m one ≡ n
   pub image-two : m two ≡ n
 
@@ -29,18 +30,18 @@ pub record Meet (m : ℕ → ℕ) (rs : Set) (a b : ℕ) : Type 0 where
   pub order : a < b
   pub same : m a ≡ m b
   pub low : 1 ≤ m a
-  pub top : m a ≤ 64
+  pub top : m a ≤ maxRegions
 
 pub record Doubled (m : ℕ → ℕ) (rs twice : Set) : Type 0 where
   pub only : (n : ℕ) → member twice n ≡ true → Shared m rs n
-  pub all : (a b : ℕ) → Meet m rs a b → b ≤ 64 → member twice (m a) ≡ true
+  pub all : (a b : ℕ) → Meet m rs a b → b ≤ maxRegions → member twice (m a) ≡ true
 
 -- the members up to `done` are seen; x is the next
 pub record Seeing (m : ℕ → ℕ) (rs seen twice : Set) (x : ℕ) : Type 0 where
   pub done : ℕ
   pub next : x ≡ nextMember rs done
   pub seen-in : (n : ℕ) → member seen n ≡ true → (k : ℕ) × (member rs k ≡ true) × (k ≤ done) × (m k ≡ n)
-  pub seen-mk : (k : ℕ) → member rs k ≡ true → k ≤ done → 1 ≤ m k → m k ≤ 64 → member seen (m k) ≡ true
+  pub seen-mk : (k : ℕ) → member rs k ≡ true → k ≤ done → 1 ≤ m k → m k ≤ maxRegions → member seen (m k) ≡ true
   pub only : (n : ℕ) → member twice n ≡ true → Shared m rs n
   pub all : (a b : ℕ) → Meet m rs a b → b ≤ done → member twice (m a) ≡ true
 
@@ -65,10 +66,10 @@ module _ (m : ℕ → ℕ) (rs : Set) where
         go (yes g) = absurd (clash i (next-is rs (h .done) .none k g (omega (arith, h .next))))
         go (no g) = omega arith
 
-    pub see-last : 65 ≤ x → Doubled m rs twice
+    pub see-last : places ≤ x → Doubled m rs twice
     see-last l = record { only = h .only; all = λ a b g t. h .all a b g (is-done b (g .b-in) (omega arith)) }
 
-    module _ (l : x < 65) where
+    module _ (l : x < places) where
       here : member rs x ≡ true
       here = rw (h .next) (next-is rs (h .done) .found (rw (← h .next) l))
 
@@ -80,7 +81,7 @@ module _ (m : ℕ → ℕ) (rs : Set) where
           ⊎-elim (λ p. let r = h .seen-in n p in (r .0, r .1, (let d = done-before in omega arith), r .3))
           (λ q. (x, here, omega arith, single-in (m x) n q)) (union-in seen (single (m x)) n i)
 
-      seen-mk-more : (k : ℕ) → member rs k ≡ true → k ≤ x → 1 ≤ m k → m k ≤ 64 → member (seen ∪ single (m x)) (m k) ≡ true
+      seen-mk-more : (k : ℕ) → member rs k ≡ true → k ≤ x → 1 ≤ m k → m k ≤ maxRegions → member (seen ∪ single (m x)) (m k) ≡ true
       seen-mk-more k i t a b = go (ℕ-discrete k x)
         where
           go : Dec (k ≡ x) → member (seen ∪ single (m x)) (m k) ≡ true

@@ -1,5 +1,5 @@
 -- What a step does to regions, as the code has it.
-use Prim.Native.Nat.{ℕ, _≤_, _<_}
+use Prim.Native.Nat.{ℕ, _<_}
 use native.Mathlib.Omega.{arith}
 use mathlib.Core.Bool.{Bool, true, false, false≢true}
 use mathlib.Core.List.{List}
@@ -8,7 +8,7 @@ use mathlib.Core.Path.{_≡_, refl, sym, ap, _∙_}
 use Rattle.sets.specs.Sets.{single, single-zero}
 use Rattle.language.specs.File.{GoalKind, kLiteral, kSum, kAssign, kConstruct, kSwitch, kIf, kCall, kPrint, kCreate, kRemove, Kind, kGoal, goals, row, kindOf, word, recordCount}
 use Rattle.language.specs.Format.{kindWord, literalKind, sumKind, assignKind, constructKind, callKind, printKind, createKind, removeKind, goalX, lifetimeRegion}
-use Rattle.language.specs.Program.{Four, Step, literal, sum, assign, construct, print, create, remove, Goal, step, switch, ifLess, Signature, Program, regionOf}
+use Rattle.language.specs.Program.{Four, Step, construct, print, create, remove, Goal, step, switch, ifLess, Signature, Program, regionOf}
 use Rattle.language.specs.Lifetimes
 use Rattle.language.specs.Lifetimes.{effect, noEffect}
 use Rattle.language.specs.Answers.{program}

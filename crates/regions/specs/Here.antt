@@ -1,6 +1,5 @@
 -- The record at hand: what the pass has of it, and number 5 of its goal by the kind of the record.
-use Prim.Native.Nat.{ℕ, zero, suc, _<_}
-use native.Mathlib.Omega.{arith}
+use Prim.Native.Nat.{ℕ, _<_}
 use mathlib.Core.Bool.{Bool, true, false}
 use mathlib.Core.List.{List}
 use mathlib.Core.Path.{_≡_, refl, sym, ap, ap₂, _∙_}
@@ -11,9 +10,9 @@ use Rattle.sets.specs.Tests.{_&_, and-true}
 use Rattle.laws.specs.Tests.{and-stop, and-on}
 use Rattle.language.specs.File
 use Rattle.language.specs.File.{GoalKind, kLiteral, kSum, kAssign, kConstruct, kSwitch, kIf, kCall, kPrint, kCreate, kRemove, Kind, kNone, kHeader, kType, kFunctor, kProcedure, kVariable, kRegion, kEdge, kArm, kArgument, kGoal, kinds, kindOf, word, recordCount}
-use Rattle.language.specs.Format.{kindWord, nextWord, assignKind, constructKind, switchKind, callKind, goalX, assignY, termFunctor, switchArms, callProcedure}
+use Rattle.language.specs.Format.{kindWord, nextWord, assignKind, constructKind, switchKind, callKind, goalX, assignY, termFunctor, switchArms}
 use Rattle.language.specs.Lists.{nth}
-use Rattle.language.specs.Program.{argumentsOf, Edge, Step, call, Goal, step, switch, Arms, noArms, arm, Signature, Program, regionOf, regionAt, signatureOf}
+use Rattle.language.specs.Program.{argumentsOf, Edge, Step, Goal, step, Arms, noArms, arm, Signature, Program, regionOf, regionAt, signatureOf}
 use Rattle.language.specs.Typing.{stepOk, typingOk}
 use Rattle.language.specs.Regions.{stepRegions}
 use Rattle.language.specs.Answers.{program}
@@ -22,7 +21,7 @@ use Rattle.chains.specs.Formed.{Formed, Stands, goalAt, edgesAt, armsAt, arms-n
 use Rattle.chains.specs.Kinds.{same-read}
 use Rattle.chains.specs.Goals.{literal-at, sum-at, print-at, create-at, remove-at}
 use Rattle.chains.specs.Parts.{if-at}
-use Rattle.chains.specs.Shapes.{IsLiteral, IsSum, IsAssign, IsConstruct, IsSwitch, IsCall, IsPrint, IsCreate, IsRemove, goal-number, assign-here, construct-here, switch-here, call-here, arm-here}
+use Rattle.chains.specs.Shapes.{IsLiteral, IsSum, IsAssign, IsConstruct, IsSwitch, IsCall, IsPrint, IsCreate, IsRemove, goal-number, assign-here, construct-here, switch-here, arm-here}
 use Rattle.owners.specs.Owner.{ownerOf}
 use Rattle.owners.specs.Everywhere.{ifGoal, recordTest}
 use Rattle.owners.specs.TreeLaw.{record-kind}

@@ -18,18 +18,19 @@ use Rattle.sets.specs.MemberLaws.{image-in, image-mk, every-mk}
 use Rattle.sets.specs.Walk.{image-over}
 use Rattle.sets.specs.declared.Set.{Set}
 use Rattle.language.specs.Lifetimes.{unsharedIn}
+use Rattle.language.specs.Format.{maxRegions}
 use Rattle.region_graph.specs.Classes.{unshared-in}
 use Rattle.tables.specs.Window.{setIn, bornPlace, deadPlace, keptPlace, passedPlace}
 use Rattle.tables.specs.declared.Effect.{Effect}
 use Rattle.regions.specs.Pairs.{imagesIn}
 use Rattle.regions.specs.Doubled.{Shared, Doubled}
 
--- each member of rs is from 1 to 64, and so is its image; no other number has one
+-- each member of rs is from 1 to maxRegions, and so is its image; no other number has one
 pub record Imaged (m : ℕ → ℕ) (rs : Set) : Type 0 where
   pub only : (r : ℕ) → 1 ≤ m r → member rs r ≡ true
-  pub top : (r : ℕ) → member rs r ≡ true → r ≤ 64
+  pub top : (r : ℕ) → member rs r ≡ true → r ≤ maxRegions
   pub low-image : (r : ℕ) → member rs r ≡ true → 1 ≤ m r
-  pub top-image : (r : ℕ) → member rs r ≡ true → m r ≤ 64
+  pub top-image : (r : ℕ) → member rs r ≡ true → m r ≤ maxRegions
 
 module _ (m : ℕ → ℕ) (dead born passed twice : Set) (D : Doubled m passed twice) (I : Imaged m passed) where
   abbrev ends : Set

@@ -15,7 +15,7 @@ use lib.Seq.{getD-set-same, getD-set-other}
 use Rattle.sets.specs.Size.{size}
 use Rattle.language.specs.File
 use Rattle.language.specs.File.{word}
-use Rattle.language.specs.Format.{nextWord, edgeTarget}
+use Rattle.language.specs.Format.{nextWord, edgeTarget, maxRegions, places}
 use Rattle.language.specs.Lists.{put}
 use Rattle.language.specs.Program.{Functor, Signature}
 use Rattle.language.specs.Typing.{isRegion, signatureOk}
@@ -24,8 +24,7 @@ use Rattle.region_graph.specs.Typed.{region-in, regions-few}
 use Rattle.region_graph.specs.Alike.{Paired, paired-cons, Alike, targets-alike}
 use Rattle.region_graph.specs.Unmapped.{put-here, put-other, unmapped, unmapped-falls, unmapped-shrinks, unmapped-none}
 use Rattle.chains.specs.Formed.{Formed, Stands, edgesAt, edges-none}
-use Rattle.chains.specs.Declared.{edge-at}
-use Rattle.chains.specs.Is.{edge-is}
+use Rattle.chains.specs.Shapes.{edge-here}
 use Rattle.tables.specs.Window.{Window, edgesIn, firstPlace}
 
 -- the images that a table stands for
@@ -131,11 +130,11 @@ targets-end f z = ap targetsIn (edges-none f z)
 pub targets-here : (f : List ℕ) (i : ℕ) → Formed f → Stands f File.edges i → (i ≡ 0 → ⊥) → {t n : ℕ} → t ≡ word f i edgeTarget → n ≡ word f i nextWord
     → targetsIn (edgesAt f i) ≡ t ∷ targetsIn (edgesAt f n)
 unfolding targetsIn
-targets-here f i F s z e g = rw (e, g) (ap targetsIn (edge-at F refl (edge-is s z) .view))
+targets-here f i F s z e g = rw (e, g) (ap targetsIn (edge-here F z s .view))
 
 -- the table has room for each region, 0 has no image, and n bounds the callee's regions without one
 pub record Ready (Q : Signature) (t : List ℕ) (n : ℕ) : Type 0 where
-  pub room : length t ≡ 65
+  pub room : length t ≡ places
   pub first : getD t 0 0 ≡ 0
   pub few : size (unmapped Q (imagesIn t)) ≤ n
 
@@ -160,7 +159,7 @@ RestMapped f own theirs rs₀ us₀ t₀ rs us t =
     → Paired (Alike C Q) rs us × Ready Q t n
     × (mapEach (λ q v k. mapRegion C Q n q v k) (pairs rs us) (imagesIn t) ≡ mapEach (λ q v k. mapRegion C Q n q v k) (pairs rs₀ us₀) (imagesIn t₀))
 
-ready-grown : {Q : Signature} {t t′ : List ℕ} {n : ℕ} → length (Q .regions) ≤ 64 → length t′ ≡ length t → Grown t t′ → Ready Q t n → Ready Q t′ n
+ready-grown : {Q : Signature} {t t′ : List ℕ} {n : ℕ} → length (Q .regions) ≤ maxRegions → length t′ ≡ length t → Grown t t′ → Ready Q t n → Ready Q t′ n
 unfolding imagesIn
 ready-grown {Q} {t} {t′} few e g h = record {
   room = e ∙ h .room;
@@ -219,7 +218,8 @@ image-is : (t : List ℕ) (r : ℕ) → imagesIn t r ≡ getD t r 0
 unfolding imagesIn
 image-is t r = refl
 
-ready-set : (Q : Signature) (t : List ℕ) (r u n : ℕ) → length (Q .regions) ≤ 64 → isRegion Q r ≡ true → r ≢ 0 → u ≢ 0 → getD t r 0 ≡ 0 → length t ≡ 65
+ready-set : (Q : Signature) (t : List ℕ) (r u n : ℕ) → length (Q .regions) ≤ maxRegions → isRegion Q r ≡ true → r ≢ 0 → u ≢ 0 → getD t r 0 ≡ 0
+    → length t ≡ places
     → getD t 0 0 ≡ 0 → r < length t → size (unmapped Q (imagesIn t)) ≤ suc n → Ready Q (set t r u) n
 ready-set Q t r u n few i p o z a b l g = record {
   room = length-set t r u ∙ a;
@@ -229,7 +229,8 @@ ready-set Q t r u n few i p o z a b l g = record {
       omega (arith, ap (λ (m : ℕ → ℕ). size (unmapped Q m)) (placed t r u l)));
 }
 
-none-new : (Q : Signature) (t : List ℕ) (r : ℕ) → length (Q .regions) ≤ 64 → isRegion Q r ≡ true → getD t r 0 ≡ 0 → size (unmapped Q (imagesIn t)) ≤ 0 → ⊥
+none-new : (Q : Signature) (t : List ℕ) (r : ℕ) → length (Q .regions) ≤ maxRegions → isRegion Q r ≡ true → getD t r 0 ≡ 0 → size (unmapped Q (imagesIn t)) ≤ 0
+    → ⊥
 unfolding imagesIn
 none-new Q t r few i z g = unmapped-none Q few (imagesIn t) g r i z
 
@@ -263,7 +264,7 @@ module _ (f own theirs : List ℕ) where
   region-new r u t b t′ p o l z x y h C Q s (inl a) n k = absurd (p (a .0))
   region-new r u t {i} {j} b t′ p o l z x y h C Q s (inr m) n k = at n k
     where
-      few : length (Q .regions) ≤ 64
+      few : length (Q .regions) ≤ maxRegions
       few = regions-few (s .types) Q (s .okQ)
 
       rs : targetsIn (edgesAt f i) ≡ targets Q r

@@ -1,17 +1,17 @@
 -- A call that repeats another: of the same procedure, from the same procedure, with arguments in the same regions. The mapping goes by these alone.
-use Prim.Native.Nat.{ℕ, _<_}
-use mathlib.Core.Bool.{Bool, true}
-use mathlib.Core.List.{List, [], _∷_}
+use Prim.Native.Nat.{ℕ}
+use mathlib.Core.Bool.{true}
+use mathlib.Core.List.{List, _∷_}
 use mathlib.Core.Path.{_≡_, refl, sym, ap, ap₂, _∙_}
 use lib.ListN.{getD}
-use Rattle.language.specs.File.{kCall, kGoal, kindOf, word, recordCount}
-use Rattle.language.specs.Format.{kindWord, callProcedure, callArguments}
-use Rattle.language.specs.Program.{call, step, Signature, Program, signatureOf}
+use Rattle.language.specs.File.{kCall, kGoal, word}
+use Rattle.language.specs.Format.{callProcedure, callArguments}
+use Rattle.language.specs.Program.{call, Signature, signatureOf}
 use Rattle.language.specs.Regions.{mapping, oneWay, regionsOf, stepRegions}
 use Rattle.language.specs.Lifetimes
 use Rattle.language.specs.Lifetimes.{callEffect, effect}
 use Rattle.language.specs.Answers.{program}
-use Rattle.chains.specs.Formed.{Formed, argumentsAt}
+use Rattle.chains.specs.Formed.{argumentsAt}
 use Rattle.chains.specs.Shapes.{IsCall, call-here}
 use Rattle.owners.specs.Owner.{ownerOf}
 use Rattle.owners.specs.Everywhere.{recordTest, ifGoal}
@@ -21,7 +21,7 @@ use Rattle.tables.specs.declared.Effect.{Effect}
 use Rattle.regions.specs.CallMap.{homesIn, homes-regions}
 use Rattle.regions.specs.Single.{agreesHere, agrees}
 use Rattle.regions.specs.Here.{signatureAt, Given, Here, call-kind, goal-test}
-use Rattle.regions.specs.Effects.{Effects, EffectAt, step-at, effect-made}
+use Rattle.regions.specs.Effects.{EffectAt, step-at, effect-made}
 use Rattle.regions.specs.Rowed.{Before}
 
 -- the call at record i repeats that at record j, by the window of its procedure

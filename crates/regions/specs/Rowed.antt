@@ -1,15 +1,13 @@
 -- The pass over the records: what it leaves in the rows, and the loop.
-use Prim.Native.Nat.{ℕ, _+_, _-_, _*_, _≤_, _<_}
+use Prim.Native.Nat.{ℕ, _+_, _-_, _≤_, _<_}
 use native.Mathlib.Omega.{arith}
 use native.Mathlib.Decide.{ℕ-discrete, decLt}
 use mathlib.Core.Bool.{Bool, true, false, false≢true}
 use mathlib.Core.List.{List}
 use mathlib.Core.Logic.{_≢_, _⊎_, inl, inr, ⊎-elim}
 use mathlib.Core.Path.{_≡_, refl, sym, ap, _∙_}
-use lib.ListN.{length, getD, set}
-use lib.Seq.{getD-set-other}
+use lib.ListN.{length}
 use Rattle.sets.specs.Tests.{_&_}
-use Rattle.sets.specs.Sets.{stored}
 use Rattle.language.specs.File.{recordCount}
 use Rattle.language.specs.Format.{maxRecords}
 use Rattle.language.specs.Lists.{all, upFrom}
@@ -17,40 +15,38 @@ use Rattle.language.specs.Program.{Step}
 use Rattle.language.specs.Regions.{regionsOk}
 use Rattle.language.specs.Answers.{program}
 use Rattle.records.specs.Lists.{from-here, from-end}
+use Rattle.records.specs.Blank.{rowWords}
 use Rattle.chains.specs.Formed.{Formed, counted}
 use Rattle.chains.specs.Shapes.{IsCall, call-here}
 use Rattle.owners.specs.Owner.{ownerOf}
 use Rattle.owners.specs.Everywhere.{recordTest}
-use Rattle.tables.specs.Rows.{rowSet, readsIn, givesIn, effectIn, bitOf, putEffect, SameRow, rowsLength, row-same, effect-length, effect-put}
+use Rattle.tables.specs.Rows.{readsIn, givesIn, effectIn, putEffect, Still, StillAt, word-same, row-same, effect-length, effect-word, effect-still, effect-put}
 use Rattle.tables.specs.Filled.{StepAt, Accessed, Effected}
 use Rattle.tables.specs.declared.Effect.{Effect}
+use Rattle.tables.specs.Places.{givesPlace, needsPlace, readsPlace, rowPlace, rowSize}
 use Rattle.regions.specs.Single.{agrees, number-5}
-use Rattle.regions.specs.Effects.{SomeStep, NoStep, Effects, EffectAt, call-step}
+use Rattle.regions.specs.Effects.{SomeStep, NoStep, EffectAt, call-step}
 
 -- ---- what stands in the rows u, where t stood
--- every word of row i is as it was
-abbrev pub Still : List ℕ → List ℕ → ℕ → Type 0
-Still t u i = (k : ℕ) → k < 6 → getD u (6 * i + k) 0 ≡ getD t (6 * i + k) 0
-
 -- row i has the effect of the step at record i, or is as it was: where no step stands there, and where the answer is false
 abbrev pub RowDone : List ℕ → ℕ → List ℕ → Bool → List ℕ → Type 0
 RowDone f i t b u = EffectAt f i (effectIn u i) ⊎ (((b ≡ false) ⊎ NoStep f i) × Still t u i)
 
 -- word k of row i is no effect's of a record of the file, but what its goal reads or gives, or behind the last record
 abbrev pub Apart : List ℕ → ℕ → ℕ → Type 0
-Apart f i k = (k < 2) ⊎ ((i ≡ 0) ⊎ (recordCount f ≤ i))
+Apart f i k = (k < needsPlace) ⊎ ((i ≡ 0) ⊎ (recordCount f ≤ i))
 
 -- after record i
 pub record Rowed (f : List ℕ) (i : ℕ) (t : List ℕ) (b : Bool) (u : List ℕ) : Type 0 where
   pub size : length u ≡ length t
-  pub access : (k : ℕ) → k < 2 → getD u (6 * i + k) 0 ≡ getD t (6 * i + k) 0
+  pub access : (k : ℕ) → k < needsPlace → StillAt t u i k
   pub others : (j : ℕ) → j ≢ i → Still t u j
   pub row : RowDone f i t b u
 
 -- after the pass
 pub record Passed (f t : List ℕ) (b : Bool) (u : List ℕ) : Type 0 where
   pub size : length u ≡ length t
-  pub apart : (i k : ℕ) → k < 6 → Apart f i k → getD u (6 * i + k) 0 ≡ getD t (6 * i + k) 0
+  pub apart : (i k : ℕ) → k < rowSize → Apart f i k → StillAt t u i k
   pub rows : (i : ℕ) → 0 < i → i < recordCount f → RowDone f i t b u
 
 -- ---- what follows for those that read the rows
@@ -58,17 +54,13 @@ still-effect : (t u : List ℕ) (j : ℕ) → Still t u j → effectIn u j ≡ e
 unfolding effectIn
 still-effect t u j h = let s = row-same t u j h in rw (s .needs, s .bears, s .ends, s .mark) refl
 
-word-still : (t u : List ℕ) (i k : ℕ) → getD u (6 * i + k) 0 ≡ getD t (6 * i + k) 0 → rowSet u i k ≡ rowSet t i k
-unfolding rowSet
-word-still t u i k e = rw e refl
-
 -- what goals read and give is as it was
 pub passed-accessed : {f t u : List ℕ} {b : Bool} → Passed f t b u → Accessed f t → Accessed f u
 unfolding readsIn givesIn
 passed-accessed {f} {t} {u} p a =
-    let gives : (i : ℕ) → givesIn u i ≡ givesIn t i = λ i. word-still t u i 1 (p .apart i 1 (omega arith) (inl (omega arith))) in
+    let gives : (i : ℕ) → givesIn u i ≡ givesIn t i = λ i. word-same t u i givesPlace (p .apart i givesPlace (omega arith) (inl (omega arith))) in
     record {
-      reads = λ i g s. word-still t u i 0 (p .apart i 0 (omega arith) (inl (omega arith))) ∙ a .reads i g s;
+      reads = λ i g s. word-same t u i readsPlace (p .apart i readsPlace (omega arith) (inl (omega arith))) ∙ a .reads i g s;
       gives = λ i g s. gives i ∙ a .gives i g s;
       arm-gives = λ i s z. gives i ∙ a .arm-gives i s z;
     }
@@ -103,28 +95,12 @@ passed-effected {f} {t} {u} {b} p y =
     }
 
 -- ---- an effect is stored
-module _ (t : List ℕ) (i : ℕ) (e : Effect) where
-  abbrev needs-put : List ℕ
-  needs-put = set t (6 * i + 2) (stored (e .needs))
-
-  abbrev bears-put : List ℕ
-  bears-put = set needs-put (6 * i + 3) (stored (e .bears))
-
-  abbrev ends-put : List ℕ
-  ends-put = set bears-put (6 * i + 4) (stored (e .ends))
-
-  put-still : (n : ℕ) → n ≢ 6 * i + 2 → n ≢ 6 * i + 3 → n ≢ 6 * i + 4 → n ≢ 6 * i + 5 → getD (putEffect t i e) n 0 ≡ getD t n 0
-  unfolding putEffect
-  put-still n p q r s =
-      getD-set-other ends-put (6 * i + 5) n (bitOf (e .unshared)) 0 s ∙ getD-set-other bears-put (6 * i + 4) n (stored (e .ends)) 0 r
-      ∙ getD-set-other needs-put (6 * i + 3) n (stored (e .bears)) 0 q ∙ getD-set-other t (6 * i + 2) n (stored (e .needs)) 0 p
-
-pub rowed-put : (f : List ℕ) (i : ℕ) (t : List ℕ) {u : List ℕ} {b : Bool} {e : Effect} → i < maxRecords → rowsLength ≤ length t → u ≡ putEffect t i e
+pub rowed-put : (f : List ℕ) (i : ℕ) (t : List ℕ) {u : List ℕ} {b : Bool} {e : Effect} → i < maxRecords → rowWords ≤ length t → u ≡ putEffect t i e
     → EffectAt f i e → Rowed f i t b u
 rowed-put f i t {u} {b} {e} few long p m = rw p (record {
   size = effect-length t i e;
-  access = λ k l. put-still t i e (6 * i + k) (λ d. omega arith) (λ d. omega arith) (λ d. omega arith) (λ d. omega arith);
-  others = λ j z k l. put-still t i e (6 * j + k) (λ d. z (omega arith)) (λ d. z (omega arith)) (λ d. z (omega arith)) (λ d. z (omega arith));
+  access = λ k l. effect-word t i e (rowPlace i k) (λ d. omega arith) (λ d. omega arith) (λ d. omega arith) (λ d. omega arith);
+  others = effect-still t i e;
   row = inl (rw (effect-put t i e few long) m);
 })
 
@@ -139,7 +115,7 @@ pub record Going (f t₀ t : List ℕ) (n i : ℕ) : Type 0 where
   pub most : i ≤ n
   pub rest : regionsOk (program f) ≡ all (recordTest (agrees f) f) (upFrom i (n - i))
   pub size : length t ≡ length t₀
-  pub apart : (j k : ℕ) → k < 6 → Apart f j k → getD t (6 * j + k) 0 ≡ getD t₀ (6 * j + k) 0
+  pub apart : (j k : ℕ) → k < rowSize → Apart f j k → StillAt t₀ t j k
   pub ahead : (j : ℕ) → i ≤ j → Still t₀ t j
   pub done : (j : ℕ) → 0 < j → j < i → RowDone f j t₀ true t
   pub passed : (j : ℕ) → 0 < j → j < i → true ≡ recordTest (agrees f) f j
@@ -175,12 +151,12 @@ module _ {f t₀ t : List ℕ} {n i : ℕ} (h : Going f t₀ t n i) where
 
   -- record i is done
   module _ {b : Bool} {u : List ℕ} (l : i < n) (r : Rowed f i t b u) where
-    own-apart : (j k : ℕ) → j ≡ i → Apart f j k → getD u (6 * j + k) 0 ≡ getD t (6 * j + k) 0
+    own-apart : (j k : ℕ) → j ≡ i → Apart f j k → StillAt t u j k
     own-apart j k z (inl c) = rw z (r .access k c)
     own-apart j k z (inr (inl c)) = absurd (omega (arith, h .some))
     own-apart j k z (inr (inr c)) = absurd (omega (arith, h .count))
 
-    apart-here : (j k : ℕ) → k < 6 → Apart f j k → getD u (6 * j + k) 0 ≡ getD t₀ (6 * j + k) 0
+    apart-here : (j k : ℕ) → k < rowSize → Apart f j k → StillAt t₀ u j k
     apart-here j k m a = elim (ℕ-discrete j i) [ yes z ↦ own-apart j k z a | no z ↦ r .others j z k m ] ∙ h .apart j k m a
 
     done-here : (j : ℕ) → 0 < j → j < i → RowDone f j t₀ true u

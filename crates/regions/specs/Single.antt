@@ -2,7 +2,7 @@
 use Prim.Native.Nat.{ℕ, suc, _-_, _<_}
 use mathlib.Core.Bool.{Bool, true, false, false≢true}
 use mathlib.Core.List.{List, [], _∷_}
-use mathlib.Core.Path.{_≡_, refl, ap, ap₂, _∙_}
+use mathlib.Core.Path.{_≡_, refl, ap₂, _∙_}
 use borrow.Author.Tests.{lt-ltb}
 use lib.Dec.{ltb}
 use lib.ListN.{length}
@@ -15,7 +15,7 @@ use Rattle.language.specs.Regions.{inTargets, stepRegions, goalsRegions, goalRe
 use Rattle.language.specs.Answers.{program}
 use Rattle.region_graph.specs.Typed.{goals-typed}
 use Rattle.chains.specs.Formed.{Formed}
-use Rattle.owners.specs.Everywhere.{allGoals, allGoal, allArms, everyGoal, recordTest, everyRecord}
+use Rattle.owners.specs.Everywhere.{allGoals, allGoal, allArms, recordTest, everyRecord}
 use Rattle.owners.specs.Numbered.{at-every, every-same}
 use Rattle.owners.specs.TreeLaw.{goals-records, every-record}
 

@@ -8,21 +8,19 @@ use mathlib.Core.Path.{_≡_, refl, sym, ap, ap₂, _∙_}
 use borrow.Author.Tests.{eq-eqb, ne-eqb}
 use lib.Dec.{eqb}
 use Rattle.sets.specs.Tests.{_&_}
-use Rattle.laws.specs.Tests.{and-stop, and-on}
-use Rattle.language.specs.Format
-use Rattle.language.specs.Format.{nextWord, edgeFunctor, edgePosition, edgeTarget, termFunctor}
+use Rattle.language.specs.Format.{nextWord, edgeFunctor, edgePosition, edgeTarget, termFunctor, maxArity, termArguments}
 use Rattle.language.specs.File.{edges, word}
 use Rattle.language.specs.Lists.{choose}
 use Rattle.language.specs.Program.{Edge, Signature, Program, four, argumentsOf, fourWords, trimmed, trimOnto, regionAt}
 use Rattle.language.specs.Regions.{targetFor, inTargets}
 use Rattle.chains.specs.Formed.{Formed, Stands, edgesAt}
-use Rattle.chains.specs.Declared.{EdgeAt, edge-at}
-use Rattle.chains.specs.Is.{edge-is}
+use Rattle.chains.specs.Shapes.{edge-here}
+use Rattle.chains.specs.Parts.{fourAt}
 use Rattle.tables.specs.Window.{Window, homeIn}
 
 -- the arguments of the construct or arm at record i
 unfoldable pub argumentsHere : List ℕ → ℕ → List ℕ
-argumentsHere f i = argumentsOf (four (word f i 4) (word f i 5) (word f i 6) (word f i 7))
+argumentsHere f i = argumentsOf (fourAt f i)
 
 -- n words from word k on
 unfoldable pub wordsFrom : List ℕ → ℕ → ℕ → ℕ → List ℕ
@@ -73,21 +71,18 @@ unfolding targetFor _&_ choose
 target-functor {g = g} fn k e a = rw (e, ne-eqb g fn a)
 
 module _ (f : List ℕ) (i : ℕ) (F : Formed f) (s : Stands f edges i) (z : i ≡ 0 → ⊥) where
-  edge-view : EdgeAt f i (word f i nextWord) (word f i edgeFunctor) (word f i edgePosition) (word f i edgeTarget)
-  edge-view = edge-at F refl (edge-is s z)
-
   -- the edge is another functor's
   pub functor-passed : (fn k : ℕ) {g w : ℕ} → g ≡ word f i edgeFunctor → g ≢ fn → w ≡ word f i nextWord → targetFor (edgesAt f w) fn k ≡ targetFor (edgesAt f i) fn k
-  functor-passed fn k e n h = rw h (target-functor fn k (edge-view .view) (λ q. n (e ∙ q)))
+  functor-passed fn k e n h = rw h (target-functor fn k (edge-here F z s .view) (λ q. n (e ∙ q)))
 
   -- it is for another position
   pub position-passed : (fn k : ℕ) {g p w : ℕ} → g ≡ word f i edgeFunctor → g ≡ fn → p ≡ word f i edgePosition → p ≢ k → w ≡ word f i nextWord
       → targetFor (edgesAt f w) fn k ≡ targetFor (edgesAt f i) fn k
-  position-passed fn k e q j n h = rw h (target-position fn k (edge-view .view) (sym e ∙ q) (λ y. n (j ∙ y)))
+  position-passed fn k e q j n h = rw h (target-position fn k (edge-here F z s .view) (sym e ∙ q) (λ y. n (j ∙ y)))
 
   -- it is the one
   pub edge-found : (fn k : ℕ) {g p t : ℕ} → g ≡ word f i edgeFunctor → g ≡ fn → p ≡ word f i edgePosition → p ≡ k → t ≡ word f i edgeTarget → t ≡ targetFor (edgesAt f i) fn k
-  edge-found fn k e q j y h = h ∙ target-here fn k (edge-view .view) (sym e ∙ q) (sym j ∙ y)
+  edge-found fn k e q j y h = h ∙ target-here fn k (edge-here F z s .view) (sym e ∙ q) (sym j ∙ y)
 
 -- ---- a zero at the end is no argument
 onto-some : (x y : ℕ) (ys : List ℕ) → trimOnto x (y ∷ ys) ≡ x ∷ y ∷ ys
@@ -127,41 +122,44 @@ module _ (a b c d : ℕ) where
 
 -- ---- how many there are, by the words that the code has read
 module _ (f : List ℕ) (i : ℕ) where
-  pub count-four : {d : ℕ} → d ≡ word f i 7 → d ≢ 0 → argumentsHere f i ≡ wordsFrom f i Format.termArguments 4
+  pub count-four : {d : ℕ} → d ≡ word f i (termArguments + 3) → d ≢ 0 → argumentsHere f i ≡ wordsFrom f i termArguments maxArity
   unfolding argumentsHere wordsFrom
   count-four e n = four-arguments _ _ _ _ (λ z. n (e ∙ z))
 
-  pub count-three : {c d : ℕ} → d ≡ word f i 7 → d ≡ 0 → c ≡ word f i 6 → c ≢ 0 → argumentsHere f i ≡ wordsFrom f i Format.termArguments 3
+  pub count-three : {c d : ℕ} → d ≡ word f i (termArguments + 3) → d ≡ 0 → c ≡ word f i (termArguments + 2) → c ≢ 0
+      → argumentsHere f i ≡ wordsFrom f i termArguments 3
   unfolding argumentsHere wordsFrom
   count-three e z g n = three-arguments _ _ _ _ (sym e ∙ z) (λ y. n (g ∙ y))
 
-  pub count-two : {b c d : ℕ} → d ≡ word f i 7 → d ≡ 0 → c ≡ word f i 6 → c ≡ 0 → b ≡ word f i 5 → b ≢ 0
-      → argumentsHere f i ≡ wordsFrom f i Format.termArguments 2
+  pub count-two : {b c d : ℕ} → d ≡ word f i (termArguments + 3) → d ≡ 0 → c ≡ word f i (termArguments + 2) → c ≡ 0 → b ≡ word f i (termArguments + 1) → b ≢ 0
+      → argumentsHere f i ≡ wordsFrom f i termArguments 2
   unfolding argumentsHere wordsFrom
   count-two e z g y h n = two-arguments _ _ _ _ (sym e ∙ z) (sym g ∙ y) (λ x. n (h ∙ x))
 
-  pub count-one : {a b c d : ℕ} → d ≡ word f i 7 → d ≡ 0 → c ≡ word f i 6 → c ≡ 0 → b ≡ word f i 5 → b ≡ 0 → a ≡ word f i 4 → a ≢ 0
-      → argumentsHere f i ≡ wordsFrom f i Format.termArguments 1
+  pub count-one : {a b c d : ℕ} → d ≡ word f i (termArguments + 3) → d ≡ 0 → c ≡ word f i (termArguments + 2) → c ≡ 0 → b ≡ word f i (termArguments + 1)
+      → b ≡ 0 → a ≡ word f i termArguments → a ≢ 0
+      → argumentsHere f i ≡ wordsFrom f i termArguments 1
   unfolding argumentsHere wordsFrom
   count-one e z g y h x j n = one-argument _ _ _ _ (sym e ∙ z) (sym g ∙ y) (sym h ∙ x) (λ w. n (j ∙ w))
 
-  pub count-none : {a b c d : ℕ} → d ≡ word f i 7 → d ≡ 0 → c ≡ word f i 6 → c ≡ 0 → b ≡ word f i 5 → b ≡ 0 → a ≡ word f i 4 → a ≡ 0
-      → argumentsHere f i ≡ wordsFrom f i Format.termArguments 0
+  pub count-none : {a b c d : ℕ} → d ≡ word f i (termArguments + 3) → d ≡ 0 → c ≡ word f i (termArguments + 2) → c ≡ 0 → b ≡ word f i (termArguments + 1)
+      → b ≡ 0 → a ≡ word f i termArguments → a ≡ 0
+      → argumentsHere f i ≡ wordsFrom f i termArguments 0
   unfolding argumentsHere wordsFrom
   count-none e z g y h x j w = no-argument _ _ _ _ (sym e ∙ z) (sym g ∙ y) (sym h ∙ x) (sym j ∙ w)
 
 -- ---- in turn: k of the n are done, and the rest decides
 module _ (f t : List ℕ) (es : List Edge) (fn i n : ℕ) where
   unfoldable pub restIn : ℕ → Bool
-  restIn k = allIn t es fn (k + 1) (wordsFrom f i (4 + k) (n - k))
+  restIn k = allIn t es fn (k + 1) (wordsFrom f i (termArguments + k) (n - k))
 
-  module _ {k : ℕ} (l : k < n) {y r u : ℕ} (e : y ≡ word f i (4 + k)) (g : r ≡ homeIn t y) (h : u ≡ targetFor es fn (k + 1)) where
+  module _ {k : ℕ} (l : k < n) {y r u : ℕ} (e : y ≡ word f i (termArguments + k)) (g : r ≡ homeIn t y) (h : u ≡ targetFor es fn (k + 1)) where
     rest-splits : restIn k ≡ (eqb r u & restIn (k + 1))
     unfolding restIn allIn wordsFrom
     rest-splits =
         let m : n - k ≡ suc (n - (k + 1)) = omega arith in
         let p : suc (k + 1) ≡ k + 1 + 1 = omega arith in
-        let q : suc (4 + k) ≡ 4 + (k + 1) = omega arith in
+        let q : suc (termArguments + k) ≡ termArguments + (k + 1) = omega arith in
         rw (m, g, e, h, p, q) refl
 
     pub rest-stop : (r ≡ u → ⊥) → restIn k ≡ false
@@ -176,14 +174,14 @@ module _ (f t : List ℕ) (es : List Edge) (fn i n : ℕ) where
   unfolding restIn allIn wordsFrom
   rest-end {k} l = let m : n - k ≡ 0 = omega arith in rw m refl
 
-  rest-whole : {k : ℕ} → k ≡ 0 → restIn k ≡ allIn t es fn 1 (wordsFrom f i 4 n)
+  rest-whole : {k : ℕ} → k ≡ 0 → restIn k ≡ allIn t es fn 1 (wordsFrom f i termArguments n)
   unfolding restIn
   rest-whole {k} z = let m : n - k ≡ n = omega arith in rw (m, z) refl
 
 -- .. which the edges from record r on serve as those from record es on do: the rest from k on decides the whole
 module _ (f t : List ℕ) (es r i n : ℕ) {fn : ℕ} (e : fn ≡ word f i termFunctor)
-    (h : (k : ℕ) → targetFor (edgesAt f r) fn k ≡ targetFor (edgesAt f es) fn k) (g : argumentsHere f i ≡ wordsFrom f i 4 n) where
-  terms-same : allIn t (edgesAt f r) fn 1 (wordsFrom f i 4 n) ≡ allIn t (edgesAt f es) (word f i termFunctor) 1 (argumentsHere f i)
+    (h : (k : ℕ) → targetFor (edgesAt f r) fn k ≡ targetFor (edgesAt f es) fn k) (g : argumentsHere f i ≡ wordsFrom f i termArguments n) where
+  terms-same : allIn t (edgesAt f r) fn 1 (wordsFrom f i termArguments n) ≡ allIn t (edgesAt f es) (word f i termFunctor) 1 (argumentsHere f i)
   terms-same =
       ap (allIn t (edgesAt f r) fn 1) (sym g) ∙ same-targets t (edgesAt f r) (edgesAt f es) fn h 1 (argumentsHere f i)
       ∙ ap (λ (m : ℕ). allIn t (edgesAt f es) m 1 (argumentsHere f i)) e

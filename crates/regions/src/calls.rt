@@ -8,7 +8,6 @@ use language::format::VARIABLE_REGION;
 use tables::FIRST;
 use tables::home;
 use tables::word_at;
-ghost use mathlib.Core.Path.{_≡_};
 ghost use Rattle.language.specs.File;
 ghost use Rattle.chains.specs.Formed.{Formed, Stands};
 ghost use Rattle.regions.specs.Pairs.{Standing, Grown};

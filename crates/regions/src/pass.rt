@@ -27,9 +27,10 @@ ghost use Rattle.language.specs.Format.{maxRecords};
 ghost use Rattle.language.specs.File.{recordCount};
 ghost use Rattle.language.specs.Regions.{regionsOk};
 ghost use Rattle.language.specs.Answers.{program};
+ghost use Rattle.records.specs.Blank.{rowWords};
 ghost use Rattle.chains.specs.Shapes.{IsCall};
 ghost use Rattle.owners.specs.Everywhere.{recordTest};
-ghost use Rattle.tables.specs.Rows.{rowsLength, effectIn, putEffect};
+ghost use Rattle.tables.specs.Rows.{effectIn, putEffect};
 ghost use Rattle.regions.specs.Firsts.{Firsts};
 ghost use Rattle.regions.specs.Single.{agrees};
 ghost use Rattle.regions.specs.Here.{Given, Here};
@@ -40,7 +41,7 @@ ghost use Rattle.regions.specs.Rowed.{Before, Rowed, Passed};
 // The call at record i of the procedure with the window callee: it maps no region two ways.
 fn call_ok(file: &[u8], own: &[u64], callee: &[u64], i: usize, rows: &mut [u64; ROWS]) -> bool
     requires { ⌜ CallHere (now file) (now own) (now callee) i ⌝ }
-    requires { ⌜ rowsLength ≤ length (now rows) ⌝ }
+    requires { ⌜ rowWords ≤ length (now rows) ⌝ }
     ensures { λ b. ⌜ b ≡ recordTest (agrees (now (file .entry))) (now (file .entry)) i ⌝ }
     ensures { λ b. ⌜ Rowed (now (file .entry)) i (now (rows .entry)) b (now (rows .exit)) ⌝ }
 {
@@ -63,7 +64,7 @@ fn row_ok(
 ) -> bool
     requires { ⌜ Here (now file) (now own) i ⌝ }
     requires { ⌜ (IsCall (now file) i → ⊥) × SomeStep (now file) i ⌝ }
-    requires { ⌜ rowsLength ≤ length (now rows) ⌝ }
+    requires { ⌜ rowWords ≤ length (now rows) ⌝ }
     requires { ⌜ Firsts (now file) (now firsts) ⌝ }
     ensures { λ b. ⌜ b ≡ recordTest (agrees (now (file .entry))) (now (file .entry)) i ⌝ }
     ensures { λ b. ⌜ Rowed (now (file .entry)) i (now (rows .entry)) b (now (rows .exit)) ⌝ }
@@ -85,7 +86,7 @@ fn step_ok(
     requires { ⌜ Given (now file) (now table) (now owners) ⌝ }
     requires { ⌜ (0 < i) × (i < recordCount (now file)) ⌝ }
     requires { ⌜ (IsCall (now file) i → ⊥) × SomeStep (now file) i ⌝ }
-    requires { ⌜ rowsLength ≤ length (now rows) ⌝ }
+    requires { ⌜ rowWords ≤ length (now rows) ⌝ }
     requires { ⌜ Firsts (now file) (now firsts) ⌝ }
     ensures { λ b. ⌜ b ≡ recordTest (agrees (now (file .entry))) (now (file .entry)) i ⌝ }
     ensures { λ b. ⌜ Rowed (now (file .entry)) i (now (rows .entry)) b (now (rows .exit)) ⌝ }
@@ -149,7 +150,7 @@ fn next_call_ok(
 ) -> bool
     requires { ⌜ Given (now file) (now table) (now owners) ⌝ }
     requires { ⌜ (0 < i) × (i < recordCount (now file)) × IsCall (now file) i ⌝ }
-    requires { ⌜ rowsLength ≤ length (now rows) ⌝ }
+    requires { ⌜ rowWords ≤ length (now rows) ⌝ }
     requires { ⌜ Before (now file) (now rows) last ⌝ }
     ensures { λ b. ⌜ b ≡ recordTest (agrees (now (file .entry))) (now (file .entry)) i ⌝ }
     ensures { λ b. ⌜ Rowed (now (file .entry)) i (now (rows .entry)) b (now (rows .exit)) ⌝ }
@@ -176,7 +177,7 @@ fn next_ok(
 ) -> bool
     requires { ⌜ Given (now file) (now table) (now owners) ⌝ }
     requires { ⌜ (0 < i) × (i < recordCount (now file)) ⌝ }
-    requires { ⌜ rowsLength ≤ length (now rows) ⌝ }
+    requires { ⌜ rowWords ≤ length (now rows) ⌝ }
     requires { ⌜ Before (now file) (now rows) last ⌝ }
     requires { ⌜ Firsts (now file) (now firsts) ⌝ }
     ensures { λ b. ⌜ b ≡ recordTest (agrees (now (file .entry))) (now (file .entry)) i ⌝ }
@@ -200,7 +201,7 @@ fn next_ok(
 // Number 5. Puts what each step does to regions into its row; where the answer is false, such a row may be as it was. All else in the rows is.
 pub fn regions_agree(file: &[u8], table: &[u64], owners: &[u16], rows: &mut [u64; ROWS]) -> bool
     requires { ⌜ Given (now file) (now table) (now owners) ⌝ }
-    requires { ⌜ rowsLength ≤ length (now rows) ⌝ }
+    requires { ⌜ rowWords ≤ length (now rows) ⌝ }
     ensures { λ b. ⌜ b ≡ regionsOk (program (now (file .entry))) ⌝ }
     ensures { λ b. ⌜ Passed (now (file .entry)) (now (rows .entry)) b (now (rows .exit)) ⌝ }
 {

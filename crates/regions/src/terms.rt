@@ -3,6 +3,7 @@ use chains::word;
 use language::format::EDGE_FUNCTOR;
 use language::format::EDGE_POSITION;
 use language::format::EDGE_TARGET;
+use language::format::MAX_ARITY;
 use language::format::MAX_FUNCTORS;
 use language::format::NEXT;
 use language::format::PLACES;
@@ -14,6 +15,7 @@ ghost use Prim.Native.Nat.{ℕ, _≤_, _<_};
 ghost use Rattle.language.specs.Format;
 ghost use Rattle.language.specs.File.{edges, recordCount};
 ghost use Rattle.language.specs.Regions.{targetFor};
+ghost use Rattle.language.specs.Format.{maxArity};
 ghost use Rattle.chains.specs.Formed.{Formed, Stands, edgesAt};
 ghost use Rattle.regions.specs.Firsts.{FirstEdge, Firsts};
 ghost use Rattle.regions.specs.Terms.{argumentsHere, wordsFrom, termIn};
@@ -79,11 +81,11 @@ fn first_edge(file: &[u8], start: usize, f: usize, firsts: &mut [usize; PLACES])
 fn count_arguments(file: &[u8], i: usize) -> usize
     requires { ⌜ Formed (now file) ⌝ }
     requires { ⌜ i < recordCount (now file) ⌝ }
-    ensures { λ n. ⌜ n ≤ 4 ⌝ }
+    ensures { λ n. ⌜ n ≤ maxArity ⌝ }
     ensures { λ n. ⌜ argumentsHere (now (file .entry)) i ≡ wordsFrom (now (file .entry)) i Format.termArguments n ⌝ }
 {
     if word(file, i, TERM_ARGUMENTS + 3) != 0 {
-        return 4;
+        return MAX_ARITY;
     }
     if word(file, i, TERM_ARGUMENTS + 2) != 0 {
         return 3;

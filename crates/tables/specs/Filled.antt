@@ -5,14 +5,16 @@ use mathlib.Core.Path.{_≡_}
 use lib.ListN.{length}
 use Rattle.sets.specs.Members.{setOf}
 use Rattle.language.specs.File.{procedures, goals, arms, word}
-use Rattle.language.specs.Format.{maxProcedures, nextWord, switchKind, ifKind, switchArms, armGoals, ifThen, ifElse, procedureGoals}
+use Rattle.language.specs.Format.{maxProcedures, nextWord, switchArms, armGoals, ifThen, ifElse, procedureGoals, headerProcedures}
 use Rattle.language.specs.Lists.{nth}
-use Rattle.language.specs.Program.{four, argumentsOf, Step, step, signatureOf}
+use Rattle.language.specs.Program.{argumentsOf, Step, step, signatureOf}
 use Rattle.language.specs.Values
 use Rattle.language.specs.Lifetimes.{effect}
 use Rattle.language.specs.Answers.{program}
 use Rattle.chains.specs.Formed.{Stands, goalAt}
 use Rattle.chains.specs.Records.{chainRecords}
+use Rattle.chains.specs.Parts.{fourAt}
+use Rattle.chains.specs.Shapes.{IsIf, IsSwitch}
 use Rattle.tables.specs.Window.{FileTable}
 use Rattle.tables.specs.Rows.{readsIn, givesIn, needsIn, bearsIn, endsIn, markIn}
 
@@ -28,7 +30,7 @@ module _ (f : List ℕ) where
     pub reads : (i : ℕ) (g : Step) → StepAt i g → readsIn rows i ≡ Values.reads (program f) g
     pub gives : (i : ℕ) (g : Step) → StepAt i g → givesIn rows i ≡ Values.gives (program f) g
     pub arm-gives : (i : ℕ) → Stands f arms i → (i ≡ 0 → ⊥)
-        → givesIn rows i ≡ setOf (argumentsOf (four (word f i 4) (word f i 5) (word f i 6) (word f i 7)))
+        → givesIn rows i ≡ setOf (argumentsOf (fourAt f i))
 
   -- .. and what every step does to the regions of the procedure that it belongs to
   pub record Effected (owner : ℕ → ℕ) (rows : List ℕ) : Type 0 where
@@ -39,14 +41,23 @@ module _ (f : List ℕ) where
 
   -- a goal or arm belongs to the procedure that the record leading to it belongs to
   pub record Owning (owner : ℕ → ℕ) : Type 0 where
-    pub to-body : (q : ℕ) → q < length (program f .procedures) → (j : ℕ) → j ≡ word f (nth 0 (chainRecords f (word f 0 1)) q) procedureGoals
+    pub to-body : (q : ℕ) → q < length (program f .procedures) → (j : ℕ) → j ≡ word f (nth 0 (chainRecords f (word f 0 headerProcedures)) q) procedureGoals
         → (j ≡ 0 → ⊥) → owner j ≡ q
     pub to-next : (i : ℕ) → Stands f goals i → (i ≡ 0 → ⊥) → (j : ℕ) → j ≡ word f i nextWord → (j ≡ 0 → ⊥) → owner j ≡ owner i
-    pub to-then : (i : ℕ) → word f i 0 ≡ ifKind → (j : ℕ) → j ≡ word f i ifThen → (j ≡ 0 → ⊥) → owner j ≡ owner i
-    pub to-else : (i : ℕ) → word f i 0 ≡ ifKind → (j : ℕ) → j ≡ word f i ifElse → (j ≡ 0 → ⊥) → owner j ≡ owner i
-    pub to-arms : (i : ℕ) → word f i 0 ≡ switchKind → (j : ℕ) → j ≡ word f i switchArms → (j ≡ 0 → ⊥) → owner j ≡ owner i
+    pub to-then : (i : ℕ) → IsIf f i → (j : ℕ) → j ≡ word f i ifThen → (j ≡ 0 → ⊥) → owner j ≡ owner i
+    pub to-else : (i : ℕ) → IsIf f i → (j : ℕ) → j ≡ word f i ifElse → (j ≡ 0 → ⊥) → owner j ≡ owner i
+    pub to-arms : (i : ℕ) → IsSwitch f i → (j : ℕ) → j ≡ word f i switchArms → (j ≡ 0 → ⊥) → owner j ≡ owner i
     pub arm-goals : (i : ℕ) → Stands f arms i → (i ≡ 0 → ⊥) → (j : ℕ) → j ≡ word f i armGoals → (j ≡ 0 → ⊥) → owner j ≡ owner i
     pub arm-next : (i : ℕ) → Stands f arms i → (i ≡ 0 → ⊥) → (j : ℕ) → j ≡ word f i nextWord → (j ≡ 0 → ⊥) → owner j ≡ owner i
+
+-- record i belongs to procedure q, if there is such a record
+abbrev pub Belongs : (ℕ → ℕ) → ℕ → ℕ → Type 0
+Belongs o q i = (i ≡ 0 → ⊥) → o i ≡ q
+
+-- the rows have what steps do to regions, each by the procedure that its record belongs to
+pub record Owned (f rows : List ℕ) (owner : ℕ → ℕ) : Type 0 where
+  pub effected : Effected f owner rows
+  pub owning : Owning f owner
 
 -- the file's table and its rows are filled: what the stages that all programs share leave for those of each
 pub record Prepared (f table rows : List ℕ) : Type 0 where

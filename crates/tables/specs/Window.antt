@@ -1,7 +1,6 @@
 -- The window of a procedure: how many variables and regions it has, its first goal, its sets, its first variable, then for each variable its region and its
 -- reach, and for each region its first edge.
-use Prim.Native.Nat.{ℕ, _+_, _*_, _≤_, _<_}
-use native.Mathlib.Omega.{arith}
+use Prim.Native.Nat.{ℕ, _≤_, _<_}
 use mathlib.Core.Bool.{Bool, true, false}
 use mathlib.Core.List.{List}
 use mathlib.Core.Path.{_≡_, refl, sym, ap, _∙_}
@@ -14,45 +13,16 @@ use Rattle.sets.specs.declared.Set.{Set}
 use Rattle.language.specs.Lists.{nth, choose}
 use Rattle.language.specs.File
 use Rattle.language.specs.File.{word}
-use Rattle.language.specs.Format.{places, procedureGoals}
-use Rattle.language.specs.Program.{Signature, Procedure, Program, regionOf, regionAt, procedureAt}
+use Rattle.language.specs.Format.{headerProcedures, places, procedureGoals}
+use Rattle.language.specs.Program.{Signature, Procedure, regionOf, regionAt, procedureAt}
 use Rattle.language.specs.Values.{insOf, outsOf}
 use Rattle.language.specs.Regions
 use Rattle.language.specs.Lifetimes
 use Rattle.language.specs.Answers.{program}
 use Rattle.chains.specs.Formed.{Stands, variablesAt, goalsAt, edgesAt}
 use Rattle.chains.specs.Records.{chainRecords}
-
--- the places of the first words
-abbrev pub variablesPlace : ℕ
-variablesPlace = 0
-
-abbrev pub regionsPlace : ℕ
-regionsPlace = 1
-
-abbrev pub bodyPlace : ℕ
-bodyPlace = 2
-
-abbrev pub insPlace : ℕ
-insPlace = 3
-
-abbrev pub outsPlace : ℕ
-outsPlace = 4
-
-abbrev pub bornPlace : ℕ
-bornPlace = 5
-
-abbrev pub deadPlace : ℕ
-deadPlace = 6
-
-abbrev pub keptPlace : ℕ
-keptPlace = 7
-
-abbrev pub passedPlace : ℕ
-passedPlace = 8
-
-abbrev pub firstPlace : ℕ
-firstPlace = 9
+pub use Rattle.tables.specs.Places.{variablesPlace, regionsPlace, bodyPlace, insPlace, outsPlace, bornPlace, deadPlace, keptPlace, passedPlace, firstPlace}
+use Rattle.tables.specs.Places.{homePlace, reachPlace, edgesPlace}
 
 -- the set at place k
 unfoldable pub setIn : List ℕ → ℕ → Set
@@ -64,14 +34,14 @@ isNumber n x = leb 1 x & ltb x places & leb x n
 
 -- the region and the reach of variable x, the first edge of region r
 unfoldable pub homeIn : List ℕ → ℕ → ℕ
-homeIn t x = choose (isNumber (getD t variablesPlace 0) x) (getD t (2 * x + 8) 0) 0
+homeIn t x = choose (isNumber (getD t variablesPlace 0) x) (getD t (homePlace x) 0) 0
 
 unfoldable pub reachIn : List ℕ → ℕ → Set
-reachIn t x = choose (isNumber (getD t variablesPlace 0) x) (setIn t (2 * x + 9)) emptySet
+reachIn t x = choose (isNumber (getD t variablesPlace 0) x) (setIn t (reachPlace x)) emptySet
 
 unfoldable pub edgesIn : List ℕ → ℕ → ℕ
 edgesIn t r =
-    choose (ltb (getD t variablesPlace 0) places & isNumber (getD t regionsPlace 0) r) (getD t (2 * getD t variablesPlace 0 + r + 9) 0) 0
+    choose (ltb (getD t variablesPlace 0) places & isNumber (getD t regionsPlace 0) r) (getD t (edgesPlace (getD t variablesPlace 0) r) 0) 0
 
 -- ---- what the code finds, a law for each way through it
 module _ (n x : ℕ) where
@@ -96,7 +66,7 @@ module _ (t : List ℕ) (x : ℕ) {n : ℕ} {b : Bool} (e : n ≡ getD t variabl
   number-is : isNumber (getD t variablesPlace 0) x ≡ b
   number-is = ap (λ (k : ℕ). isNumber k x) (sym e) ∙ sym m
 
-  pub home-some : {r : ℕ} → b ≡ true → r ≡ getD t (2 * x + 8) 0 → r ≡ homeIn t x
+  pub home-some : {r : ℕ} → b ≡ true → r ≡ getD t (homePlace x) 0 → r ≡ homeIn t x
   unfolding homeIn choose
   home-some h g = g ∙ rw (number-is, h) refl
 
@@ -104,7 +74,7 @@ module _ (t : List ℕ) (x : ℕ) {n : ℕ} {b : Bool} (e : n ≡ getD t variabl
   unfolding homeIn choose
   home-none h = rw (number-is, h) refl
 
-  pub reach-some : {s : Set} → b ≡ true → s ≡ setIn t (2 * x + 9) → s ≡ reachIn t x
+  pub reach-some : {s : Set} → b ≡ true → s ≡ setIn t (reachPlace x) → s ≡ reachIn t x
   unfolding reachIn choose
   reach-some h g = g ∙ rw (number-is, h) refl
 
@@ -122,7 +92,7 @@ module _ (t : List ℕ) (r : ℕ) {n : ℕ} (e : n ≡ getD t variablesPlace 0) 
     unfolding _&_
     numbered = rw (lt-ltb (getD t variablesPlace 0) places (rw e at l)) (ap (λ (j : ℕ). isNumber j r) (sym g) ∙ sym m)
 
-    pub edges-some : {w : ℕ} → b ≡ true → w ≡ getD t (2 * n + r + 9) 0 → w ≡ edgesIn t r
+    pub edges-some : {w : ℕ} → b ≡ true → w ≡ getD t (edgesPlace n r) 0 → w ≡ edgesIn t r
     unfolding edgesIn choose
     edges-some h q = (rw e at q) ∙ rw (numbered, h) refl
 
@@ -158,4 +128,4 @@ pub record FileTable (f t : List ℕ) : Type 0 where
   pub starts : (q : ℕ) → q < length (program f .procedures) → getD t q 0 ≤ length t
   pub at : (q : ℕ) → q < length (program f .procedures) → WindowOf f (procedureAt (program f) q) (drop (getD t q 0) t)
   pub body : (q : ℕ) → q < length (program f .procedures)
-      → getD (drop (getD t q 0) t) bodyPlace 0 ≡ word f (nth 0 (chainRecords f (word f 0 1)) q) procedureGoals
+      → getD (drop (getD t q 0) t) bodyPlace 0 ≡ word f (nth 0 (chainRecords f (word f 0 headerProcedures)) q) procedureGoals

@@ -6,6 +6,8 @@ mod window;
 mod windows;
 
 pub use reaches::reach_all;
+use records::blank::FILE_WORDS;
+use records::blank::ROW_WORDS;
 pub use rows::access_at;
 pub use rows::bears_at;
 pub use rows::ends_at;
@@ -27,7 +29,7 @@ pub use windows::start_of;
 // Words of a row, and of the rows of 4,096 records.
 pub const ROW: usize = 6;
 
-pub const ROWS: usize = 24576;
+pub const ROWS: usize = ROW_WORDS;
 
 // The words of a row: what the goal reads, gives, needs, bears and ends, and a mark.
 pub const READS: usize = 0;
@@ -64,8 +66,18 @@ pub const PASSED: usize = 8;
 
 pub const FIRST: usize = 9;
 
-// Words of the file's table: 256 starts, 256 windows of 10 words each, and two words for each record.
-pub const TABLE: usize = 11008;
+// Behind them two words for each variable and one for each region: variable x has its region at 2 * x + HOMES and its reach at 2 * x + REACHES, and
+// region r, where there are n variables, its first edge at 2 * n + r + EDGES.
+pub const HEAD: usize = 10;
+
+pub const HOMES: usize = 8;
+
+pub const REACHES: usize = 9;
+
+pub const EDGES: usize = 9;
+
+// Words of the file's table: a start and a window for each procedure.
+pub const TABLE: usize = FILE_WORDS;
 
 // What a goal reads, what it gives a value, and whether it gives no variable twice.
 pub struct Access {

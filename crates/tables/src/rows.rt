@@ -14,13 +14,13 @@ use language::format::MAX_RECORDS;
 use sets::Set;
 ghost use mathlib.Core.Path.{_≡_};
 ghost use Prim.Native.Nat.{_<_};
-ghost use lib.ListN.{length};
 ghost use Rattle.tables.specs.Rows.{accessIn, readsIn, givesIn, needsIn, bearsIn, endsIn, markIn, rowSet, putAccess, putEffect, bitOf};
 ghost use Rattle.language.specs.Format.{maxRecords};
+ghost use Rattle.tables.specs.Places.{rowSize};
 
 // The set in word k of the row of record i.
 fn row_set(rows: &[u64; ROWS], i: usize, k: usize) -> Set
-    requires { ⌜ k < 6 ⌝ }
+    requires { ⌜ k < rowSize ⌝ }
     ensures { λ s. ⌜ s ≡ rowSet (now (rows .entry)) i k ⌝ }
 {
     if i < MAX_RECORDS {

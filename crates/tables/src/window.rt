@@ -1,4 +1,7 @@
 // Reading a window. What a window does not have is 0, or the empty set.
+use crate::EDGES;
+use crate::HOMES;
+use crate::REACHES;
 use crate::REGIONS;
 use crate::VARIABLES;
 use language::format::PLACES;
@@ -43,7 +46,7 @@ pub fn home(own: &[u64], x: usize) -> usize
     ensures { λ r. ⌜ r ≡ homeIn (now (own .entry)) x ⌝ }
 {
     if is_number(word_at(own, VARIABLES), x) {
-        word_at(own, 2 * x + 8)
+        word_at(own, 2 * x + HOMES)
     } else {
         0
     }
@@ -54,7 +57,7 @@ pub fn reach(own: &[u64], x: usize) -> Set
     ensures { λ s. ⌜ s ≡ reachIn (now (own .entry)) x ⌝ }
 {
     if is_number(word_at(own, VARIABLES), x) {
-        set_at(own, 2 * x + 9)
+        set_at(own, 2 * x + REACHES)
     } else {
         Set::EMPTY
     }
@@ -69,7 +72,7 @@ pub fn edges(own: &[u64], r: usize) -> usize
         return 0;
     }
     if is_number(word_at(own, REGIONS), r) {
-        word_at(own, 2 * n + r + 9)
+        word_at(own, 2 * n + r + EDGES)
     } else {
         0
     }

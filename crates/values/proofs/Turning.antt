@@ -1,30 +1,21 @@
--- One turn of each loop: along a chain of variables, and through a callee's in and out variables, over the code's own values.
+-- One turn of the loop through a callee's in and out variables, over the code's own values.
 use Prim.Native.Nat.{ℕ, _<_, _≤_}
 use native.Mathlib.Omega.{arith}
-use mathlib.Core.Path.{_≡_, refl}
+use mathlib.Core.Path.{_≡_}
 use mathlib.Core.List.{List}
 use Rattle.sets.specs.Sets.{_∪_}
 use Rattle.sets.specs.Members.{nextMember}
 use Rattle.sets.specs.Walk.{next-is}
 use Rattle.sets.specs.declared.Set.{Set}
-use Rattle.language.specs.Format.{places}
+use Rattle.language.specs.Format.{places, argumentVariable, nextWord}
 use Rattle.language.specs.Program.{Signature}
-use Rattle.language.specs.File.{variables, arguments, word}
-use Rattle.chains.specs.Formed.{Formed, Stands, Onward, argumentsAt, arguments-none}
-use Rattle.chains.specs.Declared.{VariableAt, variable-at}
-use Rattle.chains.specs.Parts.{ArgumentAt, argument-at}
-use Rattle.chains.specs.Is.{variable-is, argument-is}
+use Rattle.language.specs.File.{arguments, word}
+use Rattle.chains.specs.Formed.{Formed, Stands, argumentsAt, arguments-none}
+use Rattle.chains.specs.Shapes.{argument-here}
 use Rattle.tables.specs.declared.Access.{Access}
 use Rattle.values.specs.Gathering.{noAccess, passedIn}
 use Rattle.values.specs.Matching.{Matches}
 use Rattle.values.specs.Parameters.{Declares, Turned, toldMode, turned-first, turned-short, turned-last, turned-next}
-
-module _ {f : List ℕ} (F : Formed f) {v : ℕ} (s : Stands f variables v) (z : v ≡ 0 → ⊥) where
-  pub variable-here : VariableAt f v (word f v 1) (word f v 2) (word f v 3) (word f v 4)
-  variable-here = variable-at F refl (variable-is s z)
-
-  pub to-next : {w : ℕ} → w ≡ word f v 1 → Onward f variables v w
-  to-next e = rw e (variable-here .to-next)
 
 -- ---- a call's arguments
 pub record Going (f : List ℕ) (ins both : Set) (y0 : ℕ) (a : Access) (x y : ℕ) : Type 0 where
@@ -44,10 +35,10 @@ module _ {f : List ℕ} {ins both : Set} {y0 : ℕ} {a : Access} {x y : ℕ} (h 
   pub going-last : places ≤ x → {outs : Set} → both ≡ ins ∪ outs → (S : Signature) → Declares S ins outs → Matches (S .variables) (argumentsAt f y0) a
   going-last l b S D = turned-last (h .turned S _ b D) (omega (arith, h .next, next-is both (h .passed) .top))
 
-  pub going-next : Formed f → x < places → (y ≡ 0 → ⊥) → {m w u z : ℕ} {b : Access} → m ≡ toldMode ins x → w ≡ word f y 2 → b ≡ passedIn m a w
-      → u ≡ word f y 1 → z ≡ nextMember both x → Going f ins both y0 b z u
+  pub going-next : Formed f → x < places → (y ≡ 0 → ⊥) → {m w u z : ℕ} {b : Access} → m ≡ toldMode ins x → w ≡ word f y argumentVariable → b ≡ passedIn m a w
+      → u ≡ word f y nextWord → z ≡ nextMember both x → Going f ins both y0 b z u
   going-next F l p {m} {w} {u} {z} {b} i j k e n =
-      let t : ArgumentAt f y (word f y 1) (word f y 2) = argument-at F refl (argument-is (h .argument) p) in
+      let t = argument-here F p (h .argument) in
       record {
         passed = x;
         next = n;

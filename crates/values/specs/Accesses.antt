@@ -1,13 +1,11 @@
 -- What a step reads and gives, from the fields of its record.
-use Prim.Native.Nat.{ℕ, zero, suc}
-use native.Mathlib.Omega.{arith}
-use mathlib.Core.Path.{_≡_, refl, sym, ap, _∙_}
-use mathlib.Core.List.{List, [], _∷_}
-use Rattle.language.specs.Program.{Four, four, fourWords, Variable, Step, literal, sum, assign, construct, call, print, create, remove, Goals, _then_, step, Program, signatureOf, parametersOf, argumentsIn, inMode, outMode}
+use Prim.Native.Nat.{ℕ}
+use mathlib.Core.Path.{_≡_}
+use mathlib.Core.List.{List}
+use Rattle.language.specs.Program.{Four, Variable, Step, literal, sum, assign, construct, call, print, create, remove, Goals, _then_, step, Program, signatureOf, parametersOf}
 use Rattle.language.specs.Values.{access, accessing, reads, gives}
-use Rattle.sets.specs.declared.Set.{Set}
 use Rattle.tables.specs.declared.Access.{Access}
-use Rattle.values.specs.Gathering.{noAccess, readIn, givenIn, readAll, fourRead, Gathers, gathers-none, gathers-read, gathers-give, four-read}
+use Rattle.values.specs.Gathering.{noAccess, readIn, givenIn, fourRead, Gathers, gathers-none, gathers-read, gathers-give, four-read}
 use Rattle.values.specs.Matching.{passing, Matches}
 
 -- all that the step reads and gives has been gathered

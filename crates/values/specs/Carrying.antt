@@ -1,20 +1,21 @@
 -- Number 4's walk as the code makes it: two words carried in place, and what a step and an arm do read off their rows.
 use Prim.Native.Nat.{ℕ, _≤_}
 use native.Mathlib.Omega.{arith}
-use mathlib.Core.Path.{_≡_, refl, sym, ap, ap₂, _∙_}
-use mathlib.Core.Bool.{Bool, true, false}
-use mathlib.Core.List.{List, []}
-use lib.ListN.{length, getD, set, length-set}
+use mathlib.Core.Path.{_≡_, refl, ap, ap₂, _∙_}
+use mathlib.Core.Bool.{Bool, true}
+use mathlib.Core.List.{List}
+use lib.ListN.{length, set, length-set}
 use lib.Seq.{getD-set-same, getD-set-other}
 use Rattle.sets.specs.Sets.{member, _∪_, _∩_, stored, loaded, loaded-stored}
 use Rattle.sets.specs.Members.{setOf}
 use Rattle.sets.specs.declared.Set.{Set}
 use Rattle.language.specs.File.{goals, arms, word}
 use Rattle.language.specs.Format.{kindWord, switchKind, ifKind}
-use Rattle.language.specs.Program.{four, Step}
-use Rattle.language.specs.Values.{access, reads, gives}
+use Rattle.language.specs.Program.{Step}
+use Rattle.language.specs.Values.{reads, gives}
 use Rattle.language.specs.Answers.{program}
 use Rattle.chains.specs.Formed.{Formed, Stands}
+use Rattle.chains.specs.Parts.{fourAt}
 use Rattle.tables.specs.Rows.{readsIn, givesIn, markIn}
 use Rattle.tables.specs.Filled.{StepAt}
 use Rattle.values.specs.Fitting.{armArguments}
@@ -61,7 +62,7 @@ module _ (f : List ℕ) {rows : List ℕ} (N : Noted f rows) where
   -- ---- an arm's row
   module _ (i : ℕ) (S : Stands f arms i) (z : i ≡ 0 → ⊥) where
     pub row-arm : (c d : List ℕ) (r : Bool) → RowValued rows i c r d
-        → outcome r (valuation d) ≡ valuer (program f) .enter (four (word f i 4) (word f i 5) (word f i 6) (word f i 7)) (valuation c)
+        → outcome r (valuation d) ≡ valuer (program f) .enter (fourAt f i) (valuation c)
     unfolding valuer setOf armArguments
     row-arm c d r m = let h = N .at i .arm S z in m ∙ rw (h .read, h .given, h .none-twice) refl
 

@@ -28,4 +28,4 @@ module _ {f : List ℕ} (F : Formed f) (i : ℕ) (S : Stands f goals i) (z : i �
 
 pub arm-closed : {f : List ℕ} {i : ℕ} → Stands f arms i → (i ≡ 0 → ⊥) → {A : Type 0} {w : ℕ} → w ≡ word f i kindWord → (w ≡ armKind → ⊥) → A
 unfolding all-rows
-arm-closed {f} {i} S z e h = absurd (h (e ∙ kind-number (word f i 0) kArm (arm-kind f i S z) arm-some))
+arm-closed {f} {i} S z e h = absurd (h (e ∙ kind-number (word f i kindWord) kArm (arm-kind f i S z) arm-some))

@@ -6,10 +6,10 @@ use mathlib.Core.List.{List, [], _∷_}
 use mathlib.Core.Bool.{true}
 use lib.ListN.{length, getD, drop}
 use lib.Seq.{getD-drop}
-use Rattle.language.specs.Format.{literalKind, sumKind, assignKind, constructKind, armKind, callKind, printKind, createKind, removeKind, goalX, sumY, sumZ, assignY, printY, callProcedure, callArguments}
-use Rattle.language.specs.File.{GoalKind, kLiteral, kSum, kAssign, kConstruct, kSwitch, kIf, kCall, kPrint, kCreate, kRemove, Kind, kNone, kArm, kGoal, goals, arms, row, kindOf, word, recordCount}
+use Rattle.language.specs.Format.{literalKind, sumKind, assignKind, constructKind, armKind, callKind, printKind, createKind, removeKind, goalX, sumY, sumZ, assignY, printY, callProcedure, callArguments, kindWord, termArguments}
+use Rattle.language.specs.File.{GoalKind, kLiteral, kSum, kAssign, kConstruct, kCall, kPrint, kCreate, kRemove, Kind, kNone, kArm, kGoal, goals, arms, row, kindOf, word, recordCount}
 use Rattle.language.specs.Lists.{nth}
-use Rattle.language.specs.Program.{Four, four, fourWords, argumentsOf, Step, Goals, _then_, step, call, Variable, Procedure, Program, done, procedureAt, signatureOf}
+use Rattle.language.specs.Program.{fourWords, argumentsOf, Step, Goals, _then_, step, call, Program, done, procedureAt, signatureOf}
 use Rattle.language.specs.Typing.{typingOk}
 use Rattle.language.specs.Answers.{program}
 use Rattle.chains.specs.Layout.{all-rows, number-is, starts-kind, goals-kind, arms-kind}
@@ -18,19 +18,16 @@ use Rattle.chains.specs.Shapes.{goal-kind, literal-here, sum-here, assign-here,
 use Rattle.tables.specs.Window.{insPlace, outsPlace, setIn, FileTable}
 use Rattle.sets.specs.Sets.{loaded}
 use Rattle.sets.specs.declared.Set.{Set}
+use Rattle.chains.specs.Parts.{fourAt}
 use Rattle.tables.specs.declared.Access.{Access}
 use Rattle.values.specs.Gathering.{noAccess, readIn, givenIn, readAll, fourRead, fourGiven, Gathers, four-given}
 use Rattle.values.specs.Matching.{Matches, none-matches}
 use Rattle.values.specs.Parameters.{Declares, declares}
 use Rattle.values.specs.Accesses.{Accesses, literal-access, sum-access, assign-access, construct-access, print-access, create-access, remove-access, call-access, at-step}
 
--- the four words of a construct's or an arm's arguments
-abbrev pub argumentWords : List ℕ → ℕ → Four
-argumentWords f i = four (word f i 4) (word f i 5) (word f i 6) (word f i 7)
-
 -- the arguments of the arm at record i
 unfoldable pub armArguments : List ℕ → ℕ → List ℕ
-armArguments f i = argumentsOf (argumentWords f i)
+armArguments f i = argumentsOf (fourAt f i)
 
 -- of the step at record i, whichever it is
 abbrev pub Stepped : List ℕ → ℕ → Access → Type 0
@@ -48,25 +45,27 @@ two-kinds : {A : Type 0} {g : GoalKind} {k : Kind} → k ≡ kArm → k ≡ kGoa
 two-kinds e h = let z : _≡_ {A = ℕ} 0 1 = cc in absurd (omega arith)
 
 module _ (f : List ℕ) (i : ℕ) where
-  pub arm-kind : Stands f arms i → (i ≡ 0 → ⊥) → kindOf (word f i 0) ≡ kArm
+  pub arm-kind : Stands f arms i → (i ≡ 0 → ⊥) → kindOf (word f i kindWord) ≡ kArm
   arm-kind s z = arms-kind (starts-kind (word f) (recordCount f) i arms (omega arith) (stands-starts s) .1)
 
   pub not-both : {A : Type 0} → Stands f goals i → Stands f arms i → (i ≡ 0 → ⊥) → A
   not-both s t z = two-kinds (arm-kind t z) (goals-kind (starts-kind (word f) (recordCount f) i goals (omega arith) (stands-starts s) .1) .1)
 
-  pub fits-step : {g : GoalKind} {a : Access} → kindOf (word f i 0) ≡ kGoal g → Stepped f i a → Fits f i a
+  pub fits-step : {g : GoalKind} {a : Access} → kindOf (word f i kindWord) ≡ kGoal g → Stepped f i a → Fits f i a
   fits-step k h = record { step = λ s z. h; arm = λ s z. two-kinds (arm-kind s z) k }
 
 -- the code reads the four arguments in turn
-pub four-gathered : (f : List ℕ) (i : ℕ) {w1 w2 w3 w4 : ℕ} {a0 a1 a2 a3 a4 : Access} → a0 ≡ noAccess → w1 ≡ word f i 4 → a1 ≡ readIn a0 w1 → w2 ≡ word f i 5
-    → a2 ≡ readIn a1 w2 → w3 ≡ word f i 6 → a3 ≡ readIn a2 w3 → w4 ≡ word f i 7 → a4 ≡ readIn a3 w4 → a4 ≡ fourRead (argumentWords f i)
+pub four-gathered : (f : List ℕ) (i : ℕ) {w1 w2 w3 w4 : ℕ} {a0 a1 a2 a3 a4 : Access} → a0 ≡ noAccess → w1 ≡ word f i termArguments → a1 ≡ readIn a0 w1
+    → w2 ≡ word f i (termArguments + 1)
+    → a2 ≡ readIn a1 w2 → w3 ≡ word f i (termArguments + 2) → a3 ≡ readIn a2 w3 → w4 ≡ word f i (termArguments + 3) → a4 ≡ readIn a3 w4
+    → a4 ≡ fourRead (fourAt f i)
 unfolding fourRead readAll fourWords
 four-gathered f i e0 g1 e1 g2 e2 g3 e3 g4 e4 = rw (e4, e3, e2, e1, e0, g1, g2, g3, g4) refl
 
 -- ---- a record by the kind that the code has read, a law for each
-module _ (f : List ℕ) (i : ℕ) (F : Formed f) {w : ℕ} (e : w ≡ word f i 0) where
-  is-kind : (k : Kind) → w ≡ row k .kind → kindOf (word f i 0) ≡ k
-  is-kind k n = number-is k (word f i 0) (sym e ∙ n)
+module _ (f : List ℕ) (i : ℕ) (F : Formed f) {w : ℕ} (e : w ≡ word f i kindWord) where
+  is-kind : (k : Kind) → w ≡ row k .kind → kindOf (word f i kindWord) ≡ k
+  is-kind k n = number-is k (word f i kindWord) (sym e ∙ n)
 
   pub literal-fits : {a : Access} → w ≡ literalKind → a ≡ givenIn noAccess (word f i goalX) → Fits f i a
   unfolding all-rows
@@ -80,7 +79,7 @@ module _ (f : List ℕ) (i : ℕ) (F : Formed f) {w : ℕ} (e : w ≡ word f i 0
   unfolding all-rows
   assign-fits k p = fits-step f i (is-kind (kGoal kAssign) k) (at-step (assign-here F e k .view) (rw p (assign-access (program f) _ _)))
 
-  pub construct-fits : {a : Access} → w ≡ constructKind → a ≡ givenIn (fourRead (argumentWords f i)) (word f i goalX) → Fits f i a
+  pub construct-fits : {a : Access} → w ≡ constructKind → a ≡ givenIn (fourRead (fourAt f i)) (word f i goalX) → Fits f i a
   unfolding all-rows
   construct-fits k p = fits-step f i (is-kind (kGoal kConstruct) k) (at-step (construct-here F e k .view) (rw p (construct-access (program f) _ _ _)))
 
@@ -101,11 +100,11 @@ module _ (f : List ℕ) (i : ℕ) (F : Formed f) {w : ℕ} (e : w ≡ word f i 0
   unfolding all-rows
   call-fits k g h p = fits-step f i (is-kind (kGoal kCall) k) (at-step (call-here F e k .view) (rw (g, h) at p))
 
-  pub arm-fits : {a : Access} → w ≡ armKind → a ≡ fourGiven (argumentWords f i) → Fits f i a
+  pub arm-fits : {a : Access} → w ≡ armKind → a ≡ fourGiven (fourAt f i) → Fits f i a
   unfolding all-rows armArguments
   arm-fits k p = record {
     step = λ s z. two-kinds (is-kind kArm k) (goal-kind s z .1);
-    arm = λ s z. rw p (four-given (argumentWords f i));
+    arm = λ s z. rw p (four-given (fourAt f i));
   }
 
 -- ---- a call: the callee's in and out variables stand in its window

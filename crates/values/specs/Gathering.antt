@@ -1,5 +1,5 @@
 -- What the code gathers of a goal, variable by variable, and the lists that it stands for.
-use Prim.Native.Nat.{ℕ, zero, suc}
+use Prim.Native.Nat.{ℕ}
 use mathlib.Core.Path.{_≡_, refl, sym, ap, _∙_}
 use mathlib.Core.Bool.{Bool, true, false, _&&_, not}
 use mathlib.Core.List.{List, [], _∷_, _++_, append-nil, append-assoc}
@@ -10,8 +10,8 @@ use Rattle.sets.specs.Sets.{member, emptySet, single, _∪_, single-zero}
 use Rattle.sets.specs.SetLaws.{union-empty}
 use Rattle.sets.specs.Members.{setOf}
 use Rattle.sets.specs.declared.Set.{Set}
-use Rattle.language.specs.Lists.{count, choose}
-use Rattle.language.specs.Program.{Four, four, fourWords, argumentsOf, trimmed, inMode, outMode}
+use Rattle.language.specs.Lists.{choose}
+use Rattle.language.specs.Program.{Four, fourWords, argumentsOf, trimmed, inMode, outMode}
 use Rattle.tables.specs.declared.Access.{Access}
 use Rattle.values.specs.Ranged.{set-snoc, freshFrom, fresh, fresh-snoc, trim-fold}
 

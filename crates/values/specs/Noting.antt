@@ -1,39 +1,32 @@
 -- The rows once they are filled: what each has of its record, and what stands beside it.
-use Prim.Native.Nat.{ℕ, zero, suc, _+_, _*_, _≤_, _<_}
+use Prim.Native.Nat.{ℕ, _+_, _≤_, _<_}
 use native.Mathlib.Omega.{arith}
 use native.Mathlib.Decide.{ℕ-discrete}
 use mathlib.Core.Bool.{Bool, true, false}
 use mathlib.Core.List.{List, [], _∷_}
 use mathlib.Core.Logic.{_⊎_, inl, inr}
 use mathlib.Core.Path.{_≡_, refl, sym, ap, _∙_}
-use borrow.Author.Tests.{lt-ltb, ne-eqb}
-use lib.Dec.{eqb, ltb}
-use lib.ListN.{length, getD, set, length-set}
-use lib.Seq.{getD-set-same, getD-set-other}
-use Rattle.sets.specs.Tests.{_&_, _or_, clash}
-use Rattle.sets.specs.Sets.{stored, loaded, loaded-stored}
+use borrow.Author.Tests.{ne-eqb}
+use lib.ListN.{length}
+use Rattle.sets.specs.Tests.{_or_, clash}
 use Rattle.sets.specs.Members.{setOf, inList}
-use Rattle.sets.specs.declared.Set.{Set}
-use Rattle.language.specs.Format.{maxRecords, literalKind, sumKind, assignKind, constructKind, callKind, printKind, createKind, removeKind, armKind}
-use Rattle.language.specs.File.{GoalKind, kLiteral, kSum, kAssign, kConstruct, kSwitch, kIf, kCall, kPrint, kCreate, kRemove, kNone, kArm, kGoal, goals, arms, word, recordCount, row}
-use Rattle.language.specs.Lists.{choose}
+use Rattle.language.specs.Format.{maxRecords, literalKind, sumKind, assignKind, constructKind, callKind, printKind, createKind, removeKind, armKind, kindWord, nextWord}
+use Rattle.language.specs.File.{GoalKind, kLiteral, kSum, kAssign, kConstruct, kSwitch, kIf, kCall, kPrint, kCreate, kRemove, kNone, kArm, kGoal, arms, word, recordCount, row}
 use Rattle.language.specs.Program.{Step, _then_, step}
 use Rattle.language.specs.Values.{access, reads, gives}
 use Rattle.language.specs.Answers.{program}
 use Rattle.chains.specs.Layout.{all-rows}
 use Rattle.chains.specs.Formed.{Formed, Stands, counted, goalsAt, goalAt}
 use Rattle.chains.specs.Is.{goals-step}
-use Rattle.tables.specs.Rows.{rowSet, readsIn, givesIn, markIn, bitOf, putAccess}
+use Rattle.records.specs.Blank.{rowWords}
+use Rattle.tables.specs.Rows.{readsIn, givesIn, markIn, putAccess, Still, StillAt, row-same, access-length, access-word, access-still, access-reads, access-gives, access-mark}
 use Rattle.tables.specs.Filled.{StepAt, Accessed}
 use Rattle.tables.specs.declared.Access.{Access}
 use Rattle.values.specs.Ranged.{fresh}
 use Rattle.values.specs.Gathering.{Gathers}
 use Rattle.values.specs.Fitting.{armArguments, Fits, arm-kind, arm-some}
 use Rattle.chains.specs.Shapes.{goal-kind, kind-number, switch-here, if-here}
-
--- words of the rows of 4,096 records
-abbrev pub rowWords : ℕ
-rowWords = 24576
+use Rattle.tables.specs.Places.{markPlace, needsPlace, rowPlace, rowSize}
 
 -- the kinds of steps
 unfoldable pub isStep : ℕ → Bool
@@ -57,7 +50,7 @@ module _ {k : ℕ} where
       ) refl
 
 -- the code has found one of them
-pub found-step : (f : List ℕ) (i k : ℕ) {w : ℕ} → w ≡ word f i 0 → w ≡ k → isStep k ≡ true → isStep (word f i 0) ≡ true
+pub found-step : (f : List ℕ) (i k : ℕ) {w : ℕ} → w ≡ word f i kindWord → w ≡ k → isStep k ≡ true → isStep (word f i kindWord) ≡ true
 found-step f i k e g s = ap isStep (sym e ∙ g) ∙ s
 
 -- the row of record i says that ys are read and xs are given
@@ -77,17 +70,17 @@ pub record Noted (f rows : List ℕ) : Type 0 where
 
 -- word k of row i is none of those that are filled: what a step or an arm reads and gives, and its mark
 abbrev pub Beside : List ℕ → ℕ → ℕ → Type 0
-Beside f i k = ((2 ≤ k) × (k < 5)) ⊎ ((isStep (word f i 0) ≡ false) × (word f i 0 ≡ armKind → ⊥))
+Beside f i k = ((needsPlace ≤ k) × (k < markPlace)) ⊎ ((isStep (word f i kindWord) ≡ false) × (word f i kindWord ≡ armKind → ⊥))
 
 -- and stays as it was
 pub record Kept (f t u : List ℕ) : Type 0 where
   pub length : length u ≡ length t
-  pub words : (i k : ℕ) → k < 6 → Beside f i k → getD u (6 * i + k) 0 ≡ getD t (6 * i + k) 0
+  pub words : (i k : ℕ) → k < rowSize → Beside f i k → StillAt t u i k
 
 pub record RowListed (f : List ℕ) (i : ℕ) (t u : List ℕ) : Type 0 where
   pub row : RowOf f i u
   pub kept : Kept f t u
-  pub others : (j k : ℕ) → k < 6 → (j ≡ i → ⊥) → getD u (6 * j + k) 0 ≡ getD t (6 * j + k) 0
+  pub others : (j : ℕ) → (j ≡ i → ⊥) → Still t u j
 
 pub noted-accessed : {f rows : List ℕ} → Noted f rows → Accessed f rows
 unfolding reads gives armArguments
@@ -102,11 +95,11 @@ noted-accessed h =
 goal-some : {k : GoalKind} → kGoal k ≡ kNone → ⊥
 goal-some e = let z : _≡_ {A = ℕ} 0 1 = cc in omega arith
 
-step-front : {f : List ℕ} {i : ℕ} {g : Step} → Formed f → StepAt f i g → goalsAt f i ≡ step g then goalsAt f (word f i 1)
+step-front : {f : List ℕ} {i : ℕ} {g : Step} → Formed f → StepAt f i g → goalsAt f i ≡ step g then goalsAt f (word f i nextWord)
 step-front F s = rw (sym (s .view)) (goals-step F (s .stands) (s .some) refl)
 
 module _ {f : List ℕ} (i : ℕ) (F : Formed f) where
-  kind-step : (g : Step) (k : GoalKind) → goalAt f i ≡ step g → word f i 0 ≡ row (kGoal k) .kind → isStep (word f i 0) ≡ true
+  kind-step : (g : Step) (k : GoalKind) → goalAt f i ≡ step g → word f i kindWord ≡ row (kGoal k) .kind → isStep (word f i kindWord) ≡ true
   unfolding all-rows isStep inList _or_
   kind-step g kLiteral v e = rw e refl
   kind-step g kSum v e = rw e refl
@@ -119,85 +112,13 @@ module _ {f : List ℕ} (i : ℕ) (F : Formed f) where
   kind-step g kCreate v e = rw e refl
   kind-step g kRemove v e = rw e refl
 
-  pub step-kind : (g : Step) → StepAt f i g → isStep (word f i 0) ≡ true
-  step-kind g s = let k = goal-kind (s .stands) (s .some) in kind-step g (k .0) (s .view) (kind-number (word f i 0) (kGoal (k .0)) (k .1) goal-some)
-
--- ---- storing a row
-module _ (t : List ℕ) (i : ℕ) (a : Access) where
-  put-length : length (putAccess t i a) ≡ length t
-  unfolding putAccess
-  put-length = simp length-set
-
-  row₀ : List ℕ
-  row₀ = set t (6 * i) (stored (a .reads))
-
-  row₁ : List ℕ
-  row₁ = set row₀ (6 * i + 1) (stored (a .gives))
-
-  -- other rows
-  put-others : (j k : ℕ) → k < 6 → (j ≡ i → ⊥) → getD (putAccess t i a) (6 * j + k) 0 ≡ getD t (6 * j + k) 0
-  unfolding putAccess row₀ row₁
-  put-others j k l ne =
-      getD-set-other row₁ (6 * i + 5) (6 * j + k) (bitOf (a .once)) 0 (λ e. ne (omega arith))
-      ∙ getD-set-other row₀ (6 * i + 1) (6 * j + k) (stored (a .gives)) 0 (λ e. ne (omega arith))
-      ∙ getD-set-other t (6 * i) (6 * j + k) (stored (a .reads)) 0 (λ e. ne (omega arith))
-
-  -- the words between
-  put-between : (j k : ℕ) → 2 ≤ k → k < 5 → getD (putAccess t i a) (6 * j + k) 0 ≡ getD t (6 * j + k) 0
-  unfolding putAccess row₀ row₁
-  put-between j k l m =
-      getD-set-other row₁ (6 * i + 5) (6 * j + k) (bitOf (a .once)) 0 (λ e. omega arith)
-      ∙ getD-set-other row₀ (6 * i + 1) (6 * j + k) (stored (a .gives)) 0 (λ e. omega arith)
-      ∙ getD-set-other t (6 * i) (6 * j + k) (stored (a .reads)) 0 (λ e. omega arith)
-
-  -- the row itself
-  module _ (fits : rowWords ≤ length t) (h : i < maxRecords) where
-    put-reads : readsIn (putAccess t i a) i ≡ a .reads
-    unfolding readsIn rowSet choose putAccess row₀ row₁
-    put-reads =
-        let n : 6 * i + 0 ≡ 6 * i = omega arith in
-        rw (
-          lt-ltb i maxRecords h,
-          n,
-          getD-set-other row₁ (6 * i + 5) (6 * i) (bitOf (a .once)) 0 (λ e. omega arith),
-          getD-set-other row₀ (6 * i + 1) (6 * i) (stored (a .gives)) 0 (λ e. omega arith),
-          getD-set-same t (6 * i) (stored (a .reads)) 0 (omega arith),
-        )
-        (loaded-stored (a .reads))
-
-    put-gives : givesIn (putAccess t i a) i ≡ a .gives
-    unfolding givesIn rowSet choose putAccess row₀ row₁
-    put-gives =
-        let l = length-set t (6 * i) (stored (a .reads)) in
-        rw (
-          lt-ltb i maxRecords h,
-          getD-set-other row₁ (6 * i + 5) (6 * i + 1) (bitOf (a .once)) 0 (λ e. omega arith),
-          getD-set-same row₀ (6 * i + 1) (stored (a .gives)) 0 (omega arith),
-        )
-        (loaded-stored (a .gives))
-
-    bit-is : (b : Bool) → eqb (bitOf b) 1 ≡ b
-    unfolding bitOf
-    bit-is true = refl
-    bit-is false = refl
-
-    put-mark : markIn (putAccess t i a) i ≡ a .once
-    unfolding markIn putAccess row₀ row₁ _&_
-    put-mark =
-        let l = length-set t (6 * i) (stored (a .reads)) in
-        let m = length-set row₀ (6 * i + 1) (stored (a .gives)) in
-        rw (lt-ltb i maxRecords h, getD-set-same row₁ (6 * i + 5) (bitOf (a .once)) 0 (omega arith)) (bit-is (a .once))
+  pub step-kind : (g : Step) → StepAt f i g → isStep (word f i kindWord) ≡ true
+  step-kind g s = let k = goal-kind (s .stands) (s .some) in kind-step g (k .0) (s .view) (kind-number (word f i kindWord) (kGoal (k .0)) (k .1) goal-some)
 
 -- a row whose words are the same has the same
-module _ (t u : List ℕ) (j : ℕ) (e : (k : ℕ) → k < 6 → getD u (6 * j + k) 0 ≡ getD t (6 * j + k) 0) where
+module _ (t u : List ℕ) (j : ℕ) (e : Still t u j) where
   row-stays : {ys xs : List ℕ} → RowHas t j ys xs → RowHas u j ys xs
-  unfolding readsIn givesIn markIn rowSet
-  row-stays h =
-      record {
-        read = rw (e 0 (omega arith)) (h .read);
-        given = rw (e 1 (omega arith)) (h .given);
-        none-twice = rw (e 5 (omega arith)) (h .none-twice);
-      }
+  row-stays h = let s = row-same t u j e in record { read = s .reads ∙ h .read; given = s .gives ∙ h .given; none-twice = s .mark ∙ h .none-twice }
 
   row-of-stays : {f : List ℕ} → RowOf f j t → RowOf f j u
   row-of-stays h = record { step = λ g s. row-stays (h .step g s); arm = λ s z. row-stays (h .arm s z) }
@@ -209,12 +130,12 @@ module _ {f : List ℕ} (t : List ℕ) {i : ℕ} {a : Access} (F : Formed f) (n 
   put-has g =
       let l : i < maxRecords = (let c = counted F in omega arith) in
       record {
-        read = put-reads t i a n l ∙ g .read;
-        given = put-gives t i a n l ∙ g .given;
-        none-twice = put-mark t i a n l ∙ g .none-twice;
+        read = access-reads t i a l n ∙ g .read;
+        given = access-gives t i a l n ∙ g .given;
+        none-twice = access-mark t i a l n ∙ g .none-twice;
       }
 
-  pub listed-put : {u : List ℕ} → u ≡ putAccess t i a → (isStep (word f i 0) ≡ true) ⊎ (word f i 0 ≡ armKind) → RowListed f i t u
+  pub listed-put : {u : List ℕ} → u ≡ putAccess t i a → (isStep (word f i kindWord) ≡ true) ⊎ (word f i kindWord ≡ armKind) → RowListed f i t u
   listed-put {u} e k =
       record {
         row =
@@ -223,29 +144,29 @@ module _ {f : List ℕ} (t : List ℕ) {i : ℕ} {a : Access} (F : Formed f) (n 
               step = λ g s. put-has (fit .step (s .stands) (s .some) g _ (step-front F s) .gathered);
               arm = λ s z. put-has (fit .arm s z);
             });
-        kept = rw e (record { length = put-length t i a; words = beside });
-        others = rw e (put-others t i a);
+        kept = rw e (record { length = access-length t i a; words = beside });
+        others = rw e (access-still t i a);
       }
     where
-      filled : {A : Type 0} (j : ℕ) → i ≡ j → (isStep (word f j 0) ≡ false) × (word f j 0 ≡ armKind → ⊥) → A
+      filled : {A : Type 0} (j : ℕ) → i ≡ j → (isStep (word f j kindWord) ≡ false) × (word f j kindWord ≡ armKind → ⊥) → A
       filled j q b = let c = rw (sym q) at b in elim k [ inl s ↦ absurd (clash s (c .0)) | inr s ↦ absurd (c .1 s) ]
 
-      beside : (j k : ℕ) → k < 6 → Beside f j k → getD (putAccess t i a) (6 * j + k) 0 ≡ getD t (6 * j + k) 0
-      beside j k l (inl d) = put-between t i a j k (d .0) (d .1)
-      beside j k l (inr d) = elim (ℕ-discrete i j) [ yes q ↦ filled j q d | no q ↦ put-others t i a j k l (λ r. q (sym r)) ]
+      beside : (j k : ℕ) → k < rowSize → Beside f j k → StillAt t (putAccess t i a) j k
+      beside j k l (inl d) = access-word t i a (rowPlace j k) (λ q. omega arith) (λ q. omega arith) (λ q. omega arith)
+      beside j k l (inr d) = elim (ℕ-discrete i j) [ yes q ↦ filled j q d | no q ↦ access-still t i a j (λ r. q (sym r)) k l ]
 
 -- nothing to put
-pub listed-none : {f t : List ℕ} {i : ℕ} → Formed f → isStep (word f i 0) ≡ false → (word f i 0 ≡ armKind → ⊥) → RowListed f i t t
+pub listed-none : {f t : List ℕ} {i : ℕ} → Formed f → isStep (word f i kindWord) ≡ false → (word f i kindWord ≡ armKind → ⊥) → RowListed f i t t
 unfolding all-rows
 listed-none {f} {t} {i} F p q =
     record {
       row =
           record {
             step = λ g s. absurd (clash (step-kind i F g s) p);
-            arm = λ s z. absurd (q (kind-number (word f i 0) kArm (arm-kind f i s z) arm-some));
+            arm = λ s z. absurd (q (kind-number (word f i kindWord) kArm (arm-kind f i s z) arm-some));
           };
       kept = record { length = refl; words = λ j k l b. refl };
-      others = λ j k l d. refl;
+      others = λ j d k l. refl;
     }
 
 -- ---- record by record
@@ -261,7 +182,7 @@ noting-next {f} {t} {u} {v} {i} h r =
     record {
       rows = λ j p q. elim (ℕ-discrete i j) [
         | yes e ↦ rw (sym e) (r .row)
-        | no e ↦ row-of-stays u v j (λ k l. r .others j k l (λ d. e (sym d))) (h .rows j p (omega arith))
+        | no e ↦ row-of-stays u v j (r .others j (λ d. e (sym d))) (h .rows j p (omega arith))
       ];
       kept = record { length = r .kept .length ∙ h .kept .length; words = λ j k l b. r .kept .words j k l b ∙ h .kept .words j k l b };
     }

@@ -2,7 +2,7 @@
 use Prim.Native.Nat.{ℕ, zero, suc, _+_, _≤_, _<_}
 use native.Mathlib.Omega.{arith}
 use mathlib.Core.Path.{_≡_, refl, sym, ap, ap₂, _∙_}
-use mathlib.Core.Bool.{Bool, true, false, false≢true}
+use mathlib.Core.Bool.{Bool, true, false}
 use mathlib.Core.List.{List, [], _∷_, _++_, append-nil}
 use mathlib.Core.Logic.{_⊎_, inl, inr, ⊎-elim}
 use lib.Dec.{eqb, leb}
@@ -20,6 +20,7 @@ use Rattle.laws.specs.Lists.{all-weaker, all-nth}
 use Rattle.language.specs.Program.{Variable, Signature, Program, Parameter, signatureOf, procedureAt, parameterIn, parametersFrom, parametersOf, parameterVariables, argumentsIn, variablesIn, inMode, outMode}
 use Rattle.language.specs.Typing.{variableOk, signatureOk, procedureOk, typingOk}
 use Rattle.language.specs.Values.{insOf, outsOf}
+use Rattle.language.specs.Format.{maxVariables, places}
 use Rattle.tables.specs.declared.Access.{Access}
 use Rattle.values.specs.Gathering.{noAccess, passedIn, Gathers, gathers-none}
 use Rattle.values.specs.Matching.{Matches, passing, snoc-if, gathers-pass}
@@ -50,10 +51,10 @@ ends x (v ∷ vs) n e = head-ends (v .mode) x n (x + length (v ∷ vs)) _ e (λ 
 -- ---- each is in or out
 pub data InOut : List Parameter → Type 0 where
   inout-nil : InOut []
-  inout-in : {x : ℕ} {ps : List Parameter} → InOut ps → InOut (record { mode = 1; variable = x } ∷ ps)
-  inout-out : {x : ℕ} {ps : List Parameter} → InOut ps → InOut (record { mode = 2; variable = x } ∷ ps)
+  inout-in : {x : ℕ} {ps : List Parameter} → InOut ps → InOut (record { mode = inMode; variable = x } ∷ ps)
+  inout-out : {x : ℕ} {ps : List Parameter} → InOut ps → InOut (record { mode = outMode; variable = x } ∷ ps)
 
-head-inout : (m x : ℕ) (ps : List Parameter) → m ≤ 2 → InOut ps → InOut (parameterIn m x ps)
+head-inout : (m x : ℕ) (ps : List Parameter) → m ≤ outMode → InOut ps → InOut (parameterIn m x ps)
 unfolding parameterIn
 head-inout zero x ps h i = i
 head-inout (suc zero) x ps h i = inout-in i
@@ -61,12 +62,12 @@ head-inout (suc (suc zero)) x ps h i = inout-out i
 head-inout (suc (suc (suc m))) x ps h i = absurd (omega arith)
 
 abbrev few : Variable → Bool
-few v = leb (v .mode) 2
+few v = leb (v .mode) outMode
 
 inouts : (x : ℕ) (vs : List Variable) → all few vs ≡ true → InOut (parametersFrom x vs)
 unfolding parametersFrom all
 inouts x [] e = inout-nil
-inouts x (v ∷ vs) e = let h = and-true e in head-inout (v .mode) x _ (leb-true (v .mode) 2 (h .0)) (inouts (suc x) vs (h .1))
+inouts x (v ∷ vs) e = let h = and-true e in head-inout (v .mode) x _ (leb-true (v .mode) outMode (h .0)) (inouts (suc x) vs (h .1))
 
 -- ---- those of a mode are some of them, and each has one of the two
 among-all : (m n : ℕ) (ps : List Parameter) (ys : List ℕ) → inList n (argumentsIn m ps ys) ≡ true → inList n ys ≡ true
@@ -114,7 +115,7 @@ tells ins l (_ ∷ ps) (inout-out {x = x} i) (rising-cons h r) g =
 
 -- ---- what a signature declares, as two sets
 pub record Declares (S : Signature) (ins outs : Set) : Type 0 where
-  pub some : length (S .variables) ≤ 64
+  pub some : length (S .variables) ≤ maxVariables
   pub modes : all few (S .variables) ≡ true
   pub ins-are : ins ≡ insOf S
   pub outs-are : outs ≡ outsOf S
@@ -124,7 +125,7 @@ module _ {S : Signature} {ins outs : Set} (D : Declares S ins outs) where
   unfolding parametersOf
   rise = rises 1 (S .variables) 0 (omega arith)
 
-  small : (n : ℕ) → inList n (parameterVariables (parametersOf S)) ≡ true → n ≤ 64
+  small : (n : ℕ) → inList n (parameterVariables (parametersOf S)) ≡ true → n ≤ maxVariables
   unfolding parametersOf
   small n e = let h = ends 1 (S .variables) n e in let l = D .some in omega arith
 
@@ -201,7 +202,7 @@ module _ {S : Signature} {ins both : Set} {ys₀ : List ℕ} {a : Access} {n : �
   pub turned-short : ys ≡ [] → Matches (S .variables) ys₀ a
   turned-short e = ended (λ m. rw e (none-left m (h .left)))
 
-  pub turned-last : nextMember both n ≡ 65 → Matches (S .variables) ys₀ a
+  pub turned-last : nextMember both n ≡ places → Matches (S .variables) ys₀ a
   unfolding argumentsIn parameterVariables
   turned-last e = ended (go (h .left) (h .numbers ∙ above-end both n e))
     where
@@ -219,7 +220,7 @@ step-left ins both (_ ∷ ps) (told-cons {x = z} q t) x e =
     (ps, rw (q, i) refl, j, t)
 
 pub turned-next : {S : Signature} {ins both : Set} {ys₀ : List ℕ} {a : Access} {n : ℕ} {ys : List ℕ} → Turned S ins both ys₀ a n ys
-    → {x y : ℕ} {zs : List ℕ} → x ≡ nextMember both n → x < 65 → ys ≡ y ∷ zs → Turned S ins both ys₀ (passedIn (toldMode ins x) a y) x zs
+    → {x y : ℕ} {zs : List ℕ} → x ≡ nextMember both n → x < places → ys ≡ y ∷ zs → Turned S ins both ys₀ (passedIn (toldMode ins x) a y) x zs
 unfolding argumentsIn
 turned-next {S} {ins} {both} {ys₀} {a} {n} {ys} h {x} {y} {zs} e l f =
     let t = step-left ins both (h .left) (h .told) x (h .numbers ∙ above-next both n x (sym e) l) in
@@ -250,4 +251,10 @@ pub declares : (P : Program) → typingOk P ≡ true → {q : ℕ} → q < lengt
 unfolding typingOk procedureOk signatureOk variableOk signatureOf procedureAt
 declares P t {q} h i o =
     let s = and-true (and-true (all-nth (procedureOk P) _ (P .procedures) q (and-true (and-true t .1) .1) h) .0) in
-    record { some = leb-true _ 64 (s .0); modes = all-weaker _ few _ (λ v e. and-true e .0) (and-true (and-true (s .1) .1) .0); ins-are = i; outs-are = o }
+    record {
+      some =
+          leb-true _ maxVariables (s .0);
+      modes = all-weaker _ few _ (λ v e. and-true e .0) (and-true (and-true (s .1) .1) .0);
+      ins-are = i;
+      outs-are = o;
+    }

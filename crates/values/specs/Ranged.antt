@@ -4,11 +4,11 @@ use native.Mathlib.Omega.{arith}
 use mathlib.Core.Path.{_≡_, refl, sym, ap, _∙_}
 use mathlib.Core.Bool.{Bool, true, false}
 use mathlib.Core.List.{List, [], _∷_, _++_, append-nil, append-assoc}
-use mathlib.Core.Logic.{inl, inr, ⊎-elim}
+use mathlib.Core.Logic.{⊎-elim}
 use lib.Dec.{eqb}
-use borrow.Author.Tests.{eqb-true, eqb-false, eq-eqb, ne-eqb}
+use borrow.Author.Tests.{eqb-true, eq-eqb, ne-eqb}
 use Rattle.sets.specs.Tests.{_&_, neg, truth, clash, false-of, same-truth, and-true, true-and, neg-true, true-neg}
-use Rattle.sets.specs.Sets.{member, emptySet, single, _∪_, single-zero}
+use Rattle.sets.specs.Sets.{member, emptySet, single, _∪_}
 use Rattle.sets.specs.SetLaws.{union-empty, empty-union, union-assoc}
 use Rattle.sets.specs.Members.{setOf, inList, nil-in, cons-here, cons-later, cons-in}
 use Rattle.sets.specs.MemberLaws.{setOf-in, setOf-mk}
@@ -16,10 +16,11 @@ use Rattle.sets.specs.declared.Set.{Set}
 use Rattle.language.specs.Lists.{one, count}
 use Rattle.language.specs.Program.{trimOnto, trimmed}
 use Rattle.language.specs.Values.{distinct}
+use Rattle.language.specs.Format.{maxVariables}
 
 -- every number is one that a set can hold
 abbrev pub InRange : ℕ → Type 0
-InRange x = (1 ≤ x) × (x ≤ 64)
+InRange x = (1 ≤ x) × (x ≤ maxVariables)
 
 abbrev pub Ranged : List ℕ → Type 0
 Ranged [] = Unit {0}

@@ -14,7 +14,7 @@ use Rattle.language.specs.Answers.{program}
 use Rattle.chains.specs.Formed.{variablesAt}
 use Rattle.values.specs.Callees.{Declares}
 use Rattle.language.specs.Typing.{procedureOk, typingOk}
-use Rattle.values.specs.Typed.{TypedGoals, TypedAll, typed-all, typed-head}
+use Rattle.values.specs.Typed.{TypedGoals, typed-all, typed-head}
 
 -- ---- the elements of a list
 module _ {A : Type 0} (d : A) (p : A → Bool) where

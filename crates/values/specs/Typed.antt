@@ -1,35 +1,36 @@
--- Number 3 says that every variable that a goal names is from 1 to 64, so that a set can hold it.
-use Prim.Native.Nat.{ℕ, zero, suc, _≤_}
+-- Number 3 says that every variable that a goal names is from 1 to maxVariables, so that a set can hold it.
+use Prim.Native.Nat.{ℕ, suc, _≤_}
 use native.Mathlib.Omega.{arith}
-use mathlib.Core.Path.{_≡_, refl, sym, ap, _∙_}
+use mathlib.Core.Path.{_≡_, refl}
 use mathlib.Core.Bool.{Bool, true, false}
-use mathlib.Core.List.{List, [], _∷_, _++_}
-use lib.Dec.{eqb, leb}
+use mathlib.Core.List.{List, [], _∷_}
+use lib.Dec.{eqb}
 use lib.ListN.{length}
 use borrow.Author.Tests.{leb-true}
-use Rattle.sets.specs.Tests.{_&_, and-true, clash}
+use Rattle.sets.specs.Tests.{and-true, clash}
 use Rattle.sets.specs.Members.{consIf}
 use Rattle.language.specs.Lists.{all, among}
-use Rattle.language.specs.Program.{Four, argumentsOf, Functor, Parameter, Step, literal, sum, assign, construct, call, print, create, remove, Goals, done, _then_, Goal, step, switch, ifLess, Arms, noArms, arm, Signature, Procedure, Program, parametersOf, signatureOf, argumentsIn, outMode}
-use Rattle.language.specs.Typing.{isVariable, hasType, haveTypes, argumentsOk, signatureOk, stepOk, goalsOk, goalOk, armsOk, procedureOk, typesOk, typingOk}
+use Rattle.language.specs.Program.{Four, argumentsOf, Functor, Parameter, Step, literal, sum, assign, construct, call, print, create, remove, Goals, _then_, Goal, step, switch, ifLess, Arms, arm, Signature, Procedure, Program, parametersOf, signatureOf, argumentsIn, outMode}
+use Rattle.language.specs.Typing.{isVariable, hasType, haveTypes, argumentsOk, signatureOk, stepOk, goalsOk, goalOk, armsOk, procedureOk, typingOk}
 use Rattle.language.specs.Values.{access, accessing}
+use Rattle.language.specs.Format.{maxVariables}
 use Rattle.values.specs.Ranged.{InRange, Ranged}
 
 -- goals of a procedure that passed
 pub record TypedGoals (P : Program) (gs : Goals) : Type 0 where
   pub signature : Signature
-  pub few : length (signature .variables) ≤ 64
+  pub few : length (signature .variables) ≤ maxVariables
   pub ok : goalsOk P signature gs ≡ true
 
 pub record TypedArms (P : Program) (cs : Arms) : Type 0 where
   pub signature : Signature
-  pub few : length (signature .variables) ≤ 64
+  pub few : length (signature .variables) ≤ maxVariables
   pub functors : List Functor
   pub number : ℕ
   pub ok : armsOk P signature cs functors number ≡ true
 
--- ---- variables are from 1 to 64
-module _ (S : Signature) (few : length (S .variables) ≤ 64) where
+-- ---- variables are from 1 to maxVariables
+module _ (S : Signature) (few : length (S .variables) ≤ maxVariables) where
   variable-range : (x : ℕ) → isVariable S x ≡ true → InRange x
   unfolding isVariable among
   variable-range x e =
@@ -100,7 +101,7 @@ pub record TypedArm (P : Program) (ys : Four) (gs : Goals) (cs : Arms) : Type 0 
   pub goals : TypedGoals P gs
   pub rest : TypedArms P cs
 
-typed-arm-in : {P : Program} (f : ℕ) {ys : Four} {gs : Goals} {cs : Arms} (S : Signature) → length (S .variables) ≤ 64 → (fs : List Functor) (n : ℕ)
+typed-arm-in : {P : Program} (f : ℕ) {ys : Four} {gs : Goals} {cs : Arms} (S : Signature) → length (S .variables) ≤ maxVariables → (fs : List Functor) (n : ℕ)
     → armsOk P S (arm f ys gs cs) fs n ≡ true → TypedArm P ys gs cs
 unfolding armsOk argumentsOk
 typed-arm-in f S l [] n e = absurd (clash e refl)
@@ -134,6 +135,6 @@ typed-head {P} {qs} {ps} {p} h e =
     let q = and-true (rw e at (h .ok)) in
     let r = and-true (q .0) in
     record {
-      goals = record { signature = p .signature; few = leb-true (length (p .signature .variables)) 64 (and-true (r .0) .0); ok = r .1 };
+      goals = record { signature = p .signature; few = leb-true (length (p .signature .variables)) maxVariables (and-true (r .0) .0); ok = r .1 };
       rest = record { ok = q .1 };
     }

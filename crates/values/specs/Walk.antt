@@ -1,7 +1,7 @@
 -- One walk over goals for whatever is carried: what a step does, what may be read, how an arm is entered, where paths meet. Number 4 and number 8 are
 -- two of its cases. The laws speak of the code: what is carried before and after as plain values, and an answer that says whether the walk goes on.
 use Prim.Native.Nat.{ℕ}
-use mathlib.Core.Path.{_≡_, refl, sym, ap, _∙_}
+use mathlib.Core.Path.{_≡_, refl, sym, _∙_}
 use mathlib.Core.Bool.{Bool, true, false}
 use Rattle.sets.specs.Tests.{_&_}
 use Rattle.language.specs.Program.{Four, Step, Goals, done, _then_, Goal, step, switch, ifLess, Arms, noArms, arm}

@@ -2,20 +2,19 @@
 use Prim.Native.Nat.{ℕ, _+_, _<_}
 use mathlib.Core.Bool.{Bool, true, false}
 use mathlib.Core.List.{List}
-use mathlib.Core.Path.{_≡_, refl, sym, ap, ap₂, _∙_}
+use mathlib.Core.Path.{_≡_, refl, ap, ap₂, _∙_}
 use lib.ListN.{length, getD, drop}
-use lib.Seq.{getD-drop}
 use Rattle.sets.specs.Sets.{subset, loaded}
 use Rattle.sets.specs.declared.Set.{Set}
 use Rattle.language.specs.File.{goals}
 use Rattle.language.specs.Program.{procedureAt}
 use Rattle.language.specs.Typing.{typingOk}
-use Rattle.language.specs.Values.{insOf, outsOf, procedureValues}
+use Rattle.language.specs.Values.{insOf, procedureValues}
 use Rattle.language.specs.Answers.{program}
 use Rattle.chains.specs.Formed.{Stands, goalsAt}
 use Rattle.tables.specs.Window.{insPlace, outsPlace, bodyPlace, setIn, FileTable}
 use Rattle.values.specs.Fitting.{in-window}
-use Rattle.values.specs.Valuing.{Valuation, everyIn, both, valuation, procedure-stops, procedure-ends}
+use Rattle.values.specs.Valuing.{everyIn, both, valuation, procedure-stops, procedure-ends}
 use Rattle.values.specs.Carrying.{GoalsValued}
 use Rattle.values.specs.Turns.{typed-at}
 

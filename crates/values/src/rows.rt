@@ -31,10 +31,11 @@ ghost use lib.ListN.{length};
 ghost use Rattle.language.specs.File.{recordCount};
 ghost use Rattle.language.specs.Typing.{typingOk};
 ghost use Rattle.language.specs.Answers.{program};
+ghost use Rattle.records.specs.Blank.{rowWords};
 ghost use Rattle.chains.specs.Formed.{Formed};
 ghost use Rattle.tables.specs.Window.{FileTable};
 ghost use Rattle.tables.specs.Filled.{Accessed};
-ghost use Rattle.values.specs.Noting.{rowWords, isStep, Noted, Kept, RowListed};
+ghost use Rattle.values.specs.Noting.{isStep, Noted, Kept, RowListed};
 
 // Fills the rows of steps and arms: what they read and give, and whether they give no variable twice.
 pub fn list_accesses(file: &[u8], table: &[u64; TABLE], rows: &mut [u64; ROWS])

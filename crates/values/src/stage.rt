@@ -26,9 +26,10 @@ ghost use Rattle.language.specs.Program.{procedureAt};
 ghost use Rattle.language.specs.Typing.{typingOk};
 ghost use Rattle.language.specs.Values.{procedureValues, valuesOk};
 ghost use Rattle.language.specs.Answers.{program};
+ghost use Rattle.records.specs.Blank.{rowWords};
 ghost use Rattle.chains.specs.Formed.{Formed};
 ghost use Rattle.tables.specs.Window.{FileTable};
-ghost use Rattle.values.specs.Noting.{rowWords, Noted, Kept};
+ghost use Rattle.values.specs.Noting.{Noted, Kept};
 
 // Number 4. Fills the rows of steps and arms, whatever the answer.
 pub fn values_ok(file: &[u8], table: &[u64; TABLE], rows: &mut [u64; ROWS]) -> bool

@@ -11,8 +11,8 @@ use tables::Access;
 ghost use mathlib.Core.Path.{_≡_};
 ghost use Rattle.language.specs.Format.{goalX, sumY, sumZ, assignY, printY};
 ghost use Rattle.language.specs.File.{word};
+ghost use Rattle.chains.specs.Parts.{fourAt};
 ghost use Rattle.values.specs.Gathering.{noAccess, readIn, givenIn, fourRead, fourGiven};
-ghost use Rattle.values.specs.Fitting.{argumentWords};
 
 // Nothing yet.
 pub fn no_access() -> Access
@@ -71,7 +71,7 @@ pub fn assign_access(file: &[u8], i: usize) -> Access
 
 // A construct reads its arguments and gives x.
 pub fn construct_access(file: &[u8], i: usize) -> Access
-    ensures { λ r. ⌜ r ≡ givenIn (fourRead (argumentWords (now (file .entry)) i)) (word (now (file .entry)) i goalX) ⌝ }
+    ensures { λ r. ⌜ r ≡ givenIn (fourRead (fourAt (now (file .entry)) i)) (word (now (file .entry)) i goalX) ⌝ }
 {
     let a1 = read(no_access(), word(file, i, TERM_ARGUMENTS));
     let a2 = read(a1, word(file, i, TERM_ARGUMENTS + 1));
@@ -82,7 +82,7 @@ pub fn construct_access(file: &[u8], i: usize) -> Access
 
 // An arm gives its arguments.
 pub fn arm_access(file: &[u8], i: usize) -> Access
-    ensures { λ r. ⌜ r ≡ fourGiven (argumentWords (now (file .entry)) i) ⌝ }
+    ensures { λ r. ⌜ r ≡ fourGiven (fourAt (now (file .entry)) i) ⌝ }
 {
     let a1 = give(no_access(), word(file, i, TERM_ARGUMENTS));
     let a2 = give(a1, word(file, i, TERM_ARGUMENTS + 1));

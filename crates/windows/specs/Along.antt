@@ -6,6 +6,7 @@ use mathlib.Core.Path.{_≡_, refl, ap, _∙_}
 use lib.ListN.{length}
 use Rattle.language.specs.Lists.{nth}
 use Rattle.language.specs.File.{Chain, word}
+use Rattle.language.specs.Format.{nextWord}
 use Rattle.chains.specs.Formed.{Formed, Stands}
 use Rattle.chains.specs.Is.{chain-next}
 use Rattle.chains.specs.Records.{chainRecords, records-none, records-step}
@@ -27,12 +28,13 @@ module _ {f : List ℕ} {c : Chain} {first i n : ℕ} (F : Formed f) (h : Along 
   unfolding nth
   along-here =
       let e : n ≡ n + 0 = omega arith in
-      ap (λ (m : ℕ). nth 0 (chainRecords f first) m) e ∙ h .rest 0 ∙ ap (λ (xs : List ℕ). nth 0 xs 0) (records-step {w = word f i 1} F z (h .stands .below) refl)
+      ap (λ (m : ℕ). nth 0 (chainRecords f first) m) e ∙ h .rest 0
+      ∙ ap (λ (xs : List ℕ). nth 0 xs 0) (records-step {w = word f i nextWord} F z (h .stands .below) refl)
 
   pub along-below : n < length (chainRecords f first)
-  along-below = omega (arith, h .count, ap length (records-step {w = word f i 1} F z (h .stands .below) refl))
+  along-below = omega (arith, h .count, ap length (records-step {w = word f i nextWord} F z (h .stands .below) refl))
 
-  pub along-next : {w : ℕ} → w ≡ word f i 1 → Along f c first w (n + 1)
+  pub along-next : {w : ℕ} → w ≡ word f i nextWord → Along f c first w (n + 1)
   unfolding nth
   along-next {w} e =
       let s = records-step F z (h .stands .below) e in

@@ -18,6 +18,7 @@ use Rattle.language.specs.Values.{insOf, outsOf}
 use Rattle.language.specs.Regions.{reach, reachAll}
 use Rattle.language.specs.Lifetimes
 use Rattle.language.specs.Lifetimes.{inputs, outputs, ofClass, declared, born, dead, kept, classesOk}
+use Rattle.language.specs.Format.{bornClass, deadClass}
 use Rattle.region_graph.specs.Laws.{Declared}
 use Rattle.region_graph.specs.Typed.{regions-few}
 use Rattle.region_graph.specs.Procedure
@@ -86,15 +87,15 @@ module _ {f : List ℕ} {v r : ℕ} (S : Signature) (h : SignatureAt f v r S) wh
   reach-all {xs = xs} w e g = g ∙ ap (λ (F : ℕ → Set). unionOver F xs) (fun-ext (w .at)) ∙ ap (λ (z : Set). unionOver (reach S) z) e
 
   pub sorted : {t : List ℕ} {xs ys ins outs b d u w k : Set} → Reached S t → xs ≡ setOf (ofMode inMode (variablesAt f v)) → ys ≡ setOf (ofMode outMode (variablesAt f v))
-      → ins ≡ unionOver (reachIn t) xs → outs ≡ unionOver (reachIn t) ys → b ≡ setOf (ofClassIn 1 (regionsAt f r))
-      → d ≡ setOf (ofClassIn 2 (regionsAt f r)) → u ≡ ins ∪ outs → w ≡ b ∪ d → k ≡ u ∖ w
+      → ins ≡ unionOver (reachIn t) xs → outs ≡ unionOver (reachIn t) ys → b ≡ setOf (ofClassIn bornClass (regionsAt f r))
+      → d ≡ setOf (ofClassIn deadClass (regionsAt f r)) → u ≡ ins ∪ outs → w ≡ b ∪ d → k ≡ u ∖ w
       → Classed S (record { ins = xs; outs = ys; inputs = ins; outputs = outs; born = b; dead = d; kept = k; passed = u })
   unfolding inputs outputs born dead
   sorted R ex ey ei eo eb ed eu ew ek =
       let i = reach-all R (ins-are ex) ei in
       let o = reach-all R (outs-are ey) eo in
-      let b = of-class-is 1 eb in
-      let d = of-class-is 2 ed in
+      let b = of-class-is bornClass eb in
+      let d = of-class-is deadClass ed in
       record {
         ins = ins-are ex;
         outs = outs-are ey;

@@ -3,7 +3,7 @@ use Prim.Native.Nat.{ℕ, _+_, _*_, _≤_, _<_}
 use native.Mathlib.Omega.{arith}
 use mathlib.Core.Bool.{true}
 use mathlib.Core.List.{List, [], _∷_}
-use mathlib.Core.Path.{_≡_, refl, ap}
+use mathlib.Core.Path.{_≡_}
 use lib.ListN.{length}
 use Rattle.language.specs.File.{kRegion, recordCount}
 use Rattle.language.specs.Layout.{size}
@@ -11,10 +11,12 @@ use Rattle.language.specs.Program.{Region, Signature, Procedure}
 use Rattle.language.specs.Records.{chainOf, regionWords}
 use Rattle.language.specs.Typing.{typingOk}
 use Rattle.language.specs.Answers.{program}
-use Rattle.chains.specs.Layout.{program-size}
-use Rattle.chains.specs.Layout.{chain-size, signatureSize, goalsSize, proceduresSize, program-records}
+use Rattle.language.specs.Format.{maxProcedures}
+use Rattle.chains.specs.Layout.{program-size, chain-size, signatureSize, proceduresSize, program-records}
 use Rattle.region_graph.specs.Typed.{procedures-count}
+use Rattle.records.specs.Blank.{fileWords}
 use Rattle.chains.specs.Formed.{Formed, counted}
+use Rattle.tables.specs.Places.{headSize, windowWords}
 
 -- the variables and regions that procedures declare
 unfoldable pub partsIn : List Procedure → ℕ
@@ -35,19 +37,19 @@ parts-fit {f} F = omega (arith, program-size f (F .header) (F .form), program-re
 
 -- ---- the words of the windows
 unfoldable pub windowSize : Signature → ℕ
-windowSize S = 10 + 2 * length (S .variables) + length (S .regions)
+windowSize S = windowWords (length (S .variables)) (length (S .regions))
 
 unfoldable pub windowsSize : List Procedure → ℕ
 windowsSize [] = 0
 windowsSize (p ∷ ps) = windowSize (p .signature) + windowsSize ps
 
-windows-few : (ps : List Procedure) → windowsSize ps ≤ 10 * length ps + 2 * partsIn ps
+windows-few : (ps : List Procedure) → windowsSize ps ≤ headSize * length ps + 2 * partsIn ps
 unfolding partsIn windowsSize windowSize
 windows-few [] = omega arith
 windows-few (p ∷ ps) = omega (arith, windows-few ps)
 
 -- behind the 256 starts
-pub windows-fit : {f : List ℕ} → Formed f → typingOk (program f) ≡ true → 256 + windowsSize (program f .procedures) ≤ 11008
+pub windows-fit : {f : List ℕ} → Formed f → typingOk (program f) ≡ true → maxProcedures + windowsSize (program f .procedures) ≤ fileWords
 windows-fit {f} F T =
     let n = procedures-count (program f) T .1 in
     let c = counted F in

@@ -16,27 +16,30 @@ use Rattle.language.specs.File.{Chain, word}
 use Rattle.language.specs.Program.{Functor, Signature}
 use Rattle.language.specs.Typing.{isRegion}
 use Rattle.language.specs.Regions.{targetsIn, reachFrom}
+use Rattle.language.specs.Format.{places, regionEdges, variableRegion}
 use Rattle.region_graph.specs.Laws.{Declared}
 use Rattle.region_graph.specs.Typed.{region-in}
 use Rattle.chains.specs.Formed.{Formed, Stands, edgesAt}
-use Rattle.chains.specs.Declared.{region-at}
-use Rattle.chains.specs.Is.{region-is}
+use Rattle.chains.specs.Shapes.{region-here}
 use Rattle.chains.specs.Fields.{fieldOf, field-some}
 use Rattle.chains.specs.Records.{chainRecords}
 use Rattle.windows.specs.Along.{Along, along-here}
 use Rattle.windows.specs.Storing.{set-here, set-else}
 use Rattle.windows.specs.Targets.{setAt, ReachTable}
 
--- the fourth word of the record at place k of a chain: a variable's region, a region's first edge
+-- a variable's region and a region's first edge stand in the same word: that of the record at place k of a chain
+abbrev pub partWord : ℕ
+partWord = variableRegion
+
 unfoldable pub partAt : List ℕ → ℕ → ℕ → ℕ
-partAt f first k = fieldOf f (nth 0 (chainRecords f first) k) 4
+partAt f first k = fieldOf f (nth 0 (chainRecords f first) k) partWord
 
-pub part-here : {f : List ℕ} {c : Chain} {first i n w : ℕ} → Formed f → Along f c first i n → (i ≡ 0 → ⊥) → w ≡ word f i 4 → w ≡ partAt f first n
+pub part-here : {f : List ℕ} {c : Chain} {first i n w : ℕ} → Formed f → Along f c first i n → (i ≡ 0 → ⊥) → w ≡ word f i partWord → w ≡ partAt f first n
 unfolding partAt
-part-here {f} {i = i} F h z e = e ∙ field-some f i 4 z ∙ ap (λ (j : ℕ). fieldOf f j 4) (sym (along-here F h z))
+part-here {f} {i = i} F h z e = e ∙ field-some f i partWord z ∙ ap (λ (j : ℕ). fieldOf f j partWord) (sym (along-here F h z))
 
-pub edges-here : {f : List ℕ} {i w : ℕ} → Formed f → Stands f File.regions i → (i ≡ 0 → ⊥) → w ≡ word f i 4 → Stands f File.edges w
-edges-here F s z e = rw e (region-at F refl (region-is s z) .to-edges .stands)
+pub edges-here : {f : List ℕ} {i w : ℕ} → Formed f → Stands f File.regions i → (i ≡ 0 → ⊥) → w ≡ word f i regionEdges → Stands f File.edges w
+edges-here F s z e = rw e (region-here F z s .to-edges .stands)
 
 -- ---- n regions are written from place `from` on, and where their edges lead
 pub record RegionsListed (f : List ℕ) (first : ℕ) (t₀ : List ℕ) (from n : ℕ) (t g : List ℕ) : Type 0 where
@@ -83,7 +86,7 @@ module _ (g : List ℕ) {h : ℕ} where
   unfolding setAt
   home-some z e T S d q o = ⊎-elim (λ y. absurd (z y)) (λ i. e ∙ q .at h i) o
 
-  pub home-past : (h ≡ 0 → ⊥) → 65 ≤ h → HomeReach g h emptySet
+  pub home-past : (h ≡ 0 → ⊥) → places ≤ h → HomeReach g h emptySet
   home-past z l T S d q o = ⊎-elim (λ y. absurd (z y)) (λ i. absurd (omega (arith, region-in S h i, d .regions))) o
 
 pub record VariablesListed (f : List ℕ) (first : ℕ) (g t₀ : List ℕ) (from n : ℕ) (t : List ℕ) : Type 0 where

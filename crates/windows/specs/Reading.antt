@@ -16,6 +16,7 @@ use Rattle.sets.specs.declared.Set.{Set}
 use Rattle.language.specs.Program.{Functor, Signature}
 use Rattle.language.specs.Typing.{isRegion}
 use Rattle.language.specs.Regions.{targets, reachFrom}
+use Rattle.language.specs.Format.{maxRegions, places}
 use Rattle.region_graph.specs.Laws.{Declared}
 use Rattle.region_graph.specs.Reach.{reach-closed}
 use Rattle.region_graph.specs.Typed.{region-in}
@@ -25,7 +26,7 @@ use Rattle.windows.specs.Targets.{setAt, Between}
 module _ (next : ℕ → Set) (r : ℕ) where
   pub record Reading (found unread : Set) : Type 0 where
     pub within : (n : ℕ) → member unread n ≡ true → member found n ≡ true
-    pub start : 1 ≤ r → r ≤ 64 → member found r ≡ true
+    pub start : 1 ≤ r → r ≤ maxRegions → member found r ≡ true
     pub closed : (u t : ℕ) → member found u ≡ true → member unread u ≡ false → member (next u) t ≡ true → member found t ≡ true
     pub least : (test : ℕ → Bool) → test r ≡ true → ((u t : ℕ) → test u ≡ true → member (next u) t ≡ true → test t ≡ true)
         → (u : ℕ) → member found u ≡ true → test u ≡ true
@@ -42,7 +43,7 @@ module _ (next : ℕ → Set) (r : ℕ) where
   starts e g = rw (e, g) first
 
   -- u's edges are read
-  module _ {found unread : Set} (h : Reading found unread) (u : ℕ) (e : u ≡ nextMember unread 0) (l : u < 65) where
+  module _ {found unread : Set} (h : Reading found unread) (u : ℕ) (e : u ≡ nextMember unread 0) (l : u < places) where
     is-unread : member unread u ≡ true
     is-unread = rw e (next-is unread 0 .found (rw (← e) l))
 
@@ -99,20 +100,20 @@ module _ (next : ℕ → Set) (r : ℕ) where
             (false-of (λ k. ⊎-elim (λ p. clash (single-mk u (omega (arith, e)) (omega arith)) (difference-in unread (single u) u p .1)) (not-new u m) (union-in (unread ∖ single u) _ u k)))
 
   -- the same in the code's terms
-  pub goes : {found unread new found″ unread″ s o g : Set} {u : ℕ} → Reading found unread → u ≡ nextMember unread 0 → u < 65
+  pub goes : {found unread new found″ unread″ s o g : Set} {u : ℕ} → Reading found unread → u ≡ nextMember unread 0 → u < places
       → s ≡ next u → new ≡ s ∖ found → found″ ≡ found ∪ new → o ≡ single u → g ≡ unread ∖ o → unread″ ≡ g ∪ new
-      → Reading found″ unread″ × (64 - size (found″ ∖ unread″) < 64 - size (found ∖ unread))
+      → Reading found″ unread″ × (maxRegions - size (found″ ∖ unread″) < maxRegions - size (found ∖ unread))
   goes {found} {unread} {u = u} h e l i j k a b d =
       rw (d, b, a, k, j, i) (turn h u e l, let m = more-read h u e l in omega (arith, size-top (found′ h u e l ∖ unread′ h u e l)))
 
   -- none is left
-  none-left : {found unread : Set} → Reading found unread → {u : ℕ} → u ≡ nextMember unread 0 → 65 ≤ u → (n : ℕ) → n ≤ 64 → member unread n ≡ false
+  none-left : {found unread : Set} → Reading found unread → {u : ℕ} → u ≡ nextMember unread 0 → places ≤ u → (n : ℕ) → n ≤ maxRegions → member unread n ≡ false
   none-left {unread = unread} h e l n k =
       let x = next-is unread 0 in
       false-of (λ m. clash m (x .none n (member-pos unread n m) (omega (arith, e))))
 
 -- ---- the definition's reach
-module _ {t : List ℕ} {r u : ℕ} {found unread : Set} (h : Reading (setAt t) r found unread) (e : u ≡ nextMember unread 0) (l : 65 ≤ u)
+module _ {t : List ℕ} {r u : ℕ} {found unread : Set} (h : Reading (setAt t) r found unread) (e : u ≡ nextMember unread 0) (l : places ≤ u)
     (T : List (List Functor)) (S : Signature) (d : Declared T S) (q : Between S t) where
   leads : (u t : ℕ) → isRegion S u ≡ true → inList t (targets S u) ≡ true → isRegion S t ≡ true
   leads u t i m = d .onward u t i m .0
@@ -121,7 +122,7 @@ module _ {t : List ℕ} {r u : ℕ} {found unread : Set} (h : Reading (setAt t) 
   further : (u v : ℕ) → isRegion S r ≡ true → member (reachFrom S r) u ≡ true → member (reachFrom S u) v ≡ true → member (reachFrom S r) v ≡ true
   further u v g m i = d .least u (member (reachFrom S r)) m (λ a b k n. reach-closed S (d .regions) leads r a b g k n) v i
 
-  home : (v : ℕ) → isRegion S v ≡ true → (1 ≤ v) × (v ≤ 64)
+  home : (v : ℕ) → isRegion S v ≡ true → (1 ≤ v) × (v ≤ maxRegions)
   home v i = let x = region-in S v i in (x .0, omega (arith, d .regions))
 
   pub reached : isRegion S r ≡ true → found ≡ reachFrom S r

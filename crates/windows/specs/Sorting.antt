@@ -16,6 +16,7 @@ use Rattle.sets.specs.declared.Set.{Set}
 use Rattle.language.specs.Lists.{nth, nth1, upFrom}
 use Rattle.language.specs.Program.{Edge, Region, Signature, regionAt}
 use Rattle.language.specs.Lifetimes.{ofClass, declared}
+use Rattle.language.specs.Format.{maxRegions}
 use Rattle.laws.specs.Numbers.{upFrom-in}
 
 -- those numbered from n on
@@ -44,7 +45,7 @@ unfolding upFrom
 up-rising m n zero l = rising-nil
 up-rising m n (suc k) l = rising-cons l (up-rising n (suc n) k (omega arith))
 
-pub of-class : (S : Signature) (c : ℕ) → length (S .regions) ≤ 64 → setOf (ofClassIn c (S .regions)) ≡ ofClass S c (declared S)
+pub of-class : (S : Signature) (c : ℕ) → length (S .regions) ≤ maxRegions → setOf (ofClassIn c (S .regions)) ≡ ofClass S c (declared S)
 unfolding ofClass declared keep ofClassIn regionAt nth1
 of-class S c few =
     ap setOf (sym (ap (filtered test) listed ∙ filtered-from test c 1 (S .regions) at))

@@ -15,6 +15,7 @@ use Rattle.language.specs.File.{edges, word}
 use Rattle.language.specs.Program.{Functor, Signature}
 use Rattle.language.specs.Typing.{isRegion}
 use Rattle.language.specs.Regions.{targets, targetsIn, reachFrom}
+use Rattle.language.specs.Format.{nextWord, edgeTarget}
 use Rattle.region_graph.specs.Laws.{Declared}
 use Rattle.chains.specs.Formed.{Formed, Stands, edgesAt, edges-none}
 use Rattle.chains.specs.Declared.{edge-at}
@@ -25,7 +26,7 @@ pub targets-end : (f : List ℕ) {i : ℕ} → i ≡ 0 → targetsIn (edgesAt f 
 unfolding targetsIn
 targets-end f z = ap targetsIn (edges-none f z)
 
-pub targets-here : (f : List ℕ) (i : ℕ) → Formed f → Stands f edges i → (i ≡ 0 → ⊥) → {t n : ℕ} → t ≡ word f i 4 → n ≡ word f i 1
+pub targets-here : (f : List ℕ) (i : ℕ) → Formed f → Stands f edges i → (i ≡ 0 → ⊥) → {t n : ℕ} → t ≡ word f i edgeTarget → n ≡ word f i nextWord
     → targetsIn (edgesAt f i) ≡ t ∷ targetsIn (edgesAt f n)
 unfolding targetsIn
 targets-here f i F s z e g = rw (e, g) (ap targetsIn (edge-at F refl (edge-is s z) .view))

@@ -10,6 +10,7 @@ ghost use lib.ListN.{length};
 ghost use Rattle.sets.specs.Members.{setOf};
 ghost use Rattle.language.specs.File.{edges};
 ghost use Rattle.language.specs.Regions.{targetsIn};
+ghost use Rattle.language.specs.Format.{places};
 ghost use Rattle.chains.specs.Formed.{Formed, Stands, edgesAt};
 ghost use Rattle.windows.specs.Targets.{RegionReach};
 ghost use Rattle.windows.specs.Closing.{Closing};
@@ -31,7 +32,7 @@ pub fn targets_of(file: &[u8], start: usize) -> Set
 
 // The regions that edges lead to from region r, with r, by a table of where each region's edges lead.
 pub fn reach_from(targets: &[u64], r: usize) -> Set
-    requires { ⌜ 65 ≡ length (now targets) ⌝ }
+    requires { ⌜ places ≡ length (now targets) ⌝ }
     ensures { λ x. ⌜ RegionReach (now (targets .entry)) r x ⌝ }
 {
     let mut found = Set::of(r);
@@ -48,8 +49,8 @@ pub fn reach_from(targets: &[u64], r: usize) -> Set
 
 // Puts what each region reaches in the place of where its edges lead, for the regions 1 to n.
 pub fn list_reaches(targets: &mut [u64], n: usize)
-    requires { ⌜ 65 ≡ length (now targets) ⌝ }
-    requires { ⌜ n < 65 ⌝ }
+    requires { ⌜ places ≡ length (now targets) ⌝ }
+    requires { ⌜ n < places ⌝ }
     ensures { λ _. ⌜ Closing (now (targets .entry)) n (now (targets .exit)) ⌝ }
 {
     let mut r = 0;

@@ -16,6 +16,7 @@ use language::format::PROCEDURE_GOALS;
 use language::format::PROCEDURE_REGIONS;
 use language::format::PROCEDURE_VARIABLES;
 use records::blank::blank_sets;
+use tables::HEAD;
 ghost use mathlib.Core.Path.{_≡_};
 ghost use mathlib.Core.Bool.{true};
 ghost use Prim.Native.Nat.{_+_, _≤_};
@@ -24,16 +25,19 @@ ghost use Rattle.language.specs.File;
 ghost use Rattle.language.specs.Typing.{typingOk};
 ghost use Rattle.language.specs.Lifetimes.{declaredClassesOk};
 ghost use Rattle.language.specs.Answers.{program};
+ghost use Rattle.language.specs.Format.{places};
+ghost use Rattle.records.specs.Blank.{fileWords};
 ghost use Rattle.chains.specs.Formed.{Formed, Stands};
 ghost use Rattle.tables.specs.Window.{FileTable};
+ghost use Rattle.tables.specs.Places.{headSize};
 ghost use Rattle.windows.specs.Storing.{Stored};
 ghost use Rattle.windows.specs.Procedure.{headerWords, Room, ListedAt};
 ghost use Rattle.windows.specs.Listing.{OnlyWindows};
 
 // Stores the first words of a window.
 fn put_header(table: &mut [u64], at: usize, n: Counts, c: Classes)
-    requires { ⌜ at + 10 ≤ length (now table) ⌝ }
-    ensures { λ _. ⌜ Stored (now (table .entry)) at (headerWords n c) 10 (now (table .exit)) ⌝ }
+    requires { ⌜ at + headSize ≤ length (now table) ⌝ }
+    ensures { λ _. ⌜ Stored (now (table .entry)) at (headerWords n c) headSize (now (table .exit)) ⌝ }
 {
     let ins = c.ins;
     let outs = c.outs;
@@ -68,17 +72,17 @@ fn list_procedure(
     requires { ⌜ Formed (now file) ⌝ }
     requires { ⌜ Stands (now file) File.procedures i × (i ≡ 0 → ⊥) ⌝ }
     requires { ⌜ Room (now file) i at (length (now table)) ⌝ }
-    requires { ⌜ 65 ≡ length (now targets) ⌝ }
+    requires { ⌜ places ≡ length (now targets) ⌝ }
     ensures { λ l. ⌜ ListedAt (now (file .entry)) i at (now (table .entry)) l (now (table .exit)) ⌝ }
 {
     let v = word(file, i, PROCEDURE_VARIABLES);
     let r = word(file, i, PROCEDURE_REGIONS);
     let g = word(file, i, PROCEDURE_GOALS);
     let variables = chain_length(file, v);
-    let regions = list_regions(file, r, table, at + 10 + 2 * variables, targets);
+    let regions = list_regions(file, r, table, at + HEAD + 2 * variables, targets);
     list_reaches(targets, regions);
     table[at] = variables as u64;
-    list_variables(file, v, table, at + 10, targets);
+    list_variables(file, v, table, at + HEAD, targets);
     let c = classes_of(file, v, r, table, at);
     let n = Counts {
         variables,
@@ -88,7 +92,7 @@ fn list_procedure(
     };
     put_header(table, at, n, c);
     Listed {
-        size: 10 + 2 * variables + regions,
+        size: HEAD + 2 * variables + regions,
         right: c.right(),
     }
 }
@@ -98,7 +102,7 @@ fn list_procedure(
 pub fn list_procedures(file: &[u8], table: &mut [u64]) -> bool
     requires { ⌜ Formed (now file) ⌝ }
     requires { ⌜ typingOk (program (now file)) ≡ true ⌝ }
-    requires { ⌜ 11008 ≤ length (now table) ⌝ }
+    requires { ⌜ fileWords ≤ length (now table) ⌝ }
     ensures { λ b. ⌜ b ≡ declaredClassesOk (program (now (file .entry))) ⌝ }
     ensures { λ _. ⌜ FileTable (now (file .entry)) (now (table .exit)) ⌝ }
     ensures { λ _. ⌜ OnlyWindows (now (file .entry)) (now (table .entry)) (now (table .exit)) ⌝ }

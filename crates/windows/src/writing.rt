@@ -10,6 +10,7 @@ ghost use mathlib.Core.Path.{_≡_};
 ghost use Prim.Native.Nat.{_+_, _*_, _≤_, _<_};
 ghost use lib.ListN.{length};
 ghost use Rattle.language.specs.File;
+ghost use Rattle.language.specs.Format.{places};
 ghost use Rattle.chains.specs.Formed.{Formed, Stands};
 ghost use Rattle.chains.specs.Records.{chainRecords};
 ghost use Rattle.windows.specs.Parts.{HomeReach, RegionsListed, VariablesListed};
@@ -45,7 +46,7 @@ pub fn list_regions(
 
 // What a variable in region home reaches, by a table of reaches; region 0 is none.
 fn home_reach(reaches: &[u64], home: usize) -> Set
-    requires { ⌜ 65 ≡ length (now reaches) ⌝ }
+    requires { ⌜ places ≡ length (now reaches) ⌝ }
     ensures { λ s. ⌜ HomeReach (now (reaches .entry)) home s ⌝ }
 {
     if home == 0 {
@@ -62,7 +63,7 @@ pub fn list_variables(file: &[u8], first: usize, table: &mut [u64], from: usize,
     requires { ⌜ Formed (now file) ⌝ }
     requires { ⌜ Stands (now file) File.variables first ⌝ }
     requires { ⌜ from + 2 * length (chainRecords (now file) first) ≤ length (now table) ⌝ }
-    requires { ⌜ 65 ≡ length (now reaches) ⌝ }
+    requires { ⌜ places ≡ length (now reaches) ⌝ }
     ensures { λ _. ⌜ VariablesListed (now (file .entry)) first (now (reaches .entry)) (now (table .entry)) from (length (chainRecords (now (file .entry)) first)) (now (table .exit)) ⌝ }
 {
     let mut i = first;

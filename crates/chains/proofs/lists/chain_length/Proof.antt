@@ -7,12 +7,13 @@ use Rattle.language.specs.File.{recordCount}
 use Rattle.chains.specs.Formed.{ahead, ahead-below}
 use Rattle.chains.specs.Records.{chainRecords, records-none, records-step, next-onward}
 use borrow.Author.Needs.{needs}
+use Rattle.language.specs.Format.{maxRecords}
 use Rattle.chains.proofs.lists.chain_length.Statement.{statement}
 use Rattle.chains.proofs.lists.chain_length.Tie as tie
 
 abbrev Inv-loop : tie.InvT-loop
 Inv-loop file i at₀ count₀ at count =
-    (at < recordCount file) × (count + ahead file at < 4096) × (count + length (chainRecords file at) ≡ length (chainRecords file i))
+    (at < recordCount file) × (count + ahead file at < maxRecords) × (count + length (chainRecords file at) ≡ length (chainRecords file i))
 
 abbrev μ-loop : tie.MeasureT-loop
 μ-loop file i at₀ count₀ at count = ahead file at

@@ -3,8 +3,10 @@ use Prim.Native.Nat.{_-_}
 use mathlib.Core.Logic.{⊎-elim}
 use mathlib.Core.Path.{sym, _∙_}
 use borrow.Author.Tests.{not-true, not-false}
-use Rattle.checking.specs.Sound.{next-falls, Keeping, keep-first, keep-one, keep-none, keep-last, reachHeld, held-here, given-is}
+use Rattle.checking.specs.Sound.{Keeping, keep-first, keep-one, keep-none, keep-last, reachHeld, held-here, given-is}
 use borrow.Author.Needs.{needs}
+use Rattle.language.specs.Format.{places}
+use Rattle.tables.specs.Walks.{next-falls}
 use Rattle.checking.proofs.sound.sound_given.Statement.{statement}
 use Rattle.checking.proofs.sound.sound_given.Tie as tie
 
@@ -12,7 +14,7 @@ abbrev Inv-loop : tie.InvT-loop
 Inv-loop own given held sound found₀ x₀ found x = Keeping (reachHeld own held) given found x
 
 abbrev μ-loop : tie.MeasureT-loop
-μ-loop own given held sound found₀ x₀ found x = 65 - x
+μ-loop own given held sound found₀ x₀ found x = places - x
 
 after-requires : tie.Need-after-requires Inv-loop μ-loop
 after-requires c κs = search needs

@@ -2,8 +2,10 @@
 use Prim.Native.Nat.{_-_}
 use mathlib.Core.Logic.{⊎-elim}
 use mathlib.Core.Path.{sym, _∙_}
-use Rattle.checking.specs.Sound.{next-falls, Keeping, keep-first, keep-one, keep-none, keep-last, reachApart, apart-here, without-is}
+use Rattle.checking.specs.Sound.{Keeping, keep-first, keep-one, keep-none, keep-last, reachApart, apart-here, without-is}
 use borrow.Author.Needs.{needs}
+use Rattle.language.specs.Format.{places}
+use Rattle.tables.specs.Walks.{next-falls}
 use Rattle.checking.proofs.sound.without_some.Statement.{statement}
 use Rattle.checking.proofs.sound.without_some.Tie as tie
 
@@ -11,7 +13,7 @@ abbrev Inv-loop : tie.InvT-loop
 Inv-loop own gone sound found₀ x₀ found x = Keeping (reachApart own gone) sound found x
 
 abbrev μ-loop : tie.MeasureT-loop
-μ-loop own gone sound found₀ x₀ found x = 65 - x
+μ-loop own gone sound found₀ x₀ found x = places - x
 
 after-requires : tie.Need-after-requires Inv-loop μ-loop
 after-requires c κs = search needs

@@ -3,6 +3,7 @@ use Prim.Native.Nat.{_-_}
 use borrow.Author.Needs.{needs}
 use Rattle.regions.specs.Pairs.{imagesIn}
 use Rattle.sets.specs.Sets.{single}
+use Rattle.language.specs.Format.{places}
 use Rattle.tables.specs.Walks.{Gathering, gather-first, gather-more, gather-last, next-falls}
 use Rattle.regions.specs.Images.{image-here, images-are}
 use Rattle.regions.proofs.images.images_of.Statement.{statement}
@@ -12,7 +13,7 @@ abbrev Inv-loop : tie.InvT-loop
 Inv-loop images rs found₀ r₀ found r = Gathering (λ q. single (imagesIn images q)) rs found r
 
 abbrev μ-loop : tie.MeasureT-loop
-μ-loop images rs found₀ r₀ found r = 65 - r
+μ-loop images rs found₀ r₀ found r = places - r
 
 after-requires : tie.Need-after-requires Inv-loop μ-loop
 after-requires c κs = search needs

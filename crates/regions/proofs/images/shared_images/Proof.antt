@@ -1,6 +1,7 @@
 -- `shared_images` meets its contract.
 use Prim.Native.Nat.{_-_}
 use borrow.Author.Needs.{needs}
+use Rattle.language.specs.Format.{places}
 use Rattle.regions.specs.Pairs.{imagesIn}
 use Rattle.regions.specs.Doubled.{Seeing, see-first, see-more, see-last}
 use Rattle.regions.specs.Images.{image-here}
@@ -12,7 +13,7 @@ abbrev Inv-loop : tie.InvT-loop
 Inv-loop images rs seen₀ twice₀ r₀ seen twice r = Seeing (imagesIn images) rs seen twice r
 
 abbrev μ-loop : tie.MeasureT-loop
-μ-loop images rs seen₀ twice₀ r₀ seen twice r = 65 - r
+μ-loop images rs seen₀ twice₀ r₀ seen twice r = places - r
 
 after-requires : tie.Need-after-requires Inv-loop μ-loop
 after-requires c κs = search needs

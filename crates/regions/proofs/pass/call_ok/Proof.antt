@@ -8,7 +8,6 @@ use borrow.Author.Tests.{not-true, not-false}
 use lib.ListN.{length}
 use Rattle.language.specs.Format.{maxRecords}
 use Rattle.chains.specs.Formed.{counted}
-use Rattle.tables.specs.Rows.{rowsLength}
 use Rattle.regions.specs.CallEffect.{blank, call-own, call-callee, call-arguments, call-agrees, call-made}
 use Rattle.regions.specs.Rowed.{rowed-put, rowed-not}
 use borrow.Author.Needs.{needs}

@@ -1,6 +1,7 @@
 -- `reach_all` meets its contract: a walk over the members.
 use Prim.Native.Nat.{_-_}
 use borrow.Author.Needs.{needs}
+use Rattle.language.specs.Format.{places}
 use Rattle.tables.specs.Walks.{Gathering, gather-first, gather-more, gather-last, next-falls}
 use Rattle.tables.specs.Window.{reachIn}
 use Rattle.tables.proofs.reaches.reach_all.Statement.{statement}
@@ -10,7 +11,7 @@ abbrev Inv-loop : tie.InvT-loop
 Inv-loop own xs found₀ x₀ found x = Gathering (reachIn own) xs found x
 
 abbrev μ-loop : tie.MeasureT-loop
-μ-loop own xs found₀ x₀ found x = 65 - x
+μ-loop own xs found₀ x₀ found x = places - x
 
 after-requires : tie.Need-after-requires Inv-loop μ-loop
 after-requires c κs = search needs

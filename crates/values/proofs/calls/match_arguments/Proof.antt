@@ -2,6 +2,7 @@
 use Prim.Native.Nat.{_-_}
 use native.Mathlib.Omega.{arith}
 use borrow.Author.Needs.{needs}
+use Rattle.language.specs.Format.{places}
 use Rattle.values.proofs.Turning.{Going, going-first, going-short, going-last, going-next, going-rises}
 use Rattle.values.proofs.calls.match_arguments.Statement.{statement}
 use Rattle.values.proofs.calls.match_arguments.Tie as tie
@@ -10,7 +11,7 @@ abbrev Inv-loop : tie.InvT-loop
 Inv-loop file ins y0 both a₀ x₀ y₀ a x y = Going file ins both y0 a x y
 
 abbrev μ-loop : tie.MeasureT-loop
-μ-loop file ins y0 both a₀ x₀ y₀ a x y = 65 - x
+μ-loop file ins y0 both a₀ x₀ y₀ a x y = places - x
 
 union-requires : tie.Need-union-requires Inv-loop μ-loop
 union-requires c κs = search needs

@@ -1,6 +1,7 @@
 -- `all_local` meets its contract.
-use Rattle.values.proofs.Turning.{variable-here, to-next}
 use Rattle.values.specs.Modes.{Local, local-first, local-next, local-stop, local-last}
+use Rattle.chains.specs.Is.{chain-next}
+use Rattle.chains.specs.Shapes.{variable-here}
 use Rattle.chains.specs.Formed.{Stands, ahead, variablesAt, variables-none}
 use Rattle.language.specs.File.{variables}
 use native.Mathlib.Omega.{arith}
@@ -25,7 +26,7 @@ returns : tie.Need-returns Inv-loop μ-loop
 returns c =
     let w = c .before in
     let l = w .before .before in
-    let v = variable-here (l .before .before .pre .0) (l .loop .inv .0) (w .before .loop-test .taken) in
+    let v = variable-here (l .before .before .pre .0) (w .before .loop-test .taken) (l .loop .inv .0) in
     local-stop (l .loop .inv .1) (v .view) (λ q. c .if1 .taken (w .word .ensures .0 ∙ q))
 
 word-requires-2 : tie.Need-word-requires-2 Inv-loop μ-loop
@@ -35,14 +36,14 @@ loop-less : tie.Need-loop-less Inv-loop μ-loop
 loop-less c =
     let w = c .before .before in
     let l = w .before .before in
-    to-next (l .before .before .pre .0) (l .loop .inv .0) (w .before .loop-test .taken) (c .word2 .ensures .0) .falls
+    chain-next (l .before .before .pre .0) (l .loop .inv .0) (w .before .loop-test .taken) (c .word2 .ensures .0) .falls
 
 loop-again : tie.Need-loop-again Inv-loop μ-loop
 loop-again c =
     let w = c .before .before in
     let l = w .before .before in
-    let v = variable-here (l .before .before .pre .0) (l .loop .inv .0) (w .before .loop-test .taken) in
-    let n = to-next (l .before .before .pre .0) (l .loop .inv .0) (w .before .loop-test .taken) (c .word2 .ensures .0) in
+    let v = variable-here (l .before .before .pre .0) (w .before .loop-test .taken) (l .loop .inv .0) in
+    let n = chain-next (l .before .before .pre .0) (l .loop .inv .0) (w .before .loop-test .taken) (c .word2 .ensures .0) in
     (n .stands, rw (c .word2 .ensures .0) (local-next (l .loop .inv .1) (v .view) (sym (w .word .ensures .0) ∙ c .before .if1 .left)))
 
 returns-2 : tie.Need-returns-2 Inv-loop μ-loop

@@ -7,8 +7,8 @@ use borrow.Author.Tests.{not-true, not-false}
 use Rattle.language.specs.Answers.{program}
 use Rattle.chains.specs.Formed.{ahead}
 use Rattle.chains.specs.Is.{chain-next}
-use Rattle.chains.specs.Shapes.{switch-here, if-here}
-use Rattle.values.specs.Along.{Along, along-first, none-walked, along-last, along-stop, along-next, to-arms, switch-stops, switch-walked, to-then, to-else, if-unread, if-unread-2, if-then-stops, if-else-stops, if-walked, arms-none-walked, arm-goals, arm-next, arm-refused, arm-stops, arm-last, arm-rest-stops, arms-walked}
+use Rattle.chains.specs.Shapes.{switch-here, if-here, to-arms, to-then, to-else, arm-goals, arm-next}
+use Rattle.values.specs.Along.{Along, along-first, none-walked, along-last, along-stop, along-next, switch-stops, switch-walked, if-unread, if-unread-2, if-then-stops, if-else-stops, if-walked, arms-none-walked, arm-refused, arm-stops, arm-last, arm-rest-stops, arms-walked}
 use Rattle.values.specs.Valuing.{both, valuation, valuer}
 use Rattle.values.specs.Closed.{goal-closed, arm-closed}
 use Rattle.values.specs.Carrying.{goal-step, row-arm, readable-is, joined}
@@ -132,7 +132,7 @@ arms-word-requires-2 : (t : ℕ) → arms-lts.Need-word-requires-2 (arms-calls t
 arms-word-requires-2 t c κs = let p = c .before .before .before .before .before .before .before .before .before .before .before .pre .1 in (p .0, (omega arith, p .1 .1 .below))
 
 arms-goals-requires : (t : ℕ) → arms-lts.Need-goals-requires (arms-calls t) (arms-at t) arms.Post
-arms-goals-requires t c κs = let o = arm-goals (c .before .before .before .before .before .before .before .before .before .before .before .before .before .pre .1 .0) (c .before .before .before .before .before .before .before .before .before .before .before .before .before .pre .1 .1 .1) (c .before .before .before .before .before .before .before .before .before .before .before .if1 .left) (c .before .word2 .ensures .0) in (omega (arith, o .falls, c .before .before .before .before .before .before .before .before .before .before .before .before .before .pre .0), (c .before .before .before .before .before .before .before .before .before .before .before .before .before .pre .1 .0, (c .before .before .before .before .before .before .before .before .before .before .before .before .before .pre .1 .1 .0, o .stands)))
+arms-goals-requires t c κs = let o = arm-goals (c .before .before .before .before .before .before .before .before .before .before .before .before .before .pre .1 .0) (c .before .before .before .before .before .before .before .before .before .before .before .if1 .left) (c .before .before .before .before .before .before .before .before .before .before .before .before .before .pre .1 .1 .1) (c .before .word2 .ensures .0) in (omega (arith, o .falls, c .before .before .before .before .before .before .before .before .before .before .before .before .before .pre .0), (c .before .before .before .before .before .before .before .before .before .before .before .before .before .pre .1 .0, (c .before .before .before .before .before .before .before .before .before .before .before .before .before .pre .1 .1 .0, o .stands)))
 
 arms-returns-4 : (t : ℕ) → arms-lts.Need-returns-4 (arms-calls t) (arms-at t) arms.Post
 arms-returns-4 t c = arm-stops _ _ (c .before .before .before .before .before .before .before .before .before .before .before .before .before .before .before .pre .1 .0) (c .before .before .before .before .before .before .before .before .before .before .before .before .before .before .before .pre .1 .1 .1) (c .before .before .before .before .before .before .before .before .before .before .before .before .before .if1 .left) _ _ (row-arm _ (c .before .before .before .before .before .before .before .before .before .before .before .before .before .before .before .pre .1 .1 .0) _ (c .before .before .before .before .before .before .before .before .before .before .before .before .before .before .before .pre .1 .1 .1) (c .before .before .before .before .before .before .before .before .before .before .before .before .before .if1 .left) _ _ _ (c .before .before .before .before .before .apply .ensures)) (not-false _ (c .before .before .before .before .if3 .left)) _ _ (c .before .before .before .word2 .ensures .0) (c .before .goals .ensures) _ (not-true _ (c .if4 .taken))
@@ -153,7 +153,7 @@ arms-carry-requires : (t : ℕ) → arms-lts.Need-carry-requires (arms-calls t) 
 arms-carry-requires t c κs = search needs
 
 arms-arms-requires : (t : ℕ) → arms-lts.Need-arms-requires (arms-calls t) (arms-at t) arms.Post
-arms-arms-requires t c κs = let o = arm-next (c .before .before .before .before .before .before .before .before .before .before .before .before .before .before .before .before .before .before .before .before .before .before .before .before .pre .1 .0) (c .before .before .before .before .before .before .before .before .before .before .before .before .before .before .before .before .before .before .before .before .before .before .before .before .pre .1 .1 .1) (c .before .before .before .before .before .before .before .before .before .before .before .before .before .before .before .before .before .before .before .before .before .before .if1 .left) (c .before .before .before .before .before .before .before .before .word3 .ensures .0) in (omega (arith, o .falls, c .before .before .before .before .before .before .before .before .before .before .before .before .before .before .before .before .before .before .before .before .before .before .before .before .pre .0), (c .before .before .before .before .before .before .before .before .before .before .before .before .before .before .before .before .before .before .before .before .before .before .before .before .pre .1 .0, (c .before .before .before .before .before .before .before .before .before .before .before .before .before .before .before .before .before .before .before .before .before .before .before .before .pre .1 .1 .0, o .stands)))
+arms-arms-requires t c κs = let o = arm-next (c .before .before .before .before .before .before .before .before .before .before .before .before .before .before .before .before .before .before .before .before .before .before .before .before .pre .1 .0) (c .before .before .before .before .before .before .before .before .before .before .before .before .before .before .before .before .before .before .before .before .before .before .if1 .left) (c .before .before .before .before .before .before .before .before .before .before .before .before .before .before .before .before .before .before .before .before .before .before .before .before .pre .1 .1 .1) (c .before .before .before .before .before .before .before .before .word3 .ensures .0) in (omega (arith, o .falls, c .before .before .before .before .before .before .before .before .before .before .before .before .before .before .before .before .before .before .before .before .before .before .before .before .pre .0), (c .before .before .before .before .before .before .before .before .before .before .before .before .before .before .before .before .before .before .before .before .before .before .before .before .pre .1 .0, (c .before .before .before .before .before .before .before .before .before .before .before .before .before .before .before .before .before .before .before .before .before .before .before .before .pre .1 .1 .0, o .stands)))
 
 arms-returns-6 : (t : ℕ) → arms-lts.Need-returns-6 (arms-calls t) (arms-at t) arms.Post
 arms-returns-6 t c = arm-rest-stops _ _ (c .before .before .before .before .before .before .before .before .before .before .before .before .before .before .before .before .before .before .before .before .before .before .before .before .before .before .pre .1 .0) (c .before .before .before .before .before .before .before .before .before .before .before .before .before .before .before .before .before .before .before .before .before .before .before .before .before .before .pre .1 .1 .1) (c .before .before .before .before .before .before .before .before .before .before .before .before .before .before .before .before .before .before .before .before .before .before .before .before .if1 .left) _ _ (row-arm _ (c .before .before .before .before .before .before .before .before .before .before .before .before .before .before .before .before .before .before .before .before .before .before .before .before .before .before .pre .1 .1 .0) _ (c .before .before .before .before .before .before .before .before .before .before .before .before .before .before .before .before .before .before .before .before .before .before .before .before .before .before .pre .1 .1 .1) (c .before .before .before .before .before .before .before .before .before .before .before .before .before .before .before .before .before .before .before .before .before .before .before .before .if1 .left) _ _ _ (c .before .before .before .before .before .before .before .before .before .before .before .before .before .before .before .before .apply .ensures)) (not-false _ (c .before .before .before .before .before .before .before .before .before .before .before .before .before .before .before .if3 .left)) _ _ (c .before .before .before .before .before .before .before .before .before .before .before .before .before .before .word2 .ensures .0) (c .before .before .before .before .before .before .before .before .before .before .before .before .goals .ensures) (not-false _ (c .before .before .before .before .before .before .before .before .before .before .before .if4 .left)) (c .before .before .before .before .before .before .before .before .before .before .word3 .ensures .0) (c .before .before .before .before .before .before .before .before .before .if5 .left) _ (c .before .before .before .carry .ensures ∙ ap₂ both (c .before .before .before .before .before .before .before .before .before .before .before .before .before .before .before .before .before .before .before .before .every-in .ensures) (c .before .before .before .before .before .before .before .before .before .before .before .before .before .before .before .before .before .before .some-in .ensures)) _ _ (c .before .arms .ensures) _ (not-true _ (c .if6 .taken))
@@ -192,7 +192,7 @@ branches-word-requires-3 : (t : ℕ) → branches-lts.Need-word-requires-3 (bran
 branches-word-requires-3 t c κs = let p = c .before .before .before .before .before .before .before .before .before .before .before .pre .1 in (p .0, (omega arith, if-here (p .0) refl (p .1 .1) .below))
 
 branches-goals-requires : (t : ℕ) → branches-lts.Need-goals-requires (branches-calls t) (branches-at t) branches.Post
-branches-goals-requires t c κs = let o = to-then (c .before .before .before .before .before .before .before .before .before .before .before .before .before .pre .1 .0) _ (c .before .before .before .before .before .before .before .before .before .before .before .before .before .pre .1 .1 .1) (c .before .word3 .ensures .0) in (omega (arith, o .falls, c .before .before .before .before .before .before .before .before .before .before .before .before .before .pre .0), (c .before .before .before .before .before .before .before .before .before .before .before .before .before .pre .1 .0, (c .before .before .before .before .before .before .before .before .before .before .before .before .before .pre .1 .1 .0, o .stands)))
+branches-goals-requires t c κs = let o = to-then (c .before .before .before .before .before .before .before .before .before .before .before .before .before .pre .1 .0) (c .before .before .before .before .before .before .before .before .before .before .before .before .before .pre .1 .1 .1) (c .before .word3 .ensures .0) in (omega (arith, o .falls, c .before .before .before .before .before .before .before .before .before .before .before .before .before .pre .0), (c .before .before .before .before .before .before .before .before .before .before .before .before .before .pre .1 .0, (c .before .before .before .before .before .before .before .before .before .before .before .before .before .pre .1 .1 .0, o .stands)))
 
 branches-returns-3 : (t : ℕ) → branches-lts.Need-returns-3 (branches-calls t) (branches-at t) branches.Post
 branches-returns-3 t c = if-then-stops _ _ (c .before .before .before .before .before .before .before .before .before .before .before .before .before .before .before .pre .1 .0) _ (c .before .before .before .before .before .before .before .before .before .before .before .before .before .before .before .pre .1 .1 .1) _ (c .before .before .before .before .before .before .before .before .before .word .ensures .0) (readable-is _ _ _ (c .before .before .before .before .before .before .before .before .has .ensures) (c .before .before .before .before .before .before .before .before .before .before .before .before .every-in .ensures)) (not-false _ (c .before .before .before .before .before .before .before .if1 .left)) (c .before .before .before .before .before .before .word2 .ensures .0) (readable-is _ _ _ (c .before .before .before .before .before .has2 .ensures) (c .before .before .before .before .before .before .before .before .before .before .before .before .every-in .ensures)) (not-false _ (c .before .before .before .before .if2 .left)) _ _ (c .before .before .before .word3 .ensures .0) (c .before .goals .ensures) _ (not-true _ (c .if3 .taken))
@@ -216,7 +216,7 @@ branches-returns-4 : (t : ℕ) → branches-lts.Need-returns-4 (branches-calls t
 branches-returns-4 t c = if-walked _ _ (c .before .before .before .before .before .before .before .before .before .before .before .before .before .before .before .before .before .before .before .before .before .before .before .before .before .pre .1 .0) _ (c .before .before .before .before .before .before .before .before .before .before .before .before .before .before .before .before .before .before .before .before .before .before .before .before .before .pre .1 .1 .1) _ (c .before .before .before .before .before .before .before .before .before .before .before .before .before .before .before .before .before .before .before .word .ensures .0) (readable-is _ _ _ (c .before .before .before .before .before .before .before .before .before .before .before .before .before .before .before .before .before .before .has .ensures) (c .before .before .before .before .before .before .before .before .before .before .before .before .before .before .before .before .before .before .before .before .before .before .every-in .ensures)) (not-false _ (c .before .before .before .before .before .before .before .before .before .before .before .before .before .before .before .before .before .if1 .left)) (c .before .before .before .before .before .before .before .before .before .before .before .before .before .before .before .before .word2 .ensures .0) (readable-is _ _ _ (c .before .before .before .before .before .before .before .before .before .before .before .before .before .before .before .has2 .ensures) (c .before .before .before .before .before .before .before .before .before .before .before .before .before .before .before .before .before .before .before .before .before .before .every-in .ensures)) (not-false _ (c .before .before .before .before .before .before .before .before .before .before .before .before .before .before .if2 .left)) _ _ (c .before .before .before .before .before .before .before .before .before .before .before .before .before .word3 .ensures .0) (c .before .before .before .before .before .before .before .before .before .before .before .goals .ensures) (not-false _ (c .before .before .before .before .before .before .before .before .before .before .if3 .left)) _ (c .before .before .before .before .carry .ensures ∙ ap₂ both (c .before .before .before .before .before .before .before .before .before .before .before .before .before .before .before .before .before .before .before .before .before .before .every-in .ensures) (c .before .before .before .before .before .before .before .before .before .before .before .before .before .before .before .before .before .before .before .before .some-in .ensures)) _ _ (c .before .before .before .word4 .ensures .0) (none-walked _ _ _ (c .before .before .if4 .taken)) _ _ _ (ap₂ both (c .before .before .before .before .before .before .before .before .every-in2 .ensures) (c .before .before .before .before .before .before .some-in2 .ensures)) refl (joined _ _ _ _ (c .join .ensures))
 
 branches-goals-requires-2 : (t : ℕ) → branches-lts.Need-goals-requires-2 (branches-calls t) (branches-at t) branches.Post
-branches-goals-requires-2 t c κs = let o = to-else (c .before .before .before .before .before .before .before .before .before .before .before .before .before .before .before .before .before .before .before .before .before .before .before .before .pre .1 .0) _ (c .before .before .before .before .before .before .before .before .before .before .before .before .before .before .before .before .before .before .before .before .before .before .before .before .pre .1 .1 .1) (c .before .before .word4 .ensures .0) in (omega (arith, o .falls, c .before .before .before .before .before .before .before .before .before .before .before .before .before .before .before .before .before .before .before .before .before .before .before .before .pre .0), (c .before .before .before .before .before .before .before .before .before .before .before .before .before .before .before .before .before .before .before .before .before .before .before .before .pre .1 .0, (c .before .before .before .before .before .before .before .before .before .before .before .before .before .before .before .before .before .before .before .before .before .before .before .before .pre .1 .1 .0, o .stands)))
+branches-goals-requires-2 t c κs = let o = to-else (c .before .before .before .before .before .before .before .before .before .before .before .before .before .before .before .before .before .before .before .before .before .before .before .before .pre .1 .0) (c .before .before .before .before .before .before .before .before .before .before .before .before .before .before .before .before .before .before .before .before .before .before .before .before .pre .1 .1 .1) (c .before .before .word4 .ensures .0) in (omega (arith, o .falls, c .before .before .before .before .before .before .before .before .before .before .before .before .before .before .before .before .before .before .before .before .before .before .before .before .pre .0), (c .before .before .before .before .before .before .before .before .before .before .before .before .before .before .before .before .before .before .before .before .before .before .before .before .pre .1 .0, (c .before .before .before .before .before .before .before .before .before .before .before .before .before .before .before .before .before .before .before .before .before .before .before .before .pre .1 .1 .0, o .stands)))
 
 branches-returns-5 : (t : ℕ) → branches-lts.Need-returns-5 (branches-calls t) (branches-at t) branches.Post
 branches-returns-5 t c = if-else-stops _ _ (c .before .before .before .before .before .before .before .before .before .before .before .before .before .before .before .before .before .before .before .before .before .before .before .before .before .before .pre .1 .0) _ (c .before .before .before .before .before .before .before .before .before .before .before .before .before .before .before .before .before .before .before .before .before .before .before .before .before .before .pre .1 .1 .1) _ (c .before .before .before .before .before .before .before .before .before .before .before .before .before .before .before .before .before .before .before .before .word .ensures .0) (readable-is _ _ _ (c .before .before .before .before .before .before .before .before .before .before .before .before .before .before .before .before .before .before .before .has .ensures) (c .before .before .before .before .before .before .before .before .before .before .before .before .before .before .before .before .before .before .before .before .before .before .before .every-in .ensures)) (not-false _ (c .before .before .before .before .before .before .before .before .before .before .before .before .before .before .before .before .before .before .if1 .left)) (c .before .before .before .before .before .before .before .before .before .before .before .before .before .before .before .before .before .word2 .ensures .0) (readable-is _ _ _ (c .before .before .before .before .before .before .before .before .before .before .before .before .before .before .before .before .has2 .ensures) (c .before .before .before .before .before .before .before .before .before .before .before .before .before .before .before .before .before .before .before .before .before .before .before .every-in .ensures)) (not-false _ (c .before .before .before .before .before .before .before .before .before .before .before .before .before .before .before .if2 .left)) _ _ (c .before .before .before .before .before .before .before .before .before .before .before .before .before .before .word3 .ensures .0) (c .before .before .before .before .before .before .before .before .before .before .before .before .goals .ensures) (not-false _ (c .before .before .before .before .before .before .before .before .before .before .before .if3 .left)) _ (c .before .before .before .before .before .carry .ensures ∙ ap₂ both (c .before .before .before .before .before .before .before .before .before .before .before .before .before .before .before .before .before .before .before .before .before .before .before .every-in .ensures) (c .before .before .before .before .before .before .before .before .before .before .before .before .before .before .before .before .before .before .before .before .before .some-in .ensures)) _ _ (c .before .before .before .before .word4 .ensures .0) (c .before .goals2 .ensures) _ (not-true _ (c .if5 .taken))
@@ -297,7 +297,7 @@ switch-word-requires-2 : (t : ℕ) → switch-lts.Need-word-requires-2 (switch-c
 switch-word-requires-2 t c κs = let p = c .before .before .before .before .before .before .pre .1 in (p .0, (omega arith, switch-here (p .0) refl (p .1 .1) .below))
 
 switch-arms-requires : (t : ℕ) → switch-lts.Need-arms-requires (switch-calls t) (switch-at t) switch.Post
-switch-arms-requires t c κs = let o = to-arms (c .before .before .before .before .before .before .before .before .pre .1 .0) _ (c .before .before .before .before .before .before .before .before .pre .1 .1 .1) (c .before .word2 .ensures .0) in (omega (arith, o .falls, c .before .before .before .before .before .before .before .before .pre .0), (c .before .before .before .before .before .before .before .before .pre .1 .0, (c .before .before .before .before .before .before .before .before .pre .1 .1 .0, o .stands)))
+switch-arms-requires t c κs = let o = to-arms (c .before .before .before .before .before .before .before .before .pre .1 .0) (c .before .before .before .before .before .before .before .before .pre .1 .1 .1) (c .before .word2 .ensures .0) in (omega (arith, o .falls, c .before .before .before .before .before .before .before .before .pre .0), (c .before .before .before .before .before .before .before .before .pre .1 .0, (c .before .before .before .before .before .before .before .before .pre .1 .1 .0, o .stands)))
 
 switch-returns-2 : (t : ℕ) → switch-lts.Need-returns-2 (switch-calls t) (switch-at t) switch.Post
 switch-returns-2 t c = switch-walked _ _ (c .before .before .before .before .before .before .before .before .before .pre .1 .0) _ (c .before .before .before .before .before .before .before .before .before .pre .1 .1 .1) _ (c .before .before .before .before .before .word .ensures .0) (readable-is _ _ _ (c .before .before .before .before .has .ensures) (c .before .before .before .before .before .before .every-in .ensures)) (not-false _ (c .before .before .before .if1 .left)) _ _ (c .before .before .word2 .ensures .0) (c .arms .ensures)

@@ -5,6 +5,7 @@ use borrow.Author.Needs.{needs}
 use Rattle.sets.specs.Sets.{_∖_}
 use Rattle.sets.specs.Members.{nextMember}
 use Rattle.sets.specs.Size.{size}
+use Rattle.language.specs.Format.{maxRegions}
 use Rattle.windows.specs.Targets.{setAt, set-loaded}
 use Rattle.windows.specs.Reading.{Reading, starts, goes, reached}
 use Rattle.windows.proofs.reaching.reach_from.Statement.{statement}
@@ -14,7 +15,7 @@ abbrev Inv-loop : tie.InvT-loop
 Inv-loop targets r found₀ unread₀ u₀ found unread u = Reading (setAt targets) r found unread × (u ≡ nextMember unread 0)
 
 abbrev μ-loop : tie.MeasureT-loop
-μ-loop targets r found₀ unread₀ u₀ found unread u = 64 - size (found ∖ unread)
+μ-loop targets r found₀ unread₀ u₀ found unread u = maxRegions - size (found ∖ unread)
 
 of-requires : tie.Need-of-requires Inv-loop μ-loop
 of-requires c κs = search needs

@@ -3,9 +3,10 @@ use mathlib.Core.Logic.{⊎-elim}
 use mathlib.Core.Path.{_∙_}
 use native.Mathlib.Omega.{arith}
 use borrow.Author.Needs.{needs}
+use Rattle.chains.specs.Is.{chain-next}
 use Rattle.chains.specs.Formed.{ahead, ahead-below, regions-none}
 use Rattle.windows.specs.Sorting.{sort-first, sort-last}
-use Rattle.windows.proofs.Regions.{Found, to-next, found-one, found-other}
+use Rattle.windows.proofs.Regions.{Found, found-one, found-other}
 use Rattle.windows.proofs.sets_of.of_class.Statement.{statement}
 use Rattle.windows.proofs.sets_of.of_class.Tie as tie
 
@@ -37,7 +38,7 @@ add-r : tie.Need-add-r Inv-loop μ-loop
 add-r c = search needs
 
 loop-less : tie.Need-loop-less Inv-loop μ-loop
-loop-less c = to-next (c .before .before .before .before .before .before .pre .0) (c .before .before .before .before .loop .inv .region) (c .before .before .before .loop-test .taken) (c .word2 .ensures .0) .falls
+loop-less c = chain-next (c .before .before .before .before .before .before .pre .0) (c .before .before .before .before .loop .inv .region) (c .before .before .before .loop-test .taken) (c .word2 .ensures .0) .falls
 
 loop-again : tie.Need-loop-again Inv-loop μ-loop
 loop-again c =

@@ -1,5 +1,6 @@
 -- `variables_in` meets its contract.
-use Rattle.windows.proofs.Variables.{Found, to-next, found-one, found-other}
+use Rattle.chains.specs.Is.{chain-next}
+use Rattle.windows.proofs.Variables.{Found, found-one, found-other}
 use Rattle.windows.specs.Modes.{find-first, find-last}
 use Rattle.chains.specs.Formed.{ahead, ahead-below, variables-none}
 use mathlib.Core.Logic.{⊎-elim}
@@ -40,7 +41,7 @@ loop-less : tie.Need-loop-less Inv-loop μ-loop
 loop-less c =
     let w = c .before .before in
     let l = w .before .before in
-    to-next (l .before .before .pre .0) (l .loop .inv .variable) (w .before .loop-test .taken) (c .word2 .ensures .0) .falls
+    chain-next (l .before .before .pre .0) (l .loop .inv .variable) (w .before .loop-test .taken) (c .word2 .ensures .0) .falls
 
 loop-again : tie.Need-loop-again Inv-loop μ-loop
 loop-again c =

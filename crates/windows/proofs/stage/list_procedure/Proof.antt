@@ -5,6 +5,7 @@ use Prim.Native.Nat.{_+_, _*_, _≤_, _<_}
 use native.Mathlib.Omega.{arith}
 use lib.ListN.{length, set, length-set}
 use Rattle.chains.specs.Records.{chainRecords}
+use Rattle.tables.specs.Places.{headSize}
 use Rattle.windows.specs.Classed.{SignatureAt}
 use Rattle.windows.specs.Procedure.{entered, reached-here, procedure-listed}
 use Rattle.windows.proofs.stage.list_procedure.Statement.{statement}
@@ -44,7 +45,7 @@ list-regions-requires : tie.Need-list-regions-requires
 list-regions-requires c κs =
     let s = c .before .before .before .before .before .before .before .before .before in
     let E = entered (s .pre .0) (s .pre .1 .0 .0) (s .pre .1 .0 .1) (s .pre .1 .1 .0) (c .before .before .before .before .before .word .ensures .0) (c .before .before .before .before .word2 .ensures .0) in
-    let p : s .args .at + 10 + 2 * c .before .before .chain-length .result + length (chainRecords (s .args .file .now) (c .before .before .before .before .word2 .result)) ≤ length (s .args .table .now) =
+    let p : s .args .at + headSize + 2 * c .before .before .chain-length .result + length (chainRecords (s .args .file .now) (c .before .before .before .before .word2 .result)) ≤ length (s .args .table .now) =
     omega (arith, E .room, c .before .before .chain-length .ensures) in
     (s .pre .0, (E .regions, (p, omega (arith, E .few, s .pre .1 .1 .1))))
 

@@ -4,6 +4,7 @@ use borrow.Author.Needs.{needs}
 use mathlib.Core.Path.{_≡_, refl, sym, ap, _∙_}
 use native.Mathlib.Omega.{arith}
 use lib.ListN.{length, length-set, length-replicate}
+use Rattle.language.specs.Format.{places}
 use Rattle.chains.specs.Formed.{counted, ahead}
 use Rattle.chains.specs.Is.{chain-next}
 use Rattle.windows.specs.Listing.{Listing, listing-first, signature-here, place-here, place-low, room-here, fits-here, listing-next, listing-right, listing-table, listing-only}
@@ -11,7 +12,7 @@ use Rattle.windows.proofs.stage.list_procedures.Statement.{statement}
 use Rattle.windows.proofs.stage.list_procedures.Tie as tie
 
 abbrev Inv-loop : tie.InvT-loop
-Inv-loop file table₀ targets₀ right₀ i₀ q₀ at₀ table targets right i q at = Listing file table₀ table right i q at × (length table ≡ length table₀) × (65 ≡ length targets)
+Inv-loop file table₀ targets₀ right₀ i₀ q₀ at₀ table targets right i q at = Listing file table₀ table right i q at × (length table ≡ length table₀) × (places ≡ length targets)
 
 abbrev μ-loop : tie.MeasureT-loop
 μ-loop file table₀ targets₀ right₀ i₀ q₀ at₀ table targets right i q at = ahead file i
@@ -23,7 +24,7 @@ word-requires : tie.Need-word-requires Inv-loop μ-loop
 word-requires c κs = let F = c .before .before .before .pre .0 in (F, (omega arith, counted F .some))
 
 loop-holds : tie.Need-loop-holds Inv-loop μ-loop
-loop-holds c = let s = c .before .before .before .before in (listing-first (s .args .table .now) (s .pre .0) (s .pre .1 .0) (s .pre .1 .1) (c .word .ensures .0), refl, sym (length-replicate {A = ℕ} 65 0) ∙ ap length (sym (c .before .blank-sets .ensures)))
+loop-holds c = let s = c .before .before .before .before in (listing-first (s .args .table .now) (s .pre .0) (s .pre .1 .0) (s .pre .1 .1) (c .word .ensures .0), refl, sym (length-replicate {A = ℕ} places 0) ∙ ap length (sym (c .before .blank-sets .ensures)))
 
 mul-table : tie.Need-mul-table Inv-loop μ-loop
 mul-table c =
