@@ -15,41 +15,15 @@ in-front n a b l =
     let m : n ≤ length (a ++ b) = simp length-append (omega arith) in
     (m, sym (length-take-le n (a ++ b) m))
 
-slice-relend-prefix-read-full : tie.Need-slice-relend-prefix-read-full
-slice-relend-prefix-read-full c = search needs
-
 slice-aggregate-read-full : tie.Need-slice-aggregate-read-full
 slice-aggregate-read-full c = sym (length-take-le _ _ (search needs))
-
-read-full-requires : tie.Need-read-full-requires
-read-full-requires c κs = search needs
-
-read-full-requires-2 : tie.Need-read-full-requires-2
-read-full-requires-2 c κs = search needs
-
-same-length : tie.Need-same-length
-same-length c = search needs
 
 returns : tie.Need-returns
 returns c =
     in-front (c .before .before .read-full .result) (c .before .before .read-full .last .1 .0) (drop (c .before .before .before .before .before .before .args .n) (c .before .before .before .before .before .before .args .out .now))
     (c .before .before .read-full .ensures .0)
 
-same-length-2 : tie.Need-same-length-2
-same-length-2 c = search needs
-
-returns-2 : tie.Need-returns-2
-returns-2 c = search needs
-
 pub next-bytes-spec : {M : Type 1} → statement M
 next-bytes-spec =
     tie.close
-    (tie.spec
-    slice-relend-prefix-read-full
-    slice-aggregate-read-full
-    read-full-requires
-    read-full-requires-2
-    same-length
-    returns
-    same-length-2
-    returns-2)
+    (tie.spec (search needs) slice-aggregate-read-full (search needs) (search needs) (search needs) returns (search needs) (search needs))

@@ -21,12 +21,6 @@ abbrev μ-loop : tie.MeasureT-loop
 loop-holds : tie.Need-loop-holds Inv-loop μ-loop
 loop-holds c = let a = c .before in (a .pre .1, omega (arith, ahead-below (a .pre .0) (a .args .i)), omega arith)
 
-add-count : tie.Need-add-count Inv-loop μ-loop
-add-count c = search needs
-
-word-requires : tie.Need-word-requires Inv-loop μ-loop
-word-requires c κs = search needs
-
 loop-less : tie.Need-loop-less Inv-loop μ-loop
 loop-less c =
     let l = c .before .before in
@@ -45,6 +39,4 @@ returns c =
     omega (arith, ap length (records-none (l .before .before .args .file .now) (c .loop-test .left)))
 
 pub chain-length-spec : {M : Type 1} → statement M
-chain-length-spec =
-    tie.close
-    (tie.spec Inv-loop μ-loop loop-holds add-count word-requires loop-less loop-again returns)
+chain-length-spec = tie.close (tie.spec Inv-loop μ-loop loop-holds (search needs) (λ c κs. search needs) loop-less loop-again returns)

@@ -14,23 +14,11 @@ Inv-loop file i from table₀ at₀ n₀ table at n = ListedTo file i from (leng
 abbrev μ-loop : tie.MeasureT-loop
 μ-loop file i from table₀ at₀ n₀ table at n = ahead file at
 
-clear-requires : tie.Need-clear-requires Inv-loop μ-loop
-clear-requires c κs = search needs
-
 loop-holds : tie.Need-loop-holds Inv-loop μ-loop
 loop-holds c =
     let d = c .before .before in
     let a = d .before .before .before .before in
     (first (a .args .from) (a .pre .0) (a .pre .1) (zeros-own (length (a .args .table .now)) (d .clear .ensures)), refl)
-
-put-requires : tie.Need-put-requires Inv-loop μ-loop
-put-requires c κs = search needs
-
-add-n : tie.Need-add-n Inv-loop μ-loop
-add-n c = search needs
-
-word-requires : tie.Need-word-requires Inv-loop μ-loop
-word-requires c κs = search needs
 
 loop-less : tie.Need-loop-less Inv-loop μ-loop
 loop-less c =
@@ -56,15 +44,4 @@ returns c =
 pub list-chain-spec : {M : Type 1} → statement M
 list-chain-spec =
     tie.close
-    (tie.spec
-    Inv-loop
-    μ-loop
-    clear-requires
-    loop-holds
-    put-requires
-    add-n
-    word-requires
-    loop-less
-    loop-again
-    same-length
-    returns)
+    (tie.spec Inv-loop μ-loop (search needs) loop-holds (search needs) (search needs) (λ c κs. search needs) loop-less loop-again same-length returns)

@@ -8,8 +8,5 @@ use Rattle.chains.proofs.words.word.Tie as tie
 word-in-requires : tie.Need-word-in-requires
 word-in-requires c κs = let n = counted (c .before .pre .0) in (omega arith, omega arith)
 
-returns : tie.Need-returns
-returns c = search needs
-
 pub word-spec : {M : Type 1} → statement M
-word-spec = tie.close (tie.spec word-in-requires returns)
+word-spec = tie.close (tie.spec word-in-requires (search needs))

@@ -5,14 +5,8 @@ use borrow.Author.Needs.{needs}
 use Rattle.checking.proofs.answer.check.Statement.{statement}
 use Rattle.checking.proofs.answer.check.Tie as tie
 
-check-typing-requires : tie.Need-check-typing-requires
-check-typing-requires c κs = search needs
-
 enum-told : tie.Need-enum-told
 enum-told c = search needs
-
-enum-told-2 : tie.Need-enum-told-2
-enum-told-2 c = search needs
 
 returns : tie.Need-returns
 returns c = checker-refuses _ (c .before .before .check-typing .ensures) (c .enum-told2 .given .1)
@@ -24,6 +18,4 @@ returns-2 : tie.Need-returns-2
 returns-2 c = checker-goes _ (c .before .before .before .check-typing .ensures) (c .before .enum-told .given .1) (c .check-rules .ensures)
 
 pub check-spec : {M : Type 1} → statement M
-check-spec =
-    tie.close
-    (tie.spec check-typing-requires enum-told enum-told-2 returns check-rules-requires returns-2)
+check-spec = tie.close (tie.spec (search needs) enum-told (search needs) returns check-rules-requires returns-2)

@@ -8,20 +8,11 @@ use borrow.Author.Needs.{needs}
 use Rattle.checking.proofs.answer.check_rules.Statement.{statement}
 use Rattle.checking.proofs.answer.check_rules.Tie as tie
 
-blank-file-table-requires : tie.Need-blank-file-table-requires
-blank-file-table-requires c κs = search needs
-
-blank-rows-requires : tie.Need-blank-rows-requires
-blank-rows-requires c κs = search needs
-
 check-classes-requires : tie.Need-check-classes-requires
 check-classes-requires c κs = let p = c .before .before .before .before .before .pre in (p .0, (p .1, (blank-fits fileWords (c .before .before .before .blank-file-table .ensures), blank-fits rowWords (c .before .before .blank-rows .ensures))))
 
 enum-told : tie.Need-enum-told
 enum-told c = search needs
-
-enum-told-2 : tie.Need-enum-told-2
-enum-told-2 c = search needs
 
 returns : tie.Need-returns
 returns c = passed-up _ Rules _ (c .before .before .check-classes .ensures .0) (c .enum-told2 .given .1)
@@ -38,13 +29,4 @@ returns-3 c = passed-here _ Rules (c .before .before .before .before .before .be
 pub check-rules-spec : {M : Type 1} → statement M
 check-rules-spec =
     tie.close
-    (tie.spec
-    blank-file-table-requires
-    blank-rows-requires
-    check-classes-requires
-    enum-told
-    enum-told-2
-    returns
-    rules-ok-requires
-    returns-2
-    returns-3)
+    (tie.spec (search needs) (search needs) check-classes-requires enum-told (search needs) returns rules-ok-requires returns-2 returns-3)

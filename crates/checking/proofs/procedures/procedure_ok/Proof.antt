@@ -4,9 +4,6 @@ use borrow.Author.Needs.{needs}
 use Rattle.checking.proofs.procedures.procedure_ok.Statement.{statement}
 use Rattle.checking.proofs.procedures.procedure_ok.Tie as tie
 
-word-at-requires : tie.Need-word-at-requires
-word-at-requires c κs = search needs
-
 mul-window-ok : tie.Need-mul-window-ok
 mul-window-ok c = let p = c .before .before .before .pre in let l = start-low (p .1 .0) _ (p .1 .1) (c .word-at .ensures) in search needs
 
@@ -16,9 +13,6 @@ sub-window-ok c = let p = c .before .before .before .pre in let l = start-low (p
 part-window-ok-start : tie.Need-part-window-ok-start
 part-window-ok-start c = let p = c .before .before .before .pre in let l = start-low (p .1 .0) _ (p .1 .1) (c .word-at .ensures) in l
 
-part-window-ok-end : tie.Need-part-window-ok-end
-part-window-ok-end c = search needs
-
 window-ok-requires : tie.Need-window-ok-requires
 window-ok-requires c κs = let p = c .before .before .before .before .pre in (p .0, body-stands (p .1 .0) _ (p .1 .1) (c .before .word-at .ensures))
 
@@ -26,13 +20,4 @@ returns : tie.Need-returns
 returns c = let p = c .before .before .before .before .before .pre in procedure-checked (p .1 .0) _ (p .1 .1) (c .before .before .word-at .ensures) (c .window-ok .ensures)
 
 pub procedure-ok-spec : {M : Type 1} → statement M
-procedure-ok-spec =
-    tie.close
-    (tie.spec
-    word-at-requires
-    mul-window-ok
-    sub-window-ok
-    part-window-ok-start
-    part-window-ok-end
-    window-ok-requires
-    returns)
+procedure-ok-spec = tie.close (tie.spec (search needs) mul-window-ok sub-window-ok part-window-ok-start (search needs) window-ok-requires returns)

@@ -34,9 +34,6 @@ returns c = let p = c .before .before .before .before .before .before .before .p
 add-q : tie.Need-add-q Inv-loop μ-loop
 add-q c = let p = c .before .before .before .before .before .before .before .pre in let h = c .before .before .before .before .loop .inv in let a = procedure-at (p .0) refl (procedure-is (h .turn .stands) (c .before .before .before .loop-test .taken)) in let l = turn-below (h .turn) a in let m = p .1 .few in search needs
 
-word-requires-2 : tie.Need-word-requires-2 Inv-loop μ-loop
-word-requires-2 c κs = search needs
-
 loop-less : tie.Need-loop-less Inv-loop μ-loop
 loop-less c = let p = c .before .before .before .before .before .before .before .before .pre in let h = c .before .before .before .before .before .loop .inv in let a = procedure-at (p .0) refl (procedure-is (h .turn .stands) (c .before .before .before .before .loop-test .taken)) in (rw (c .word2 .ensures .0) (a .to-next .falls))
 
@@ -49,15 +46,4 @@ returns-2 c = tests-last _ (c .before .loop .inv) (c .loop-test .left) ∙ rules
 pub rules-ok-spec : {M : Type 1} → statement M
 rules-ok-spec =
     tie.close
-    (tie.spec
-    Inv-loop
-    μ-loop
-    word-requires
-    loop-holds
-    procedure-ok-requires
-    returns
-    add-q
-    word-requires-2
-    loop-less
-    loop-again
-    returns-2)
+    (tie.spec Inv-loop μ-loop word-requires loop-holds procedure-ok-requires returns add-q (λ c κs. search needs) loop-less loop-again returns-2)

@@ -2,7 +2,6 @@
 use Prim.Native.Nat.{_-_}
 use mathlib.Core.Logic.{⊎-elim}
 use mathlib.Core.Path.{sym, _∙_}
-use borrow.Author.Tests.{not-true, not-false}
 use Rattle.checking.specs.Sound.{Keeping, keep-first, keep-one, keep-none, keep-last, reachHeld, held-here, given-is}
 use borrow.Author.Needs.{needs}
 use Rattle.language.specs.Format.{places}
@@ -16,26 +15,8 @@ Inv-loop own given held sound found₀ x₀ found x = Keeping (reachHeld own hel
 abbrev μ-loop : tie.MeasureT-loop
 μ-loop own given held sound found₀ x₀ found x = places - x
 
-after-requires : tie.Need-after-requires Inv-loop μ-loop
-after-requires c κs = search needs
-
 loop-holds : tie.Need-loop-holds Inv-loop μ-loop
 loop-holds c = keep-first _ _ (c .after .ensures)
-
-reach-requires : tie.Need-reach-requires Inv-loop μ-loop
-reach-requires c κs = search needs
-
-is-subset-requires : tie.Need-is-subset-requires Inv-loop μ-loop
-is-subset-requires c κs = search needs
-
-of-requires : tie.Need-of-requires Inv-loop μ-loop
-of-requires c κs = search needs
-
-union-requires : tie.Need-union-requires Inv-loop μ-loop
-union-requires c κs = search needs
-
-after-requires-2 : tie.Need-after-requires-2 Inv-loop μ-loop
-after-requires-2 c κs = search needs
 
 loop-less : tie.Need-loop-less Inv-loop μ-loop
 loop-less c = next-falls _ (c .before .before .before .before .loop-test .taken) (c .after2 .ensures)
@@ -50,12 +31,6 @@ loop-again c =
     (λ t. keep-one _ _ (l .before .loop .inv) (l .loop-test .taken) (sym e ∙ t .0 .taken) (t .1 .ensures) (t .3 ∙ t .2 .ensures) (c .after2 .ensures))
     (λ t. rw (t .1) (keep-none _ _ (l .before .loop .inv) (l .loop-test .taken) (sym e ∙ t .0 .left) (c .after2 .ensures))) (c .before .if1 .came)
 
-difference-requires : tie.Need-difference-requires Inv-loop μ-loop
-difference-requires c κs = search needs
-
-union-requires-2 : tie.Need-union-requires-2 Inv-loop μ-loop
-union-requires-2 c κs = search needs
-
 returns : tie.Need-returns Inv-loop μ-loop
 returns c =
     let a = c .before .before .before .before .before .before .args in
@@ -65,18 +40,5 @@ returns c =
 pub sound-given-spec : {M : Type 1} → statement M
 sound-given-spec =
     tie.close
-    (tie.spec
-    Inv-loop
-    μ-loop
-    after-requires
-    loop-holds
-    reach-requires
-    is-subset-requires
-    of-requires
-    union-requires
-    after-requires-2
-    loop-less
-    loop-again
-    difference-requires
-    union-requires-2
-    returns)
+    (tie.spec Inv-loop μ-loop (search needs) loop-holds (search needs) (search needs) (search needs) (search needs) (search needs) loop-less
+    loop-again (search needs) (search needs) returns)

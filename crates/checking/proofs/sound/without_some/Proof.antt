@@ -15,29 +15,8 @@ Inv-loop own gone sound found₀ x₀ found x = Keeping (reachApart own gone) so
 abbrev μ-loop : tie.MeasureT-loop
 μ-loop own gone sound found₀ x₀ found x = places - x
 
-after-requires : tie.Need-after-requires Inv-loop μ-loop
-after-requires c κs = search needs
-
 loop-holds : tie.Need-loop-holds Inv-loop μ-loop
 loop-holds c = keep-first _ _ (c .after .ensures)
-
-reach-requires : tie.Need-reach-requires Inv-loop μ-loop
-reach-requires c κs = search needs
-
-intersection-requires : tie.Need-intersection-requires Inv-loop μ-loop
-intersection-requires c κs = search needs
-
-same-requires : tie.Need-same-requires Inv-loop μ-loop
-same-requires c κs = search needs
-
-of-requires : tie.Need-of-requires Inv-loop μ-loop
-of-requires c κs = search needs
-
-union-requires : tie.Need-union-requires Inv-loop μ-loop
-union-requires c κs = search needs
-
-after-requires-2 : tie.Need-after-requires-2 Inv-loop μ-loop
-after-requires-2 c κs = search needs
 
 loop-less : tie.Need-loop-less Inv-loop μ-loop
 loop-less c = next-falls _ (c .before .before .before .before .before .loop-test .taken) (c .after2 .ensures)
@@ -60,17 +39,5 @@ returns c =
 pub without-some-spec : {M : Type 1} → statement M
 without-some-spec =
     tie.close
-    (tie.spec
-    Inv-loop
-    μ-loop
-    after-requires
-    loop-holds
-    reach-requires
-    intersection-requires
-    same-requires
-    of-requires
-    union-requires
-    after-requires-2
-    loop-less
-    loop-again
-    returns)
+    (tie.spec Inv-loop μ-loop (search needs) loop-holds (search needs) (search needs) (search needs) (search needs) (search needs) (search needs)
+    loop-less loop-again returns)

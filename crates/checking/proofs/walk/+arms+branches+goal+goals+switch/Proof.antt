@@ -1,7 +1,7 @@
 -- The walk over goals meets its contract: one law of Walking for each way through it. The records ahead fall.
 use borrow.Author.Tests.{not-true, not-false}
 use native.Mathlib.Omega.{arith}
-use mathlib.Core.Path.{_≡_, refl, sym, _∙_}
+use mathlib.Core.Path.{refl, sym, _∙_}
 use Rattle.chains.specs.Formed.{ahead}
 use Rattle.chains.specs.Shapes.{switch-here, if-here, to-arms, to-then, to-else, arm-goals, arm-next}
 use Rattle.values.specs.Closed.{goal-closed, arm-closed}
@@ -113,15 +113,6 @@ arms-word-requires t c κs = let p = c .before .before .before .pre .1 in (p .0,
 arms-returns-2 : (t : ℕ) → arms-lts.Need-returns-2 (arms-calls t) (arms-at t) arms.Post
 arms-returns-2 t c = let p = c .before .before .before .before .before .pre .1 in arm-closed (p .1) (c .before .before .if1 .left) (c .before .word .ensures .0) (c .if2 .taken)
 
-arms-held-in-requires : (t : ℕ) → arms-lts.Need-held-in-requires (arms-calls t) (arms-at t) arms.Post
-arms-held-in-requires t c κs = search needs
-
-arms-sound-in-requires : (t : ℕ) → arms-lts.Need-sound-in-requires (arms-calls t) (arms-at t) arms.Post
-arms-sound-in-requires t c κs = search needs
-
-arms-enter-requires : (t : ℕ) → arms-lts.Need-enter-requires (arms-calls t) (arms-at t) arms.Post
-arms-enter-requires t c κs = search needs
-
 arms-word-requires-2 : (t : ℕ) → arms-lts.Need-word-requires-2 (arms-calls t) (arms-at t) arms.Post
 arms-word-requires-2 t c κs = let p = c .before .before .before .before .before .before .before .before .before .before .before .pre .1 in (p .0, (omega arith, p .1 .below))
 
@@ -137,47 +128,23 @@ arms-word-requires-3 t c κs = let p = c .before .before .before .before .before
 arms-returns-4 : (t : ℕ) → arms-lts.Need-returns-4 (arms-calls t) (arms-at t) arms.Post
 arms-returns-4 t c = let p = c .before .before .before .before .before .before .before .before .before .before .before .before .before .before .before .before .before .pre .1 in arm-ended _ _ _ _ (p .0) (p .1) (c .before .before .before .before .before .before .before .before .before .before .before .before .before .before .if1 .left) _ (c .before .before .before .before .before .before .enter .ensures .0) (c .before .before .before .before .before .before .enter .ensures .1) (c .before .before .before .before .before .word2 .ensures .0) _ _ (c .before .before .before .goals .ensures) (not-false _ (c .before .before .if3 .left)) (c .before .word3 .ensures .0) (c .if4 .taken)
 
-arms-held-in-requires-2 : (t : ℕ) → arms-lts.Need-held-in-requires-2 (arms-calls t) (arms-at t) arms.Post
-arms-held-in-requires-2 t c κs = search needs
-
-arms-sound-in-requires-2 : (t : ℕ) → arms-lts.Need-sound-in-requires-2 (arms-calls t) (arms-at t) arms.Post
-arms-sound-in-requires-2 t c κs = search needs
-
-arms-carry-requires : (t : ℕ) → arms-lts.Need-carry-requires (arms-calls t) (arms-at t) arms.Post
-arms-carry-requires t c κs = search needs
-
 arms-arms-requires : (t : ℕ) → arms-lts.Need-arms-requires (arms-calls t) (arms-at t) arms.Post
 arms-arms-requires t c κs = let a = c .before .before .before .before .before .before .before .before .before .before .before .before .before .before .before .before .before .before .before .before .before .before .before .before .pre in let o = arm-next (a .1 .0) (c .before .before .before .before .before .before .before .before .before .before .before .before .before .before .before .before .before .before .before .before .before .if1 .left) (a .1 .1) (c .before .before .before .before .before .before .before .before .word3 .ensures .0) in (omega (arith, o .falls, a .0), (a .1 .0, o .stands))
 
 arms-returns-5 : (t : ℕ) → arms-lts.Need-returns-5 (arms-calls t) (arms-at t) arms.Post
 arms-returns-5 t c = let p = c .before .before .before .before .before .before .before .before .before .before .before .before .before .before .before .before .before .before .before .before .before .before .before .before .before .before .pre .1 in rest-broken _ _ _ _ (p .0) (p .1) (c .before .before .before .before .before .before .before .before .before .before .before .before .before .before .before .before .before .before .before .before .before .before .before .if1 .left) _ (c .before .before .before .before .before .before .before .before .before .before .before .before .before .before .before .enter .ensures .0) (c .before .before .before .before .before .before .before .before .before .before .before .before .before .before .before .enter .ensures .1) (c .before .before .before .before .before .before .before .before .before .before .before .before .before .before .word2 .ensures .0) _ _ (c .before .before .before .before .before .before .before .before .before .before .before .before .goals .ensures) (not-false _ (c .before .before .before .before .before .before .before .before .before .before .before .if3 .left)) (c .before .before .before .before .before .before .before .before .before .before .word3 .ensures .0) (c .before .before .before .before .before .before .before .before .before .if4 .left) _ ((c .before .before .before .carry .ensures .0) ∙ c .before .before .before .before .before .before .before .before .before .before .before .before .before .before .before .before .before .before .before .held-in .ensures) ((c .before .before .before .carry .ensures .1) ∙ c .before .before .before .before .before .before .before .before .before .before .before .before .before .before .before .before .before .sound-in .ensures) _ _ (c .before .arms .ensures) _ (not-true _ (c .if5 .taken))
 
-arms-join-requires : (t : ℕ) → arms-lts.Need-join-requires (arms-calls t) (arms-at t) arms.Post
-arms-join-requires t c κs = search needs
-
 arms-returns-6 : (t : ℕ) → arms-lts.Need-returns-6 (arms-calls t) (arms-at t) arms.Post
 arms-returns-6 t c = let p = c .before .before .before .before .before .before .before .before .before .before .before .before .before .before .before .before .before .before .before .before .before .before .before .before .before .before .before .before .pre .1 in arm-more _ _ _ _ (p .0) (p .1) (c .before .before .before .before .before .before .before .before .before .before .before .before .before .before .before .before .before .before .before .before .before .before .before .before .before .if1 .left) _ (c .before .before .before .before .before .before .before .before .before .before .before .before .before .before .before .before .before .enter .ensures .0) (c .before .before .before .before .before .before .before .before .before .before .before .before .before .before .before .before .before .enter .ensures .1) (c .before .before .before .before .before .before .before .before .before .before .before .before .before .before .before .before .word2 .ensures .0) _ _ (c .before .before .before .before .before .before .before .before .before .before .before .before .before .before .goals .ensures) (not-false _ (c .before .before .before .before .before .before .before .before .before .before .before .before .before .if3 .left)) (c .before .before .before .before .before .before .before .before .before .before .before .before .word3 .ensures .0) (c .before .before .before .before .before .before .before .before .before .before .before .if4 .left) _ ((c .before .before .before .before .before .carry .ensures .0) ∙ c .before .before .before .before .before .before .before .before .before .before .before .before .before .before .before .before .before .before .before .before .before .held-in .ensures) ((c .before .before .before .before .before .carry .ensures .1) ∙ c .before .before .before .before .before .before .before .before .before .before .before .before .before .before .before .before .before .before .before .sound-in .ensures) _ _ (c .before .before .before .arms .ensures) _ _ (not-false _ (c .before .before .if5 .left)) (c .before .before .before .before .before .before .before .before .before .held-in2 .ensures) (c .before .before .before .before .before .before .before .sound-in2 .ensures) (c .join .ensures)
 
-branches-held-in-requires : (t : ℕ) → branches-lts.Need-held-in-requires (branches-calls t) (branches-at t) branches.Post
-branches-held-in-requires t c κs = search needs
-
-branches-sound-in-requires : (t : ℕ) → branches-lts.Need-sound-in-requires (branches-calls t) (branches-at t) branches.Post
-branches-sound-in-requires t c κs = search needs
-
 branches-word-requires : (t : ℕ) → branches-lts.Need-word-requires (branches-calls t) (branches-at t) branches.Post
 branches-word-requires t c κs = let p = c .before .before .before .before .before .before .pre .1 in (p .0, (omega arith, if-here (p .0) refl (p .1) .below))
-
-branches-has-requires : (t : ℕ) → branches-lts.Need-has-requires (branches-calls t) (branches-at t) branches.Post
-branches-has-requires t c κs = search needs
 
 branches-returns : (t : ℕ) → branches-lts.Need-returns (branches-calls t) (branches-at t) branches.Post
 branches-returns t c = let p = c .before .before .before .before .before .before .before .before .before .pre .1 in if-broken _ _ _ (p .0) (p .1) (c .before .before .before .sound-in .ensures) (c .before .before .word .ensures .0) (c .before .has .ensures) _ (not-true _ (c .if1 .taken))
 
 branches-word-requires-2 : (t : ℕ) → branches-lts.Need-word-requires-2 (branches-calls t) (branches-at t) branches.Post
 branches-word-requires-2 t c κs = let p = c .before .before .before .before .before .before .before .before .before .pre .1 in (p .0, (omega arith, if-here (p .0) refl (p .1) .below))
-
-branches-has-requires-2 : (t : ℕ) → branches-lts.Need-has-requires-2 (branches-calls t) (branches-at t) branches.Post
-branches-has-requires-2 t c κs = search needs
 
 branches-returns-2 : (t : ℕ) → branches-lts.Need-returns-2 (branches-calls t) (branches-at t) branches.Post
 branches-returns-2 t c = let p = c .before .before .before .before .before .before .before .before .before .before .before .before .pre .1 in if-broken-2 _ _ _ (p .0) (p .1) (c .before .before .before .before .before .before .sound-in .ensures) (c .before .before .before .before .before .word .ensures .0) (c .before .before .before .before .has .ensures) (not-false _ (c .before .before .before .if1 .left)) (c .before .before .word2 .ensures .0) (c .before .has2 .ensures) _ (not-true _ (c .if2 .taken))
@@ -191,20 +158,8 @@ branches-goals-requires t c κs = let a = c .before .before .before .before .bef
 branches-returns-3 : (t : ℕ) → branches-lts.Need-returns-3 (branches-calls t) (branches-at t) branches.Post
 branches-returns-3 t c = let p = c .before .before .before .before .before .before .before .before .before .before .before .before .before .before .before .before .pre .1 in then-broken _ _ _ (p .0) (p .1) (c .before .before .before .before .before .before .before .before .before .before .sound-in .ensures) (c .before .before .before .before .before .before .before .before .before .word .ensures .0) (c .before .before .before .before .before .before .before .before .has .ensures) (not-false _ (c .before .before .before .before .before .before .before .if1 .left)) (c .before .before .before .before .before .before .word2 .ensures .0) (c .before .before .before .before .before .has2 .ensures) (not-false _ (c .before .before .before .before .if2 .left)) (c .before .before .before .word3 .ensures .0) _ _ (c .before .goals .ensures) _ (not-true _ (c .if3 .taken))
 
-branches-held-in-requires-2 : (t : ℕ) → branches-lts.Need-held-in-requires-2 (branches-calls t) (branches-at t) branches.Post
-branches-held-in-requires-2 t c κs = search needs
-
-branches-sound-in-requires-2 : (t : ℕ) → branches-lts.Need-sound-in-requires-2 (branches-calls t) (branches-at t) branches.Post
-branches-sound-in-requires-2 t c κs = search needs
-
-branches-carry-requires : (t : ℕ) → branches-lts.Need-carry-requires (branches-calls t) (branches-at t) branches.Post
-branches-carry-requires t c κs = search needs
-
 branches-word-requires-4 : (t : ℕ) → branches-lts.Need-word-requires-4 (branches-calls t) (branches-at t) branches.Post
 branches-word-requires-4 t c κs = let p = c .before .before .before .before .before .before .before .before .before .before .before .before .before .before .before .before .before .before .before .before .before .before .pre .1 in (p .0, (omega arith, if-here (p .0) refl (p .1) .below))
-
-branches-join-requires : (t : ℕ) → branches-lts.Need-join-requires (branches-calls t) (branches-at t) branches.Post
-branches-join-requires t c κs = search needs
 
 branches-returns-4 : (t : ℕ) → branches-lts.Need-returns-4 (branches-calls t) (branches-at t) branches.Post
 branches-returns-4 t c = let p = c .before .before .before .before .before .before .before .before .before .before .before .before .before .before .before .before .before .before .before .before .before .before .before .before .before .before .pre .1 in if-done _ _ _ (p .0) (p .1) (c .before .before .before .before .before .before .before .before .before .before .before .before .before .before .before .before .before .before .before .before .sound-in .ensures) (c .before .before .before .before .before .before .before .before .before .before .before .before .before .before .before .before .before .before .before .word .ensures .0) (c .before .before .before .before .before .before .before .before .before .before .before .before .before .before .before .before .before .before .has .ensures) (not-false _ (c .before .before .before .before .before .before .before .before .before .before .before .before .before .before .before .before .before .if1 .left)) (c .before .before .before .before .before .before .before .before .before .before .before .before .before .before .before .before .word2 .ensures .0) (c .before .before .before .before .before .before .before .before .before .before .before .before .before .before .before .has2 .ensures) (not-false _ (c .before .before .before .before .before .before .before .before .before .before .before .before .before .before .if2 .left)) (c .before .before .before .before .before .before .before .before .before .before .before .before .before .word3 .ensures .0) _ _ (c .before .before .before .before .before .before .before .before .before .before .before .goals .ensures) (not-false _ (c .before .before .before .before .before .before .before .before .before .before .if3 .left)) (c .before .before .before .word4 .ensures .0) _ ((c .before .before .before .before .carry .ensures .0) ∙ c .before .before .before .before .before .before .before .before .before .before .before .before .before .before .before .before .before .before .before .before .before .before .held-in .ensures) ((c .before .before .before .before .carry .ensures .1) ∙ c .before .before .before .before .before .before .before .before .before .before .before .before .before .before .before .before .before .before .before .before .sound-in .ensures) _ _ (none-checked _ _ _ _ (c .before .before .if4 .taken)) _ _ refl (c .before .before .before .before .before .before .before .before .held-in2 .ensures) (c .before .before .before .before .before .before .sound-in2 .ensures) (c .join .ensures)
@@ -215,14 +170,8 @@ branches-goals-requires-2 t c κs = let a = c .before .before .before .before .b
 branches-returns-5 : (t : ℕ) → branches-lts.Need-returns-5 (branches-calls t) (branches-at t) branches.Post
 branches-returns-5 t c = let p = c .before .before .before .before .before .before .before .before .before .before .before .before .before .before .before .before .before .before .before .before .before .before .before .before .before .before .before .pre .1 in else-broken _ _ _ (p .0) (p .1) (c .before .before .before .before .before .before .before .before .before .before .before .before .before .before .before .before .before .before .before .before .before .sound-in .ensures) (c .before .before .before .before .before .before .before .before .before .before .before .before .before .before .before .before .before .before .before .before .word .ensures .0) (c .before .before .before .before .before .before .before .before .before .before .before .before .before .before .before .before .before .before .before .has .ensures) (not-false _ (c .before .before .before .before .before .before .before .before .before .before .before .before .before .before .before .before .before .before .if1 .left)) (c .before .before .before .before .before .before .before .before .before .before .before .before .before .before .before .before .before .word2 .ensures .0) (c .before .before .before .before .before .before .before .before .before .before .before .before .before .before .before .before .has2 .ensures) (not-false _ (c .before .before .before .before .before .before .before .before .before .before .before .before .before .before .before .if2 .left)) (c .before .before .before .before .before .before .before .before .before .before .before .before .before .before .word3 .ensures .0) _ _ (c .before .before .before .before .before .before .before .before .before .before .before .before .goals .ensures) (not-false _ (c .before .before .before .before .before .before .before .before .before .before .before .if3 .left)) (c .before .before .before .before .word4 .ensures .0) _ ((c .before .before .before .before .before .carry .ensures .0) ∙ c .before .before .before .before .before .before .before .before .before .before .before .before .before .before .before .before .before .before .before .before .before .before .before .held-in .ensures) ((c .before .before .before .before .before .carry .ensures .1) ∙ c .before .before .before .before .before .before .before .before .before .before .before .before .before .before .before .before .before .before .before .before .before .sound-in .ensures) _ _ (c .before .goals2 .ensures) _ (not-true _ (c .if5 .taken))
 
-branches-join-requires-2 : (t : ℕ) → branches-lts.Need-join-requires-2 (branches-calls t) (branches-at t) branches.Post
-branches-join-requires-2 t c κs = search needs
-
 branches-returns-6 : (t : ℕ) → branches-lts.Need-returns-6 (branches-calls t) (branches-at t) branches.Post
 branches-returns-6 t c = let p = c .before .before .before .before .before .before .before .before .before .before .before .before .before .before .before .before .before .before .before .before .before .before .before .before .before .before .before .before .before .pre .1 in if-done _ _ _ (p .0) (p .1) (c .before .before .before .before .before .before .before .before .before .before .before .before .before .before .before .before .before .before .before .before .before .before .before .sound-in .ensures) (c .before .before .before .before .before .before .before .before .before .before .before .before .before .before .before .before .before .before .before .before .before .before .word .ensures .0) (c .before .before .before .before .before .before .before .before .before .before .before .before .before .before .before .before .before .before .before .before .before .has .ensures) (not-false _ (c .before .before .before .before .before .before .before .before .before .before .before .before .before .before .before .before .before .before .before .before .if1 .left)) (c .before .before .before .before .before .before .before .before .before .before .before .before .before .before .before .before .before .before .before .word2 .ensures .0) (c .before .before .before .before .before .before .before .before .before .before .before .before .before .before .before .before .before .before .has2 .ensures) (not-false _ (c .before .before .before .before .before .before .before .before .before .before .before .before .before .before .before .before .before .if2 .left)) (c .before .before .before .before .before .before .before .before .before .before .before .before .before .before .before .before .word3 .ensures .0) _ _ (c .before .before .before .before .before .before .before .before .before .before .before .before .before .before .goals .ensures) (not-false _ (c .before .before .before .before .before .before .before .before .before .before .before .before .before .if3 .left)) (c .before .before .before .before .before .before .word4 .ensures .0) _ ((c .before .before .before .before .before .before .before .carry .ensures .0) ∙ c .before .before .before .before .before .before .before .before .before .before .before .before .before .before .before .before .before .before .before .before .before .before .before .before .before .held-in .ensures) ((c .before .before .before .before .before .before .before .carry .ensures .1) ∙ c .before .before .before .before .before .before .before .before .before .before .before .before .before .before .before .before .before .before .before .before .before .before .before .sound-in .ensures) _ _ (c .before .before .before .goals2 .ensures) _ _ (not-false _ (c .before .before .if5 .left)) (c .before .before .before .before .before .before .before .before .before .before .before .held-in2 .ensures) (c .before .before .before .before .before .before .before .before .before .sound-in2 .ensures) (c .join2 .ensures)
-
-goal-word-requires : (t : ℕ) → goal-lts.Need-word-requires (goal-calls t) (goal-at t) goal.Post
-goal-word-requires t c κs = search needs
 
 goal-switch-requires : (t : ℕ) → goal-lts.Need-switch-requires (goal-calls t) (goal-at t) goal.Post
 goal-switch-requires t c κs = let a = c .before .before .before .before .before .pre in (omega (arith, a .0), (a .1 .0, sym (c .before .before .word .ensures .0) ∙ c .before .match .keys1))
@@ -230,14 +179,8 @@ goal-switch-requires t c κs = let a = c .before .before .before .before .before
 goal-branches-requires : (t : ℕ) → goal-lts.Need-branches-requires (goal-calls t) (goal-at t) goal.Post
 goal-branches-requires t c κs = let a = c .before .before .before .before .before .pre in (omega (arith, a .0), (a .1 .0, sym (c .before .before .word .ensures .0) ∙ c .before .match .keys2))
 
-goal-is-step-requires : (t : ℕ) → goal-lts.Need-is-step-requires (goal-calls t) (goal-at t) goal.Post
-goal-is-step-requires t c κs = search needs
-
 goal-returns : (t : ℕ) → goal-lts.Need-returns (goal-calls t) (goal-at t) goal.Post
 goal-returns t c = let p = c .before .before .before .before .before .before .pre .1 in goal-closed (p .0) _ (p .1 .0) (p .1 .1) (c .before .before .before .word .ensures .0) (c .before .before .match .rest .0 .1) (c .before .before .match .rest .1) (c .before .is-step .ensures) (not-true _ (c .if1 .taken))
-
-goal-step-requires : (t : ℕ) → goal-lts.Need-step-requires (goal-calls t) (goal-at t) goal.Post
-goal-step-requires t c κs = search needs
 
 goal-returns-2 : (t : ℕ) → goal-lts.Need-returns-2 (goal-calls t) (goal-at t) goal.Post
 goal-returns-2 t c = c .switch .ensures
@@ -263,9 +206,6 @@ goals-goal-requires t c κs = let a = c .before .before .before .before .before 
 goals-returns : (t : ℕ) → goals-lts.Need-returns (goals-calls t) (goals-at t) goals.Post goals-Inv-loop goals-μ-loop
 goals-returns t c = walk-stop (c .before .before .before .before .before .before .before .pre .1 .0) (c .before .before .before .before .loop .inv) (c .before .before .before .loop-test .taken) _ _ (c .before .goal .ensures) _ (not-true _ (c .if1 .taken))
 
-goals-word-requires : (t : ℕ) → goals-lts.Need-word-requires (goals-calls t) (goals-at t) goals.Post goals-Inv-loop goals-μ-loop
-goals-word-requires t c κs = search needs
-
 goals-loop-less : (t : ℕ) → goals-lts.Need-loop-less (goals-calls t) (goals-at t) goals.Post goals-Inv-loop goals-μ-loop
 goals-loop-less t c = walk-onward (c .before .before .before .before .before .before .before .before .pre .1 .0) (c .before .before .before .before .before .loop .inv) (c .before .before .before .before .loop-test .taken) (c .word .ensures .0) .falls
 
@@ -275,14 +215,8 @@ goals-loop-again t c = walk-next (c .before .before .before .before .before .bef
 goals-returns-2 : (t : ℕ) → goals-lts.Need-returns-2 (goals-calls t) (goals-at t) goals.Post goals-Inv-loop goals-μ-loop
 goals-returns-2 t c = walk-last (c .before .before .before .before .pre .1 .0) (c .before .loop .inv) (c .loop-test .left)
 
-switch-sound-in-requires : (t : ℕ) → switch-lts.Need-sound-in-requires (switch-calls t) (switch-at t) switch.Post
-switch-sound-in-requires t c κs = search needs
-
 switch-word-requires : (t : ℕ) → switch-lts.Need-word-requires (switch-calls t) (switch-at t) switch.Post
 switch-word-requires t c κs = let p = c .before .before .before .before .pre .1 in (p .0, (omega arith, switch-here (p .0) refl (p .1) .below))
-
-switch-has-requires : (t : ℕ) → switch-lts.Need-has-requires (switch-calls t) (switch-at t) switch.Post
-switch-has-requires t c κs = search needs
 
 switch-returns : (t : ℕ) → switch-lts.Need-returns (switch-calls t) (switch-at t) switch.Post
 switch-returns t c = let p = c .before .before .before .before .before .before .before .pre .1 in switch-broken _ _ _ (p .0) (p .1) (c .before .before .before .sound-in .ensures) (c .before .before .word .ensures .0) (c .before .has .ensures) _ (not-true _ (c .if1 .taken))
@@ -298,83 +232,20 @@ switch-returns-2 t c = let p = c .before .before .before .before .before .before
 
 pub +arms+branches+goal+goals+switch-spec : {M : Type 1} → statement M
 +arms+branches+goal+goals+switch-spec =
-    close μ-arms μ-branches μ-goal μ-goals μ-switch (λ t. arms-lts.spec (arms-calls t)
-    (arms-at t)
-    arms.Post
-    (arms-returns t)
-    (arms-word-requires t)
-    (arms-returns-2 t)
-    (arms-held-in-requires t)
-    (arms-sound-in-requires t)
-    (arms-enter-requires t)
-    (arms-word-requires-2 t)
-    (arms-goals-requires t)
-    (arms-returns-3 t)
-    (arms-word-requires-3 t)
-    (arms-returns-4 t)
-    (arms-held-in-requires-2 t)
-    (arms-sound-in-requires-2 t)
-    (arms-carry-requires t)
-    (arms-arms-requires t)
-    (arms-returns-5 t)
-    (arms-join-requires t)
-    (arms-returns-6 t))
-    (λ t. branches-lts.spec (branches-calls t)
-    (branches-at t)
-    branches.Post
-    (branches-held-in-requires t)
-    (branches-sound-in-requires t)
-    (branches-word-requires t)
-    (branches-has-requires t)
-    (branches-returns t)
-    (branches-word-requires-2 t)
-    (branches-has-requires-2 t)
-    (branches-returns-2 t)
-    (branches-word-requires-3 t)
-    (branches-goals-requires t)
-    (branches-returns-3 t)
-    (branches-held-in-requires-2 t)
-    (branches-sound-in-requires-2 t)
-    (branches-carry-requires t)
-    (branches-word-requires-4 t)
-    (branches-join-requires t)
-    (branches-returns-4 t)
-    (branches-goals-requires-2 t)
-    (branches-returns-5 t)
-    (branches-join-requires-2 t)
-    (branches-returns-6 t))
-    (λ t. goal-lts.spec (goal-calls t)
-    (goal-at t)
-    goal.Post
-    (goal-word-requires t)
-    (goal-switch-requires t)
-    (goal-branches-requires t)
-    (goal-is-step-requires t)
-    (goal-returns t)
-    (goal-step-requires t)
-    (goal-returns-2 t)
-    (goal-returns-3 t)
-    (goal-returns-4 t))
-    (λ t. goals-lts.spec
-    (goal-below t, goal.Post, word-reads.Asked, word-reads.Learnt)
-    (goals-at t)
-    goals.Post
-    goals-Inv-loop
-    goals-μ-loop
-    (goals-loop-holds t)
-    (goals-goal-requires t)
-    (goals-returns t)
-    (goals-word-requires t)
-    (goals-loop-less t)
-    (goals-loop-again t)
+    close μ-arms μ-branches μ-goal μ-goals μ-switch
+    (λ t. arms-lts.spec (arms-calls t) (arms-at t) arms.Post (arms-returns t) (arms-word-requires t) (arms-returns-2 t) (λ c κs. search needs)
+    (λ c κs. search needs) (λ c κs. search needs) (arms-word-requires-2 t) (arms-goals-requires t) (arms-returns-3 t) (arms-word-requires-3 t)
+    (arms-returns-4 t) (λ c κs. search needs) (λ c κs. search needs) (λ c κs. search needs) (arms-arms-requires t) (arms-returns-5 t)
+    (λ c κs. search needs) (arms-returns-6 t))
+    (λ t. branches-lts.spec (branches-calls t) (branches-at t) branches.Post (λ c κs. search needs) (λ c κs. search needs) (branches-word-requires t)
+    (λ c κs. search needs) (branches-returns t) (branches-word-requires-2 t) (λ c κs. search needs) (branches-returns-2 t)
+    (branches-word-requires-3 t) (branches-goals-requires t) (branches-returns-3 t) (λ c κs. search needs) (λ c κs. search needs)
+    (λ c κs. search needs) (branches-word-requires-4 t) (λ c κs. search needs) (branches-returns-4 t) (branches-goals-requires-2 t)
+    (branches-returns-5 t) (λ c κs. search needs) (branches-returns-6 t))
+    (λ t. goal-lts.spec (goal-calls t) (goal-at t) goal.Post (λ c κs. search needs) (goal-switch-requires t) (goal-branches-requires t)
+    (λ c κs. search needs) (goal-returns t) (λ c κs. search needs) (goal-returns-2 t) (goal-returns-3 t) (goal-returns-4 t))
+    (λ t. goals-lts.spec (goal-below t, goal.Post, word-reads.Asked, word-reads.Learnt) (goals-at t) goals.Post goals-Inv-loop goals-μ-loop
+    (goals-loop-holds t) (goals-goal-requires t) (goals-returns t) (λ c κs. search needs) (goals-loop-less t) (goals-loop-again t)
     (goals-returns-2 t))
-    λ t. switch-lts.spec (switch-calls t)
-    (switch-at t)
-    switch.Post
-    (switch-sound-in-requires t)
-    (switch-word-requires t)
-    (switch-has-requires t)
-    (switch-returns t)
-    (switch-word-requires-2 t)
-    (switch-arms-requires t)
-    (switch-returns-2 t)
+    λ t. switch-lts.spec (switch-calls t) (switch-at t) switch.Post (λ c κs. search needs) (switch-word-requires t) (λ c κs. search needs)
+    (switch-returns t) (switch-word-requires-2 t) (switch-arms-requires t) (switch-returns-2 t)

@@ -6,17 +6,8 @@ use Rattle.lifetimes.specs.Wanted.{wanted-is}
 use Rattle.lifetimes.proofs.wanted.wanted_in.Statement.{statement}
 use Rattle.lifetimes.proofs.wanted.wanted_in.Tie as tie
 
-set-at-requires : tie.Need-set-at-requires
-set-at-requires c κs = search needs
-
-reach-all-requires : tie.Need-reach-all-requires
-reach-all-requires c κs = search needs
-
-union-requires : tie.Need-union-requires
-union-requires c κs = search needs
-
 returns : tie.Need-returns
 returns c = λ f S w. wanted-is S _ (c .before .before .set-at .ensures ∙ w .kept) (reach-all-is w _ (c .before .reach-all .ensures)) (c .union .ensures)
 
 pub wanted-in-spec : {M : Type 1} → statement M
-wanted-in-spec = tie.close (tie.spec set-at-requires reach-all-requires union-requires returns)
+wanted-in-spec = tie.close (tie.spec (search needs) (search needs) (search needs) returns)

@@ -9,15 +9,9 @@ use Rattle.lines.proofs.answers.put_number.Tie as tie
 put-signed-requires : tie.Need-put-signed-requires
 put-signed-requires c κs = omega (arith, signed-most (c .before .before .args .word) (omega arith))
 
-slice-aggregate-put-text : tie.Need-slice-aggregate-put-text
-slice-aggregate-put-text c = search needs
-
 put-text-requires : tie.Need-put-text-requires
 put-text-requires c κs =
     omega (arith, signed-most (c .before .before .before .before .before .before .before .args .word) (omega arith), put-length (c .before .before .before .before .put-signed .ensures), c .before .before .before .before .put-signed .ensures .behind)
-
-same-length : tie.Need-same-length
-same-length c = search needs
 
 returns : tie.Need-returns
 returns c = (
@@ -26,6 +20,4 @@ returns c = (
 )
 
 pub put-number-spec : {M : Type 1} → statement M
-put-number-spec =
-    tie.close
-    (tie.spec put-signed-requires slice-aggregate-put-text put-text-requires same-length returns)
+put-number-spec = tie.close (tie.spec put-signed-requires (search needs) put-text-requires (search needs) returns)

@@ -7,18 +7,9 @@ use Rattle.lines.specs.Answers.{front-run}
 use Rattle.lines.proofs.answers.runner_output.Statement.{statement}
 use Rattle.lines.proofs.answers.runner_output.Tie as tie
 
-put-numbers-requires : tie.Need-put-numbers-requires
-put-numbers-requires c κs = search needs
-
-put-ending-requires : tie.Need-put-ending-requires
-put-ending-requires c κs = search needs
-
-same-length : tie.Need-same-length
-same-length c = search needs
-
 returns : tie.Need-returns
 returns c =
     front-run (c .before .before .before .before .before .before .before .before .before .before .args .ending) (c .before .before .before .before .before .before .before .before .before .before .args .steps) (12 * length (c .before .before .before .before .before .before .before .before .before .before .args .words .now)) (omega arith) (omega arith) (omega (arith, c .before .before .before .before .before .before .put-numbers .ensures .1)) (c .before .before .before .before .before .before .put-numbers .ensures .0) (c .before .before .put-ending .ensures)
 
 pub runner-output-spec : {M : Type 1} → statement M
-runner-output-spec = tie.close (tie.spec put-numbers-requires put-ending-requires same-length returns)
+runner-output-spec = tie.close (tie.spec (search needs) (search needs) (search needs) returns)

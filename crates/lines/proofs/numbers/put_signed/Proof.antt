@@ -11,20 +11,11 @@ use Rattle.lines.proofs.numbers.put_signed.Tie as tie
 put-decimal-requires : tie.Need-put-decimal-requires
 put-decimal-requires c κs = omega (arith, ap length (signed-low (c .before .before .before .args .word) (omega arith)))
 
-same-length : tie.Need-same-length
-same-length c = search needs
-
 returns : tie.Need-returns
 returns c = put-low (c .before .before .before .before .before .before .args .word) (omega arith) (c .before .before .put-decimal .ensures)
 
 slice-write-out : tie.Need-slice-write-out
 slice-write-out c = omega (arith, ap length (signed-high (c .before .before .args .word) (omega arith) (omega arith)))
-
-add-put-decimal : tie.Need-add-put-decimal
-add-put-decimal c = search needs
-
-sub-put-decimal : tie.Need-sub-put-decimal
-sub-put-decimal c = search needs
 
 put-decimal-requires-2 : tie.Need-put-decimal-requires-2
 put-decimal-requires-2 c κs =
@@ -39,13 +30,4 @@ returns-2 c = put-high _ _ (c .before .before .before .before .before .before .a
 pub put-signed-spec : {M : Type 1} → statement M
 put-signed-spec =
     tie.close
-    (tie.spec
-    put-decimal-requires
-    same-length
-    returns
-    slice-write-out
-    add-put-decimal
-    sub-put-decimal
-    put-decimal-requires-2
-    same-length-2
-    returns-2)
+    (tie.spec put-decimal-requires (search needs) returns slice-write-out (search needs) (search needs) put-decimal-requires-2 same-length-2 returns-2)

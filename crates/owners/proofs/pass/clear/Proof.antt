@@ -15,28 +15,10 @@ Inv-loop owners₀ n k₀ owners k = (owners ≡ replicate k 0 ++ drop k owners�
 abbrev μ-loop : tie.MeasureT-loop
 μ-loop owners₀ n k₀ owners k = n - k
 
-loop-holds : tie.Need-loop-holds Inv-loop μ-loop
-loop-holds c = search needs
-
-mul-owners : tie.Need-mul-owners Inv-loop μ-loop
-mul-owners c = search needs
-
-slice-write-owners : tie.Need-slice-write-owners Inv-loop μ-loop
-slice-write-owners c = search needs
-
-add-k : tie.Need-add-k Inv-loop μ-loop
-add-k c = search needs
-
-loop-less : tie.Need-loop-less Inv-loop μ-loop
-loop-less c = search needs
-
 loop-again : tie.Need-loop-again Inv-loop μ-loop
 loop-again c =
     let l = c .before .loop in
     (ap (λ x. set x (l .k) 0) (l .inv .0) ∙ fill-more (l .k) 0 (c .before .before .args .owners .now) (omega arith), omega arith, simp length-set (l .inv .2))
-
-same-length : tie.Need-same-length Inv-loop μ-loop
-same-length c = search needs
 
 returns : tie.Need-returns Inv-loop μ-loop
 returns c =
@@ -47,14 +29,4 @@ returns c =
 pub clear-spec : {M : Type 1} → statement M
 clear-spec =
     tie.close
-    (tie.spec
-    Inv-loop
-    μ-loop
-    loop-holds
-    mul-owners
-    slice-write-owners
-    add-k
-    loop-less
-    loop-again
-    same-length
-    returns)
+    (tie.spec Inv-loop μ-loop (search needs) (search needs) (search needs) (search needs) (search needs) loop-again (search needs) returns)

@@ -9,70 +9,25 @@ use borrow.Author.Needs.{needs}
 use Rattle.owners.proofs.pass.hand_parts.Statement.{statement}
 use Rattle.owners.proofs.pass.hand_parts.Tie as tie
 
-hand-word-requires : tie.Need-hand-word-requires
-hand-word-requires c κs = search needs
-
-hand-word-requires-2 : tie.Need-hand-word-requires-2
-hand-word-requires-2 c κs = search needs
-
-hand-word-requires-3 : tie.Need-hand-word-requires-3
-hand-word-requires-3 c κs = search needs
-
-hand-word-requires-4 : tie.Need-hand-word-requires-4
-hand-word-requires-4 c κs = search needs
-
-hand-word-requires-5 : tie.Need-hand-word-requires-5
-hand-word-requires-5 c κs = search needs
-
-hand-word-requires-6 : tie.Need-hand-word-requires-6
-hand-word-requires-6 c κs = search needs
-
-hand-word-requires-7 : tie.Need-hand-word-requires-7
-hand-word-requires-7 c κs = search needs
-
-hand-word-requires-8 : tie.Need-hand-word-requires-8
-hand-word-requires-8 c κs = search needs
-
-hand-word-requires-9 : tie.Need-hand-word-requires-9
-hand-word-requires-9 c κs = search needs
-
-same-length : tie.Need-same-length
-same-length c = search needs
-
 returns : tie.Need-returns
 unfolding all-rows partWords
 returns c = three-parts _ _ _ _ _ kProcedure procedureVariables procedureRegions procedureGoals (c .before .before .before .before .before .before .before .before .before .before .before .before .match .keys1) refl (c .before .before .before .before .before .before .before .before .before .before .hand-word .ensures) (c .before .before .before .before .before .before .hand-word2 .ensures) (c .before .before .hand-word3 .ensures)
-
-same-length-2 : tie.Need-same-length-2
-same-length-2 c = search needs
 
 returns-2 : tie.Need-returns-2
 unfolding all-rows partWords
 returns-2 c = one-part _ _ _ _ _ kRegion regionEdges (c .before .before .before .before .match .keys2) refl (c .before .before .hand-word4 .ensures)
 
-same-length-3 : tie.Need-same-length-3
-same-length-3 c = search needs
-
 returns-3 : tie.Need-returns-3
 unfolding all-rows partWords
 returns-3 c = one-part _ _ _ _ _ (kGoal kSwitch) switchArms (c .before .before .before .before .match .keys3) refl (c .before .before .hand-word5 .ensures)
-
-same-length-4 : tie.Need-same-length-4
-same-length-4 c = search needs
 
 returns-4 : tie.Need-returns-4
 unfolding all-rows partWords
 returns-4 c = one-part _ _ _ _ _ kArm armGoals (c .before .before .before .before .match .keys4) refl (c .before .before .hand-word6 .ensures)
 
-same-length-5 : tie.Need-same-length-5
-same-length-5 c = search needs
-
 returns-5 : tie.Need-returns-5
 unfolding all-rows partWords
 returns-5 c = two-parts _ _ _ _ _ (kGoal kIf) ifThen ifElse (c .before .before .before .before .before .before .before .before .match .keys5) refl (c .before .before .before .before .before .before .hand-word7 .ensures) (c .before .before .hand-word8 .ensures)
-
-same-length-6 : tie.Need-same-length-6
-same-length-6 c = search needs
 
 returns-6 : tie.Need-returns-6
 unfolding all-rows partWords
@@ -87,26 +42,6 @@ returns-7 c =
 pub hand-parts-spec : {M : Type 1} → statement M
 hand-parts-spec =
     tie.close
-    (tie.spec
-    hand-word-requires
-    hand-word-requires-2
-    hand-word-requires-3
-    hand-word-requires-4
-    hand-word-requires-5
-    hand-word-requires-6
-    hand-word-requires-7
-    hand-word-requires-8
-    hand-word-requires-9
-    same-length
-    returns
-    same-length-2
-    returns-2
-    same-length-3
-    returns-3
-    same-length-4
-    returns-4
-    same-length-5
-    returns-5
-    same-length-6
-    returns-6
-    returns-7)
+    (tie.spec (search needs) (search needs) (search needs) (search needs) (search needs) (search needs) (search needs) (search needs) (search needs)
+    (search needs) returns (search needs) returns-2 (search needs) returns-3 (search needs) returns-4 (search needs) returns-5 (search needs)
+    returns-6 returns-7)

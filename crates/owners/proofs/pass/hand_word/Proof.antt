@@ -5,18 +5,6 @@ use borrow.Author.Needs.{needs}
 use Rattle.owners.proofs.pass.hand_word.Statement.{statement}
 use Rattle.owners.proofs.pass.hand_word.Tie as tie
 
-word-requires : tie.Need-word-requires
-word-requires c κs = search needs
-
-mul-owners : tie.Need-mul-owners
-mul-owners c = search needs
-
-slice-write-owners : tie.Need-slice-write-owners
-slice-write-owners c = search needs
-
-same-length : tie.Need-same-length
-same-length c = search needs
-
 returns : tie.Need-returns
 returns c = hand-some _ _ (c .before .before .word .ensures .0) (c .before .if1 .taken)
 
@@ -27,6 +15,4 @@ returns-3 : tie.Need-returns-3
 returns-3 c = hand-none _ _ (c .before .word .ensures .0) (c .if1 .left)
 
 pub hand-word-spec : {M : Type 1} → statement M
-hand-word-spec =
-    tie.close
-    (tie.spec word-requires mul-owners slice-write-owners same-length returns returns-2 returns-3)
+hand-word-spec = tie.close (tie.spec (search needs) (search needs) (search needs) (search needs) returns returns-2 returns-3)

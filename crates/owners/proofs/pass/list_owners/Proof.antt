@@ -14,9 +14,6 @@ Inv-loop file owners₀ n i₀ owners i = Passed file (drop n owners₀) owners 
 abbrev μ-loop : tie.MeasureT-loop
 μ-loop file owners₀ n i₀ owners i = n - i
 
-record-count-requires : tie.Need-record-count-requires Inv-loop μ-loop
-record-count-requires c κs = search needs
-
 clear-requires : tie.Need-clear-requires Inv-loop μ-loop
 clear-requires c κs = omega (arith, c .before .record-count .ensures, c .before .before .before .before .pre .1)
 
@@ -25,12 +22,6 @@ loop-holds c = (first _ (c .before .before .before .before .before .before .befo
 
 hand-on-requires : tie.Need-hand-on-requires Inv-loop μ-loop
 hand-on-requires c κs = asks (c .before .before .before .before .before .before .before .before .before .before .pre .0) (c .before .before .loop .inv .0) (c .before .loop-test .taken)
-
-add-i : tie.Need-add-i Inv-loop μ-loop
-add-i c = search needs
-
-loop-less : tie.Need-loop-less Inv-loop μ-loop
-loop-less c = search needs
 
 loop-again : tie.Need-loop-again Inv-loop μ-loop
 loop-again c =
@@ -46,15 +37,5 @@ returns c = last (c .before .before .before .before .before .before .before .bef
 pub list-owners-spec : {M : Type 1} → statement M
 list-owners-spec =
     tie.close
-    (tie.spec
-    Inv-loop
-    μ-loop
-    record-count-requires
-    clear-requires
-    loop-holds
-    hand-on-requires
-    add-i
-    loop-less
-    loop-again
-    same-length
+    (tie.spec Inv-loop μ-loop (λ c κs. search needs) clear-requires loop-holds hand-on-requires (search needs) (search needs) loop-again same-length
     returns)

@@ -12,26 +12,14 @@ Inv-loop file n i₀ i = Left file n i
 abbrev μ-loop : tie.MeasureT-loop
 μ-loop file n i₀ i = n - i
 
-record-count-requires : tie.Need-record-count-requires Inv-loop μ-loop
-record-count-requires c κs = search needs
-
 loop-holds : tie.Need-loop-holds Inv-loop μ-loop
 loop-holds c = first (c .before .before .pre) (c .record-count .ensures)
-
-word-requires : tie.Need-word-requires Inv-loop μ-loop
-word-requires c κs = search needs
 
 returns : tie.Need-returns Inv-loop μ-loop
 returns c = stop-create (c .before .before .before .loop .inv) (c .before .before .loop-test .taken) (c .before .word .ensures .0) (c .if1 .taken)
 
 returns-2 : tie.Need-returns-2 Inv-loop μ-loop
 returns-2 c = stop-remove (c .before .before .before .before .loop .inv) (c .before .before .before .loop-test .taken) (c .before .before .word .ensures .0) (c .if2 .taken)
-
-add-i : tie.Need-add-i Inv-loop μ-loop
-add-i c = search needs
-
-loop-less : tie.Need-loop-less Inv-loop μ-loop
-loop-less c = search needs
 
 loop-again : tie.Need-loop-again Inv-loop μ-loop
 loop-again c = next (c .before .before .before .before .loop .inv) (c .before .before .before .loop-test .taken) (c .before .before .word .ensures .0) (c .before .if1 .left) (c .if2 .left)
@@ -42,15 +30,4 @@ returns-3 c = last (c .before .loop .inv) (omega arith)
 pub is-unannotated-spec : {M : Type 1} → statement M
 is-unannotated-spec =
     tie.close
-    (tie.spec
-    Inv-loop
-    μ-loop
-    record-count-requires
-    loop-holds
-    word-requires
-    returns
-    returns-2
-    add-i
-    loop-less
-    loop-again
-    returns-3)
+    (tie.spec Inv-loop μ-loop (λ c κs. search needs) loop-holds (search needs) returns returns-2 (search needs) (search needs) loop-again returns-3)

@@ -7,66 +7,6 @@ use Rattle.language.specs.Format.{argumentKind, armKind, assignKind, callKind, 
 use Rattle.records.proofs.decode.record_at.Statement.{statement}
 use Rattle.records.proofs.decode.record_at.Tie as tie
 
-word-requires : tie.Need-word-requires
-word-requires c κs = search needs
-
-read-header-requires : tie.Need-read-header-requires
-read-header-requires c κs = search needs
-
-read-type-requires : tie.Need-read-type-requires
-read-type-requires c κs = search needs
-
-read-functor-requires : tie.Need-read-functor-requires
-read-functor-requires c κs = search needs
-
-read-procedure-requires : tie.Need-read-procedure-requires
-read-procedure-requires c κs = search needs
-
-read-variable-requires : tie.Need-read-variable-requires
-read-variable-requires c κs = search needs
-
-read-region-requires : tie.Need-read-region-requires
-read-region-requires c κs = search needs
-
-read-edge-requires : tie.Need-read-edge-requires
-read-edge-requires c κs = search needs
-
-read-literal-requires : tie.Need-read-literal-requires
-read-literal-requires c κs = search needs
-
-read-sum-requires : tie.Need-read-sum-requires
-read-sum-requires c κs = search needs
-
-read-assign-requires : tie.Need-read-assign-requires
-read-assign-requires c κs = search needs
-
-read-construct-requires : tie.Need-read-construct-requires
-read-construct-requires c κs = search needs
-
-read-switch-requires : tie.Need-read-switch-requires
-read-switch-requires c κs = search needs
-
-read-arm-requires : tie.Need-read-arm-requires
-read-arm-requires c κs = search needs
-
-read-if-requires : tie.Need-read-if-requires
-read-if-requires c κs = search needs
-
-read-call-requires : tie.Need-read-call-requires
-read-call-requires c κs = search needs
-
-read-argument-requires : tie.Need-read-argument-requires
-read-argument-requires c κs = search needs
-
-read-print-requires : tie.Need-read-print-requires
-read-print-requires c κs = search needs
-
-read-create-requires : tie.Need-read-create-requires
-read-create-requires c κs = search needs
-
-read-remove-requires : tie.Need-read-remove-requires
-read-remove-requires c κs = search needs
-
 returns : tie.Need-returns
 unfolding kindOf nth kinds
 returns c = decoded _ _ headerKind (c .before .before .word .ensures .0) (c .before .match .keys1) (c .read-header .ensures)
@@ -149,44 +89,7 @@ returns-20 c = decoded-none _ _ (c .before .word .ensures .0) (c .match .rest)
 pub record-at-spec : {M : Type 1} → statement M
 record-at-spec =
     tie.close
-    (tie.spec
-    word-requires
-    read-header-requires
-    read-type-requires
-    read-functor-requires
-    read-procedure-requires
-    read-variable-requires
-    read-region-requires
-    read-edge-requires
-    read-literal-requires
-    read-sum-requires
-    read-assign-requires
-    read-construct-requires
-    read-switch-requires
-    read-arm-requires
-    read-if-requires
-    read-call-requires
-    read-argument-requires
-    read-print-requires
-    read-create-requires
-    read-remove-requires
-    returns
-    returns-2
-    returns-3
-    returns-4
-    returns-5
-    returns-6
-    returns-7
-    returns-8
-    returns-9
-    returns-10
-    returns-11
-    returns-12
-    returns-13
-    returns-14
-    returns-15
-    returns-16
-    returns-17
-    returns-18
-    returns-19
-    returns-20)
+    (tie.spec (search needs) (search needs) (search needs) (search needs) (search needs) (search needs) (search needs) (search needs) (search needs)
+    (search needs) (search needs) (search needs) (search needs) (search needs) (search needs) (search needs) (search needs) (search needs)
+    (search needs) (search needs) returns returns-2 returns-3 returns-4 returns-5 returns-6 returns-7 returns-8 returns-9 returns-10 returns-11
+    returns-12 returns-13 returns-14 returns-15 returns-16 returns-17 returns-18 returns-19 returns-20)

@@ -15,15 +15,6 @@ abbrev μ-loop : tie.MeasureT-loop
 loop-holds : tie.Need-loop-holds Inv-loop μ-loop
 loop-holds c = once-first _ _
 
-shared-slice-read-once : tie.Need-shared-slice-read-once Inv-loop μ-loop
-shared-slice-read-once c = search needs
-
-add-j : tie.Need-add-j Inv-loop μ-loop
-add-j c = search needs
-
-loop-less : tie.Need-loop-less Inv-loop μ-loop
-loop-less c = search needs
-
 loop-again : tie.Need-loop-again Inv-loop μ-loop
 loop-again c = once-next _ _ (c .before .before .loop .inv) (omega arith)
 
@@ -31,4 +22,4 @@ returns : tie.Need-returns Inv-loop μ-loop
 returns c = once-last _ _ (c .before .loop .inv) (omega arith)
 
 pub all-once-spec : {M : Type 1} → statement M
-all-once-spec = tie.close (tie.spec Inv-loop μ-loop loop-holds shared-slice-read-once add-j loop-less loop-again returns)
+all-once-spec = tie.close (tie.spec Inv-loop μ-loop loop-holds (search needs) (search needs) (search needs) loop-again returns)

@@ -9,18 +9,6 @@ use Rattle.records.proofs.form.count.Tie as tie
 returns : tie.Need-returns
 returns c = sym (counted-none (c .before .before .args .seen .now) (c .if1 .taken))
 
-slice-read-x : tie.Need-slice-read-x
-slice-read-x c = search needs
-
-one-more-requires : tie.Need-one-more-requires
-one-more-requires c κs = search needs
-
-slice-write-seen : tie.Need-slice-write-seen
-slice-write-seen c = search needs
-
-same-length : tie.Need-same-length
-same-length c = search needs
-
 returns-2 : tie.Need-returns-2
 returns-2 c =
     let b = c .before .before in
@@ -28,6 +16,4 @@ returns-2 c =
     ap (set (a .seen .now) (a .r)) (c .one-more .ensures) ∙ sym (counted-some (a .seen .now) (a .r) (b .if1 .left))
 
 pub count-spec : {M : Type 1} → statement M
-count-spec =
-    tie.close
-    (tie.spec returns slice-read-x one-more-requires slice-write-seen same-length returns-2)
+count-spec = tie.close (tie.spec returns (search needs) (search needs) (search needs) (search needs) returns-2)

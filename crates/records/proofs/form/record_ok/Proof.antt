@@ -5,17 +5,8 @@ use Rattle.records.proofs.Loops.{record-spare, record-refers}
 use Rattle.records.proofs.form.record_ok.Statement.{statement}
 use Rattle.records.proofs.form.record_ok.Tie as tie
 
-spare-ok-requires : tie.Need-spare-ok-requires
-spare-ok-requires c κs = search needs
-
 returns : tie.Need-returns
 returns c = record-spare _ _ _ (c .before .spare-ok .ensures) _ (not-true _ (c .if1 .taken))
-
-refers-ok-requires : tie.Need-refers-ok-requires
-refers-ok-requires c κs = search needs
-
-same-length : tie.Need-same-length
-same-length c = search needs
 
 returns-2 : tie.Need-returns-2
 returns-2 c =
@@ -24,5 +15,4 @@ returns-2 c =
     record-refers _ _ _ (d .before .spare-ok .ensures) (not-false _ (d .if1 .left)) (b .refers-ok .ensures)
 
 pub record-ok-spec : {M : Type 1} → statement M
-record-ok-spec =
-    tie.close (tie.spec spare-ok-requires returns refers-ok-requires same-length returns-2)
+record-ok-spec = tie.close (tie.spec (λ c κs. search needs) returns (λ c κs. search needs) (search needs) returns-2)

@@ -15,20 +15,8 @@ Inv-loop file seen₀ n table low high i₀ seen i = Records (word file) n seen�
 abbrev μ-loop : tie.MeasureT-loop
 μ-loop file seen₀ n table low high i₀ seen i = n - i
 
-rows-requires : tie.Need-rows-requires Inv-loop μ-loop
-rows-requires c κs = search needs
-
-low-most-requires : tie.Need-low-most-requires Inv-loop μ-loop
-low-most-requires c κs = search needs
-
-high-most-requires : tie.Need-high-most-requires Inv-loop μ-loop
-high-most-requires c κs = search needs
-
 loop-holds : tie.Need-loop-holds Inv-loop μ-loop
 loop-holds c = records-first _ _ _
-
-record-ok-requires : tie.Need-record-ok-requires Inv-loop μ-loop
-record-ok-requires c κs = search needs
 
 same-length : tie.Need-same-length Inv-loop μ-loop
 same-length c = c .before .before .before .record-ok .kept .1 .1 .1 .1 .0 ∙ c .before .before .before .before .before .before .before .before .before .loop .inv .same
@@ -37,12 +25,6 @@ returns : tie.Need-returns Inv-loop μ-loop
 returns c =
     let b = c .before .before .before in
     records-refused _ _ (b .before .before .before .before .before .before .loop .inv) (omega arith) (b .record-ok .ensures) (not-true _ (c .if1 .taken))
-
-add-i : tie.Need-add-i Inv-loop μ-loop
-add-i c = search needs
-
-loop-less : tie.Need-loop-less Inv-loop μ-loop
-loop-less c = search needs
 
 loop-again : tie.Need-loop-again Inv-loop μ-loop
 loop-again c =
@@ -58,18 +40,5 @@ returns-2 c = records-last _ _ (c .before .loop .inv) (omega arith)
 pub records-ok-spec : {M : Type 1} → statement M
 records-ok-spec =
     tie.close
-    (tie.spec
-    Inv-loop
-    μ-loop
-    rows-requires
-    low-most-requires
-    high-most-requires
-    loop-holds
-    record-ok-requires
-    same-length
-    returns
-    add-i
-    loop-less
-    loop-again
-    same-length-2
-    returns-2)
+    (tie.spec Inv-loop μ-loop (search needs) (search needs) (search needs) loop-holds (λ c κs. search needs) same-length returns (search needs)
+    (search needs) loop-again same-length-2 returns-2)

@@ -16,15 +16,8 @@ returns-2 c = (λ k _. reference-low _ _ _ k _ (λ e. omega arith) (omega arith)
 returns-3 : tie.Need-returns-3
 returns-3 c = (λ k _. reference-past _ _ _ k _ (λ e. omega arith) (omega arith) (omega arith), λ t. absurd (false≢true t))
 
-word-in-requires : tie.Need-word-in-requires
-word-in-requires c κs = search needs
-
-row-of-requires : tie.Need-row-of-requires
-row-of-requires c κs = search needs
-
 returns-4 : tie.Need-returns-4
 returns-4 c = (λ k e. reference-chain _ _ _ k _ (λ z. omega arith) (omega arith) (omega arith) (c .before .word-in .ensures .0) (c .row-of .ensures packed (search needs)) e, λ _. omega arith)
 
 pub reference-ok-spec : {M : Type 1} → statement M
-reference-ok-spec =
-    tie.close (tie.spec returns returns-2 returns-3 word-in-requires row-of-requires returns-4)
+reference-ok-spec = tie.close (tie.spec returns returns-2 returns-3 (search needs) (search needs) returns-4)

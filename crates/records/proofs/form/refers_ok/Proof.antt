@@ -1,6 +1,4 @@
 -- `refers_ok` meets its contract. Invariant: the words still ahead decide; the digits fall. Assumes nothing.
-use Prim.Native.Nat.{_-_}
-use native.Mathlib.Omega.{arith}
 use mathlib.Core.Path.{_∙_}
 use borrow.Author.Needs.{needs}
 use borrow.Author.Tests.{not-true, not-false}
@@ -16,12 +14,6 @@ Inv-loop rows file seen₀ n i row₀ k₀ seen row k = Words (word file) n i se
 abbrev μ-loop : tie.MeasureT-loop
 μ-loop rows file seen₀ n i row₀ k₀ seen row k = row
 
-word-in-requires : tie.Need-word-in-requires Inv-loop μ-loop
-word-in-requires c κs = search needs
-
-row-of-requires : tie.Need-row-of-requires Inv-loop μ-loop
-row-of-requires c κs = search needs
-
 loop-holds : tie.Need-loop-holds Inv-loop μ-loop
 loop-holds c = words-first _ _ _ _ (c .before .word-in .ensures .0) (c .row-of .ensures packed (search needs))
 
@@ -35,12 +27,6 @@ returns : tie.Need-returns Inv-loop μ-loop
 returns c =
     let b = c .before .before .before in
     words-refused _ _ _ (b .before .before .before .loop .inv) (b .before .before .loop-test .taken) (b .word-ok .ensures) (not-true _ (c .if1 .taken))
-
-add-k : tie.Need-add-k Inv-loop μ-loop
-add-k c = search needs
-
-loop-less : tie.Need-loop-less Inv-loop μ-loop
-loop-less c = search needs
 
 loop-again : tie.Need-loop-again Inv-loop μ-loop
 loop-again c =
@@ -56,17 +42,5 @@ returns-2 c = words-last _ _ _ (c .before .loop .inv) (c .loop-test .left)
 pub refers-ok-spec : {M : Type 1} → statement M
 refers-ok-spec =
     tie.close
-    (tie.spec
-    Inv-loop
-    μ-loop
-    word-in-requires
-    row-of-requires
-    loop-holds
-    word-ok-requires
-    same-length
-    returns
-    add-k
-    loop-less
-    loop-again
-    same-length-2
-    returns-2)
+    (tie.spec Inv-loop μ-loop (search needs) (search needs) loop-holds word-ok-requires same-length returns (search needs) (search needs) loop-again
+    same-length-2 returns-2)

@@ -7,15 +7,6 @@ use borrow.Author.Needs.{needs}
 use Rattle.records.proofs.form.row_of.Statement.{statement}
 use Rattle.records.proofs.form.row_of.Tie as tie
 
-mul-result : tie.Need-mul-result
-mul-result c = search needs
-
-element-copy-out-result : tie.Need-element-copy-out-result
-element-copy-out-result c = search needs
-
-element-copy-out-result-2 : tie.Need-element-copy-out-result-2
-element-copy-out-result-2 c = search needs
-
 returns : tie.Need-returns
 returns c = λ f e. ap (λ xs. getD xs (c .before .before .args .kind) 0) e ∙ table-at f (c .before .before .args .kind) (omega arith)
 
@@ -23,6 +14,4 @@ returns-2 : tie.Need-returns-2
 returns-2 c = λ f e. ap (λ xs. getD xs 0 0) e ∙ table-past f (c .before .before .args .kind) (omega arith)
 
 pub row-of-spec : {M : Type 1} → statement M
-row-of-spec =
-    tie.close
-    (tie.spec mul-result element-copy-out-result element-copy-out-result-2 returns returns-2)
+row-of-spec = tie.close (tie.spec (search needs) (search needs) (search needs) returns returns-2)

@@ -9,12 +9,6 @@ use Rattle.records.proofs.form.word_ok.Tie as tie
 returns : tie.Need-returns
 returns c = λ u e. use-none _ _ _ _ _ u (c .if1 .taken) e
 
-word-in-requires : tie.Need-word-in-requires
-word-in-requires c κs = search needs
-
-reference-ok-requires : tie.Need-reference-ok-requires
-reference-ok-requires c κs = search needs
-
 returns-2 : tie.Need-returns-2
 returns-2 c =
     let b = c .before in
@@ -23,9 +17,6 @@ returns-2 c =
 count-requires : tie.Need-count-requires
 count-requires c κs = let h = c .before .before .reference-ok .ensures .1 (not-false _ (c .before .if2 .left)) in omega arith
 
-same-length : tie.Need-same-length
-same-length c = search needs
-
 returns-3 : tie.Need-returns-3
 returns-3 c =
     let b = c .before .before .before .before .before in
@@ -33,13 +24,4 @@ returns-3 c =
     (not-false _ (c .before .before .before .before .if2 .left)) (c .before .before .count .ensures) e
 
 pub word-ok-spec : {M : Type 1} → statement M
-word-ok-spec =
-    tie.close
-    (tie.spec
-    returns
-    word-in-requires
-    reference-ok-requires
-    returns-2
-    count-requires
-    same-length
-    returns-3)
+word-ok-spec = tie.close (tie.spec returns (search needs) (λ c κs. search needs) returns-2 count-requires (search needs) returns-3)

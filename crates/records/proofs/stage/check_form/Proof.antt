@@ -5,14 +5,8 @@ use borrow.Author.Needs.{needs}
 use Rattle.records.proofs.stage.check_form.Statement.{statement}
 use Rattle.records.proofs.stage.check_form.Tie as tie
 
-header-ok-requires : tie.Need-header-ok-requires
-header-ok-requires c κs = search needs
-
 returns : tie.Need-returns
 returns c = form-header _ (c .before .header-ok .ensures) (not-true _ (c .if1 .taken))
-
-word-requires : tie.Need-word-requires
-word-requires c κs = search needs
 
 form-ok-requires : tie.Need-form-ok-requires
 form-ok-requires c κs = count-most _ (c .before .before .header-ok .ensures) (not-false _ (c .before .if1 .left)) (c .word .ensures .0)
@@ -28,6 +22,4 @@ returns-3 c =
     form-accepted _ (b .before .header-ok .ensures) (c .before .before .word .ensures .0) (c .before .form-ok .ensures) (not-false _ (b .if1 .left)) (not-false _ (c .if2 .left))
 
 pub check-form-spec : {M : Type 1} → statement M
-check-form-spec =
-    tie.close
-    (tie.spec header-ok-requires returns word-requires form-ok-requires returns-2 returns-3)
+check-form-spec = tie.close (tie.spec (search needs) returns (search needs) form-ok-requires returns-2 returns-3)

@@ -11,22 +11,11 @@ returns c = header-short _ (omega arith)
 returns-2 : tie.Need-returns-2
 returns-2 c = header-long _ (omega arith) (omega arith)
 
-word-requires : tie.Need-word-requires
-word-requires c κs = search needs
-
-mul-if3 : tie.Need-mul-if3
-mul-if3 c = search needs
-
 returns-3 : tie.Need-returns-3
 returns-3 c = header-count _ (omega arith) (omega arith) (c .before .word .ensures .0) (c .if3 .taken)
-
-word-requires-2 : tie.Need-word-requires-2
-word-requires-2 c κs = search needs
 
 returns-4 : tie.Need-returns-4
 returns-4 c = header-kind _ (omega arith) (omega arith) (c .before .before .word .ensures .0) (c .before .if3 .left) (c .word2 .ensures .0)
 
 pub header-ok-spec : {M : Type 1} → statement M
-header-ok-spec =
-    tie.close
-    (tie.spec returns returns-2 word-requires mul-if3 returns-3 word-requires-2 returns-4)
+header-ok-spec = tie.close (tie.spec returns returns-2 (search needs) (search needs) returns-3 (search needs) returns-4)

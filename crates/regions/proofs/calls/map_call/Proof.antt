@@ -23,9 +23,6 @@ Inv-loop file own callee arguments images₀ x₀ a₀ images x a =
 abbrev μ-loop : tie.MeasureT-loop
 μ-loop file own callee arguments images₀ x₀ a₀ images x a = ahead file x
 
-word-at-requires : tie.Need-word-at-requires Inv-loop μ-loop
-word-at-requires c κs = search needs
-
 loop-holds : tie.Need-loop-holds Inv-loop μ-loop
 loop-holds c =
     let a = c .before .before .before .before .before in
@@ -36,12 +33,6 @@ loop-holds c =
       grown-refl _,
       rest-first f _ _ (regionsOfParameters (variablesAt f (c .word-at .result))) (homesIn (a .args .own .now) (argumentsAt f (a .args .arguments))) _,
     )
-
-word-requires : tie.Need-word-requires Inv-loop μ-loop
-word-requires c κs = search needs
-
-word-requires-2 : tie.Need-word-requires-2 Inv-loop μ-loop
-word-requires-2 c κs = search needs
 
 same-length : tie.Need-same-length Inv-loop μ-loop
 same-length c = c .before .before .before .before .before .loop .inv .2
@@ -55,15 +46,6 @@ returns c =
       call-mapped f _ _ (a .args .arguments) _ _ _ (l .before .word-at .ensures)
           (rest-ends f _ _ (l .loop .inv .4) (inr (homes-none (a .args .own .now) (arguments-none f (c .if2 .taken))))),
     )
-
-word-requires-3 : tie.Need-word-requires-3 Inv-loop μ-loop
-word-requires-3 c κs = search needs
-
-word-requires-4 : tie.Need-word-requires-4 Inv-loop μ-loop
-word-requires-4 c κs = search needs
-
-home-requires : tie.Need-home-requires Inv-loop μ-loop
-home-requires c κs = search needs
 
 map-region-requires : tie.Need-map-region-requires Inv-loop μ-loop
 map-region-requires c κs =
@@ -96,9 +78,6 @@ returns-2 c =
       call-mapped f _ _ (a .args .arguments) _ _ _ (l .before .word-at .ensures)
           (rest-stops f _ _ (k .4) _ rs us (m .map-region .ensures .1) (not-true _ (c .if3 .taken))),
     )
-
-word-requires-5 : tie.Need-word-requires-5 Inv-loop μ-loop
-word-requires-5 c κs = search needs
 
 loop-less : tie.Need-loop-less Inv-loop μ-loop
 loop-less c =
@@ -164,25 +143,6 @@ returns-3 c =
 pub map-call-spec : {M : Type 1} → statement M
 map-call-spec =
     tie.close
-    (tie.spec
-    Inv-loop
-    μ-loop
-    word-at-requires
-    loop-holds
-    word-requires
-    word-requires-2
-    same-length
-    returns
-    word-requires-3
-    word-requires-4
-    home-requires
-    map-region-requires
-    same-length-2
-    returns-2
-    word-requires-5
-    loop-less
-    loop-again
-    loop-less-2
-    loop-again-2
-    same-length-3
-    returns-3)
+    (tie.spec Inv-loop μ-loop (search needs) loop-holds (λ c κs. search needs) (λ c κs. search needs) same-length returns (λ c κs. search needs)
+    (λ c κs. search needs) (search needs) map-region-requires same-length-2 returns-2 (λ c κs. search needs) loop-less loop-again loop-less-2
+    loop-again-2 same-length-3 returns-3)

@@ -4,33 +4,6 @@ use borrow.Author.Needs.{needs}
 use Rattle.regions.proofs.effects.step_effect.Statement.{statement}
 use Rattle.regions.proofs.effects.step_effect.Tie as tie
 
-word-requires : tie.Need-word-requires
-word-requires c κs = search needs
-
-word-requires-2 : tie.Need-word-requires-2
-word-requires-2 c κs = search needs
-
-home-requires : tie.Need-home-requires
-home-requires c κs = search needs
-
-region-effect-requires : tie.Need-region-effect-requires
-region-effect-requires c κs = search needs
-
-word-requires-3 : tie.Need-word-requires-3
-word-requires-3 c κs = search needs
-
-region-effect-requires-2 : tie.Need-region-effect-requires-2
-region-effect-requires-2 c κs = search needs
-
-word-requires-4 : tie.Need-word-requires-4
-word-requires-4 c κs = search needs
-
-region-effect-requires-3 : tie.Need-region-effect-requires-3
-region-effect-requires-3 c κs = search needs
-
-region-effect-requires-4 : tie.Need-region-effect-requires-4
-region-effect-requires-4 c κs = search needs
-
 returns : tie.Need-returns
 returns c =
     let m = c .before .before .before in
@@ -56,17 +29,5 @@ returns-4 c =
 pub step-effect-spec : {M : Type 1} → statement M
 step-effect-spec =
     tie.close
-    (tie.spec
-    word-requires
-    word-requires-2
-    home-requires
-    region-effect-requires
-    word-requires-3
-    region-effect-requires-2
-    word-requires-4
-    region-effect-requires-3
-    region-effect-requires-4
-    returns
-    returns-2
-    returns-3
-    returns-4)
+    (tie.spec (λ c κs. search needs) (λ c κs. search needs) (search needs) (search needs) (λ c κs. search needs) (search needs) (λ c κs. search needs)
+    (search needs) (search needs) returns returns-2 returns-3 returns-4)

@@ -15,23 +15,8 @@ Inv-loop images rs found₀ r₀ found r = Gathering (λ q. single (imagesIn ima
 abbrev μ-loop : tie.MeasureT-loop
 μ-loop images rs found₀ r₀ found r = places - r
 
-after-requires : tie.Need-after-requires Inv-loop μ-loop
-after-requires c κs = search needs
-
 loop-holds : tie.Need-loop-holds Inv-loop μ-loop
 loop-holds c = gather-first _ _ (c .after .ensures)
-
-entry-requires : tie.Need-entry-requires Inv-loop μ-loop
-entry-requires c κs = search needs
-
-of-requires : tie.Need-of-requires Inv-loop μ-loop
-of-requires c κs = search needs
-
-union-requires : tie.Need-union-requires Inv-loop μ-loop
-union-requires c κs = search needs
-
-after-requires-2 : tie.Need-after-requires-2 Inv-loop μ-loop
-after-requires-2 c κs = search needs
 
 loop-less : tie.Need-loop-less Inv-loop μ-loop
 loop-less c = next-falls _ (c .before .before .before .before .loop-test .taken) (c .after2 .ensures)
@@ -45,15 +30,4 @@ returns c = images-are _ _ (gather-last _ _ (c .before .loop .inv) (c .loop-test
 pub images-of-spec : {M : Type 1} → statement M
 images-of-spec =
     tie.close
-    (tie.spec
-    Inv-loop
-    μ-loop
-    after-requires
-    loop-holds
-    entry-requires
-    of-requires
-    union-requires
-    after-requires-2
-    loop-less
-    loop-again
-    returns)
+    (tie.spec Inv-loop μ-loop (search needs) loop-holds (search needs) (search needs) (search needs) (search needs) loop-less loop-again returns)

@@ -15,29 +15,8 @@ Inv-loop images rs seen₀ twice₀ r₀ seen twice r = Seeing (imagesIn images)
 abbrev μ-loop : tie.MeasureT-loop
 μ-loop images rs seen₀ twice₀ r₀ seen twice r = places - r
 
-after-requires : tie.Need-after-requires Inv-loop μ-loop
-after-requires c κs = search needs
-
 loop-holds : tie.Need-loop-holds Inv-loop μ-loop
 loop-holds c = see-first _ _ (c .after .ensures)
-
-entry-requires : tie.Need-entry-requires Inv-loop μ-loop
-entry-requires c κs = search needs
-
-of-requires : tie.Need-of-requires Inv-loop μ-loop
-of-requires c κs = search needs
-
-intersection-requires : tie.Need-intersection-requires Inv-loop μ-loop
-intersection-requires c κs = search needs
-
-union-requires : tie.Need-union-requires Inv-loop μ-loop
-union-requires c κs = search needs
-
-union-requires-2 : tie.Need-union-requires-2 Inv-loop μ-loop
-union-requires-2 c κs = search needs
-
-after-requires-2 : tie.Need-after-requires-2 Inv-loop μ-loop
-after-requires-2 c κs = search needs
 
 loop-less : tie.Need-loop-less Inv-loop μ-loop
 loop-less c = next-falls _ (c .before .before .before .before .before .before .loop-test .taken) (c .after2 .ensures)
@@ -53,17 +32,5 @@ returns c = see-last _ _ (c .before .loop .inv) (c .loop-test .left)
 pub shared-images-spec : {M : Type 1} → statement M
 shared-images-spec =
     tie.close
-    (tie.spec
-    Inv-loop
-    μ-loop
-    after-requires
-    loop-holds
-    entry-requires
-    of-requires
-    intersection-requires
-    union-requires
-    union-requires-2
-    after-requires-2
-    loop-less
-    loop-again
-    returns)
+    (tie.spec Inv-loop μ-loop (search needs) loop-holds (search needs) (search needs) (search needs) (search needs) (search needs) (search needs)
+    loop-less loop-again returns)

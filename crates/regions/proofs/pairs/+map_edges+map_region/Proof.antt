@@ -82,15 +82,6 @@ map-edges-returns t c =
     let f : List ℕ = l .before .before .before .before .before .args .file .now in
     (l .loop .inv .3, rest-ends f _ _ (l .loop .inv .4) (inr (targets-end f (c .if1 .taken))))
 
-map-edges-word-requires : (t : ℕ) → map-edges-lts.Need-word-requires (map-edges-calls t) (map-edges-at t) map-edges.Post map-edges-Inv-loop map-edges-μ-loop
-map-edges-word-requires t c κs = search needs
-
-map-edges-word-requires-2 : (t : ℕ) → map-edges-lts.Need-word-requires-2 (map-edges-calls t) (map-edges-at t) map-edges.Post map-edges-Inv-loop map-edges-μ-loop
-map-edges-word-requires-2 t c κs = search needs
-
-map-edges-entry-requires : (t : ℕ) → map-edges-lts.Need-entry-requires (map-edges-calls t) (map-edges-at t) map-edges.Post map-edges-Inv-loop map-edges-μ-loop
-map-edges-entry-requires t c κs = search needs
-
 map-edges-map-region-requires : (t : ℕ) → map-edges-lts.Need-map-region-requires (map-edges-calls t) (map-edges-at t) map-edges.Post map-edges-Inv-loop map-edges-μ-loop
 map-edges-map-region-requires t c κs =
     let l = c .before .before .before .before .before .before .before .before in
@@ -116,12 +107,6 @@ map-edges-returns-2 t c =
       grown-trans (k .3) (m .map-region .ensures .0),
       rest-stops f _ _ (k .4) _ rs us (m .map-region .ensures .1) (not-true _ (c .if3 .taken)),
     )
-
-map-edges-word-requires-3 : (t : ℕ) → map-edges-lts.Need-word-requires-3 (map-edges-calls t) (map-edges-at t) map-edges.Post map-edges-Inv-loop map-edges-μ-loop
-map-edges-word-requires-3 t c κs = search needs
-
-map-edges-word-requires-4 : (t : ℕ) → map-edges-lts.Need-word-requires-4 (map-edges-calls t) (map-edges-at t) map-edges.Post map-edges-Inv-loop map-edges-μ-loop
-map-edges-word-requires-4 t c κs = search needs
 
 map-edges-loop-less : (t : ℕ) → map-edges-lts.Need-loop-less (map-edges-calls t) (map-edges-at t) map-edges.Post map-edges-Inv-loop map-edges-μ-loop
 map-edges-loop-less t c =
@@ -163,9 +148,6 @@ map-edges-returns-3 t c =
     let f : List ℕ = l .before .before .before .before .before .args .file .now in
     (l .loop .inv .3, rest-ends f _ _ (l .loop .inv .4) (inl (targets-end f (c .loop-test .left))))
 
-map-region-is-pair-requires : (t : ℕ) → map-region-lts.Need-is-pair-requires (map-region-calls t) (map-region-at t) map-region.Post
-map-region-is-pair-requires t c κs = search needs
-
 map-region-returns : (t : ℕ) → map-region-lts.Need-returns (map-region-calls t) (map-region-at t) map-region.Post
 map-region-returns t c =
     let b = c .before in
@@ -190,12 +172,6 @@ map-region-mul-images t c = let l = c .before .before .before .is-pair .ensures 
 
 map-region-slice-write-images : (t : ℕ) → map-region-lts.Need-slice-write-images (map-region-calls t) (map-region-at t) map-region.Post
 map-region-slice-write-images t c = let l = c .before .before .before .is-pair .ensures .0 (not-false _ (c .before .before .if1 .left)) .2 in search needs
-
-map-region-edges-requires : (t : ℕ) → map-region-lts.Need-edges-requires (map-region-calls t) (map-region-at t) map-region.Post
-map-region-edges-requires t c κs = search needs
-
-map-region-edges-requires-2 : (t : ℕ) → map-region-lts.Need-edges-requires-2 (map-region-calls t) (map-region-at t) map-region.Post
-map-region-edges-requires-2 t c κs = search needs
 
 map-region-map-edges-requires : (t : ℕ) → map-region-lts.Need-map-edges-requires (map-region-calls t) (map-region-at t) map-region.Post
 map-region-map-edges-requires t c κs =
@@ -242,38 +218,12 @@ map-region-returns-3 t c =
     )
 
 pub +map-edges+map-region-spec : {M : Type 1} → statement M
-+map-edges+map-region-spec = close μ-map-edges μ-map-region (λ t. map-edges-lts.spec (map-edges-calls t)
-    (map-edges-at t)
-    map-edges.Post
-    map-edges-Inv-loop
-    map-edges-μ-loop
-    (map-edges-loop-holds t)
-    (map-edges-same-length t)
-    (map-edges-returns t)
-    (map-edges-word-requires t)
-    (map-edges-word-requires-2 t)
-    (map-edges-entry-requires t)
-    (map-edges-map-region-requires t)
-    (map-edges-same-length-2 t)
-    (map-edges-returns-2 t)
-    (map-edges-word-requires-3 t)
-    (map-edges-word-requires-4 t)
-    (map-edges-loop-less t)
-    (map-edges-loop-again t)
-    (map-edges-same-length-3 t)
-    (map-edges-returns-3 t))
-    λ t. map-region-lts.spec (map-region-calls t)
-    (map-region-at t)
-    map-region.Post
-    (map-region-is-pair-requires t)
-    (map-region-returns t)
-    (map-region-mul-v t)
-    (map-region-slice-read-v t)
-    (map-region-returns-2 t)
-    (map-region-mul-images t)
-    (map-region-slice-write-images t)
-    (map-region-edges-requires t)
-    (map-region-edges-requires-2 t)
-    (map-region-map-edges-requires t)
-    (map-region-same-length t)
-    (map-region-returns-3 t)
++map-edges+map-region-spec =
+    close μ-map-edges μ-map-region
+    (λ t. map-edges-lts.spec (map-edges-calls t) (map-edges-at t) map-edges.Post map-edges-Inv-loop map-edges-μ-loop (map-edges-loop-holds t)
+    (map-edges-same-length t) (map-edges-returns t) (λ c κs. search needs) (λ c κs. search needs) (λ c κs. search needs)
+    (map-edges-map-region-requires t) (map-edges-same-length-2 t) (map-edges-returns-2 t) (λ c κs. search needs) (λ c κs. search needs)
+    (map-edges-loop-less t) (map-edges-loop-again t) (map-edges-same-length-3 t) (map-edges-returns-3 t))
+    λ t. map-region-lts.spec (map-region-calls t) (map-region-at t) map-region.Post (λ c κs. search needs) (map-region-returns t)
+    (map-region-mul-v t) (map-region-slice-read-v t) (map-region-returns-2 t) (map-region-mul-images t) (map-region-slice-write-images t)
+    (λ c κs. search needs) (λ c κs. search needs) (map-region-map-edges-requires t) (map-region-same-length t) (map-region-returns-3 t)

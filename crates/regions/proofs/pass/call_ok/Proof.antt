@@ -1,11 +1,9 @@
 -- `call_ok` meets its contract.
-use Prim.Native.Nat.{ℕ, _<_, _≤_}
+use Prim.Native.Nat.{_<_}
 use native.Mathlib.Omega.{arith}
-use mathlib.Core.List.{List}
 use mathlib.Core.Logic.{inl}
 use mathlib.Core.Path.{refl, sym, _∙_}
 use borrow.Author.Tests.{not-true, not-false}
-use lib.ListN.{length}
 use Rattle.language.specs.Format.{maxRecords}
 use Rattle.chains.specs.Formed.{counted}
 use Rattle.regions.specs.CallEffect.{blank, call-own, call-callee, call-arguments, call-agrees, call-made}
@@ -13,15 +11,6 @@ use Rattle.regions.specs.Rowed.{rowed-put, rowed-not}
 use borrow.Author.Needs.{needs}
 use Rattle.regions.proofs.pass.call_ok.Statement.{statement}
 use Rattle.regions.proofs.pass.call_ok.Tie as tie
-
-blank-places-requires : tie.Need-blank-places-requires
-blank-places-requires c κs = search needs
-
-word-requires : tie.Need-word-requires
-word-requires c κs = search needs
-
-slice-aggregate-map-call : tie.Need-slice-aggregate-map-call
-slice-aggregate-map-call c = search needs
 
 map-call-requires : tie.Need-map-call-requires
 map-call-requires c κs =
@@ -36,12 +25,6 @@ returns c =
     let K = a .pre .0 in
     let z = not-true _ (c .if1 .taken) in
     (sym z ∙ call-agrees K (m .before .before .word .ensures .0) (blank (m .before .before .before .blank-places .ensures)) _ _ (m .map-call .ensures .1), rowed-not (a .args .file .now) (a .args .i) _ (inl refl))
-
-slice-aggregate-image-effect : tie.Need-slice-aggregate-image-effect
-slice-aggregate-image-effect c = search needs
-
-image-effect-requires : tie.Need-image-effect-requires
-image-effect-requires c κs = search needs
 
 put-effect-requires : tie.Need-put-effect-requires
 put-effect-requires c κs =
@@ -67,13 +50,4 @@ returns-2 c =
 pub call-ok-spec : {M : Type 1} → statement M
 call-ok-spec =
     tie.close
-    (tie.spec
-    blank-places-requires
-    word-requires
-    slice-aggregate-map-call
-    map-call-requires
-    returns
-    slice-aggregate-image-effect
-    image-effect-requires
-    put-effect-requires
-    returns-2)
+    (tie.spec (search needs) (search needs) (search needs) map-call-requires returns (search needs) (search needs) put-effect-requires returns-2)

@@ -1,5 +1,5 @@
 -- `next_call_ok` meets its contract.
-use Prim.Native.Nat.{ℕ, _<_}
+use Prim.Native.Nat.{_<_}
 use native.Mathlib.Omega.{arith}
 use mathlib.Core.Path.{ap, _∙_}
 use Rattle.language.specs.Format.{maxRecords}
@@ -13,29 +13,8 @@ use borrow.Author.Needs.{needs}
 use Rattle.regions.proofs.pass.next_call_ok.Statement.{statement}
 use Rattle.regions.proofs.pass.next_call_ok.Tie as tie
 
-owner-of-requires : tie.Need-owner-of-requires
-owner-of-requires c κs = search needs
-
-start-of-requires : tie.Need-start-of-requires
-start-of-requires c κs = search needs
-
-mul-repeats : tie.Need-mul-repeats
-mul-repeats c = search needs
-
-sub-repeats : tie.Need-sub-repeats
-sub-repeats c = search needs
-
-part-repeats-start : tie.Need-part-repeats-start
-part-repeats-start c = search needs
-
-part-repeats-end : tie.Need-part-repeats-end
-part-repeats-end c = search needs
-
 repeats-requires : tie.Need-repeats-requires
 repeats-requires c κs = c .before .before .before .before .before .before .pre .0 .formed
-
-effect-at-requires : tie.Need-effect-at-requires
-effect-at-requires c κs = search needs
 
 put-effect-requires : tie.Need-put-effect-requires
 put-effect-requires c κs =
@@ -57,36 +36,6 @@ returns c =
       rowed-put (a .args .file .now) (a .args .i) (a .args .rows .now) few (a .pre .1 .1 .0) (c .put-effect .ensures) (repeated-made G H (a .pre .1 .1 .1) R (c .before .before .effect-at .ensures)),
     )
 
-word-requires : tie.Need-word-requires
-word-requires c κs = search needs
-
-start-of-requires-2 : tie.Need-start-of-requires-2
-start-of-requires-2 c κs = search needs
-
-mul-call-ok : tie.Need-mul-call-ok
-mul-call-ok c = search needs
-
-sub-call-ok : tie.Need-sub-call-ok
-sub-call-ok c = search needs
-
-part-call-ok-start : tie.Need-part-call-ok-start
-part-call-ok-start c = search needs
-
-part-call-ok-end : tie.Need-part-call-ok-end
-part-call-ok-end c = search needs
-
-mul-call-ok-2 : tie.Need-mul-call-ok-2
-mul-call-ok-2 c = search needs
-
-sub-call-ok-2 : tie.Need-sub-call-ok-2
-sub-call-ok-2 c = search needs
-
-part-call-ok-start-2 : tie.Need-part-call-ok-start-2
-part-call-ok-start-2 c = search needs
-
-part-call-ok-end-2 : tie.Need-part-call-ok-end-2
-part-call-ok-end-2 c = search needs
-
 call-ok-requires : tie.Need-call-ok-requires
 call-ok-requires c κs =
     let u = c .before .before .before in
@@ -102,26 +51,6 @@ returns-2 c = (c .call-ok .ensures .0, c .call-ok .ensures .1)
 pub next-call-ok-spec : {M : Type 1} → statement M
 next-call-ok-spec =
     tie.close
-    (tie.spec
-    owner-of-requires
-    start-of-requires
-    mul-repeats
-    sub-repeats
-    part-repeats-start
-    part-repeats-end
-    repeats-requires
-    effect-at-requires
-    put-effect-requires
-    returns
-    word-requires
-    start-of-requires-2
-    mul-call-ok
-    sub-call-ok
-    part-call-ok-start
-    part-call-ok-end
-    mul-call-ok-2
-    sub-call-ok-2
-    part-call-ok-start-2
-    part-call-ok-end-2
-    call-ok-requires
-    returns-2)
+    (tie.spec (search needs) (search needs) (search needs) (search needs) (search needs) (search needs) repeats-requires (search needs)
+    put-effect-requires returns (search needs) (search needs) (search needs) (search needs) (search needs) (search needs) (search needs)
+    (search needs) (search needs) (search needs) call-ok-requires returns-2)

@@ -1,5 +1,5 @@
 -- `next_ok` meets its contract, kind by kind.
-use Prim.Native.Nat.{ℕ, _<_}
+use Prim.Native.Nat.{_<_}
 use native.Mathlib.Omega.{arith}
 use mathlib.Core.Logic.{inr}
 use mathlib.Core.Path.{refl, sym, _∙_}
@@ -11,9 +11,6 @@ use Rattle.regions.specs.Rowed.{rowed-put, rowed-not}
 use borrow.Author.Needs.{needs}
 use Rattle.regions.proofs.pass.next_ok.Statement.{statement}
 use Rattle.regions.proofs.pass.next_ok.Tie as tie
-
-word-requires : tie.Need-word-requires
-word-requires c κs = search needs
 
 put-none-requires : tie.Need-put-none-requires
 put-none-requires c κs =
@@ -150,24 +147,6 @@ returns-10 c =
 pub next-ok-spec : {M : Type 1} → statement M
 next-ok-spec =
     tie.close
-    (tie.spec
-    word-requires
-    put-none-requires
-    put-none-requires-2
-    put-none-requires-3
-    switch-ok-requires
-    next-call-ok-requires
-    step-ok-requires
-    step-ok-requires-2
-    step-ok-requires-3
-    step-ok-requires-4
-    returns
-    returns-2
-    returns-3
-    returns-4
-    returns-5
-    returns-6
-    returns-7
-    returns-8
-    returns-9
+    (tie.spec (search needs) put-none-requires put-none-requires-2 put-none-requires-3 switch-ok-requires next-call-ok-requires step-ok-requires
+    step-ok-requires-2 step-ok-requires-3 step-ok-requires-4 returns returns-2 returns-3 returns-4 returns-5 returns-6 returns-7 returns-8 returns-9
     returns-10)

@@ -5,14 +5,8 @@ use borrow.Author.Needs.{needs}
 use Rattle.regions.proofs.pass.put_none.Statement.{statement}
 use Rattle.regions.proofs.pass.put_none.Tie as tie
 
-region-effect-requires : tie.Need-region-effect-requires
-region-effect-requires c κs = search needs
-
-put-effect-requires : tie.Need-put-effect-requires
-put-effect-requires c κs = search needs
-
 returns : tie.Need-returns
 returns c = (refl, c .put-effect .ensures ∙ ap (putEffect _ _) (c .before .region-effect .ensures))
 
 pub put-none-spec : {M : Type 1} → statement M
-put-none-spec = tie.close (tie.spec region-effect-requires put-effect-requires returns)
+put-none-spec = tie.close (tie.spec (search needs) (search needs) returns)

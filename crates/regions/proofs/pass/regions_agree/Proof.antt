@@ -1,9 +1,8 @@
 -- `regions_agree` meets its contract: the records below are done, and the rest decides.
 use borrow.Author.Needs.{needs}
-use Prim.Native.Nat.{ℕ, _-_, _<_}
+use Prim.Native.Nat.{_-_, _<_}
 use native.Mathlib.Omega.{arith}
 use mathlib.Core.Logic.{⊎-elim}
-use mathlib.Core.Path.{_≡_}
 use borrow.Author.Tests.{not-true, not-false}
 use Rattle.language.specs.File.{recordCount}
 use Rattle.regions.specs.Rowed.{Going, going-first, going-stop, going-next, going-last, going-passed, going-stopped, going-before}
@@ -16,12 +15,6 @@ Inv-loop file table owners rows₀ n firsts₀ last₀ i₀ rows firsts last i =
 
 abbrev μ-loop : tie.MeasureT-loop
 μ-loop file table owners rows₀ n firsts₀ last₀ i₀ rows firsts last i = n - i
-
-record-count-requires : tie.Need-record-count-requires Inv-loop μ-loop
-record-count-requires c κs = search needs
-
-blank-places-requires : tie.Need-blank-places-requires Inv-loop μ-loop
-blank-places-requires c κs = search needs
 
 loop-holds : tie.Need-loop-holds Inv-loop μ-loop
 unfolding recordCount
@@ -46,12 +39,6 @@ returns c =
     let z = not-true _ (c .if1 .taken) in
     (going-stop k (t .loop-test .taken) (e .0) z, going-stopped k (t .loop-test .taken) (e .1 .0) z)
 
-word-requires : tie.Need-word-requires Inv-loop μ-loop
-word-requires c κs = search needs
-
-add-i : tie.Need-add-i Inv-loop μ-loop
-add-i c = search needs
-
 loop-less : tie.Need-loop-less Inv-loop μ-loop
 loop-less c = omega arith
 
@@ -73,16 +60,5 @@ returns-2 c =
 pub regions-agree-spec : {M : Type 1} → statement M
 regions-agree-spec =
     tie.close
-    (tie.spec
-    Inv-loop
-    μ-loop
-    record-count-requires
-    blank-places-requires
-    loop-holds
-    next-ok-requires
-    returns
-    word-requires
-    add-i
-    loop-less
-    loop-again
-    returns-2)
+    (tie.spec Inv-loop μ-loop (λ c κs. search needs) (λ c κs. search needs) loop-holds next-ok-requires returns (λ c κs. search needs)
+    (λ c. search needs) loop-less loop-again returns-2)

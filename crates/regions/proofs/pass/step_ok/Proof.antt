@@ -6,24 +6,6 @@ use borrow.Author.Needs.{needs}
 use Rattle.regions.proofs.pass.step_ok.Statement.{statement}
 use Rattle.regions.proofs.pass.step_ok.Tie as tie
 
-owner-of-requires : tie.Need-owner-of-requires
-owner-of-requires c κs = search needs
-
-start-of-requires : tie.Need-start-of-requires
-start-of-requires c κs = search needs
-
-mul-row-ok : tie.Need-mul-row-ok
-mul-row-ok c = search needs
-
-sub-row-ok : tie.Need-sub-row-ok
-sub-row-ok c = search needs
-
-part-row-ok-start : tie.Need-part-row-ok-start
-part-row-ok-start c = search needs
-
-part-row-ok-end : tie.Need-part-row-ok-end
-part-row-ok-end c = search needs
-
 row-ok-requires : tie.Need-row-ok-requires
 row-ok-requires c κs =
     let s = c .before .before .before in
@@ -35,14 +17,4 @@ returns : tie.Need-returns
 returns c = (c .row-ok .ensures .0, c .row-ok .ensures .1)
 
 pub step-ok-spec : {M : Type 1} → statement M
-step-ok-spec =
-    tie.close
-    (tie.spec
-    owner-of-requires
-    start-of-requires
-    mul-row-ok
-    sub-row-ok
-    part-row-ok-start
-    part-row-ok-end
-    row-ok-requires
-    returns)
+step-ok-spec = tie.close (tie.spec (search needs) (search needs) (search needs) (search needs) (search needs) (search needs) row-ok-requires returns)

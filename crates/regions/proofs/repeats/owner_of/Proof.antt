@@ -5,20 +5,8 @@ use borrow.Author.Needs.{needs}
 use Rattle.regions.proofs.repeats.owner_of.Statement.{statement}
 use Rattle.regions.proofs.repeats.owner_of.Tie as tie
 
-mul-wide : tie.Need-mul-wide
-mul-wide c = search needs
-
-shared-slice-read-wide : tie.Need-shared-slice-read-wide
-shared-slice-read-wide c = search needs
-
-wide-requires : tie.Need-wide-requires
-wide-requires c κs = search needs
-
-returns : tie.Need-returns
-returns c = search needs
-
 returns-2 : tie.Need-returns-2
 returns-2 c = sym (List·getD-eq-default (c .before .before .args .owners .now) 0 (c .if1 .left))
 
 pub owner-of-spec : {M : Type 1} → statement M
-owner-of-spec = tie.close (tie.spec mul-wide shared-slice-read-wide wide-requires returns returns-2)
+owner-of-spec = tie.close (tie.spec (search needs) (search needs) (search needs) (search needs) returns-2)

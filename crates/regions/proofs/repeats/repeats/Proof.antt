@@ -12,23 +12,11 @@ use borrow.Author.Needs.{needs}
 use Rattle.regions.proofs.repeats.repeats.Statement.{statement}
 use Rattle.regions.proofs.repeats.repeats.Tie as tie
 
-word-requires : tie.Need-word-requires
-word-requires c κs = search needs
-
 returns : tie.Need-returns
 returns c = λ e. absurd (false≢true e)
 
-word-requires-2 : tie.Need-word-requires-2
-word-requires-2 c κs = search needs
-
 returns-2 : tie.Need-returns-2
 returns-2 c = λ e. absurd (false≢true e)
-
-owner-of-requires : tie.Need-owner-of-requires
-owner-of-requires c κs = search needs
-
-owner-of-requires-2 : tie.Need-owner-of-requires-2
-owner-of-requires-2 c κs = search needs
 
 returns-3 : tie.Need-returns-3
 returns-3 c = λ e. absurd (false≢true e)
@@ -86,18 +74,5 @@ returns-5 c = λ e.
 pub repeats-spec : {M : Type 1} → statement M
 repeats-spec =
     tie.close
-    (tie.spec
-    word-requires
-    returns
-    word-requires-2
-    returns-2
-    owner-of-requires
-    owner-of-requires-2
-    returns-3
-    word-requires-3
-    word-requires-4
-    returns-4
-    word-requires-5
-    word-requires-6
-    same-homes-requires
-    returns-5)
+    (tie.spec (search needs) returns (search needs) returns-2 (search needs) (search needs) returns-3 word-requires-3 word-requires-4 returns-4
+    word-requires-5 word-requires-6 same-homes-requires returns-5)

@@ -29,26 +29,8 @@ loop-holds c =
 returns : tie.Need-returns Inv-loop μ-loop
 returns c = λ e. absurd (false≢true e)
 
-word-requires : tie.Need-word-requires Inv-loop μ-loop
-word-requires c κs = search needs
-
-home-requires : tie.Need-home-requires Inv-loop μ-loop
-home-requires c κs = search needs
-
-word-requires-2 : tie.Need-word-requires-2 Inv-loop μ-loop
-word-requires-2 c κs = search needs
-
-home-requires-2 : tie.Need-home-requires-2 Inv-loop μ-loop
-home-requires-2 c κs = search needs
-
 returns-2 : tie.Need-returns-2 Inv-loop μ-loop
 returns-2 c = λ e. absurd (false≢true e)
-
-word-requires-3 : tie.Need-word-requires-3 Inv-loop μ-loop
-word-requires-3 c κs = search needs
-
-word-requires-4 : tie.Need-word-requires-4 Inv-loop μ-loop
-word-requires-4 c κs = search needs
 
 loop-less : tie.Need-loop-less Inv-loop μ-loop
 loop-less c =
@@ -83,18 +65,5 @@ returns-3 c = λ e.
 pub same-homes-spec : {M : Type 1} → statement M
 same-homes-spec =
     tie.close
-    (tie.spec
-    Inv-loop
-    μ-loop
-    loop-holds
-    returns
-    word-requires
-    home-requires
-    word-requires-2
-    home-requires-2
-    returns-2
-    word-requires-3
-    word-requires-4
-    loop-less
-    loop-again
-    returns-3)
+    (tie.spec Inv-loop μ-loop loop-holds returns (λ c κs. search needs) (search needs) (λ c κs. search needs) (search needs) returns-2
+    (λ c κs. search needs) (λ c κs. search needs) loop-less loop-again returns-3)

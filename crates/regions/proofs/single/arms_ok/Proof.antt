@@ -35,9 +35,6 @@ returns c =
       c .before .in-targets .ensures .1,
     )
 
-word-requires : tie.Need-word-requires Inv-loop μ-loop
-word-requires c κs = search needs
-
 loop-less : tie.Need-loop-less Inv-loop μ-loop
 loop-less c =
     let l = c .before .before .before .before .before in
@@ -61,15 +58,4 @@ returns-2 c =
     (arms-last (a .args .file .now) (a .args .own .now) (edgesAt (a .args .file .now) (a .args .edges)) (c .loop-test .left) ∙ l .loop .inv .2, l .loop .inv .0)
 
 pub arms-ok-spec : {M : Type 1} → statement M
-arms-ok-spec =
-    tie.close
-    (tie.spec
-    Inv-loop
-    μ-loop
-    loop-holds
-    in-targets-requires
-    returns
-    word-requires
-    loop-less
-    loop-again
-    returns-2)
+arms-ok-spec = tie.close (tie.spec Inv-loop μ-loop loop-holds in-targets-requires returns (λ c κs. search needs) loop-less loop-again returns-2)

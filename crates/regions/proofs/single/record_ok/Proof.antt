@@ -7,30 +7,6 @@ use borrow.Author.Needs.{needs}
 use Rattle.regions.proofs.single.record_ok.Statement.{statement}
 use Rattle.regions.proofs.single.record_ok.Tie as tie
 
-word-requires : tie.Need-word-requires
-word-requires c κs = search needs
-
-word-requires-2 : tie.Need-word-requires-2
-word-requires-2 c κs = search needs
-
-home-requires : tie.Need-home-requires
-home-requires c κs = search needs
-
-word-requires-3 : tie.Need-word-requires-3
-word-requires-3 c κs = search needs
-
-home-requires-2 : tie.Need-home-requires-2
-home-requires-2 c κs = search needs
-
-word-requires-4 : tie.Need-word-requires-4
-word-requires-4 c κs = search needs
-
-home-requires-3 : tie.Need-home-requires-3
-home-requires-3 c κs = search needs
-
-edges-requires : tie.Need-edges-requires
-edges-requires c κs = search needs
-
 in-targets-requires : tie.Need-in-targets-requires
 in-targets-requires c κs =
     let m = c .before .before .before .before in
@@ -38,18 +14,6 @@ in-targets-requires c κs =
     let H = a .pre .0 in
     let k = construct-kind (a .args .file .now) (a .args .i) (sym (m .before .word .ensures .0) ∙ m .match .keys2) in
     (H .formed, ((edges-stand H kConstruct k (c .before .before .before .word4 .ensures .0) (c .before .before .home3 .ensures) (c .before .edges .ensures), H .below), a .pre .1 .1))
-
-word-requires-5 : tie.Need-word-requires-5
-word-requires-5 c κs = search needs
-
-home-requires-4 : tie.Need-home-requires-4
-home-requires-4 c κs = search needs
-
-word-requires-6 : tie.Need-word-requires-6
-word-requires-6 c κs = search needs
-
-edges-requires-2 : tie.Need-edges-requires-2
-edges-requires-2 c κs = search needs
 
 arms-ok-requires : tie.Need-arms-ok-requires
 arms-ok-requires c κs =
@@ -86,22 +50,6 @@ returns-4 c =
 pub record-ok-spec : {M : Type 1} → statement M
 record-ok-spec =
     tie.close
-    (tie.spec
-    word-requires
-    word-requires-2
-    home-requires
-    word-requires-3
-    home-requires-2
-    word-requires-4
-    home-requires-3
-    edges-requires
-    in-targets-requires
-    word-requires-5
-    home-requires-4
-    word-requires-6
-    edges-requires-2
-    arms-ok-requires
-    returns
-    returns-2
-    returns-3
-    returns-4)
+    (tie.spec (λ c κs. search needs) (λ c κs. search needs) (λ c κs. search needs) (λ c κs. search needs) (λ c κs. search needs)
+    (λ c κs. search needs) (λ c κs. search needs) (λ c κs. search needs) in-targets-requires (λ c κs. search needs) (λ c κs. search needs)
+    (λ c κs. search needs) (λ c κs. search needs) arms-ok-requires returns returns-2 returns-3 returns-4)

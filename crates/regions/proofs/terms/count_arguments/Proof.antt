@@ -5,40 +5,19 @@ use borrow.Author.Needs.{needs}
 use Rattle.regions.proofs.terms.count_arguments.Statement.{statement}
 use Rattle.regions.proofs.terms.count_arguments.Tie as tie
 
-add-word : tie.Need-add-word
-add-word c = search needs
-
-word-requires : tie.Need-word-requires
-word-requires c κs = search needs
-
 returns : tie.Need-returns
 returns c = (omega arith, count-four _ _ (c .before .word .ensures .0) (c .if1 .taken))
-
-add-word-2 : tie.Need-add-word-2
-add-word-2 c = search needs
-
-word-requires-2 : tie.Need-word-requires-2
-word-requires-2 c κs = search needs
 
 returns-2 : tie.Need-returns-2
 returns-2 c =
     let a = c .before .before in
     (omega arith, count-three _ _ (a .before .word .ensures .0) (a .if1 .left) (c .before .word2 .ensures .0) (c .if2 .taken))
 
-add-word-3 : tie.Need-add-word-3
-add-word-3 c = search needs
-
-word-requires-3 : tie.Need-word-requires-3
-word-requires-3 c κs = search needs
-
 returns-3 : tie.Need-returns-3
 returns-3 c =
     let b = c .before .before in
     let a = b .before .before in
     (omega arith, count-two _ _ (a .before .word .ensures .0) (a .if1 .left) (b .before .word2 .ensures .0) (b .if2 .left) (c .before .word3 .ensures .0) (c .if3 .taken))
-
-word-requires-4 : tie.Need-word-requires-4
-word-requires-4 c κs = search needs
 
 returns-4 : tie.Need-returns-4
 returns-4 c =
@@ -61,16 +40,5 @@ returns-5 c =
 pub count-arguments-spec : {M : Type 1} → statement M
 count-arguments-spec =
     tie.close
-    (tie.spec
-    add-word
-    word-requires
-    returns
-    add-word-2
-    word-requires-2
-    returns-2
-    add-word-3
-    word-requires-3
-    returns-3
-    word-requires-4
-    returns-4
-    returns-5)
+    (tie.spec (search needs) (λ c κs. search needs) returns (search needs) (λ c κs. search needs) returns-2 (search needs) (λ c κs. search needs)
+    returns-3 (λ c κs. search needs) returns-4 returns-5)

@@ -16,32 +16,8 @@ Inv-loop file own start i firsts functor first n k₀ k =
 abbrev μ-loop : tie.MeasureT-loop
 μ-loop file own start i firsts functor first n k₀ k = n - k
 
-word-requires : tie.Need-word-requires Inv-loop μ-loop
-word-requires c κs = search needs
-
-first-edge-requires : tie.Need-first-edge-requires Inv-loop μ-loop
-first-edge-requires c κs = search needs
-
-count-arguments-requires : tie.Need-count-arguments-requires Inv-loop μ-loop
-count-arguments-requires c κs = search needs
-
 loop-holds : tie.Need-loop-holds Inv-loop μ-loop
 loop-holds c = (omega arith, refl)
-
-add-word : tie.Need-add-word Inv-loop μ-loop
-add-word c = search needs
-
-word-requires-2 : tie.Need-word-requires-2 Inv-loop μ-loop
-word-requires-2 c κs = search needs
-
-home-requires : tie.Need-home-requires Inv-loop μ-loop
-home-requires c κs = search needs
-
-add-target-for : tie.Need-add-target-for Inv-loop μ-loop
-add-target-for c = search needs
-
-target-for-requires : tie.Need-target-for-requires Inv-loop μ-loop
-target-for-requires c κs = search needs
 
 returns : tie.Need-returns Inv-loop μ-loop
 returns c =
@@ -55,9 +31,6 @@ returns c =
           (l .loop .inv .1),
       e .first-edge .ensures .1,
     )
-
-add-k : tie.Need-add-k Inv-loop μ-loop
-add-k c = search needs
 
 loop-less : tie.Need-loop-less Inv-loop μ-loop
 loop-less c = omega arith
@@ -88,20 +61,5 @@ returns-2 c =
 pub in-targets-spec : {M : Type 1} → statement M
 in-targets-spec =
     tie.close
-    (tie.spec
-    Inv-loop
-    μ-loop
-    word-requires
-    first-edge-requires
-    count-arguments-requires
-    loop-holds
-    add-word
-    word-requires-2
-    home-requires
-    add-target-for
-    target-for-requires
-    returns
-    add-k
-    loop-less
-    loop-again
-    returns-2)
+    (tie.spec Inv-loop μ-loop (λ c κs. search needs) (λ c κs. search needs) (λ c κs. search needs) loop-holds (search needs) (λ c κs. search needs)
+    (search needs) (search needs) (λ c κs. search needs) returns (search needs) loop-less loop-again returns-2)

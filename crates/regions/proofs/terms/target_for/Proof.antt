@@ -4,8 +4,7 @@ use Rattle.language.specs.File.{edges}
 use Rattle.language.specs.Regions.{targetFor}
 use Rattle.chains.specs.Formed.{Stands, ahead, edgesAt, edges-none}
 use Rattle.chains.specs.Is.{chain-next}
-use Rattle.regions.specs.Terms.{target-none}
-use Rattle.regions.specs.Terms.{functor-passed, position-passed, edge-found}
+use Rattle.regions.specs.Terms.{target-none, functor-passed, position-passed, edge-found}
 use borrow.Author.Needs.{needs}
 use Rattle.regions.proofs.terms.target_for.Statement.{statement}
 use Rattle.regions.proofs.terms.target_for.Tie as tie
@@ -18,18 +17,6 @@ abbrev μ-loop : tie.MeasureT-loop
 
 loop-holds : tie.Need-loop-holds Inv-loop μ-loop
 loop-holds c = (c .before .pre .1, refl)
-
-word-requires : tie.Need-word-requires Inv-loop μ-loop
-word-requires c κs = search needs
-
-word-requires-2 : tie.Need-word-requires-2 Inv-loop μ-loop
-word-requires-2 c κs = search needs
-
-word-requires-3 : tie.Need-word-requires-3 Inv-loop μ-loop
-word-requires-3 c κs = search needs
-
-word-requires-4 : tie.Need-word-requires-4 Inv-loop μ-loop
-word-requires-4 c κs = search needs
 
 returns : tie.Need-returns Inv-loop μ-loop
 returns c =
@@ -80,17 +67,5 @@ returns-2 c =
 pub target-for-spec : {M : Type 1} → statement M
 target-for-spec =
     tie.close
-    (tie.spec
-    Inv-loop
-    μ-loop
-    loop-holds
-    word-requires
-    word-requires-2
-    word-requires-3
-    word-requires-4
-    returns
-    loop-less
-    loop-again
-    loop-less-2
-    loop-again-2
-    returns-2)
+    (tie.spec Inv-loop μ-loop loop-holds (λ c κs. search needs) (λ c κs. search needs) (λ c κs. search needs) (λ c κs. search needs) returns loop-less
+    loop-again loop-less-2 loop-again-2 returns-2)

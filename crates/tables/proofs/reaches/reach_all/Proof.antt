@@ -13,20 +13,8 @@ Inv-loop own xs found₀ x₀ found x = Gathering (reachIn own) xs found x
 abbrev μ-loop : tie.MeasureT-loop
 μ-loop own xs found₀ x₀ found x = places - x
 
-after-requires : tie.Need-after-requires Inv-loop μ-loop
-after-requires c κs = search needs
-
 loop-holds : tie.Need-loop-holds Inv-loop μ-loop
 loop-holds c = gather-first _ _ (c .after .ensures)
-
-reach-requires : tie.Need-reach-requires Inv-loop μ-loop
-reach-requires c κs = search needs
-
-union-requires : tie.Need-union-requires Inv-loop μ-loop
-union-requires c κs = search needs
-
-after-requires-2 : tie.Need-after-requires-2 Inv-loop μ-loop
-after-requires-2 c κs = search needs
 
 loop-less : tie.Need-loop-less Inv-loop μ-loop
 loop-less c = next-falls _ (c .before .before .before .loop-test .taken) (c .after2 .ensures)
@@ -42,14 +30,4 @@ returns c = gather-last _ _ (c .before .loop .inv) (c .loop-test .left)
 pub reach-all-spec : {M : Type 1} → statement M
 reach-all-spec =
     tie.close
-    (tie.spec
-    Inv-loop
-    μ-loop
-    after-requires
-    loop-holds
-    reach-requires
-    union-requires
-    after-requires-2
-    loop-less
-    loop-again
-    returns)
+    (tie.spec Inv-loop μ-loop (search needs) loop-holds (search needs) (search needs) (search needs) loop-less loop-again returns)

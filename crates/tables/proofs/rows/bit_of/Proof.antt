@@ -3,8 +3,6 @@ use mathlib.Core.Path.{refl}
 use Rattle.tables.specs.Rows.{bitOf}
 use Rattle.tables.proofs.rows.bit_of.Statement.{statement}
 use Rattle.tables.proofs.rows.bit_of.Tie as tie
-use Rattle.tables.proofs.rows.bit_of.Reads as reads
-use Rattle.tables.proofs.rows.bit_of.Lts as lts
 
 returns : tie.Need-returns
 unfolding bitOf

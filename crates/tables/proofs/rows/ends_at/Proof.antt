@@ -3,16 +3,10 @@ use Rattle.tables.specs.Rows.{endsIn}
 use borrow.Author.Needs.{needs}
 use Rattle.tables.proofs.rows.ends_at.Statement.{statement}
 use Rattle.tables.proofs.rows.ends_at.Tie as tie
-use Rattle.tables.proofs.rows.ends_at.Reads as reads
-use Rattle.tables.proofs.rows.ends_at.Lts as lts
-use Rattle.tables.proofs.rows.row_set.Reads as row-set-reads
-
-row-set-requires : tie.Need-row-set-requires
-row-set-requires c κs = search needs
 
 returns : tie.Need-returns
 unfolding endsIn
 returns c = c .row-set .ensures
 
 pub ends-at-spec : {M : Type 1} → statement M
-ends-at-spec = tie.close (tie.spec row-set-requires returns)
+ends-at-spec = tie.close (tie.spec (search needs) returns)

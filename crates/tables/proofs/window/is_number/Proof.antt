@@ -3,8 +3,6 @@ use mathlib.Core.Path.{refl}
 use Rattle.tables.specs.Window.{number-none, number-past, number-some}
 use Rattle.tables.proofs.window.is_number.Statement.{statement}
 use Rattle.tables.proofs.window.is_number.Tie as tie
-use Rattle.tables.proofs.window.is_number.Reads as reads
-use Rattle.tables.proofs.window.is_number.Lts as lts
 
 returns : tie.Need-returns
 returns c = number-none _ _ (c .if1 .taken)

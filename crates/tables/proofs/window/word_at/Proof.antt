@@ -4,20 +4,9 @@ use lib.ListN.{List·getD-eq-default}
 use borrow.Author.Needs.{needs}
 use Rattle.tables.proofs.window.word_at.Statement.{statement}
 use Rattle.tables.proofs.window.word_at.Tie as tie
-use Rattle.tables.proofs.window.word_at.Reads as reads
-use Rattle.tables.proofs.window.word_at.Lts as lts
-
-mul-result : tie.Need-mul-result
-mul-result c = search needs
-
-shared-slice-read-result : tie.Need-shared-slice-read-result
-shared-slice-read-result c = search needs
-
-returns : tie.Need-returns
-returns c = search needs
 
 returns-2 : tie.Need-returns-2
 returns-2 c = sym (List·getD-eq-default (c .before .args .own .now) 0 (c .if1 .left))
 
 pub word-at-spec : {M : Type 1} → statement M
-word-at-spec = tie.close (tie.spec mul-result shared-slice-read-result returns returns-2)
+word-at-spec = tie.close (tie.spec (search needs) (search needs) (search needs) returns-2)

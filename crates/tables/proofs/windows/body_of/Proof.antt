@@ -9,24 +9,6 @@ use borrow.Author.Needs.{needs}
 use Rattle.tables.proofs.windows.body_of.Statement.{statement}
 use Rattle.tables.proofs.windows.body_of.Tie as tie
 
-start-of-requires : tie.Need-start-of-requires
-start-of-requires c κs = search needs
-
-mul-word-at : tie.Need-mul-word-at
-mul-word-at c = search needs
-
-sub-word-at : tie.Need-sub-word-at
-sub-word-at c = search needs
-
-part-word-at-start : tie.Need-part-word-at-start
-part-word-at-start c = search needs
-
-part-word-at-end : tie.Need-part-word-at-end
-part-word-at-end c = search needs
-
-word-at-requires : tie.Need-word-at-requires
-word-at-requires c κs = search needs
-
 returns : tie.Need-returns
 returns c =
     let on-start = c .before .before in
@@ -34,13 +16,4 @@ returns c =
     c .word-at .ensures ∙ ap (λ (t : List ℕ). getD t bodyPlace 0) (window-lent (a .table .now) (a .q) (on-start .start-of .ensures .0))
 
 pub body-of-spec : {M : Type 1} → statement M
-body-of-spec =
-    tie.close
-    (tie.spec
-    start-of-requires
-    mul-word-at
-    sub-word-at
-    part-word-at-start
-    part-word-at-end
-    word-at-requires
-    returns)
+body-of-spec = tie.close (tie.spec (search needs) (search needs) (search needs) (search needs) (search needs) (search needs) returns)

@@ -6,12 +6,6 @@ use borrow.Author.Needs.{needs}
 use Rattle.tables.proofs.windows.start_of.Statement.{statement}
 use Rattle.tables.proofs.windows.start_of.Tie as tie
 
-mul-start : tie.Need-mul-start
-mul-start c = search needs
-
-shared-slice-read-start : tie.Need-shared-slice-read-start
-shared-slice-read-start c = search needs
-
 returns : tie.Need-returns
 returns c = let a = c .before .before .before .args in (sym (start-is (a .table .now) (a .q) (omega arith)), omega arith)
 
@@ -22,4 +16,4 @@ returns-3 : tie.Need-returns-3
 returns-3 c = let a = c .before .args in (sym (start-none (a .table .now) (a .q) (omega arith)), omega arith)
 
 pub start-of-spec : {M : Type 1} → statement M
-start-of-spec = tie.close (tie.spec mul-start shared-slice-read-start returns returns-2 returns-3)
+start-of-spec = tie.close (tie.spec (search needs) (search needs) returns returns-2 returns-3)

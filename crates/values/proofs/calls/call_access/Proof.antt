@@ -3,7 +3,6 @@ use mathlib.Core.Path.{refl}
 use native.Mathlib.Omega.{arith}
 use Rattle.chains.specs.Shapes.{call-here, to-arguments}
 use Rattle.values.specs.Fitting.{call-fits}
-use borrow.Author.Needs.{needs}
 use Rattle.values.proofs.calls.call_access.Statement.{statement}
 use Rattle.values.proofs.calls.call_access.Tie as tie
 

@@ -5,33 +5,18 @@ use borrow.Author.Needs.{needs}
 use Rattle.values.proofs.calls.called_access.Statement.{statement}
 use Rattle.values.proofs.calls.called_access.Tie as tie
 
-no-access-requires : tie.Need-no-access-requires
-no-access-requires c κs = search needs
-
 returns : tie.Need-returns
 returns c = call-none _ _ _ (rw (c .before .before .before .pre .1 .1 .0) at (c .before .if1 .taken)) (c .no-access .ensures)
-
-word-at-requires : tie.Need-word-at-requires
-word-at-requires c κs = search needs
 
 add-set-at : tie.Need-add-set-at
 add-set-at c =
     let p = c .before .before .before .before .before .pre in
     omega (arith, window-fits (p .1 .0) (omega (arith, p .1 .1 .0, c .before .before .before .if1 .left)) (c .before .word-at .ensures))
 
-set-at-requires : tie.Need-set-at-requires
-set-at-requires c κs = search needs
-
 add-set-at-2 : tie.Need-add-set-at-2
 add-set-at-2 c =
     let p = c .before .before .before .before .before .before .before .pre in
     omega (arith, window-fits (p .1 .0) (omega (arith, p .1 .1 .0, c .before .before .before .before .before .if1 .left)) (c .before .before .before .word-at .ensures))
-
-set-at-requires-2 : tie.Need-set-at-requires-2
-set-at-requires-2 c κs = search needs
-
-match-arguments-requires : tie.Need-match-arguments-requires
-match-arguments-requires c κs = search needs
 
 returns-2 : tie.Need-returns-2
 returns-2 c =
@@ -43,13 +28,4 @@ returns-2 c =
 pub called-access-spec : {M : Type 1} → statement M
 called-access-spec =
     tie.close
-    (tie.spec
-    no-access-requires
-    returns
-    word-at-requires
-    add-set-at
-    set-at-requires
-    add-set-at-2
-    set-at-requires-2
-    match-arguments-requires
-    returns-2)
+    (tie.spec (search needs) returns (search needs) add-set-at (search needs) add-set-at-2 (search needs) (λ c κs. search needs) returns-2)

@@ -4,9 +4,8 @@ use Rattle.chains.specs.Is.{chain-next}
 use Rattle.chains.specs.Shapes.{variable-here}
 use Rattle.chains.specs.Formed.{Stands, ahead, variablesAt, variables-none}
 use Rattle.language.specs.File.{variables}
-use native.Mathlib.Omega.{arith}
 use borrow.Author.Needs.{needs}
-use mathlib.Core.Path.{_≡_, refl, sym, ap, _∙_}
+use mathlib.Core.Path.{sym, _∙_}
 use Rattle.values.proofs.declared.all_local.Statement.{statement}
 use Rattle.values.proofs.declared.all_local.Tie as tie
 
@@ -19,18 +18,12 @@ abbrev μ-loop : tie.MeasureT-loop
 loop-holds : tie.Need-loop-holds Inv-loop μ-loop
 loop-holds c = (c .before .pre .1, local-first _)
 
-word-requires : tie.Need-word-requires Inv-loop μ-loop
-word-requires c κs = search needs
-
 returns : tie.Need-returns Inv-loop μ-loop
 returns c =
     let w = c .before in
     let l = w .before .before in
     let v = variable-here (l .before .before .pre .0) (w .before .loop-test .taken) (l .loop .inv .0) in
     local-stop (l .loop .inv .1) (v .view) (λ q. c .if1 .taken (w .word .ensures .0 ∙ q))
-
-word-requires-2 : tie.Need-word-requires-2 Inv-loop μ-loop
-word-requires-2 c κs = search needs
 
 loop-less : tie.Need-loop-less Inv-loop μ-loop
 loop-less c =
@@ -50,15 +43,4 @@ returns-2 : tie.Need-returns-2 Inv-loop μ-loop
 returns-2 c = local-last (c .before .loop .inv .1) (variables-none _ (c .loop-test .left))
 
 pub all-local-spec : {M : Type 1} → statement M
-all-local-spec =
-    tie.close
-    (tie.spec
-    Inv-loop
-    μ-loop
-    loop-holds
-    word-requires
-    returns
-    word-requires-2
-    loop-less
-    loop-again
-    returns-2)
+all-local-spec = tie.close (tie.spec Inv-loop μ-loop loop-holds (λ c κs. search needs) returns (λ c κs. search needs) loop-less loop-again returns-2)

@@ -5,8 +5,6 @@ use Rattle.sets.specs.Members.{inList}
 use Rattle.values.specs.Noting.{isStep, not-step}
 use Rattle.values.proofs.rows.is_step.Statement.{statement}
 use Rattle.values.proofs.rows.is_step.Tie as tie
-use Rattle.values.proofs.rows.is_step.Reads as reads
-use Rattle.values.proofs.rows.is_step.Lts as lts
 
 returns : tie.Need-returns
 unfolding isStep inList _or_

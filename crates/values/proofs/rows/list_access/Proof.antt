@@ -12,43 +12,25 @@ use borrow.Author.Needs.{needs}
 use Rattle.values.proofs.rows.list_access.Statement.{statement}
 use Rattle.values.proofs.rows.list_access.Tie as tie
 
-word-requires : tie.Need-word-requires
-word-requires c κs = search needs
-
-literal-access-requires : tie.Need-literal-access-requires
-literal-access-requires c κs = search needs
-
 put-access-requires : tie.Need-put-access-requires
 put-access-requires c κs =
     let p = c .before .before .before .before .before .pre in
     omega (arith, counted (p .0) .most, p .1 .1 .1 .0 .0)
-
-sum-access-requires : tie.Need-sum-access-requires
-sum-access-requires c κs = search needs
 
 put-access-requires-2 : tie.Need-put-access-requires-2
 put-access-requires-2 c κs =
     let p = c .before .before .before .before .before .pre in
     omega (arith, counted (p .0) .most, p .1 .1 .1 .0 .0)
 
-assign-access-requires : tie.Need-assign-access-requires
-assign-access-requires c κs = search needs
-
 put-access-requires-3 : tie.Need-put-access-requires-3
 put-access-requires-3 c κs =
     let p = c .before .before .before .before .before .pre in
     omega (arith, counted (p .0) .most, p .1 .1 .1 .0 .0)
 
-construct-access-requires : tie.Need-construct-access-requires
-construct-access-requires c κs = search needs
-
 put-access-requires-4 : tie.Need-put-access-requires-4
 put-access-requires-4 c κs =
     let p = c .before .before .before .before .before .pre in
     omega (arith, counted (p .0) .most, p .1 .1 .1 .0 .0)
-
-arm-access-requires : tie.Need-arm-access-requires
-arm-access-requires c κs = search needs
 
 put-access-requires-5 : tie.Need-put-access-requires-5
 put-access-requires-5 c κs =
@@ -66,24 +48,15 @@ put-access-requires-6 c κs =
     let p = c .before .before .before .before .before .pre in
     omega (arith, counted (p .0) .most, p .1 .1 .1 .0 .0)
 
-print-access-requires : tie.Need-print-access-requires
-print-access-requires c κs = search needs
-
 put-access-requires-7 : tie.Need-put-access-requires-7
 put-access-requires-7 c κs =
     let p = c .before .before .before .before .before .pre in
     omega (arith, counted (p .0) .most, p .1 .1 .1 .0 .0)
 
-no-access-requires : tie.Need-no-access-requires
-no-access-requires c κs = search needs
-
 put-access-requires-8 : tie.Need-put-access-requires-8
 put-access-requires-8 c κs =
     let p = c .before .before .before .before .before .pre in
     omega (arith, counted (p .0) .most, p .1 .1 .1 .0 .0)
-
-no-access-requires-2 : tie.Need-no-access-requires-2
-no-access-requires-2 c κs = search needs
 
 put-access-requires-9 : tie.Need-put-access-requires-9
 put-access-requires-9 c κs =
@@ -181,33 +154,7 @@ returns-10 c =
 pub list-access-spec : {M : Type 1} → statement M
 list-access-spec =
     tie.close
-    (tie.spec
-    word-requires
-    literal-access-requires
-    put-access-requires
-    sum-access-requires
-    put-access-requires-2
-    assign-access-requires
-    put-access-requires-3
-    construct-access-requires
-    put-access-requires-4
-    arm-access-requires
-    put-access-requires-5
-    call-access-requires
-    put-access-requires-6
-    print-access-requires
-    put-access-requires-7
-    no-access-requires
-    put-access-requires-8
-    no-access-requires-2
-    put-access-requires-9
-    returns
-    returns-2
-    returns-3
-    returns-4
-    returns-5
-    returns-6
-    returns-7
-    returns-8
-    returns-9
-    returns-10)
+    (tie.spec (search needs) (search needs) put-access-requires (search needs) put-access-requires-2 (search needs) put-access-requires-3
+    (search needs) put-access-requires-4 (search needs) put-access-requires-5 call-access-requires put-access-requires-6 (search needs)
+    put-access-requires-7 (search needs) put-access-requires-8 (search needs) put-access-requires-9 returns returns-2 returns-3 returns-4 returns-5
+    returns-6 returns-7 returns-8 returns-9 returns-10)

@@ -8,11 +8,6 @@ use Rattle.values.specs.Listing.{procedure-count}
 use Rattle.values.specs.Noting.{Noting, noting-first, noting-next, noting-last, noted-accessed}
 use Rattle.values.proofs.rows.list_accesses.Statement.{statement}
 use Rattle.values.proofs.rows.list_accesses.Tie as tie
-use Rattle.values.proofs.rows.list_accesses.Reads as reads
-use Rattle.values.proofs.rows.list_accesses.Lts as lts
-use Rattle.chains.proofs.chain_length.Reads as chain-length-reads
-use Rattle.records.proofs.word.Reads as word-reads
-use Rattle.values.proofs.rows.list_access.Reads as list-access-reads
 
 abbrev Inv-loop : tie.InvT-loop
 Inv-loop file table rows₀ procedures count i₀ rows i = (0 < i) × Noting file rows₀ i rows
@@ -20,14 +15,8 @@ Inv-loop file table rows₀ procedures count i₀ rows i = (0 < i) × Noting fil
 abbrev μ-loop : tie.MeasureT-loop
 μ-loop file table rows₀ procedures count i₀ rows i = count - i
 
-word-requires : tie.Need-word-requires Inv-loop μ-loop
-word-requires c κs = search needs
-
 chain-length-requires : tie.Need-chain-length-requires Inv-loop μ-loop
 chain-length-requires c κs = let F = c .before .before .pre .0 in (F, rw (c .word .ensures .0) (procedures-stand F .below))
-
-record-count-requires : tie.Need-record-count-requires Inv-loop μ-loop
-record-count-requires c κs = search needs
 
 loop-holds : tie.Need-loop-holds Inv-loop μ-loop
 loop-holds c = (omega arith, noting-first _ _)
@@ -37,12 +26,6 @@ unfolding recordCount
 list-access-requires c κs =
     let p = c .before .before .before .before .before .before .before .pre in
     (p .0, (p .1 .0, (procedure-count (p .0) (c .before .before .before .before .before .word .ensures .0) (c .before .before .before .before .chain-length .ensures), ((rw (c .before .before .before .record-count .ensures) at (c .before .loop-test .taken), omega (arith, c .before .before .loop .inv .1 .kept .length, p .1 .1 .0)), p .1 .1 .1))))
-
-add-i : tie.Need-add-i Inv-loop μ-loop
-add-i c = search needs
-
-loop-less : tie.Need-loop-less Inv-loop μ-loop
-loop-less c = search needs
 
 loop-again : tie.Need-loop-again Inv-loop μ-loop
 loop-again c = (omega arith, noting-next (c .before .before .before .loop .inv .1) (c .list-access .ensures))
@@ -57,15 +40,5 @@ returns c =
 pub list-accesses-spec : {M : Type 1} → statement M
 list-accesses-spec =
     tie.close
-    (tie.spec
-    Inv-loop
-    μ-loop
-    word-requires
-    chain-length-requires
-    record-count-requires
-    loop-holds
-    list-access-requires
-    add-i
-    loop-less
-    loop-again
-    returns)
+    (tie.spec Inv-loop μ-loop (search needs) chain-length-requires (λ c κs. search needs) loop-holds list-access-requires (search needs)
+    (search needs) loop-again returns)

@@ -9,20 +9,12 @@ use Rattle.values.specs.Listing.{procedure-count}
 use Rattle.values.specs.Turns.{Turn, turn-first, turn-stop, turn-next, turn-last}
 use Rattle.values.proofs.stage.procedures_ok.Statement.{statement}
 use Rattle.values.proofs.stage.procedures_ok.Tie as tie
-use Rattle.values.proofs.stage.procedures_ok.Reads as reads
-use Rattle.values.proofs.stage.procedures_ok.Lts as lts
-use Rattle.chains.proofs.chain_length.Reads as chain-length-reads
-use Rattle.records.proofs.word.Reads as word-reads
-use Rattle.values.proofs.stage.procedure_ok.Reads as procedure-ok-reads
 
 abbrev Inv-loop : tie.InvT-loop
 Inv-loop file table rows count q₀ q = Turn (program file) (procedureValues (program file)) q
 
 abbrev μ-loop : tie.MeasureT-loop
 μ-loop file table rows count q₀ q = count - q
-
-word-requires : tie.Need-word-requires Inv-loop μ-loop
-word-requires c κs = search needs
 
 chain-length-requires : tie.Need-chain-length-requires Inv-loop μ-loop
 chain-length-requires c κs = ((c .before .before .pre .0), rw (c .word .ensures .0) (procedures-stand (c .before .before .pre .0) .below))
@@ -36,12 +28,6 @@ procedure-ok-requires c κs = ((c .before .before .before .before .before .pre .
 returns : tie.Need-returns Inv-loop μ-loop
 returns c = turn-stop _ _ (c .before .before .before .loop .inv) (rw (procedure-count (c .before .before .before .before .before .before .before .pre .0) (c .before .before .before .before .before .word .ensures .0) (c .before .before .before .before .chain-length .ensures)) at (c .before .before .loop-test .taken)) (c .before .procedure-ok .ensures) (not-true _ (c .if1 .taken))
 
-add-q : tie.Need-add-q Inv-loop μ-loop
-add-q c = search needs
-
-loop-less : tie.Need-loop-less Inv-loop μ-loop
-loop-less c = search needs
-
 loop-again : tie.Need-loop-again Inv-loop μ-loop
 loop-again c = turn-next _ _ (c .before .before .before .loop .inv) (rw (procedure-count (c .before .before .before .before .before .before .before .pre .0) (c .before .before .before .before .before .word .ensures .0) (c .before .before .before .before .chain-length .ensures)) at (c .before .before .loop-test .taken)) (c .before .procedure-ok .ensures) (not-false _ (c .if1 .left))
 
@@ -51,15 +37,5 @@ returns-2 c = turn-last _ _ (c .before .loop .inv) (rw (procedure-count (c .befo
 pub procedures-ok-spec : {M : Type 1} → statement M
 procedures-ok-spec =
     tie.close
-    (tie.spec
-    Inv-loop
-    μ-loop
-    word-requires
-    chain-length-requires
-    loop-holds
-    procedure-ok-requires
-    returns
-    add-q
-    loop-less
-    loop-again
+    (tie.spec Inv-loop μ-loop (search needs) chain-length-requires loop-holds procedure-ok-requires returns (search needs) (search needs) loop-again
     returns-2)

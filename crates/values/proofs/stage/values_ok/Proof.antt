@@ -9,12 +9,6 @@ use Rattle.values.proofs.stage.values_ok.Tie as tie
 list-accesses-requires : tie.Need-list-accesses-requires
 list-accesses-requires c κs = (c .before .before .pre .0, (c .before .before .pre .1 .1 .0, (c .before .before .pre .1 .1 .1, c .before .before .pre .1 .0)))
 
-word-requires : tie.Need-word-requires
-word-requires c κs = search needs
-
-field-requires : tie.Need-field-requires
-field-requires c κs = search needs
-
 all-local-requires : tie.Need-all-local-requires
 all-local-requires c κs = ((c .before .before .before .before .before .pre .0), (entry-declares (c .before .before .before .before .before .pre .0) (c .before .word .ensures .0) (c .field .ensures)) .stands)
 
@@ -28,13 +22,4 @@ returns-2 : tie.Need-returns-2
 returns-2 c = (entry-goes _ (entry-declares (c .before .before .before .before .before .before .before .before .before .pre .0) (c .before .before .before .before .before .word .ensures .0) (c .before .before .before .before .field .ensures)) (c .before .before .before .all-local .ensures) (not-false _ (c .before .before .if1 .left)) (c .procedures-ok .ensures), (c .before .before .before .before .before .before .list-accesses .ensures .1 .0, c .before .before .before .before .before .before .list-accesses .ensures .1 .1))
 
 pub values-ok-spec : {M : Type 1} → statement M
-values-ok-spec =
-    tie.close
-    (tie.spec
-    list-accesses-requires
-    word-requires
-    field-requires
-    all-local-requires
-    returns
-    procedures-ok-requires
-    returns-2)
+values-ok-spec = tie.close (tie.spec list-accesses-requires (search needs) (search needs) all-local-requires returns procedures-ok-requires returns-2)

@@ -3,25 +3,8 @@ use borrow.Author.Needs.{needs}
 use Rattle.values.proofs.steps.assign_access.Statement.{statement}
 use Rattle.values.proofs.steps.assign_access.Tie as tie
 
-word-requires : tie.Need-word-requires
-word-requires c κs = search needs
-
-no-access-requires : tie.Need-no-access-requires
-no-access-requires c κs = search needs
-
-read-requires : tie.Need-read-requires
-read-requires c κs = search needs
-
-word-requires-2 : tie.Need-word-requires-2
-word-requires-2 c κs = search needs
-
-give-requires : tie.Need-give-requires
-give-requires c κs = search needs
-
 returns : tie.Need-returns
 returns c = cc
 
 pub assign-access-spec : {M : Type 1} → statement M
-assign-access-spec =
-    tie.close
-    (tie.spec word-requires no-access-requires read-requires word-requires-2 give-requires returns)
+assign-access-spec = tie.close (tie.spec (search needs) (search needs) (search needs) (search needs) (search needs) returns)

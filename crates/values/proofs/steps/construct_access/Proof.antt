@@ -6,48 +6,6 @@ use borrow.Author.Needs.{needs}
 use Rattle.values.proofs.steps.construct_access.Statement.{statement}
 use Rattle.values.proofs.steps.construct_access.Tie as tie
 
-no-access-requires : tie.Need-no-access-requires
-no-access-requires c κs = search needs
-
-word-requires : tie.Need-word-requires
-word-requires c κs = search needs
-
-read-requires : tie.Need-read-requires
-read-requires c κs = search needs
-
-add-word : tie.Need-add-word
-add-word c = search needs
-
-word-requires-2 : tie.Need-word-requires-2
-word-requires-2 c κs = search needs
-
-read-requires-2 : tie.Need-read-requires-2
-read-requires-2 c κs = search needs
-
-add-word-2 : tie.Need-add-word-2
-add-word-2 c = search needs
-
-word-requires-3 : tie.Need-word-requires-3
-word-requires-3 c κs = search needs
-
-read-requires-3 : tie.Need-read-requires-3
-read-requires-3 c κs = search needs
-
-add-word-3 : tie.Need-add-word-3
-add-word-3 c = search needs
-
-word-requires-4 : tie.Need-word-requires-4
-word-requires-4 c κs = search needs
-
-read-requires-4 : tie.Need-read-requires-4
-read-requires-4 c κs = search needs
-
-word-requires-5 : tie.Need-word-requires-5
-word-requires-5 c κs = search needs
-
-give-requires : tie.Need-give-requires
-give-requires c κs = search needs
-
 returns : tie.Need-returns
 returns c =
     let d = c .before .before in
@@ -60,19 +18,5 @@ returns c =
 pub construct-access-spec : {M : Type 1} → statement M
 construct-access-spec =
     tie.close
-    (tie.spec
-    no-access-requires
-    word-requires
-    read-requires
-    add-word
-    word-requires-2
-    read-requires-2
-    add-word-2
-    word-requires-3
-    read-requires-3
-    add-word-3
-    word-requires-4
-    read-requires-4
-    word-requires-5
-    give-requires
-    returns)
+    (tie.spec (search needs) (search needs) (search needs) (search needs) (search needs) (search needs) (search needs) (search needs) (search needs)
+    (search needs) (search needs) (search needs) (search needs) (search needs) returns)

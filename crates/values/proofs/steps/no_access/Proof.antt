@@ -1,6 +1,6 @@
 -- `no_access` meets its contract.
 use Rattle.values.specs.Gathering.{noAccess}
-use mathlib.Core.Path.{_≡_, refl, sym, ap, _∙_}
+use mathlib.Core.Path.{refl}
 use Rattle.values.proofs.steps.no_access.Statement.{statement}
 use Rattle.values.proofs.steps.no_access.Tie as tie
 

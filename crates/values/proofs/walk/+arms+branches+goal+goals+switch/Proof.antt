@@ -116,15 +116,6 @@ arms-word-requires t c κs = let p = c .before .before .pre .1 in (p .0, (omega 
 arms-returns-2 : (t : ℕ) → arms-lts.Need-returns-2 (arms-calls t) (arms-at t) arms.Post
 arms-returns-2 t c = arm-closed (c .before .before .before .before .pre .1 .1 .1) (c .before .before .if1 .left) (c .before .word .ensures .0) (c .if2 .taken)
 
-arms-every-in-requires : (t : ℕ) → arms-lts.Need-every-in-requires (arms-calls t) (arms-at t) arms.Post
-arms-every-in-requires t c κs = search needs
-
-arms-some-in-requires : (t : ℕ) → arms-lts.Need-some-in-requires (arms-calls t) (arms-at t) arms.Post
-arms-some-in-requires t c κs = search needs
-
-arms-apply-requires : (t : ℕ) → arms-lts.Need-apply-requires (arms-calls t) (arms-at t) arms.Post
-arms-apply-requires t c κs = search needs
-
 arms-returns-3 : (t : ℕ) → arms-lts.Need-returns-3 (arms-calls t) (arms-at t) arms.Post
 arms-returns-3 t c = arm-refused _ _ (c .before .before .before .before .before .before .before .before .before .before .before .pre .1 .0) (c .before .before .before .before .before .before .before .before .before .before .before .pre .1 .1 .1) (c .before .before .before .before .before .before .before .before .before .if1 .left) _ _ (row-arm _ (c .before .before .before .before .before .before .before .before .before .before .before .pre .1 .1 .0) _ (c .before .before .before .before .before .before .before .before .before .before .before .pre .1 .1 .1) (c .before .before .before .before .before .before .before .before .before .if1 .left) _ _ _ (c .before .apply .ensures)) _ (not-true _ (c .if3 .taken))
 
@@ -143,47 +134,23 @@ arms-word-requires-3 t c κs = let p = c .before .before .before .before .before
 arms-returns-5 : (t : ℕ) → arms-lts.Need-returns-5 (arms-calls t) (arms-at t) arms.Post
 arms-returns-5 t c = arm-last _ _ (c .before .before .before .before .before .before .before .before .before .before .before .before .before .before .before .before .before .pre .1 .0) (c .before .before .before .before .before .before .before .before .before .before .before .before .before .before .before .before .before .pre .1 .1 .1) (c .before .before .before .before .before .before .before .before .before .before .before .before .before .before .before .if1 .left) _ _ (row-arm _ (c .before .before .before .before .before .before .before .before .before .before .before .before .before .before .before .before .before .pre .1 .1 .0) _ (c .before .before .before .before .before .before .before .before .before .before .before .before .before .before .before .before .before .pre .1 .1 .1) (c .before .before .before .before .before .before .before .before .before .before .before .before .before .before .before .if1 .left) _ _ _ (c .before .before .before .before .before .before .before .apply .ensures)) (not-false _ (c .before .before .before .before .before .before .if3 .left)) _ _ (c .before .before .before .before .before .word2 .ensures .0) (c .before .before .before .goals .ensures) (not-false _ (c .before .before .if4 .left)) (c .before .word3 .ensures .0) (c .if5 .taken)
 
-arms-every-in-requires-2 : (t : ℕ) → arms-lts.Need-every-in-requires-2 (arms-calls t) (arms-at t) arms.Post
-arms-every-in-requires-2 t c κs = search needs
-
-arms-some-in-requires-2 : (t : ℕ) → arms-lts.Need-some-in-requires-2 (arms-calls t) (arms-at t) arms.Post
-arms-some-in-requires-2 t c κs = search needs
-
-arms-carry-requires : (t : ℕ) → arms-lts.Need-carry-requires (arms-calls t) (arms-at t) arms.Post
-arms-carry-requires t c κs = search needs
-
 arms-arms-requires : (t : ℕ) → arms-lts.Need-arms-requires (arms-calls t) (arms-at t) arms.Post
 arms-arms-requires t c κs = let o = arm-next (c .before .before .before .before .before .before .before .before .before .before .before .before .before .before .before .before .before .before .before .before .before .before .before .before .pre .1 .0) (c .before .before .before .before .before .before .before .before .before .before .before .before .before .before .before .before .before .before .before .before .before .before .if1 .left) (c .before .before .before .before .before .before .before .before .before .before .before .before .before .before .before .before .before .before .before .before .before .before .before .before .pre .1 .1 .1) (c .before .before .before .before .before .before .before .before .word3 .ensures .0) in (omega (arith, o .falls, c .before .before .before .before .before .before .before .before .before .before .before .before .before .before .before .before .before .before .before .before .before .before .before .before .pre .0), (c .before .before .before .before .before .before .before .before .before .before .before .before .before .before .before .before .before .before .before .before .before .before .before .before .pre .1 .0, (c .before .before .before .before .before .before .before .before .before .before .before .before .before .before .before .before .before .before .before .before .before .before .before .before .pre .1 .1 .0, o .stands)))
 
 arms-returns-6 : (t : ℕ) → arms-lts.Need-returns-6 (arms-calls t) (arms-at t) arms.Post
 arms-returns-6 t c = arm-rest-stops _ _ (c .before .before .before .before .before .before .before .before .before .before .before .before .before .before .before .before .before .before .before .before .before .before .before .before .before .before .pre .1 .0) (c .before .before .before .before .before .before .before .before .before .before .before .before .before .before .before .before .before .before .before .before .before .before .before .before .before .before .pre .1 .1 .1) (c .before .before .before .before .before .before .before .before .before .before .before .before .before .before .before .before .before .before .before .before .before .before .before .before .if1 .left) _ _ (row-arm _ (c .before .before .before .before .before .before .before .before .before .before .before .before .before .before .before .before .before .before .before .before .before .before .before .before .before .before .pre .1 .1 .0) _ (c .before .before .before .before .before .before .before .before .before .before .before .before .before .before .before .before .before .before .before .before .before .before .before .before .before .before .pre .1 .1 .1) (c .before .before .before .before .before .before .before .before .before .before .before .before .before .before .before .before .before .before .before .before .before .before .before .before .if1 .left) _ _ _ (c .before .before .before .before .before .before .before .before .before .before .before .before .before .before .before .before .apply .ensures)) (not-false _ (c .before .before .before .before .before .before .before .before .before .before .before .before .before .before .before .if3 .left)) _ _ (c .before .before .before .before .before .before .before .before .before .before .before .before .before .before .word2 .ensures .0) (c .before .before .before .before .before .before .before .before .before .before .before .before .goals .ensures) (not-false _ (c .before .before .before .before .before .before .before .before .before .before .before .if4 .left)) (c .before .before .before .before .before .before .before .before .before .before .word3 .ensures .0) (c .before .before .before .before .before .before .before .before .before .if5 .left) _ (c .before .before .before .carry .ensures ∙ ap₂ both (c .before .before .before .before .before .before .before .before .before .before .before .before .before .before .before .before .before .before .before .before .every-in .ensures) (c .before .before .before .before .before .before .before .before .before .before .before .before .before .before .before .before .before .before .some-in .ensures)) _ _ (c .before .arms .ensures) _ (not-true _ (c .if6 .taken))
 
-arms-join-requires : (t : ℕ) → arms-lts.Need-join-requires (arms-calls t) (arms-at t) arms.Post
-arms-join-requires t c κs = search needs
-
 arms-returns-7 : (t : ℕ) → arms-lts.Need-returns-7 (arms-calls t) (arms-at t) arms.Post
 arms-returns-7 t c = arms-walked _ _ (c .before .before .before .before .before .before .before .before .before .before .before .before .before .before .before .before .before .before .before .before .before .before .before .before .before .before .before .before .pre .1 .0) (c .before .before .before .before .before .before .before .before .before .before .before .before .before .before .before .before .before .before .before .before .before .before .before .before .before .before .before .before .pre .1 .1 .1) (c .before .before .before .before .before .before .before .before .before .before .before .before .before .before .before .before .before .before .before .before .before .before .before .before .before .before .if1 .left) _ _ (row-arm _ (c .before .before .before .before .before .before .before .before .before .before .before .before .before .before .before .before .before .before .before .before .before .before .before .before .before .before .before .before .pre .1 .1 .0) _ (c .before .before .before .before .before .before .before .before .before .before .before .before .before .before .before .before .before .before .before .before .before .before .before .before .before .before .before .before .pre .1 .1 .1) (c .before .before .before .before .before .before .before .before .before .before .before .before .before .before .before .before .before .before .before .before .before .before .before .before .before .before .if1 .left) _ _ _ (c .before .before .before .before .before .before .before .before .before .before .before .before .before .before .before .before .before .before .apply .ensures)) (not-false _ (c .before .before .before .before .before .before .before .before .before .before .before .before .before .before .before .before .before .if3 .left)) _ _ (c .before .before .before .before .before .before .before .before .before .before .before .before .before .before .before .before .word2 .ensures .0) (c .before .before .before .before .before .before .before .before .before .before .before .before .before .before .goals .ensures) (not-false _ (c .before .before .before .before .before .before .before .before .before .before .before .before .before .if4 .left)) (c .before .before .before .before .before .before .before .before .before .before .before .before .word3 .ensures .0) (c .before .before .before .before .before .before .before .before .before .before .before .if5 .left) _ (c .before .before .before .before .before .carry .ensures ∙ ap₂ both (c .before .before .before .before .before .before .before .before .before .before .before .before .before .before .before .before .before .before .before .before .before .before .every-in .ensures) (c .before .before .before .before .before .before .before .before .before .before .before .before .before .before .before .before .before .before .before .before .some-in .ensures)) _ _ (c .before .before .before .arms .ensures) _ _ _ (ap₂ both (c .before .before .before .before .before .before .before .before .before .every-in2 .ensures) (c .before .before .before .before .before .before .before .some-in2 .ensures)) (not-false _ (c .before .before .if6 .left)) (joined _ _ _ _ (c .join .ensures))
 
-branches-every-in-requires : (t : ℕ) → branches-lts.Need-every-in-requires (branches-calls t) (branches-at t) branches.Post
-branches-every-in-requires t c κs = search needs
-
-branches-some-in-requires : (t : ℕ) → branches-lts.Need-some-in-requires (branches-calls t) (branches-at t) branches.Post
-branches-some-in-requires t c κs = search needs
-
 branches-word-requires : (t : ℕ) → branches-lts.Need-word-requires (branches-calls t) (branches-at t) branches.Post
 branches-word-requires t c κs = let p = c .before .before .before .before .before .pre .1 in (p .0, (omega arith, if-here (p .0) refl (p .1 .1) .below))
-
-branches-has-requires : (t : ℕ) → branches-lts.Need-has-requires (branches-calls t) (branches-at t) branches.Post
-branches-has-requires t c κs = search needs
 
 branches-returns : (t : ℕ) → branches-lts.Need-returns (branches-calls t) (branches-at t) branches.Post
 branches-returns t c = if-unread _ _ (c .before .before .before .before .before .before .before .before .pre .1 .0) _ (c .before .before .before .before .before .before .before .before .pre .1 .1 .1) _ (c .before .before .word .ensures .0) (readable-is _ _ _ (c .before .has .ensures) (c .before .before .before .before .before .every-in .ensures)) _ (not-true _ (c .if1 .taken))
 
 branches-word-requires-2 : (t : ℕ) → branches-lts.Need-word-requires-2 (branches-calls t) (branches-at t) branches.Post
 branches-word-requires-2 t c κs = let p = c .before .before .before .before .before .before .before .before .pre .1 in (p .0, (omega arith, if-here (p .0) refl (p .1 .1) .below))
-
-branches-has-requires-2 : (t : ℕ) → branches-lts.Need-has-requires-2 (branches-calls t) (branches-at t) branches.Post
-branches-has-requires-2 t c κs = search needs
 
 branches-returns-2 : (t : ℕ) → branches-lts.Need-returns-2 (branches-calls t) (branches-at t) branches.Post
 branches-returns-2 t c = if-unread-2 _ _ (c .before .before .before .before .before .before .before .before .before .before .before .pre .1 .0) _ (c .before .before .before .before .before .before .before .before .before .before .before .pre .1 .1 .1) _ (c .before .before .before .before .before .word .ensures .0) (readable-is _ _ _ (c .before .before .before .before .has .ensures) (c .before .before .before .before .before .before .before .before .every-in .ensures)) (not-false _ (c .before .before .before .if1 .left)) (c .before .before .word2 .ensures .0) (readable-is _ _ _ (c .before .has2 .ensures) (c .before .before .before .before .before .before .before .before .every-in .ensures)) _ (not-true _ (c .if2 .taken))
@@ -197,20 +164,8 @@ branches-goals-requires t c κs = let o = to-then (c .before .before .before .be
 branches-returns-3 : (t : ℕ) → branches-lts.Need-returns-3 (branches-calls t) (branches-at t) branches.Post
 branches-returns-3 t c = if-then-stops _ _ (c .before .before .before .before .before .before .before .before .before .before .before .before .before .before .before .pre .1 .0) _ (c .before .before .before .before .before .before .before .before .before .before .before .before .before .before .before .pre .1 .1 .1) _ (c .before .before .before .before .before .before .before .before .before .word .ensures .0) (readable-is _ _ _ (c .before .before .before .before .before .before .before .before .has .ensures) (c .before .before .before .before .before .before .before .before .before .before .before .before .every-in .ensures)) (not-false _ (c .before .before .before .before .before .before .before .if1 .left)) (c .before .before .before .before .before .before .word2 .ensures .0) (readable-is _ _ _ (c .before .before .before .before .before .has2 .ensures) (c .before .before .before .before .before .before .before .before .before .before .before .before .every-in .ensures)) (not-false _ (c .before .before .before .before .if2 .left)) _ _ (c .before .before .before .word3 .ensures .0) (c .before .goals .ensures) _ (not-true _ (c .if3 .taken))
 
-branches-every-in-requires-2 : (t : ℕ) → branches-lts.Need-every-in-requires-2 (branches-calls t) (branches-at t) branches.Post
-branches-every-in-requires-2 t c κs = search needs
-
-branches-some-in-requires-2 : (t : ℕ) → branches-lts.Need-some-in-requires-2 (branches-calls t) (branches-at t) branches.Post
-branches-some-in-requires-2 t c κs = search needs
-
-branches-carry-requires : (t : ℕ) → branches-lts.Need-carry-requires (branches-calls t) (branches-at t) branches.Post
-branches-carry-requires t c κs = search needs
-
 branches-word-requires-4 : (t : ℕ) → branches-lts.Need-word-requires-4 (branches-calls t) (branches-at t) branches.Post
 branches-word-requires-4 t c κs = let p = c .before .before .before .before .before .before .before .before .before .before .before .before .before .before .before .before .before .before .before .before .before .pre .1 in (p .0, (omega arith, if-here (p .0) refl (p .1 .1) .below))
-
-branches-join-requires : (t : ℕ) → branches-lts.Need-join-requires (branches-calls t) (branches-at t) branches.Post
-branches-join-requires t c κs = search needs
 
 branches-returns-4 : (t : ℕ) → branches-lts.Need-returns-4 (branches-calls t) (branches-at t) branches.Post
 branches-returns-4 t c = if-walked _ _ (c .before .before .before .before .before .before .before .before .before .before .before .before .before .before .before .before .before .before .before .before .before .before .before .before .before .pre .1 .0) _ (c .before .before .before .before .before .before .before .before .before .before .before .before .before .before .before .before .before .before .before .before .before .before .before .before .before .pre .1 .1 .1) _ (c .before .before .before .before .before .before .before .before .before .before .before .before .before .before .before .before .before .before .before .word .ensures .0) (readable-is _ _ _ (c .before .before .before .before .before .before .before .before .before .before .before .before .before .before .before .before .before .before .has .ensures) (c .before .before .before .before .before .before .before .before .before .before .before .before .before .before .before .before .before .before .before .before .before .before .every-in .ensures)) (not-false _ (c .before .before .before .before .before .before .before .before .before .before .before .before .before .before .before .before .before .if1 .left)) (c .before .before .before .before .before .before .before .before .before .before .before .before .before .before .before .before .word2 .ensures .0) (readable-is _ _ _ (c .before .before .before .before .before .before .before .before .before .before .before .before .before .before .before .has2 .ensures) (c .before .before .before .before .before .before .before .before .before .before .before .before .before .before .before .before .before .before .before .before .before .before .every-in .ensures)) (not-false _ (c .before .before .before .before .before .before .before .before .before .before .before .before .before .before .if2 .left)) _ _ (c .before .before .before .before .before .before .before .before .before .before .before .before .before .word3 .ensures .0) (c .before .before .before .before .before .before .before .before .before .before .before .goals .ensures) (not-false _ (c .before .before .before .before .before .before .before .before .before .before .if3 .left)) _ (c .before .before .before .before .carry .ensures ∙ ap₂ both (c .before .before .before .before .before .before .before .before .before .before .before .before .before .before .before .before .before .before .before .before .before .before .every-in .ensures) (c .before .before .before .before .before .before .before .before .before .before .before .before .before .before .before .before .before .before .before .before .some-in .ensures)) _ _ (c .before .before .before .word4 .ensures .0) (none-walked _ _ _ (c .before .before .if4 .taken)) _ _ _ (ap₂ both (c .before .before .before .before .before .before .before .before .every-in2 .ensures) (c .before .before .before .before .before .before .some-in2 .ensures)) refl (joined _ _ _ _ (c .join .ensures))
@@ -221,14 +176,8 @@ branches-goals-requires-2 t c κs = let o = to-else (c .before .before .before .
 branches-returns-5 : (t : ℕ) → branches-lts.Need-returns-5 (branches-calls t) (branches-at t) branches.Post
 branches-returns-5 t c = if-else-stops _ _ (c .before .before .before .before .before .before .before .before .before .before .before .before .before .before .before .before .before .before .before .before .before .before .before .before .before .before .pre .1 .0) _ (c .before .before .before .before .before .before .before .before .before .before .before .before .before .before .before .before .before .before .before .before .before .before .before .before .before .before .pre .1 .1 .1) _ (c .before .before .before .before .before .before .before .before .before .before .before .before .before .before .before .before .before .before .before .before .word .ensures .0) (readable-is _ _ _ (c .before .before .before .before .before .before .before .before .before .before .before .before .before .before .before .before .before .before .before .has .ensures) (c .before .before .before .before .before .before .before .before .before .before .before .before .before .before .before .before .before .before .before .before .before .before .before .every-in .ensures)) (not-false _ (c .before .before .before .before .before .before .before .before .before .before .before .before .before .before .before .before .before .before .if1 .left)) (c .before .before .before .before .before .before .before .before .before .before .before .before .before .before .before .before .before .word2 .ensures .0) (readable-is _ _ _ (c .before .before .before .before .before .before .before .before .before .before .before .before .before .before .before .before .has2 .ensures) (c .before .before .before .before .before .before .before .before .before .before .before .before .before .before .before .before .before .before .before .before .before .before .before .every-in .ensures)) (not-false _ (c .before .before .before .before .before .before .before .before .before .before .before .before .before .before .before .if2 .left)) _ _ (c .before .before .before .before .before .before .before .before .before .before .before .before .before .before .word3 .ensures .0) (c .before .before .before .before .before .before .before .before .before .before .before .before .goals .ensures) (not-false _ (c .before .before .before .before .before .before .before .before .before .before .before .if3 .left)) _ (c .before .before .before .before .before .carry .ensures ∙ ap₂ both (c .before .before .before .before .before .before .before .before .before .before .before .before .before .before .before .before .before .before .before .before .before .before .before .every-in .ensures) (c .before .before .before .before .before .before .before .before .before .before .before .before .before .before .before .before .before .before .before .before .before .some-in .ensures)) _ _ (c .before .before .before .before .word4 .ensures .0) (c .before .goals2 .ensures) _ (not-true _ (c .if5 .taken))
 
-branches-join-requires-2 : (t : ℕ) → branches-lts.Need-join-requires-2 (branches-calls t) (branches-at t) branches.Post
-branches-join-requires-2 t c κs = search needs
-
 branches-returns-6 : (t : ℕ) → branches-lts.Need-returns-6 (branches-calls t) (branches-at t) branches.Post
 branches-returns-6 t c = if-walked _ _ (c .before .before .before .before .before .before .before .before .before .before .before .before .before .before .before .before .before .before .before .before .before .before .before .before .before .before .before .before .pre .1 .0) _ (c .before .before .before .before .before .before .before .before .before .before .before .before .before .before .before .before .before .before .before .before .before .before .before .before .before .before .before .before .pre .1 .1 .1) _ (c .before .before .before .before .before .before .before .before .before .before .before .before .before .before .before .before .before .before .before .before .before .before .word .ensures .0) (readable-is _ _ _ (c .before .before .before .before .before .before .before .before .before .before .before .before .before .before .before .before .before .before .before .before .before .has .ensures) (c .before .before .before .before .before .before .before .before .before .before .before .before .before .before .before .before .before .before .before .before .before .before .before .before .before .every-in .ensures)) (not-false _ (c .before .before .before .before .before .before .before .before .before .before .before .before .before .before .before .before .before .before .before .before .if1 .left)) (c .before .before .before .before .before .before .before .before .before .before .before .before .before .before .before .before .before .before .before .word2 .ensures .0) (readable-is _ _ _ (c .before .before .before .before .before .before .before .before .before .before .before .before .before .before .before .before .before .before .has2 .ensures) (c .before .before .before .before .before .before .before .before .before .before .before .before .before .before .before .before .before .before .before .before .before .before .before .before .before .every-in .ensures)) (not-false _ (c .before .before .before .before .before .before .before .before .before .before .before .before .before .before .before .before .before .if2 .left)) _ _ (c .before .before .before .before .before .before .before .before .before .before .before .before .before .before .before .before .word3 .ensures .0) (c .before .before .before .before .before .before .before .before .before .before .before .before .before .before .goals .ensures) (not-false _ (c .before .before .before .before .before .before .before .before .before .before .before .before .before .if3 .left)) _ (c .before .before .before .before .before .before .before .carry .ensures ∙ ap₂ both (c .before .before .before .before .before .before .before .before .before .before .before .before .before .before .before .before .before .before .before .before .before .before .before .before .before .every-in .ensures) (c .before .before .before .before .before .before .before .before .before .before .before .before .before .before .before .before .before .before .before .before .before .before .before .some-in .ensures)) _ _ (c .before .before .before .before .before .before .word4 .ensures .0) (c .before .before .before .goals2 .ensures) _ _ _ (ap₂ both (c .before .before .before .before .before .before .before .before .before .before .before .every-in2 .ensures) (c .before .before .before .before .before .before .before .before .before .some-in2 .ensures)) (not-false _ (c .before .before .if5 .left)) (joined _ _ _ _ (c .join2 .ensures))
-
-goal-word-requires : (t : ℕ) → goal-lts.Need-word-requires (goal-calls t) (goal-at t) goal.Post
-goal-word-requires t c κs = search needs
 
 goal-switch-requires : (t : ℕ) → goal-lts.Need-switch-requires (goal-calls t) (goal-at t) goal.Post
 goal-switch-requires t c κs = (omega (arith, c .before .before .before .before .pre .0), (c .before .before .before .before .pre .1 .0, (c .before .before .before .before .pre .1 .1 .0, sym (c .before .before .word .ensures .0) ∙ c .before .match .keys1)))
@@ -236,14 +185,8 @@ goal-switch-requires t c κs = (omega (arith, c .before .before .before .before 
 goal-branches-requires : (t : ℕ) → goal-lts.Need-branches-requires (goal-calls t) (goal-at t) goal.Post
 goal-branches-requires t c κs = (omega (arith, c .before .before .before .before .pre .0), (c .before .before .before .before .pre .1 .0, (c .before .before .before .before .pre .1 .1 .0, sym (c .before .before .word .ensures .0) ∙ c .before .match .keys2)))
 
-goal-is-step-requires : (t : ℕ) → goal-lts.Need-is-step-requires (goal-calls t) (goal-at t) goal.Post
-goal-is-step-requires t c κs = search needs
-
 goal-returns : (t : ℕ) → goal-lts.Need-returns (goal-calls t) (goal-at t) goal.Post
 goal-returns t c = goal-closed (c .before .before .before .before .before .pre .1 .0) _ (c .before .before .before .before .before .pre .1 .1 .1 .0) (c .before .before .before .before .before .pre .1 .1 .1 .1) (c .before .before .before .word .ensures .0) (c .before .before .match .rest .0 .1) (c .before .before .match .rest .1) (c .before .is-step .ensures) (not-true _ (c .if1 .taken))
-
-goal-apply-requires : (t : ℕ) → goal-lts.Need-apply-requires (goal-calls t) (goal-at t) goal.Post
-goal-apply-requires t c κs = search needs
 
 goal-returns-2 : (t : ℕ) → goal-lts.Need-returns-2 (goal-calls t) (goal-at t) goal.Post
 goal-returns-2 t c = c .switch .ensures
@@ -269,9 +212,6 @@ goals-goal-requires t c κs = (omega (arith, c .before .before .loop .inv .near,
 goals-returns : (t : ℕ) → goals-lts.Need-returns (goals-calls t) (goals-at t) goals.Post goals-Inv-loop goals-μ-loop
 goals-returns t c = along-stop _ _ (c .before .before .before .before .before .before .pre .1 .0) (c .before .before .before .before .loop .inv) (c .before .before .before .loop-test .taken) _ (c .before .goal .ensures) _ (not-true _ (c .if1 .taken))
 
-goals-word-requires : (t : ℕ) → goals-lts.Need-word-requires (goals-calls t) (goals-at t) goals.Post goals-Inv-loop goals-μ-loop
-goals-word-requires t c κs = search needs
-
 goals-loop-less : (t : ℕ) → goals-lts.Need-loop-less (goals-calls t) (goals-at t) goals.Post goals-Inv-loop goals-μ-loop
 goals-loop-less t c = chain-next (c .before .before .before .before .before .before .before .pre .1 .0) (c .before .before .before .before .before .loop .inv .stands) (c .before .before .before .before .loop-test .taken) (c .word .ensures .0) .falls
 
@@ -281,14 +221,8 @@ goals-loop-again t c = along-next _ _ (c .before .before .before .before .before
 goals-returns-2 : (t : ℕ) → goals-lts.Need-returns-2 (goals-calls t) (goals-at t) goals.Post goals-Inv-loop goals-μ-loop
 goals-returns-2 t c = along-last _ _ (c .before .before .before .pre .1 .0) (c .before .loop .inv) (c .loop-test .left)
 
-switch-every-in-requires : (t : ℕ) → switch-lts.Need-every-in-requires (switch-calls t) (switch-at t) switch.Post
-switch-every-in-requires t c κs = search needs
-
 switch-word-requires : (t : ℕ) → switch-lts.Need-word-requires (switch-calls t) (switch-at t) switch.Post
 switch-word-requires t c κs = let p = c .before .before .before .pre .1 in (p .0, (omega arith, switch-here (p .0) refl (p .1 .1) .below))
-
-switch-has-requires : (t : ℕ) → switch-lts.Need-has-requires (switch-calls t) (switch-at t) switch.Post
-switch-has-requires t c κs = search needs
 
 switch-returns : (t : ℕ) → switch-lts.Need-returns (switch-calls t) (switch-at t) switch.Post
 switch-returns t c = switch-stops _ _ (c .before .before .before .before .before .before .pre .1 .0) _ (c .before .before .before .before .before .before .pre .1 .1 .1) _ (c .before .before .word .ensures .0) (readable-is _ _ _ (c .before .has .ensures) (c .before .before .before .every-in .ensures)) _ (not-true _ (c .if1 .taken))
@@ -304,84 +238,20 @@ switch-returns-2 t c = switch-walked _ _ (c .before .before .before .before .bef
 
 pub +arms+branches+goal+goals+switch-spec : {M : Type 1} → statement M
 +arms+branches+goal+goals+switch-spec =
-    close μ-arms μ-branches μ-goal μ-goals μ-switch (λ t. arms-lts.spec (arms-calls t)
-    (arms-at t)
-    arms.Post
-    (arms-returns t)
-    (arms-word-requires t)
-    (arms-returns-2 t)
-    (arms-every-in-requires t)
-    (arms-some-in-requires t)
-    (arms-apply-requires t)
-    (arms-returns-3 t)
-    (arms-word-requires-2 t)
-    (arms-goals-requires t)
-    (arms-returns-4 t)
-    (arms-word-requires-3 t)
-    (arms-returns-5 t)
-    (arms-every-in-requires-2 t)
-    (arms-some-in-requires-2 t)
-    (arms-carry-requires t)
-    (arms-arms-requires t)
-    (arms-returns-6 t)
-    (arms-join-requires t)
-    (arms-returns-7 t))
-    (λ t. branches-lts.spec (branches-calls t)
-    (branches-at t)
-    branches.Post
-    (branches-every-in-requires t)
-    (branches-some-in-requires t)
-    (branches-word-requires t)
-    (branches-has-requires t)
-    (branches-returns t)
-    (branches-word-requires-2 t)
-    (branches-has-requires-2 t)
-    (branches-returns-2 t)
-    (branches-word-requires-3 t)
-    (branches-goals-requires t)
-    (branches-returns-3 t)
-    (branches-every-in-requires-2 t)
-    (branches-some-in-requires-2 t)
-    (branches-carry-requires t)
-    (branches-word-requires-4 t)
-    (branches-join-requires t)
-    (branches-returns-4 t)
-    (branches-goals-requires-2 t)
-    (branches-returns-5 t)
-    (branches-join-requires-2 t)
-    (branches-returns-6 t))
-    (λ t. goal-lts.spec (goal-calls t)
-    (goal-at t)
-    goal.Post
-    (goal-word-requires t)
-    (goal-switch-requires t)
-    (goal-branches-requires t)
-    (goal-is-step-requires t)
-    (goal-returns t)
-    (goal-apply-requires t)
-    (goal-returns-2 t)
-    (goal-returns-3 t)
-    (goal-returns-4 t))
-    (λ t. goals-lts.spec
-    (goal-below t, goal.Post, word-reads.Asked, word-reads.Learnt)
-    (goals-at t)
-    goals.Post
-    goals-Inv-loop
-    goals-μ-loop
-    (goals-loop-holds t)
-    (goals-goal-requires t)
-    (goals-returns t)
-    (goals-word-requires t)
-    (goals-loop-less t)
-    (goals-loop-again t)
+    close μ-arms μ-branches μ-goal μ-goals μ-switch
+    (λ t. arms-lts.spec (arms-calls t) (arms-at t) arms.Post (arms-returns t) (arms-word-requires t) (arms-returns-2 t) (λ c κs. search needs)
+    (λ c κs. search needs) (λ c κs. search needs) (arms-returns-3 t) (arms-word-requires-2 t) (arms-goals-requires t) (arms-returns-4 t)
+    (arms-word-requires-3 t) (arms-returns-5 t) (λ c κs. search needs) (λ c κs. search needs) (λ c κs. search needs) (arms-arms-requires t)
+    (arms-returns-6 t) (λ c κs. search needs) (arms-returns-7 t))
+    (λ t. branches-lts.spec (branches-calls t) (branches-at t) branches.Post (λ c κs. search needs) (λ c κs. search needs) (branches-word-requires t)
+    (λ c κs. search needs) (branches-returns t) (branches-word-requires-2 t) (λ c κs. search needs) (branches-returns-2 t)
+    (branches-word-requires-3 t) (branches-goals-requires t) (branches-returns-3 t) (λ c κs. search needs) (λ c κs. search needs)
+    (λ c κs. search needs) (branches-word-requires-4 t) (λ c κs. search needs) (branches-returns-4 t) (branches-goals-requires-2 t)
+    (branches-returns-5 t) (λ c κs. search needs) (branches-returns-6 t))
+    (λ t. goal-lts.spec (goal-calls t) (goal-at t) goal.Post (λ c κs. search needs) (goal-switch-requires t) (goal-branches-requires t)
+    (λ c κs. search needs) (goal-returns t) (λ c κs. search needs) (goal-returns-2 t) (goal-returns-3 t) (goal-returns-4 t))
+    (λ t. goals-lts.spec (goal-below t, goal.Post, word-reads.Asked, word-reads.Learnt) (goals-at t) goals.Post goals-Inv-loop goals-μ-loop
+    (goals-loop-holds t) (goals-goal-requires t) (goals-returns t) (λ c κs. search needs) (goals-loop-less t) (goals-loop-again t)
     (goals-returns-2 t))
-    λ t. switch-lts.spec (switch-calls t)
-    (switch-at t)
-    switch.Post
-    (switch-every-in-requires t)
-    (switch-word-requires t)
-    (switch-has-requires t)
-    (switch-returns t)
-    (switch-word-requires-2 t)
-    (switch-arms-requires t)
-    (switch-returns-2 t)
+    λ t. switch-lts.spec (switch-calls t) (switch-at t) switch.Post (λ c κs. search needs) (switch-word-requires t) (λ c κs. search needs)
+    (switch-returns t) (switch-word-requires-2 t) (switch-arms-requires t) (switch-returns-2 t)

@@ -17,32 +17,14 @@ abbrev μ-loop : tie.MeasureT-loop
 loop-holds : tie.Need-loop-holds Inv-loop μ-loop
 loop-holds c = (closing-first (c .before .args .targets .now), omega arith, refl)
 
-add-reach-from : tie.Need-add-reach-from Inv-loop μ-loop
-add-reach-from c = search needs
-
 reach-from-requires : tie.Need-reach-from-requires Inv-loop μ-loop
 reach-from-requires c κs = let l = c .before .before .loop in c .before .before .before .before .pre .0 ∙ sym (l .inv .2)
-
-stored-requires : tie.Need-stored-requires Inv-loop μ-loop
-stored-requires c κs = search needs
-
-add-targets : tie.Need-add-targets Inv-loop μ-loop
-add-targets c = search needs
-
-mul-targets : tie.Need-mul-targets Inv-loop μ-loop
-mul-targets c = search needs
 
 slice-write-targets : tie.Need-slice-write-targets Inv-loop μ-loop
 slice-write-targets c =
     let l = c .before .before .before .before .loop in
     let s = c .before .before .before .before .before .before in
     omega (arith, l .inv .2, s .pre .0, s .pre .1)
-
-add-r : tie.Need-add-r Inv-loop μ-loop
-add-r c = search needs
-
-loop-less : tie.Need-loop-less Inv-loop μ-loop
-loop-less c = search needs
 
 loop-again : tie.Need-loop-again Inv-loop μ-loop
 loop-again c =
@@ -65,18 +47,5 @@ returns c =
 pub list-reaches-spec : {M : Type 1} → statement M
 list-reaches-spec =
     tie.close
-    (tie.spec
-    Inv-loop
-    μ-loop
-    loop-holds
-    add-reach-from
-    reach-from-requires
-    stored-requires
-    add-targets
-    mul-targets
-    slice-write-targets
-    add-r
-    loop-less
-    loop-again
-    same-length
-    returns)
+    (tie.spec Inv-loop μ-loop loop-holds (search needs) reach-from-requires (search needs) (search needs) (search needs) slice-write-targets
+    (search needs) (search needs) loop-again same-length returns)

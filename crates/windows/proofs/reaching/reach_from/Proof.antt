@@ -17,46 +17,10 @@ Inv-loop targets r found₀ unread₀ u₀ found unread u = Reading (setAt targe
 abbrev μ-loop : tie.MeasureT-loop
 μ-loop targets r found₀ unread₀ u₀ found unread u = maxRegions - size (found ∖ unread)
 
-of-requires : tie.Need-of-requires Inv-loop μ-loop
-of-requires c κs = search needs
-
-of-requires-2 : tie.Need-of-requires-2 Inv-loop μ-loop
-of-requires-2 c κs = search needs
-
-after-requires : tie.Need-after-requires Inv-loop μ-loop
-after-requires c κs = search needs
-
 loop-holds : tie.Need-loop-holds Inv-loop μ-loop
 loop-holds c =
     let a = c .before .before .before .before .args in
     (starts (setAt (a .targets .now)) (a .r) (c .before .before .of .ensures) (c .before .of2 .ensures), c .after .ensures)
-
-mul-loaded : tie.Need-mul-loaded Inv-loop μ-loop
-mul-loaded c = search needs
-
-shared-slice-read-loaded : tie.Need-shared-slice-read-loaded Inv-loop μ-loop
-shared-slice-read-loaded c = search needs
-
-loaded-requires : tie.Need-loaded-requires Inv-loop μ-loop
-loaded-requires c κs = search needs
-
-difference-requires : tie.Need-difference-requires Inv-loop μ-loop
-difference-requires c κs = search needs
-
-union-requires : tie.Need-union-requires Inv-loop μ-loop
-union-requires c κs = search needs
-
-of-requires-3 : tie.Need-of-requires-3 Inv-loop μ-loop
-of-requires-3 c κs = search needs
-
-difference-requires-2 : tie.Need-difference-requires-2 Inv-loop μ-loop
-difference-requires-2 c κs = search needs
-
-union-requires-2 : tie.Need-union-requires-2 Inv-loop μ-loop
-union-requires-2 c κs = search needs
-
-after-requires-2 : tie.Need-after-requires-2 Inv-loop μ-loop
-after-requires-2 c κs = search needs
 
 loop-less : tie.Need-loop-less Inv-loop μ-loop
 loop-less c =
@@ -86,22 +50,5 @@ returns c = let l = c .before .loop in reached (l .inv .0) (l .inv .1) (c .loop-
 pub reach-from-spec : {M : Type 1} → statement M
 reach-from-spec =
     tie.close
-    (tie.spec
-    Inv-loop
-    μ-loop
-    of-requires
-    of-requires-2
-    after-requires
-    loop-holds
-    mul-loaded
-    shared-slice-read-loaded
-    loaded-requires
-    difference-requires
-    union-requires
-    of-requires-3
-    difference-requires-2
-    union-requires-2
-    after-requires-2
-    loop-less
-    loop-again
-    returns)
+    (tie.spec Inv-loop μ-loop (search needs) (search needs) (search needs) loop-holds (search needs) (search needs) (search needs) (search needs)
+    (search needs) (search needs) (search needs) (search needs) (search needs) loop-less loop-again returns)

@@ -22,21 +22,6 @@ loop-holds c =
     let l = ahead-below (a .pre .0) (a .args .start) in
     record { region = a .pre .1; few = omega arith; sorting = sort-first _ _ }
 
-word-requires : tie.Need-word-requires Inv-loop μ-loop
-word-requires c κs = search needs
-
-of-requires : tie.Need-of-requires Inv-loop μ-loop
-of-requires c κs = search needs
-
-union-requires : tie.Need-union-requires Inv-loop μ-loop
-union-requires c κs = search needs
-
-word-requires-2 : tie.Need-word-requires-2 Inv-loop μ-loop
-word-requires-2 c κs = search needs
-
-add-r : tie.Need-add-r Inv-loop μ-loop
-add-r c = search needs
-
 loop-less : tie.Need-loop-less Inv-loop μ-loop
 loop-less c = chain-next (c .before .before .before .before .before .before .pre .0) (c .before .before .before .before .loop .inv .region) (c .before .before .before .loop-test .taken) (c .word2 .ensures .0) .falls
 
@@ -55,15 +40,5 @@ returns c = sort-last (c .before .loop .inv .sorting) (regions-none _ (c .loop-t
 pub of-class-spec : {M : Type 1} → statement M
 of-class-spec =
     tie.close
-    (tie.spec
-    Inv-loop
-    μ-loop
-    loop-holds
-    word-requires
-    of-requires
-    union-requires
-    word-requires-2
-    add-r
-    loop-less
-    loop-again
-    returns)
+    (tie.spec Inv-loop μ-loop loop-holds (λ c κs. search needs) (search needs) (search needs) (λ c κs. search needs) (search needs) loop-less
+    loop-again returns)

@@ -6,7 +6,7 @@ use Rattle.chains.specs.Formed.{ahead, ahead-below, variables-none}
 use mathlib.Core.Logic.{⊎-elim}
 use native.Mathlib.Omega.{arith}
 use borrow.Author.Needs.{needs}
-use mathlib.Core.Path.{_≡_, refl, sym, ap, _∙_}
+use mathlib.Core.Path.{_∙_}
 use Rattle.windows.proofs.sets_of.variables_in.Statement.{statement}
 use Rattle.windows.proofs.sets_of.variables_in.Tie as tie
 
@@ -21,21 +21,6 @@ loop-holds c =
     let a = c .before in
     let l = ahead-below (a .pre .0) (a .args .start) in
     record { variable = a .pre .1 .0; few = omega arith; finding = find-first _ _ }
-
-word-requires : tie.Need-word-requires Inv-loop μ-loop
-word-requires c κs = search needs
-
-of-requires : tie.Need-of-requires Inv-loop μ-loop
-of-requires c κs = search needs
-
-union-requires : tie.Need-union-requires Inv-loop μ-loop
-union-requires c κs = search needs
-
-word-requires-2 : tie.Need-word-requires-2 Inv-loop μ-loop
-word-requires-2 c κs = search needs
-
-add-x : tie.Need-add-x Inv-loop μ-loop
-add-x c = search needs
 
 loop-less : tie.Need-loop-less Inv-loop μ-loop
 loop-less c =
@@ -58,15 +43,5 @@ returns c = find-last (c .before .loop .inv .finding) (variables-none _ (c .loop
 pub variables-in-spec : {M : Type 1} → statement M
 variables-in-spec =
     tie.close
-    (tie.spec
-    Inv-loop
-    μ-loop
-    loop-holds
-    word-requires
-    of-requires
-    union-requires
-    word-requires-2
-    add-x
-    loop-less
-    loop-again
-    returns)
+    (tie.spec Inv-loop μ-loop loop-holds (λ c κs. search needs) (search needs) (search needs) (λ c κs. search needs) (search needs) loop-less
+    loop-again returns)

@@ -1,9 +1,9 @@
 -- `list_procedure` meets its contract.
 use borrow.Author.Needs.{needs}
-use mathlib.Core.Path.{_≡_, refl, sym, _∙_}
-use Prim.Native.Nat.{_+_, _*_, _≤_, _<_}
+use mathlib.Core.Path.{refl, sym, _∙_}
+use Prim.Native.Nat.{_+_, _*_, _≤_}
 use native.Mathlib.Omega.{arith}
-use lib.ListN.{length, set, length-set}
+use lib.ListN.{length, length-set}
 use Rattle.chains.specs.Records.{chainRecords}
 use Rattle.tables.specs.Places.{headSize}
 use Rattle.windows.specs.Classed.{SignatureAt}
@@ -11,23 +11,11 @@ use Rattle.windows.specs.Procedure.{entered, reached-here, procedure-lis
 use Rattle.windows.proofs.stage.list_procedure.Statement.{statement}
 use Rattle.windows.proofs.stage.list_procedure.Tie as tie
 
-word-requires : tie.Need-word-requires
-word-requires c κs = search needs
-
-word-requires-2 : tie.Need-word-requires-2
-word-requires-2 c κs = search needs
-
-word-requires-3 : tie.Need-word-requires-3
-word-requires-3 c κs = search needs
-
 chain-length-requires : tie.Need-chain-length-requires
 chain-length-requires c κs =
     let s = c .before .before .before .before .before .before in
     let E = entered (s .pre .0) (s .pre .1 .0 .0) (s .pre .1 .0 .1) (s .pre .1 .1 .0) (c .before .before .word .ensures .0) (c .before .word2 .ensures .0) in
     (s .pre .0, E .variables .below)
-
-add-list-regions : tie.Need-add-list-regions
-add-list-regions c = search needs
 
 mul-list-regions : tie.Need-mul-list-regions
 mul-list-regions c =
@@ -55,17 +43,11 @@ list-reaches-requires c κs =
     let E = entered (s .pre .0) (s .pre .1 .0 .0) (s .pre .1 .0 .1) (s .pre .1 .1 .0) (c .before .before .before .before .before .before .before .before .before .before .before .word .ensures .0) (c .before .before .before .before .before .before .before .before .before .before .word2 .ensures .0) in
     (s .pre .1 .1 .1 ∙ sym (c .before .before .before .before .before .list-regions .kept .1 .1 .1 .1 .0), omega (arith, E .few, c .before .before .before .before .before .list-regions .ensures .0))
 
-mul-table : tie.Need-mul-table
-mul-table c = search needs
-
 slice-write-table : tie.Need-slice-write-table
 slice-write-table c =
     let s = c .before .before .before .before .before .before .before .before .before .before .before .before .before .before .before .before .before .before in
     let E = entered (s .pre .0) (s .pre .1 .0 .0) (s .pre .1 .0 .1) (s .pre .1 .1 .0) (c .before .before .before .before .before .before .before .before .before .before .before .before .before .before .word .ensures .0) (c .before .before .before .before .before .before .before .before .before .before .before .before .before .word2 .ensures .0) in
     omega (arith, E .room, c .before .before .before .before .before .before .before .before .list-regions .kept .1 .1 .0)
-
-add-list-variables : tie.Need-add-list-variables
-add-list-variables c = search needs
 
 list-variables-requires : tie.Need-list-variables-requires
 list-variables-requires c κs =
@@ -108,9 +90,6 @@ add-t15 c =
     let E = entered (s .pre .0) (s .pre .1 .0 .0) (s .pre .1 .0 .1) (s .pre .1 .1 .0) (c .before .before .before .before .before .before .before .before .before .before .before .before .before .before .before .before .before .before .before .before .before .before .before .before .before .word .ensures .0) (c .before .before .before .before .before .before .before .before .before .before .before .before .before .before .before .before .before .before .before .before .before .before .before .before .word2 .ensures .0) in
     omega (arith, E .some, E .few, c .before .before .before .before .before .before .before .before .before .before .before .before .before .before .before .before .before .before .before .before .before .before .chain-length .ensures, c .before .before .before .before .before .before .before .before .before .before .before .before .before .before .before .before .before .before .before .list-regions .ensures .0)
 
-right-requires : tie.Need-right-requires
-right-requires c κs = search needs
-
 same-length : tie.Need-same-length
 same-length c =
     let s = c .before .before .before .before .before .before .before .before .before .before .before .before .before .before .before .before .before .before .before .before .before .before .before .before .before .before .before .before .before .before in
@@ -141,26 +120,6 @@ returns c =
 pub list-procedure-spec : {M : Type 1} → statement M
 list-procedure-spec =
     tie.close
-    (tie.spec
-    word-requires
-    word-requires-2
-    word-requires-3
-    chain-length-requires
-    add-list-regions
-    mul-list-regions
-    add-list-regions-2
-    list-regions-requires
-    list-reaches-requires
-    mul-table
-    slice-write-table
-    add-list-variables
-    list-variables-requires
-    classes-of-requires
-    put-header-requires
-    mul-t16
-    add-t17
-    add-t15
-    right-requires
-    same-length
-    same-length-2
-    returns)
+    (tie.spec (λ c κs. search needs) (λ c κs. search needs) (λ c κs. search needs) chain-length-requires (search needs) mul-list-regions
+    add-list-regions-2 list-regions-requires list-reaches-requires (search needs) slice-write-table (search needs) list-variables-requires
+    classes-of-requires put-header-requires mul-t16 add-t17 add-t15 (search needs) same-length same-length-2 returns)

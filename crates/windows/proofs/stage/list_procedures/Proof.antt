@@ -17,9 +17,6 @@ Inv-loop file table₀ targets₀ right₀ i₀ q₀ at₀ table targets right i
 abbrev μ-loop : tie.MeasureT-loop
 μ-loop file table₀ targets₀ right₀ i₀ q₀ at₀ table targets right i q at = ahead file i
 
-blank-sets-requires : tie.Need-blank-sets-requires Inv-loop μ-loop
-blank-sets-requires c κs = search needs
-
 word-requires : tie.Need-word-requires Inv-loop μ-loop
 word-requires c κs = let F = c .before .before .before .pre .0 in (F, (omega arith, counted F .some))
 
@@ -40,9 +37,6 @@ slice-write-table c =
     let g = c in
     let l = g .before .loop in
     place-low (s .pre .0) (s .pre .1 .0) (l .inv .0) (g .loop-test .taken)
-
-slice-aggregate-list-procedure : tie.Need-slice-aggregate-list-procedure Inv-loop μ-loop
-slice-aggregate-list-procedure c = search needs
 
 list-procedure-requires : tie.Need-list-procedure-requires Inv-loop μ-loop
 list-procedure-requires c κs =
@@ -67,9 +61,6 @@ add-q c =
     let l = g .before .loop in
     let o = place-here (s .pre .0) (s .pre .1 .0) (l .inv .0) (g .loop-test .taken) in
     omega (arith, o)
-
-word-requires-2 : tie.Need-word-requires-2 Inv-loop μ-loop
-word-requires-2 c κs = search needs
 
 loop-less : tie.Need-loop-less Inv-loop μ-loop
 loop-less c =
@@ -100,20 +91,5 @@ returns c = let l = c .before .loop .inv .0 in (listing-right l (c .loop-test .l
 pub list-procedures-spec : {M : Type 1} → statement M
 list-procedures-spec =
     tie.close
-    (tie.spec
-    Inv-loop
-    μ-loop
-    blank-sets-requires
-    word-requires
-    loop-holds
-    mul-table
-    slice-write-table
-    slice-aggregate-list-procedure
-    list-procedure-requires
-    add-at
-    add-q
-    word-requires-2
-    loop-less
-    loop-again
-    same-length
-    returns)
+    (tie.spec Inv-loop μ-loop (search needs) word-requires loop-holds mul-table slice-write-table (search needs) list-procedure-requires add-at add-q
+    (λ c κs. search needs) loop-less loop-again same-length returns)

@@ -7,15 +7,6 @@ use Rattle.windows.proofs.writing.home_reach.Tie as tie
 returns : tie.Need-returns
 returns c = home-none (c .before .before .args .reaches .now) (c .if1 .taken)
 
-mul-loaded : tie.Need-mul-loaded
-mul-loaded c = search needs
-
-shared-slice-read-loaded : tie.Need-shared-slice-read-loaded
-shared-slice-read-loaded c = search needs
-
-loaded-requires : tie.Need-loaded-requires
-loaded-requires c κs = search needs
-
 returns-2 : tie.Need-returns-2
 returns-2 c = home-some (c .before .before .before .before .before .args .reaches .now) (c .before .before .before .if1 .left) (c .loaded .ensures)
 
@@ -23,6 +14,4 @@ returns-3 : tie.Need-returns-3
 returns-3 c = home-past (c .before .before .before .args .reaches .now) (c .before .if1 .left) (c .if2 .left)
 
 pub home-reach-spec : {M : Type 1} → statement M
-home-reach-spec =
-    tie.close
-    (tie.spec returns mul-loaded shared-slice-read-loaded loaded-requires returns-2 returns-3)
+home-reach-spec = tie.close (tie.spec returns (search needs) (search needs) (search needs) returns-2 returns-3)

@@ -21,9 +21,6 @@ abbrev μ-loop : tie.MeasureT-loop
 loop-holds : tie.Need-loop-holds Inv-loop μ-loop
 loop-holds c = let a = c .before .before .before in (along-first (a .pre .1 .0), regions-none (a .args .file .now) (a .args .first) (a .args .table .now) (a .args .from) (a .args .targets .now), refl, refl)
 
-word-requires : tie.Need-word-requires Inv-loop μ-loop
-word-requires c κs = search needs
-
 add-table : tie.Need-add-table Inv-loop μ-loop
 add-table c =
     let t = c .before in
@@ -48,9 +45,6 @@ targets-of-requires c κs =
     let a = t .before .before .before .before .before in
     (a .pre .0, edges-here (a .pre .0) (t .before .loop .inv .0 .stands) (t .loop-test .taken) (c .word .ensures .0))
 
-stored-requires : tie.Need-stored-requires Inv-loop μ-loop
-stored-requires c κs = search needs
-
 add-targets : tie.Need-add-targets Inv-loop μ-loop
 add-targets c =
     let t = c .before .before .before in
@@ -74,9 +68,6 @@ add-n c =
     let t = c .before .before .before in
     let l = along-below (t .before .before .before .before .before .pre .0) (t .before .loop .inv .0) (t .loop-test .taken) in
     search needs
-
-word-requires-2 : tie.Need-word-requires-2 Inv-loop μ-loop
-word-requires-2 c κs = search needs
 
 loop-less : tie.Need-loop-less Inv-loop μ-loop
 loop-less c = let t = c .before .before .before .before in chain-next (t .before .before .before .before .before .pre .0) (t .before .loop .inv .0 .stands) (t .loop-test .taken) (c .word2 .ensures .0) .falls
@@ -108,23 +99,5 @@ returns c = let l = c .before .loop in (along-last (l .inv .0) (c .loop-test .le
 pub list-regions-spec : {M : Type 1} → statement M
 list-regions-spec =
     tie.close
-    (tie.spec
-    Inv-loop
-    μ-loop
-    loop-holds
-    word-requires
-    add-table
-    mul-table
-    slice-write-table
-    targets-of-requires
-    stored-requires
-    add-targets
-    mul-targets
-    slice-write-targets
-    add-n
-    word-requires-2
-    loop-less
-    loop-again
-    same-length
-    same-length-2
-    returns)
+    (tie.spec Inv-loop μ-loop loop-holds (λ c κs. search needs) add-table mul-table slice-write-table targets-of-requires (search needs) add-targets
+    mul-targets slice-write-targets add-n (λ c κs. search needs) loop-less loop-again same-length same-length-2 returns)

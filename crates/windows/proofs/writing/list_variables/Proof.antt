@@ -21,9 +21,6 @@ abbrev μ-loop : tie.MeasureT-loop
 loop-holds : tie.Need-loop-holds Inv-loop μ-loop
 loop-holds c = let a = c .before .before .before in (along-first (a .pre .1 .0), variables-none (a .args .file .now) (a .args .first) (a .args .reaches .now) (a .args .table .now) (a .args .from), refl)
 
-word-requires : tie.Need-word-requires Inv-loop μ-loop
-word-requires c κs = search needs
-
 mul-table : tie.Need-mul-table Inv-loop μ-loop
 mul-table c =
     let t = c .before in
@@ -47,12 +44,6 @@ slice-write-table c =
     let t = c .before in
     let l = along-below (t .before .before .before .before .before .pre .0) (t .before .loop .inv .0) (t .loop-test .taken) in
     omega arith
-
-home-reach-requires : tie.Need-home-reach-requires Inv-loop μ-loop
-home-reach-requires c κs = search needs
-
-stored-requires : tie.Need-stored-requires Inv-loop μ-loop
-stored-requires c κs = search needs
 
 mul-table-3 : tie.Need-mul-table-3 Inv-loop μ-loop
 mul-table-3 c =
@@ -90,9 +81,6 @@ add-n c =
     let l = along-below (t .before .before .before .before .before .pre .0) (t .before .loop .inv .0) (t .loop-test .taken) in
     search needs
 
-word-requires-2 : tie.Need-word-requires-2 Inv-loop μ-loop
-word-requires-2 c κs = search needs
-
 loop-less : tie.Need-loop-less Inv-loop μ-loop
 loop-less c = let t = c .before .before .before .before in chain-next (t .before .before .before .before .before .pre .0) (t .before .loop .inv .0 .stands) (t .loop-test .taken) (c .word2 .ensures .0) .falls
 
@@ -119,25 +107,5 @@ returns c = let l = c .before .loop in rw (← along-last (l .inv .0) (c .loop-t
 pub list-variables-spec : {M : Type 1} → statement M
 list-variables-spec =
     tie.close
-    (tie.spec
-    Inv-loop
-    μ-loop
-    loop-holds
-    word-requires
-    mul-table
-    add-table
-    mul-table-2
-    slice-write-table
-    home-reach-requires
-    stored-requires
-    mul-table-3
-    add-table-2
-    add-table-3
-    mul-table-4
-    slice-write-table-2
-    add-n
-    word-requires-2
-    loop-less
-    loop-again
-    same-length
-    returns)
+    (tie.spec Inv-loop μ-loop loop-holds (λ c κs. search needs) mul-table add-table mul-table-2 slice-write-table (search needs) (search needs)
+    mul-table-3 add-table-2 add-table-3 mul-table-4 slice-write-table-2 add-n (λ c κs. search needs) loop-less loop-again same-length returns)
