@@ -7,19 +7,9 @@ use Rattle.hand_sized.specs.Joined.{refused}
 use Rattle.hand_sized.proofs.annotate_a.Statement.{statement}
 use Rattle.hand_sized.proofs.annotate_a.Tie as tie
 
-a-requires : tie.Need-a-requires
-a-requires c κs = search needs
-
-slice-aggregate-annotate : tie.Need-slice-aggregate-annotate
-slice-aggregate-annotate c = search needs
-
-annotate-requires : tie.Need-annotate-requires
-annotate-requires c κs = search needs
-
 returns : tie.Need-returns
 unfolding refusalNumber
 returns c = let p = refused _ (c .before .before .before .before .args .out .now) (c .annotate .ensures) (c .before .before .before .a .ensures) 65536 (table .already-annotated) (search needs) in (p .0, (refl, p .1))
 
 pub annotate-a-spec : {M : Type 1} → statement M
-annotate-a-spec =
-    tie.close (tie.spec a-requires slice-aggregate-annotate annotate-requires returns)
+annotate-a-spec = tie.close (tie.spec (search needs) (search needs) (search needs) returns)

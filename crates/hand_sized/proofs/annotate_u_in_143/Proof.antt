@@ -7,19 +7,9 @@ use Rattle.hand_sized.specs.Joined.{refused}
 use Rattle.hand_sized.proofs.annotate_u_in_143.Statement.{statement}
 use Rattle.hand_sized.proofs.annotate_u_in_143.Tie as tie
 
-u-requires : tie.Need-u-requires
-u-requires c κs = search needs
-
-slice-aggregate-annotate : tie.Need-slice-aggregate-annotate
-slice-aggregate-annotate c = search needs
-
-annotate-requires : tie.Need-annotate-requires
-annotate-requires c κs = search needs
-
 returns : tie.Need-returns
 unfolding refusalNumber
 returns c = let p = refused _ (c .before .before .before .before .args .out .now) (c .annotate .ensures) (c .before .before .before .u .ensures) 143 (table .annotated-143) (search needs) in (p .0, (refl, p .1))
 
 pub annotate-u-in-143-spec : {M : Type 1} → statement M
-annotate-u-in-143-spec =
-    tie.close (tie.spec u-requires slice-aggregate-annotate annotate-requires returns)
+annotate-u-in-143-spec = tie.close (tie.spec (search needs) (search needs) (search needs) returns)

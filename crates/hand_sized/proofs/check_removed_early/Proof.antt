@@ -6,19 +6,9 @@ use Rattle.language.specs.Table.{table}
 use Rattle.hand_sized.proofs.check_removed_early.Statement.{statement}
 use Rattle.hand_sized.proofs.check_removed_early.Tie as tie
 
-removed-early-requires : tie.Need-removed-early-requires
-removed-early-requires c κs = search needs
-
-slice-aggregate-check : tie.Need-slice-aggregate-check
-slice-aggregate-check c = search needs
-
-check-requires : tie.Need-check-requires
-check-requires c κs = search needs
-
 returns : tie.Need-returns
 unfolding refusalNumber
 returns c = (c .check .ensures ∙ ap checked (c .before .before .removed-early .ensures) ∙ table .removed-early, refl)
 
 pub check-removed-early-spec : {M : Type 1} → statement M
-check-removed-early-spec =
-    tie.close (tie.spec removed-early-requires slice-aggregate-check check-requires returns)
+check-removed-early-spec = tie.close (tie.spec (search needs) (search needs) (search needs) returns)

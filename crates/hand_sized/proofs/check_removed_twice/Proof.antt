@@ -6,19 +6,9 @@ use Rattle.language.specs.Table.{table}
 use Rattle.hand_sized.proofs.check_removed_twice.Statement.{statement}
 use Rattle.hand_sized.proofs.check_removed_twice.Tie as tie
 
-removed-twice-requires : tie.Need-removed-twice-requires
-removed-twice-requires c κs = search needs
-
-slice-aggregate-check : tie.Need-slice-aggregate-check
-slice-aggregate-check c = search needs
-
-check-requires : tie.Need-check-requires
-check-requires c κs = search needs
-
 returns : tie.Need-returns
 unfolding refusalNumber
 returns c = (c .check .ensures ∙ ap checked (c .before .before .removed-twice .ensures) ∙ table .removed-twice, refl)
 
 pub check-removed-twice-spec : {M : Type 1} → statement M
-check-removed-twice-spec =
-    tie.close (tie.spec removed-twice-requires slice-aggregate-check check-requires returns)
+check-removed-twice-spec = tie.close (tie.spec (search needs) (search needs) (search needs) returns)

@@ -7,15 +7,9 @@ use Rattle.language.specs.declared.Refusal.the-variants.{Header}
 use Rattle.hand_sized.proofs.empty_file.Statement.{statement}
 use Rattle.hand_sized.proofs.empty_file.Tie as tie
 
-slice-aggregate-put-to-all : tie.Need-slice-aggregate-put-to-all
-slice-aggregate-put-to-all c = search needs
-
-put-to-all-requires : tie.Need-put-to-all-requires
-put-to-all-requires c κs = search needs
-
 returns : tie.Need-returns
 unfolding refusalNumber
 returns c = let p = c .put-to-all .ensures Header (table .empty-file) in (p .0, (refl, p .1))
 
 pub empty-file-spec : {M : Type 1} → statement M
-empty-file-spec = tie.close (tie.spec slice-aggregate-put-to-all put-to-all-requires returns)
+empty-file-spec = tie.close (tie.spec (search needs) (search needs) returns)

@@ -6,18 +6,9 @@ use Rattle.hand_sized.specs.Joined.{quietly, lent-by}
 use Rattle.hand_sized.proofs.run_a.Statement.{statement}
 use Rattle.hand_sized.proofs.run_a.Tie as tie
 
-a-requires : tie.Need-a-requires
-a-requires c κs = search needs
-
-slice-aggregate-run : tie.Need-slice-aggregate-run
-slice-aggregate-run c = search needs
-
-run-requires : tie.Need-run-requires
-run-requires c κs = search needs
-
 returns : tie.Need-returns
 unfolding runnerLent
 returns c = quietly (c .run .ensures .0) (c .before .before .before .before .before .before .a .ensures) runnerLent (table .A-run) (lent-by _ _ _ _ _ (search needs) (search needs) (search needs) (search needs))
 
 pub run-a-spec : {M : Type 1} → statement M
-run-a-spec = tie.close (tie.spec a-requires slice-aggregate-run run-requires returns)
+run-a-spec = tie.close (tie.spec (search needs) (search needs) (search needs) returns)

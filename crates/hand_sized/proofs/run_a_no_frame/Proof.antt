@@ -8,18 +8,9 @@ use Rattle.hand_sized.specs.Joined.{quietly, lent-by}
 use Rattle.hand_sized.proofs.run_a_no_frame.Statement.{statement}
 use Rattle.hand_sized.proofs.run_a_no_frame.Tie as tie
 
-a-requires : tie.Need-a-requires
-a-requires c κs = search needs
-
-slice-aggregate-run : tie.Need-slice-aggregate-run
-slice-aggregate-run c = search needs
-
-run-requires : tie.Need-run-requires
-run-requires c κs = search needs
-
 returns : tie.Need-returns
 unfolding stopNumber runnerLent lending noFrames
 returns c = let p = quietly (c .run .ensures .0) (c .before .before .before .before .before .before .a .ensures) noFrames (table .no-frame) (lent-by _ _ _ _ _ (search needs) (search needs) (search needs) (search needs)) in (p .0, (refl, p .1))
 
 pub run-a-no-frame-spec : {M : Type 1} → statement M
-run-a-no-frame-spec = tie.close (tie.spec a-requires slice-aggregate-run run-requires returns)
+run-a-no-frame-spec = tie.close (tie.spec (search needs) (search needs) (search needs) returns)

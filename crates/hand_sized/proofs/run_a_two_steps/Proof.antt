@@ -8,18 +8,9 @@ use Rattle.hand_sized.specs.Joined.{quietly, lent-by}
 use Rattle.hand_sized.proofs.run_a_two_steps.Statement.{statement}
 use Rattle.hand_sized.proofs.run_a_two_steps.Tie as tie
 
-a-requires : tie.Need-a-requires
-a-requires c κs = search needs
-
-slice-aggregate-run : tie.Need-slice-aggregate-run
-slice-aggregate-run c = search needs
-
-run-requires : tie.Need-run-requires
-run-requires c κs = search needs
-
 returns : tie.Need-returns
 unfolding stopNumber runnerLent lending twoSteps
 returns c = let p = quietly (c .run .ensures .0) (c .before .before .before .before .before .before .a .ensures) twoSteps (table .steps-spent) (lent-by _ _ _ _ _ (search needs) (search needs) (search needs) (search needs)) in (p .0, (refl, p .1))
 
 pub run-a-two-steps-spec : {M : Type 1} → statement M
-run-a-two-steps-spec = tie.close (tie.spec a-requires slice-aggregate-run run-requires returns)
+run-a-two-steps-spec = tie.close (tie.spec (search needs) (search needs) (search needs) returns)

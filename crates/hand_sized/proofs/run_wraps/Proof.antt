@@ -6,18 +6,9 @@ use Rattle.hand_sized.specs.Wraps.{wrapping-run}
 use Rattle.hand_sized.proofs.run_wraps.Statement.{statement}
 use Rattle.hand_sized.proofs.run_wraps.Tie as tie
 
-wraps-requires : tie.Need-wraps-requires
-wraps-requires c κs = search needs
-
-slice-aggregate-run : tie.Need-slice-aggregate-run
-slice-aggregate-run c = search needs
-
-run-requires : tie.Need-run-requires
-run-requires c κs = search needs
-
 returns : tie.Need-returns
 unfolding runnerLent
 returns c = printed-two (c .run .ensures .0) (c .before .before .before .before .before .before .wraps .ensures) runnerLent wrapping-run (lent-by _ _ _ _ _ (search needs) (search needs) (search needs) (search needs))
 
 pub run-wraps-spec : {M : Type 1} → statement M
-run-wraps-spec = tie.close (tie.spec wraps-requires slice-aggregate-run run-requires returns)
+run-wraps-spec = tie.close (tie.spec (search needs) (search needs) (search needs) returns)

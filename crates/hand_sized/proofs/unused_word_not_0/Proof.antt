@@ -8,20 +8,9 @@ use Rattle.hand_sized.specs.Joined.{all-refuse}
 use Rattle.hand_sized.proofs.unused_word_not_0.Statement.{statement}
 use Rattle.hand_sized.proofs.unused_word_not_0.Tie as tie
 
-unused-word-requires : tie.Need-unused-word-requires
-unused-word-requires c κs = search needs
-
-slice-aggregate-put-to-all : tie.Need-slice-aggregate-put-to-all
-slice-aggregate-put-to-all c = search needs
-
-put-to-all-requires : tie.Need-put-to-all-requires
-put-to-all-requires c κs = search needs
-
 returns : tie.Need-returns
 unfolding refusalNumber
 returns c = let p = c .put-to-all .ensures Form (all-refuse (c .before .before .before .before .before .before .before .unused-word .ensures) (table .unused-word)) in (p .0, (refl, p .1))
 
 pub unused-word-not-0-spec : {M : Type 1} → statement M
-unused-word-not-0-spec =
-    tie.close
-    (tie.spec unused-word-requires slice-aggregate-put-to-all put-to-all-requires returns)
+unused-word-not-0-spec = tie.close (tie.spec (search needs) (search needs) (search needs) returns)

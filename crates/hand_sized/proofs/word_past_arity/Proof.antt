@@ -8,19 +8,9 @@ use Rattle.hand_sized.specs.Joined.{all-refuse}
 use Rattle.hand_sized.proofs.word_past_arity.Statement.{statement}
 use Rattle.hand_sized.proofs.word_past_arity.Tie as tie
 
-past-arity-requires : tie.Need-past-arity-requires
-past-arity-requires c κs = search needs
-
-slice-aggregate-put-to-all : tie.Need-slice-aggregate-put-to-all
-slice-aggregate-put-to-all c = search needs
-
-put-to-all-requires : tie.Need-put-to-all-requires
-put-to-all-requires c κs = search needs
-
 returns : tie.Need-returns
 unfolding refusalNumber
 returns c = let p = c .put-to-all .ensures Typing (all-refuse (c .before .before .before .before .before .before .before .past-arity .ensures) (table .past-arity)) in (p .0, (refl, p .1))
 
 pub word-past-arity-spec : {M : Type 1} → statement M
-word-past-arity-spec =
-    tie.close (tie.spec past-arity-requires slice-aggregate-put-to-all put-to-all-requires returns)
+word-past-arity-spec = tie.close (tie.spec (search needs) (search needs) (search needs) returns)

@@ -6,21 +6,9 @@ use Rattle.language.specs.Table.{U6}
 use Rattle.hand_sized.proofs.files.past_arity.Statement.{statement}
 use Rattle.hand_sized.proofs.files.past_arity.Tie as tie
 
-u-requires : tie.Need-u-requires
-u-requires c κs = search needs
-
-mul-file : tie.Need-mul-file
-mul-file c = search needs
-
-add-file : tie.Need-add-file
-add-file c = search needs
-
-array-write-file : tie.Need-array-write-file
-array-write-file c = search needs
-
 returns : tie.Need-returns
 unfolding U6
 returns c = ap (λ f. set f 110 1) (c .u .ensures)
 
 pub past-arity-spec : {M : Type 1} → statement M
-past-arity-spec = tie.close (tie.spec u-requires mul-file add-file array-write-file returns)
+past-arity-spec = tie.close (tie.spec (search needs) (search needs) (search needs) (search needs) returns)

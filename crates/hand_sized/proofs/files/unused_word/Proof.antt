@@ -6,21 +6,9 @@ use Rattle.language.specs.Table.{U5}
 use Rattle.hand_sized.proofs.files.unused_word.Statement.{statement}
 use Rattle.hand_sized.proofs.files.unused_word.Tie as tie
 
-u-requires : tie.Need-u-requires
-u-requires c κs = search needs
-
-mul-file : tie.Need-mul-file
-mul-file c = search needs
-
-add-file : tie.Need-add-file
-add-file c = search needs
-
-array-write-file : tie.Need-array-write-file
-array-write-file c = search needs
-
 returns : tie.Need-returns
 unfolding U5
 returns c = ap (λ f. set f 94 1) (c .u .ensures)
 
 pub unused-word-spec : {M : Type 1} → statement M
-unused-word-spec = tie.close (tie.spec u-requires mul-file add-file array-write-file returns)
+unused-word-spec = tie.close (tie.spec (search needs) (search needs) (search needs) (search needs) returns)
