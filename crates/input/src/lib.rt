@@ -1,4 +1,6 @@
 // What a program reads.
+use libc::STDERR_FILENO;
+use libc::STDIN_FILENO;
 ghost use Rattle.input.specs.Input.{Taken};
 
 // What was read: how many bytes, at the front of the memory, or that a read failed.
@@ -24,4 +26,15 @@ pub fn read_input(fd: i32, file: &mut [u8]) -> Input
         at += n;
     }
     Input::Bytes(at)
+}
+
+// Reads standard input; where that fails, says so on standard error.
+pub fn read_standard(file: &mut [u8]) -> Input
+    ensures { λ r. ⌜ Taken r (now (file .exit)) ⌝ }
+{
+    let read = read_input(STDIN_FILENO, file);
+    if let Input::Failed = read {
+        io::write_all(STDERR_FILENO, b"standard input could not be read\n");
+    }
+    read
 }
