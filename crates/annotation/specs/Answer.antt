@@ -14,7 +14,7 @@ use Rattle.language.specs.declared.Refusal.the-variants.{Room}
 use Rattle.language.specs.declared.Verdict.{Verdict}
 use Rattle.language.specs.declared.Verdict.the-variants.{Refused, Accepted}
 use Rattle.language.specs.Lists.{frontWritten}
-use Rattle.language.specs.Format.{maxRecords}
+use Rattle.language.specs.Format.{maxRecords, maxBytes}
 use Rattle.language.specs.Layout.{size}
 use Rattle.language.specs.Program.{Program}
 use Rattle.language.specs.Records.{programTree}
@@ -35,6 +35,10 @@ told (writes g) = Written (length g)
 -- the answer and the lent memory afterwards
 abbrev pub Annotates : AnnotatorAnswer → List ℕ → List ℕ → Annotated → Type 0
 Annotates a before after r = (r ≡ told a) × (after ≡ annotatorMemory a before)
+
+-- how many of the lent bytes may be written: all of them, or as many as the longest file has
+abbrev pub RoomIn : ℕ → ℕ → Type 0
+RoomIn room lent = (room ≤ lent) × (room < maxBytes → room ≡ lent)
 
 -- ---- stages in turn
 module _ (f : List ℕ) (lent : ℕ) where
@@ -102,17 +106,21 @@ module _ (f : List ℕ) (lent : ℕ) (n : ℕ) (small : size (programTree (annot
     fits : leb (size (programTree P)) maxRecords ≡ true
     fits = le-leb (size (programTree P)) maxRecords (let e = sized in omega arith)
 
-    pub too-long : lent < 16 * n → roomAnswer f lent ≡ refuses Room
+    pub too-long : {room : ℕ} → RoomIn room lent → room < 16 * n → roomAnswer f lent ≡ refuses Room
     unfolding roomOk lowest writesUnless _&_
-    too-long h = rw (fits, lt-leb (length (fileOf P)) lent (let e = sized in omega (arith, bytes))) refl
+    too-long R k =
+        let e = R .1 (omega arith) in
+        let h : lent < 16 * n = omega arith in
+        rw (fits, lt-leb (length (fileOf P)) lent (let e = sized in omega (arith, bytes))) refl
 
     pub room-there : 16 * n ≤ lent → roomAnswer f lent ≡ writes (fileOf P)
     unfolding roomOk lowest writesUnless _&_
     room-there h = rw (fits, le-leb (length (fileOf P)) lent (let e = sized in omega (arith, bytes))) refl
 
-    pub file-told : (before : List ℕ) {after : List ℕ} → 16 * n ≤ lent → after ≡ frontWritten (fileOf P) before → Annotates (roomAnswer f lent) before after (Written (16 * n))
+    pub file-told : (before : List ℕ) {front after : List ℕ} → 16 * n ≤ lent → front ≡ fileOf P → after ≡ frontWritten front before
+        → Annotates (roomAnswer f lent) before after (Written (16 * n))
     unfolding told annotatorMemory
-    file-told before h e = rw (room-there h) (ap (λ (k : ℕ). Written k) (let q = sized in omega (arith, bytes)), e)
+    file-told before h p e = rw (room-there h) (ap (λ (k : ℕ). Written k) (let q = sized in omega (arith, bytes)), e ∙ ap (λ (g : List ℕ). frontWritten g before) p)
 
 -- a table of zeros is as long as it was made
 pub blank-fits : (n : ℕ) {t : List ℕ} → t ≡ replicate n 0 → n ≤ length t

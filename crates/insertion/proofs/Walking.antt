@@ -13,7 +13,7 @@ use Rattle.language.specs.File.{kSwitch, kIf, kArm, kGoal, goals, arms, word}
 use Rattle.language.specs.Tree.{noWords, plain, leads}
 use Rattle.language.specs.Layout.{reference, lay}
 use Rattle.language.specs.Records.{zeros, fourPlain, goalsTree, goalTree, armsTree}
-use Rattle.language.specs.Program.{four, _then_, switch, ifLess, signatureOf}
+use Rattle.language.specs.Program.{four, _then_, switch, ifLess, arm, signatureOf}
 use Rattle.language.specs.Lifetimes.{wanted, live}
 use Rattle.language.specs.Answers.{program}
 use Rattle.placement.specs.Local.{localGoals, localGoal, localArms}
@@ -30,72 +30,20 @@ use Rattle.laying.specs.Lays.{Lays, Goes, lays-end, lays-node}
 use Rattle.laying.specs.Marks.{marks}
 use Rattle.insertion.specs.Chains.{Fronts, fronts-head, chain-goes, lays-first, lays-part}
 use Rattle.insertion.specs.Wants.{Wants, goal-wants, first-wants, start-wants, switch-wants, branches-want, arms-want}
-use Rattle.laying.specs.Heads.{SwitchStored, IfStored, ArmStored, switch-head, if-head, arm-head}
-use Rattle.insertion.specs.Done.{partOf, GoalsLaid, GoalLaid, PartLaid, ArmLaid, ArmsLaid}
+use Rattle.laying.specs.Heads.{SwitchStored, IfStored, ArmStored, switch-head, if-head, arm-front}
+use Rattle.insertion.specs.Cursor.{recordIn, pointIn}
+use Rattle.insertion.specs.Along.{Along, along-next, along-on}
+use Rattle.insertion.specs.Done.{partOf, GoalsLaid, GoalLaid, PartLaid, ArmsLaid}
 
--- ---- along a chain: the goals from record start on were to be laid from place first on; what is left are those from record i on, from place c on
-module _ (f rows t : List ℕ) (start at₀ : ℕ) (a b : List ℕ) (first i at c : ℕ) where
-  record Left (o : ℕ → ℕ) (q : ℕ) (after : Set) : Type 0 where
-    belongs : Belongs o q i
-    wants : Wants (signatureOf (program f) q) t at (points (program f) (goalsAt f i) after)
-    count : at + 2 * goalsCount (goalsAt f i) ≡ at₀ + 2 * goalsCount (goalsAt f start)
-    laid : (d : List ℕ) (e : ℕ) → Lays b d c e (lay (goalsTree (localGoals (program f) (signatureOf (program f) q) (goalsAt f i) after)) c)
-        → Lays a d first e (lay (goalsTree (localGoals (program f) (signatureOf (program f) q) (goalsAt f start) after)) first)
+-- ---- a turn along a chain: a goal with parts, then the steps behind it
+module _ {f rows t : List ℕ} {start at₀ : ℕ} {a b e g : List ℕ} {first i at c w u r j p s : ℕ} (G : Along f rows t start at₀ a b first i at c) where
+  pub along-turn : Formed f → (i ≡ 0 → ⊥) → w ≡ word f i 1 → Along f rows t w u e g r j p s → GoalLaid f rows t i at b e c r u
+      → Along f rows t start at₀ a g first j p s
+  along-turn F z n H m = along-on (along-next G F z m n) H
 
-  pub record Along : Type 0 where
-    pub stands : Stands f goals i
-    pub near : ahead f i ≤ ahead f start
-    pub same : length b ≡ length a
-    rest : (o : ℕ → ℕ) (q : ℕ) (after : Set) → Ready f rows o → Belongs o q start
-        → Wants (signatureOf (program f) q) t at₀ (points (program f) (goalsAt f start) after) → Left o q after
-
-pub along-first : (f rows t : List ℕ) (start at : ℕ) (a : List ℕ) (first : ℕ) → Stands f goals start → Along f rows t start at a a first start at first
-along-first f rows t start at a first st = record {
-  stands = st;
-  near = omega arith;
-  same = refl;
-  rest = λ o q after R B W. record { belongs = B; wants = W; count = refl; laid = λ d e L. L };
-}
-
-module _ {f rows t : List ℕ} {start at₀ : ℕ} {a b : List ℕ} {first i at c : ℕ} (G : Along f rows t start at₀ a b first i at c) where
-  pub along-last : i ≡ 0 → GoalsLaid f rows t start at₀ a b first c at
-  unfolding goalsTree localGoals goalsCount
-  along-last z = (
-    G .same,
-    λ o q after R B W.
-        let l = G .rest o q after R B W in
-        let n : goalsCount (goalsAt f i) ≡ 0 = ap goalsCount (goals-none f z) in
-        (l .laid b c (rw (goals-none f z) (lays-end b c)), omega (arith, l .count, n)),
-  )
-
-  module _ (F : Formed f) (z : i ≡ 0 → ⊥) where
-    pub along-onward : {w : ℕ} → w ≡ word f i 1 → Onward f goals i w
-    along-onward e = chain-next F (G .stands) z e
-
-    pub along-next : {d : List ℕ} {r p w : ℕ} → GoalLaid f rows t i at b d c r p → w ≡ word f i 1 → Along f rows t start at₀ a d first w p r
-    unfolding goalsCount
-    along-next {d} {r} {p} {w} m e =
-        let u = along-onward e in
-        let h = goals-step F (G .stands) z e in
-        record {
-          stands = u .stands;
-          near = omega (arith, u .falls, G .near);
-          same = m .0 ∙ G .same;
-          rest = λ o q after R B W.
-              let P = program f in
-              let S = signatureOf P q in
-              let l = G .rest o q after R B W in
-              let v = first-wants P S t at after h (l .wants) in
-              let k = m .1 o q (live P (goalsAt f w) after) R (l .belongs z) (v .0) in
-              let n : goalsCount (goalsAt f i) ≡ goalCount (goalAt f i) + goalsCount (goalsAt f w) = ap goalsCount h in
-              let K : Fronts b d c r (localGoal P S (goalAt f i) (live P (goalsAt f w) after)) w = rw (sym e) at (k .0) in
-              record {
-                belongs = λ y. R .owning .to-next i (G .stands) z w e y ∙ l .belongs z;
-                wants = rw (k .1) (v .1);
-                count = omega (arith, k .1, l .count, n);
-                laid = λ d′ e′ L. l .laid d′ e′ (lays-first P S after w h (chain-goes P S F w after (u .stands)) K L);
-              };
-        }
+pub goal-moved : {f rows : List ℕ} (t : List ℕ) {i : ℕ} (at : ℕ) {a b g d h : List ℕ} {c : ℕ} → b ≡ g → d ≡ h → GoalLaid f rows t i at a g c (recordIn h) (pointIn h)
+    → GoalLaid f rows t i at a b c (recordIn d) (pointIn d)
+goal-moved t at p q m = rw (p, q) m
 
 -- ---- a part
 removed-is : {f : List ℕ} (t : List ℕ) {i : ℕ} (at whole : ℕ) → Formed f → Stands f goals i → (q : ℕ) (after : Set) {rs : Set} → (i ≡ 0 → rs ≡ beforeAt t whole ∖ afterAt t whole)
@@ -170,87 +118,33 @@ module _ {f : List ℕ} (rows t : List ℕ) (i at : ℕ) (F : Formed f) where
         (rw (g, sym (X .before-is)) K, omega (arith, M .1, w, n)),
   )
 
-  -- ---- an arm
-  pub arm-laid : {a b d : List ℕ} {c s e p w : ℕ} (whole : ℕ) → Stands f arms i → (i ≡ 0 → ⊥) → Behind c 1 s → w ≡ word f i 2
-      → PartLaid f rows t w at a b s e p whole → ArmStored f i b d c s e → ArmLaid f rows t i at a d c e p whole
-  arm-laid {w = w} whole st z B ew A H = (
-    H .stored .same ∙ A .0,
-    λ o q after R h ea W.
-        let L = A .1 o q after R (λ n. R .owning .arm-goals i st z w ew n ∙ h) ea (rw ew W) in
-        (arm-head B (goalsTree (partOf f t whole q (word f i 2) after)) (rw ew at (L .0)) H, rw ew at (L .1)),
-  )
-
--- ---- along the arms
-module _ (f rows t : List ℕ) (start at₀ whole : ℕ) (a b : List ℕ) (first i at c : ℕ) where
-  record ArmsLeft (o : ℕ → ℕ) (q : ℕ) (after : Set) : Type 0 where
-    belongs : Belongs o q i
-    wants : Wants (signatureOf (program f) q) t at (armsPoints (program f) (armsAt f i) after)
-    count : at + 2 * armsCount (armsAt f i) ≡ at₀ + 2 * armsCount (armsAt f start)
-    laid : (d : List ℕ) (e : ℕ) → Lays b d c e (lay (armsTree (localArms (program f) (signatureOf (program f) q) (armsAt f i) after (beforeAt t whole))) c)
-        → Lays a d first e (lay (armsTree (localArms (program f) (signatureOf (program f) q) (armsAt f start) after (beforeAt t whole))) first)
-
-  pub record AlongArms : Type 0 where
-    pub stands : Stands f arms i
-    pub near : ahead f i ≤ ahead f start
-    pub same : length b ≡ length a
-    rest : (o : ℕ → ℕ) (q : ℕ) (after : Set) → Ready f rows o → Belongs o q start → afterAt t whole ≡ wanted (signatureOf (program f) q) after
-        → Wants (signatureOf (program f) q) t at₀ (armsPoints (program f) (armsAt f start) after) → ArmsLeft o q after
-
-pub arms-first : (f rows t : List ℕ) (start at whole : ℕ) (a : List ℕ) (first : ℕ) → Stands f arms start → AlongArms f rows t start at whole a a first start at first
-arms-first f rows t start at whole a first st = record {
-  stands = st;
-  near = omega arith;
-  same = refl;
-  rest = λ o q after R B ea W. record { belongs = B; wants = W; count = refl; laid = λ d e L. L };
-}
-
+-- ---- arms
 arms-goes : {f : List ℕ} → Formed f → (t : List ℕ) (w whole q : ℕ) (after : Set) → Stands f arms w
     → Goes w (armsTree (localArms (program f) (signatureOf (program f) q) (armsAt f w) after (beforeAt t whole)))
 unfolding armsTree localArms linked reference
 arms-goes {f} F t zero whole q after st c = rw (arms-none f refl) refl
 arms-goes {f} F t (suc w) whole q after st c = rw (arm-here F (λ e. omega arith) st .view) refl
 
-module _ {f rows t : List ℕ} {start at₀ whole : ℕ} {a b : List ℕ} {first i at c : ℕ} (G : AlongArms f rows t start at₀ whole a b first i at c) where
-  pub arms-last : i ≡ 0 → ArmsLaid f rows t start at₀ a b first c at whole
-  unfolding armsTree localArms armsCount
-  arms-last z = (
-    G .same,
-    λ o q after R B ea W.
-        let l = G .rest o q after R B ea W in
-        let n : armsCount (armsAt f i) ≡ 0 = ap armsCount (arms-none f z) in
-        (l .laid b c (rw (arms-none f z) (lays-end b c)), omega (arith, l .count, n)),
-  )
+pub no-arms : {f : List ℕ} (rows t : List ℕ) {i : ℕ} (at : ℕ) (a : List ℕ) (c whole : ℕ) → i ≡ 0 → ArmsLaid f rows t i at a a c c at whole
+unfolding armsTree localArms armsCount
+no-arms {f} rows t at a c whole z = (refl, λ o q after R B ea W. rw (arms-none f z) (lays-end a c, omega arith))
 
-  module _ (F : Formed f) (z : i ≡ 0 → ⊥) where
-    pub arms-onward : {w : ℕ} → w ≡ word f i 1 → Onward f arms i w
-    arms-onward e = chain-next F (G .stands) z e
-
-    pub arms-next : {d : List ℕ} {r p w : ℕ} → ArmLaid f rows t i at b d c r p whole → w ≡ word f i 1 → AlongArms f rows t start at₀ whole a d first w p r
-    unfolding armsCount armsTree localArms partOf
-    arms-next {d} {r} {p} {w} m e =
-        let u = arms-onward e in
-        let E = arm-here F z (G .stands) in
-        let h = rw (sym e) at (E .view) in
-        record {
-          stands = u .stands;
-          near = omega (arith, u .falls, G .near);
-          same = m .0 ∙ G .same;
-          rest = λ o q after R B ea W.
-              let P = program f in
-              let S = signatureOf P q in
-              let l = G .rest o q after R B ea W in
-              let v = arms-want P S t at after h (l .wants) in
-              let k = m .1 o q after R (l .belongs z) ea (v .0) in
-              let n : armsCount (armsAt f i) ≡ goalsCount (goalsAt f (word f i 2)) + armsCount (armsAt f w) = ap armsCount h in
-              record {
-                belongs = λ y. R .owning .arm-next i (G .stands) z w e y ∙ l .belongs z;
-                wants = rw (k .1) (v .1);
-                count = omega (arith, k .1, l .count, n);
-                laid = λ d′ e′ L.
-                    l .laid d′ e′
-                    (rw h
-                    (lays-node kArm w (armsTree (localArms P S (armsAt f w) after (beforeAt t whole)))
-                    (leads (goalsTree (partOf f t whole q (word f i 2) after)) (plain (word f i 3) (fourPlain (four (word f i 4) (word f i 5) (word f i 6) (word f i 7)) noWords)))
-                    (arms-goes F t w whole q after (u .stands)) (rw e (k .0)) L));
-              };
-        }
+pub arms-laid : {f : List ℕ} (rows t : List ℕ) {i : ℕ} (at whole : ℕ) {a b d e : List ℕ} {c s m v r p x y : ℕ} → Formed f → Stands f arms i → (i ≡ 0 → ⊥) → Behind c 1 s
+    → x ≡ word f i 2 → PartLaid f rows t x at a b s m v whole → y ≡ word f i 1 → ArmsLaid f rows t y v b d m r p whole → ArmStored f i d e c s m
+    → ArmsLaid f rows t i at a e c r p whole
+unfolding armsCount armsTree localArms partOf
+arms-laid {f} rows t {i} at whole {a} {b} {d} {e} {c} {s} {m} {v} {r} {p} {x} {y} F st z B ex A ey D H = (
+  H .stored .same ∙ D .0 ∙ A .0,
+  λ o q after R h ea W.
+      let P = program f in
+      let S = signatureOf P q in
+      let k : armsAt f i ≡ arm (word f i 3) (four (word f i 4) (word f i 5) (word f i 6) (word f i 7)) (goalsAt f x) (armsAt f y) = rw (ex, ey) (arm-here F z st .view) in
+      let U = arms-want P S t at after k W in
+      let L = A .1 o q after R (λ n. R .owning .arm-goals i st z x ex n ∙ h z) ea (U .0) in
+      let M = D .1 o q after R (λ n. R .owning .arm-next i st z y ey n ∙ h z) ea (rw (L .1) (U .1)) in
+      let N : armsCount (armsAt f i) ≡ goalsCount (goalsAt f x) + armsCount (armsAt f y) = ap armsCount k in
+      let g : Goes (word f i 1) (armsTree (localArms P S (armsAt f y) after (beforeAt t whole))) =
+      λ j. rw (sym ey) (arms-goes F t y whole q after (chain-next F st z ey .stands) j) in
+      let K = arm-front B (goalsTree (partOf f t whole q x after)) (armsTree (localArms P S (armsAt f y) after (beforeAt t whole))) g (L .0) (M .0) H in
+      (rw k K, omega (arith, L .1, M .1, N)),
+)

@@ -3,11 +3,10 @@ use Prim.Native.Nat.{ℕ, _+_, _*_}
 use mathlib.Core.List.{List}
 use mathlib.Core.Path.{_≡_}
 use lib.ListN.{length}
-use Rattle.language.specs.File.{kArm, word}
-use Rattle.language.specs.Tree.{noWords, plain, leads}
+use Rattle.language.specs.File.{word}
 use Rattle.language.specs.Layout.{lay}
-use Rattle.language.specs.Records.{fourPlain, goalsTree, armsTree}
-use Rattle.language.specs.Program.{four, Goals, _before_, signatureOf}
+use Rattle.language.specs.Records.{goalsTree, armsTree}
+use Rattle.language.specs.Program.{Goals, _before_, signatureOf}
 use Rattle.language.specs.Lifetimes.{wanted, live}
 use Rattle.language.specs.Answers.{program}
 use Rattle.placement.specs.Local.{removesTo, localGoals, localGoal, localArms}
@@ -17,7 +16,7 @@ use Rattle.liveness.specs.Points.{points, goalPoints, armsPoints}
 use Rattle.liveness.specs.Counts.{goalsCount, goalCount, armsCount}
 use Rattle.liveness.specs.Table.{beforeAt, afterAt}
 use Rattle.liveness.specs.Done.{Ready, Belongs}
-use Rattle.laying.specs.Lays.{Lays, headOf}
+use Rattle.laying.specs.Lays.{Lays}
 use Rattle.insertion.specs.Chains.{Fronts}
 use Rattle.insertion.specs.Wants.{Wants}
 
@@ -49,16 +48,6 @@ module _ (f rows t : List ℕ) (i at : ℕ) (a b : List ℕ) (c r p : ℕ) where
       × ((o : ℕ → ℕ) (q : ℕ) (after : Set) → Ready f rows o → Belongs o q i → afterAt t whole ≡ wanted (signatureOf (program f) q) after
       → Wants (signatureOf (program f) q) t at (points (program f) (goalsAt f i) after)
       → Lays a b c r (lay (goalsTree (partOf f t whole q i after)) c) × (p ≡ at + 2 * goalsCount (goalsAt f i)))
-
-  -- the arm at record i
-  abbrev pub ArmLaid : ℕ → Type 0
-  ArmLaid whole =
-      (length b ≡ length a)
-      × ((o : ℕ → ℕ) (q : ℕ) (after : Set) → Ready f rows o → o i ≡ q → afterAt t whole ≡ wanted (signatureOf (program f) q) after
-      → Wants (signatureOf (program f) q) t at (points (program f) (goalsAt f (word f i 2)) after)
-      → Lays a b c r (headOf kArm (word f i 1)
-      (leads (goalsTree (partOf f t whole q (word f i 2) after)) (plain (word f i 3) (fourPlain (four (word f i 4) (word f i 5) (word f i 6) (word f i 7)) noWords))) c)
-      × (p ≡ at + 2 * goalsCount (goalsAt f (word f i 2))))
 
   -- the arms from record i on
   abbrev pub ArmsLaid : ℕ → Type 0

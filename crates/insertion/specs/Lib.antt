@@ -1,6 +1,8 @@
 pub mod Chains
 pub mod Wants
+pub mod Cursor
 pub mod Done
+pub mod Along
 pub mod Steps
 pub mod Bodies
 pub mod Procedures

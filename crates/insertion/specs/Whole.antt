@@ -1,10 +1,12 @@
 -- The whole annotated file.
-use Prim.Native.Nat.{ℕ, suc, _+_, _*_, _≤_, _<_}
+use Prim.Native.Nat.{ℕ, zero, suc, _+_, _*_, _≤_, _<_}
 use native.Mathlib.Omega.{arith}
+use native.Mathlib.Decide.{decLt}
+use native.Mathlib.Numerals.{add-one}
 use mathlib.Core.List.{List, [], _∷_, _++_}
-use mathlib.Core.Path.{_≡_, ap, ap₂, sym, _∙_}
-use lib.ListN.{length, getD, drop}
-use Rattle.language.specs.Format.{recordBytes, maxRecords, headerKind}
+use mathlib.Core.Path.{_≡_, refl, ap, ap₂, sym, _∙_}
+use lib.ListN.{length, getD, take, drop, set}
+use Rattle.language.specs.Format.{recordBytes, maxRecords, maxBytes, headerKind}
 use Rattle.language.specs.Lists.{frontWritten}
 use Rattle.language.specs.File.{kType, word, recordCount}
 use Rattle.language.specs.Tree.{Tree, plain, leads}
@@ -13,6 +15,7 @@ use Rattle.language.specs.Records.{zeros, chainOf, typeWords, headed, programTr
 use Rattle.language.specs.Annotation.{annotate}
 use Rattle.language.specs.Answers.{program, fileOf}
 use Rattle.layout.specs.Bytes.{written-length}
+use Rattle.layout.specs.Programs.{length-of-program}
 use Rattle.layout.specs.ProgramFits.{program-fits}
 use Rattle.chains.specs.Layout.{all-rows, lay-length, layWords-length}
 use Rattle.chains.specs.Formed.{Formed, types-stand, program-types}
@@ -83,6 +86,14 @@ module _ {a b : List ℕ} {r : ℕ} (t : Tree) (L : Lays a b 0 r (lay t 0)) wher
   measured-over h = L .place .over (omega (arith, lay-length t 0))
 
 -- its bytes
+file-length : (f : List ℕ) → length (fileOf (annotate (program f))) ≡ recordBytes * size (programTree (annotate (program f)))
+unfolding fileOf
+file-length f = length-of-program (annotate (program f))
+
+take-front : (s t : List ℕ) {n : ℕ} → n ≡ length s → take n (s ++ t) ≡ s
+take-front [] t e = rw e refl
+take-front (x ∷ s) t {n} e = rw e (ap (λ r. x ∷ r) (take-front s t refl))
+
 pub file-written : (f : List ℕ) {a b : List ℕ} {r : ℕ} → ((j : ℕ) → getD b j 0 < 256) → size (programTree (annotate (program f))) ≤ maxRecords
     → recordBytes * size (programTree (annotate (program f))) ≤ length a → Lays a b 0 r (lay (programTree (annotate (program f))) 0)
     → b ≡ frontWritten (fileOf (annotate (program f))) a
@@ -92,3 +103,36 @@ file-written f {a} B l m L =
     let n = lay-length t 0 in
     laid-written (program-fits (annotate (program f))) B m (L .room (omega (arith, n)) (omega (arith, n)))
     ∙ ap (λ k. written t ++ drop k a) (sym (written-length (program-fits (annotate (program f)))))
+
+-- what was laid into memory for the longest file, as far as it goes
+pub file-front : (f : List ℕ) {a b : List ℕ} {r : ℕ} → ((j : ℕ) → getD b j 0 < 256) → maxBytes ≡ length a
+    → Lays a b 0 r (lay (programTree (annotate (program f))) 0) → r ≤ maxRecords → take (recordBytes * r) b ≡ fileOf (annotate (program f))
+unfolding frontWritten
+file-front f {a} {b} {r} B n L h =
+    let P = annotate (program f) in
+    let l : size (programTree P) ≤ maxRecords = elim (decLt maxRecords (size (programTree P))) [ yes k ↦ absurd (omega (arith, measured-over (programTree P) L k)) | no k ↦ omega arith ] in
+    let e : r ≡ size (programTree P) = measured-fits (programTree P) L l in
+    let m : recordBytes * r ≡ length (fileOf P) = omega (arith, e, file-length f) in
+    ap (take (recordBytes * r)) (file-written f B l (omega arith) L) ∙ take-front (fileOf P) (drop (length (fileOf P)) a) m
+
+-- ---- a copy of the front part
+copied-one : (l o : List ℕ) (k : ℕ) → k < length l → k < length o → set (take k l ++ drop k o) k (getD l k 0) ≡ take (suc k) l ++ drop (suc k) o
+copied-one [] o k p q = absurd (omega arith)
+copied-one (x ∷ l) [] k p q = absurd (omega arith)
+copied-one (x ∷ l) (y ∷ o) zero p q = refl
+copied-one (x ∷ l) (y ∷ o) (suc k) p q = ap (λ r. x ∷ r) (copied-one l o k (omega arith) (omega arith))
+
+pub copied-more : (l o : List ℕ) {m : List ℕ} (k : ℕ) {x : ℕ} → k < length l → k < length o → m ≡ take k l ++ drop k o → x ≡ getD l k 0
+    → set m k x ≡ take (k + 1) l ++ drop (k + 1) o
+copied-more l o k p q e n = rw (e, n, add-one k) (copied-one l o k p q)
+
+front-length : (n : ℕ) (l : List ℕ) → n ≤ length l → length (take n l) ≡ n
+front-length zero l h = refl
+front-length (suc n) [] h = absurd (omega arith)
+front-length (suc n) (x ∷ l) h = ap suc (front-length n l (omega arith))
+
+pub copied-all : (l o : List ℕ) {m : List ℕ} (n k : ℕ) → n ≤ length l → k ≤ n → n ≤ k → m ≡ take k l ++ drop k o → m ≡ frontWritten (take n l) o
+unfolding frontWritten
+copied-all l o n k h p q e =
+    let z : k ≡ n = omega arith in
+    e ∙ rw z (ap (λ j. take n l ++ drop j o) (sym (front-length n l h)))

@@ -1,6 +1,10 @@
 // The goals of a procedure, by its window.
+use crate::cursor::cursor;
+use crate::cursor::record_in;
 use crate::points::list_wanted;
+use crate::step::steps;
 use crate::walk::goals;
+use language::format::MAX_BYTES;
 use language::format::REMOVE;
 use laying::lay_marks;
 use lifetimes::wanted_in;
@@ -59,7 +63,7 @@ pub fn lay_body(
     rows: &[u64; ROWS],
     own: &[u64],
     points: &mut [u64; POINTS],
-    out: &mut [u8],
+    out: &mut [u8; MAX_BYTES],
     first: usize,
 ) -> usize
     requires { ⌜ Formed (now file) ⌝ }
@@ -74,6 +78,9 @@ pub fn lay_body(
     let removed = start_removed(own, live);
     let body = word_at(own, BODY);
     let record = lay_marks(out, REMOVE, removed, body, first);
-    let c = goals(file, rows, points, out, body, record, filled.start);
-    c.record
+    let start = filled.start;
+    let mut at = cursor(record, start);
+    let i = steps(&file, rows, points, out, &mut at, body);
+    goals(&file, rows, points, out, &mut at, i);
+    record_in(&at)
 }

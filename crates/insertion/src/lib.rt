@@ -1,16 +1,19 @@
-// The annotated file, laid into a lent slice: the file's records with creates and removes between them.
+// The annotated file: the file's records with creates and removes between them, laid into lent memory, how many they are, and a copy of them.
 mod bodies;
+mod cursor;
 mod points;
 mod procedures;
 mod step;
 mod walk;
 mod whole;
 
+pub use whole::blank_laid;
 pub use whole::measure;
 pub use whole::write;
 
-// Where a walk stands: the next record to write, and the point of the next goal.
-pub struct Cursor {
-    pub record: usize,
-    pub point: usize,
-}
+// Words of where the walk stands: the next record to lay, and the point of the next goal.
+pub const CURSOR: usize = 2;
+
+pub const RECORD: usize = 0;
+
+pub const POINT: usize = 1;

@@ -1,6 +1,7 @@
 // Procedures: their variables and regions as they are, their goals annotated.
 use crate::bodies::lay_body;
 use language::format::HEADER_PROCEDURES;
+use language::format::MAX_BYTES;
 use language::format::NEXT;
 use language::format::PROCEDURE_REGIONS;
 use language::format::PROCEDURE_VARIABLES;
@@ -29,7 +30,7 @@ fn lay_goals(
     table: &[u64],
     rows: &[u64; ROWS],
     points: &mut [u64; POINTS],
-    out: &mut [u8],
+    out: &mut [u8; MAX_BYTES],
     q: usize,
     first: usize,
 ) -> usize
@@ -49,7 +50,7 @@ fn lay_procedure(
     table: &[u64],
     rows: &[u64; ROWS],
     points: &mut [u64; POINTS],
-    out: &mut [u8],
+    out: &mut [u8; MAX_BYTES],
     i: usize,
     q: usize,
     first: usize,
@@ -75,7 +76,7 @@ pub fn lay_procedures(
     table: &[u64; TABLE],
     rows: &[u64; ROWS],
     points: &mut [u64; POINTS],
-    out: &mut [u8],
+    out: &mut [u8; MAX_BYTES],
     first: usize,
 ) -> usize
     requires { ⌜ Given (now file) (now table) (now rows) ⌝ }

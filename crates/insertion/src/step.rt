@@ -1,9 +1,17 @@
-// A step with the creates before it and the removes after it.
-use crate::Cursor;
+// Steps, each with the creates before it and the removes after it.
+use crate::CURSOR;
+use crate::cursor::point_in;
+use crate::cursor::put;
+use crate::cursor::record_in;
 use crate::points::past;
+use chains::word;
 use language::format::CREATE;
+use language::format::IF;
+use language::format::KIND;
+use language::format::MAX_BYTES;
 use language::format::NEXT;
 use language::format::REMOVE;
+use language::format::SWITCH;
 use laying::follows;
 use laying::lay_marks;
 use laying::lay_record;
@@ -12,7 +20,6 @@ use lifetimes::removed_after;
 use liveness::POINTS;
 use liveness::live_after;
 use liveness::live_before;
-use records::word;
 use sets::Set;
 use tables::ROWS;
 use tables::bears_at;
@@ -22,7 +29,9 @@ ghost use mathlib.Core.Path.{_≡_};
 ghost use Rattle.language.specs.File;
 ghost use Rattle.chains.specs.Formed.{Formed, Stands};
 ghost use Rattle.chains.specs.Shapes.{IsSwitch, IsIf};
+ghost use Rattle.insertion.specs.Cursor.{recordIn, pointIn};
 ghost use Rattle.insertion.specs.Done.{GoalLaid};
+ghost use Rattle.insertion.specs.Along.{Along, Parted};
 ghost use Rattle.insertion.specs.Steps.{createdIn, removedIn};
 
 // What is created before the step at record i, whose point is at that place.
@@ -49,28 +58,52 @@ fn removed_at(
     removed_after(held, ends_at(rows, i), bears_at(rows, i), after)
 }
 
-pub fn step(
-    file: &[u8],
+// The step at record i.
+fn step(
+    file: &&[u8],
     rows: &[u64; ROWS],
     points: &[u64; POINTS],
-    out: &mut [u8],
+    out: &mut [u8; MAX_BYTES],
+    at: &mut [usize; CURSOR],
     i: usize,
-    first: usize,
-    point: usize,
-) -> Cursor
-    requires { ⌜ Formed (now file) ⌝ }
-    requires { ⌜ Stands (now file) File.goals i × (i ≡ 0 → ⊥) ⌝ }
-    requires { ⌜ (IsSwitch (now file) i → ⊥) × (IsIf (now file) i → ⊥) ⌝ }
-    ensures { λ r. ⌜ GoalLaid (now (file .entry)) (now (rows .entry)) (now (points .entry)) i point (now (out .entry)) (now (out .exit)) first (r .record) (r .point) ⌝ }
+)
+    requires { ⌜ Formed (now (now file)) ⌝ }
+    requires { ⌜ Stands (now (now file)) File.goals i × (i ≡ 0 → ⊥) ⌝ }
+    requires { ⌜ (IsSwitch (now (now file)) i → ⊥) × (IsIf (now (now file)) i → ⊥) ⌝ }
+    ensures { λ _. ⌜ GoalLaid (now (now (file .entry))) (now (rows .entry)) (now (points .entry)) i (pointIn (now (at .entry))) (now (out .entry)) (now (out .exit)) (recordIn (now (at .entry))) (recordIn (now (at .exit))) (pointIn (now (at .exit))) ⌝ }
 {
+    let point = point_in(at);
     let created = created_at(rows, points, i, point);
     let removed = removed_at(rows, points, i, point, created);
-    let next = word(file, i, NEXT);
-    let start = lay_marks(out, CREATE, created, 1, first);
-    let end = lay_record(file, out, i, follows(removed, next), start);
+    let next = word(*file, i, NEXT);
+    let start = lay_marks(out, CREATE, created, 1, record_in(at));
+    let end = lay_record(*file, out, i, follows(removed, next), start);
     let record = lay_marks(out, REMOVE, removed, next, end);
-    Cursor {
-        record,
-        point: past(point),
+    put(at, record, past(point));
+}
+
+// The steps from record start on, up to the first goal with parts, which is answered; 0 where the chain has none.
+pub fn steps(
+    file: &&[u8],
+    rows: &[u64; ROWS],
+    points: &[u64; POINTS],
+    out: &mut [u8; MAX_BYTES],
+    at: &mut [usize; CURSOR],
+    start: usize,
+) -> usize
+    requires { ⌜ Formed (now (now file)) ⌝ }
+    requires { ⌜ Stands (now (now file)) File.goals start ⌝ }
+    ensures { λ r. ⌜ Along (now (now (file .entry))) (now (rows .entry)) (now (points .entry)) start (pointIn (now (at .entry))) (now (out .entry)) (now (out .exit)) (recordIn (now (at .entry))) r (pointIn (now (at .exit))) (recordIn (now (at .exit))) ⌝ }
+    ensures { λ r. ⌜ Parted (now (now (file .entry))) r ⌝ }
+{
+    let mut i = start;
+    while i != 0 {
+        match word(*file, i, KIND) {
+            SWITCH => return i,
+            IF => return i,
+            _ => step(file, rows, points, out, at, i),
+        }
+        i = word(*file, i, NEXT);
     }
+    i
 }

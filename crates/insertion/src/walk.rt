@@ -1,13 +1,18 @@
-// The walk over goals that lays them with the creates and removes of "Annotator".
-use crate::Cursor;
+// The walk over goals that lays them with the creates and removes of "Annotator". What the walk is lent is lent on by one word each, and steps are laid
+// outside of it, so that a level takes 112 bytes of the stack.
+use crate::CURSOR;
+use crate::cursor::point_in;
+use crate::cursor::put;
+use crate::cursor::record_in;
 use crate::points::left_over;
 use crate::points::past;
-use crate::step::step;
+use crate::step::steps;
+use chains::word;
 use language::format::ARM_GOALS;
-use language::format::IF;
 use language::format::IF_ELSE;
 use language::format::IF_THEN;
 use language::format::KIND;
+use language::format::MAX_BYTES;
 use language::format::NEXT;
 use language::format::REMOVE;
 use language::format::SWITCH;
@@ -17,174 +22,137 @@ use laying::store_arm;
 use laying::store_if;
 use laying::store_switch;
 use liveness::POINTS;
-use records::word;
 use tables::ROWS;
 use writer::behind;
 ghost use mathlib.Core.Path.{_≡_};
 ghost use Rattle.language.specs.File;
 ghost use Rattle.chains.specs.Formed.{Formed, Stands};
 ghost use Rattle.chains.specs.Shapes.{IsSwitch, IsIf};
-ghost use Rattle.insertion.specs.Done.{GoalsLaid, GoalLaid, PartLaid, ArmLaid, ArmsLaid};
+ghost use Rattle.insertion.specs.Cursor.{recordIn, pointIn};
+ghost use Rattle.insertion.specs.Done.{GoalsLaid, GoalLaid, PartLaid, ArmsLaid};
+ghost use Rattle.insertion.specs.Along.{Parted};
 
-// The goals from record start on.
+// The goals from record start on, which is a goal with parts.
 pub fn goals(
-    file: &[u8],
+    file: &&[u8],
     rows: &[u64; ROWS],
     points: &[u64; POINTS],
-    out: &mut [u8],
+    out: &mut [u8; MAX_BYTES],
+    at: &mut [usize; CURSOR],
     start: usize,
-    first: usize,
-    point: usize,
-) -> Cursor
-    requires { ⌜ Formed (now file) ⌝ }
-    requires { ⌜ Stands (now file) File.goals start ⌝ }
-    ensures { λ r. ⌜ GoalsLaid (now (file .entry)) (now (rows .entry)) (now (points .entry)) start point (now (out .entry)) (now (out .exit)) first (r .record) (r .point) ⌝ }
+)
+    requires { ⌜ Formed (now (now file)) ⌝ }
+    requires { ⌜ Stands (now (now file)) File.goals start × Parted (now (now file)) start ⌝ }
+    ensures { λ _. ⌜ GoalsLaid (now (now (file .entry))) (now (rows .entry)) (now (points .entry)) start (pointIn (now (at .entry))) (now (out .entry)) (now (out .exit)) (recordIn (now (at .entry))) (recordIn (now (at .exit))) (pointIn (now (at .exit))) ⌝ }
 {
     let mut i = start;
-    let mut record = first;
-    let mut at = point;
     while i != 0 {
-        let c = goal(file, rows, points, out, i, record, at);
-        record = c.record;
-        at = c.point;
-        i = word(file, i, NEXT);
-    }
-    Cursor { record, point: at }
-}
-
-// The goal at record i.
-fn goal(
-    file: &[u8],
-    rows: &[u64; ROWS],
-    points: &[u64; POINTS],
-    out: &mut [u8],
-    i: usize,
-    first: usize,
-    point: usize,
-) -> Cursor
-    requires { ⌜ Formed (now file) ⌝ }
-    requires { ⌜ Stands (now file) File.goals i × (i ≡ 0 → ⊥) ⌝ }
-    ensures { λ r. ⌜ GoalLaid (now (file .entry)) (now (rows .entry)) (now (points .entry)) i point (now (out .entry)) (now (out .exit)) first (r .record) (r .point) ⌝ }
-{
-    match word(file, i, KIND) {
-        SWITCH => switch(file, rows, points, out, i, first, point),
-        IF => branches(file, rows, points, out, i, first, point),
-        _ => step(file, rows, points, out, i, first, point),
+        if word(*file, i, KIND) == SWITCH {
+            switch(file, rows, points, out, at, i);
+        } else {
+            branches(file, rows, points, out, at, i);
+        }
+        let next = word(*file, i, NEXT);
+        i = steps(file, rows, points, out, at, next);
     }
 }
 
 // A switch: its arms, then its own record in front of them.
 fn switch(
-    file: &[u8],
+    file: &&[u8],
     rows: &[u64; ROWS],
     points: &[u64; POINTS],
-    out: &mut [u8],
+    out: &mut [u8; MAX_BYTES],
+    at: &mut [usize; CURSOR],
     i: usize,
-    first: usize,
-    point: usize,
-) -> Cursor
-    requires { ⌜ Formed (now file) ⌝ }
-    requires { ⌜ IsSwitch (now file) i ⌝ }
-    ensures { λ r. ⌜ GoalLaid (now (file .entry)) (now (rows .entry)) (now (points .entry)) i point (now (out .entry)) (now (out .exit)) first (r .record) (r .point) ⌝ }
+)
+    requires { ⌜ Formed (now (now file)) ⌝ }
+    requires { ⌜ IsSwitch (now (now file)) i ⌝ }
+    ensures { λ _. ⌜ GoalLaid (now (now (file .entry))) (now (rows .entry)) (now (points .entry)) i (pointIn (now (at .entry))) (now (out .entry)) (now (out .exit)) (recordIn (now (at .entry))) (recordIn (now (at .exit))) (pointIn (now (at .exit))) ⌝ }
 {
+    let first = record_in(at);
+    let whole = point_in(at);
     let start = behind(first);
-    let cases = word(file, i, SWITCH_ARMS);
-    let c = arms(file, rows, points, out, cases, start, past(point), point);
-    store_switch(file, out, i, first, start, c.record);
-    c
+    put(at, start, past(whole));
+    let cases = word(*file, i, SWITCH_ARMS);
+    arms(file, rows, points, out, at, cases, whole);
+    store_switch(*file, out, i, first, start, record_in(at));
 }
 
 // An if: its first part, its second, then its own record in front of them.
 fn branches(
-    file: &[u8],
+    file: &&[u8],
     rows: &[u64; ROWS],
     points: &[u64; POINTS],
-    out: &mut [u8],
+    out: &mut [u8; MAX_BYTES],
+    at: &mut [usize; CURSOR],
     i: usize,
-    first: usize,
-    point: usize,
-) -> Cursor
-    requires { ⌜ Formed (now file) ⌝ }
-    requires { ⌜ IsIf (now file) i ⌝ }
-    ensures { λ r. ⌜ GoalLaid (now (file .entry)) (now (rows .entry)) (now (points .entry)) i point (now (out .entry)) (now (out .exit)) first (r .record) (r .point) ⌝ }
+)
+    requires { ⌜ Formed (now (now file)) ⌝ }
+    requires { ⌜ IsIf (now (now file)) i ⌝ }
+    ensures { λ _. ⌜ GoalLaid (now (now (file .entry))) (now (rows .entry)) (now (points .entry)) i (pointIn (now (at .entry))) (now (out .entry)) (now (out .exit)) (recordIn (now (at .entry))) (recordIn (now (at .exit))) (pointIn (now (at .exit))) ⌝ }
 {
+    let first = record_in(at);
+    let whole = point_in(at);
     let start = behind(first);
-    let yes = word(file, i, IF_THEN);
-    let c = part(file, rows, points, out, yes, start, past(point), point);
-    let no = word(file, i, IF_ELSE);
-    let d = part(file, rows, points, out, no, c.record, c.point, point);
-    store_if(file, out, i, first, start, c.record, d.record);
-    d
+    put(at, start, past(whole));
+    let yes = word(*file, i, IF_THEN);
+    part(file, rows, points, out, at, yes, whole);
+    let middle = record_in(at);
+    let no = word(*file, i, IF_ELSE);
+    part(file, rows, points, out, at, no, whole);
+    store_if(*file, out, i, first, start, middle, record_in(at));
 }
 
-// A part of the goal whose point is at `whole`: removes, then the goals from record start on.
+// A part of the goal whose point is at `whole`: removes, then the goals from record start on. A part of steps alone is no call back into the walk.
 fn part(
-    file: &[u8],
+    file: &&[u8],
     rows: &[u64; ROWS],
     points: &[u64; POINTS],
-    out: &mut [u8],
+    out: &mut [u8; MAX_BYTES],
+    at: &mut [usize; CURSOR],
     start: usize,
-    first: usize,
-    point: usize,
     whole: usize,
-) -> Cursor
-    requires { ⌜ Formed (now file) ⌝ }
-    requires { ⌜ Stands (now file) File.goals start ⌝ }
-    ensures { λ r. ⌜ PartLaid (now (file .entry)) (now (rows .entry)) (now (points .entry)) start point (now (out .entry)) (now (out .exit)) first (r .record) (r .point) whole ⌝ }
+)
+    requires { ⌜ Formed (now (now file)) ⌝ }
+    requires { ⌜ Stands (now (now file)) File.goals start ⌝ }
+    ensures { λ _. ⌜ PartLaid (now (now (file .entry))) (now (rows .entry)) (now (points .entry)) start (pointIn (now (at .entry))) (now (out .entry)) (now (out .exit)) (recordIn (now (at .entry))) (recordIn (now (at .exit))) (pointIn (now (at .exit))) whole ⌝ }
 {
+    let point = point_in(at);
     let removed = left_over(points, whole, start, point);
-    let record = lay_marks(out, REMOVE, removed, start, first);
-    if start == 0 {
-        return Cursor { record, point };
+    let record = lay_marks(out, REMOVE, removed, start, record_in(at));
+    put(at, record, point);
+    let i = steps(file, rows, points, out, at, start);
+    if i != 0 {
+        goals(file, rows, points, out, at, i);
     }
-    goals(file, rows, points, out, start, record, point)
 }
 
-// An arm: its goals, then its own record in front of them.
-fn arm(
-    file: &[u8],
-    rows: &[u64; ROWS],
-    points: &[u64; POINTS],
-    out: &mut [u8],
-    i: usize,
-    first: usize,
-    point: usize,
-    whole: usize,
-) -> Cursor
-    requires { ⌜ Formed (now file) ⌝ }
-    requires { ⌜ Stands (now file) File.arms i × (i ≡ 0 → ⊥) ⌝ }
-    ensures { λ r. ⌜ ArmLaid (now (file .entry)) (now (rows .entry)) (now (points .entry)) i point (now (out .entry)) (now (out .exit)) first (r .record) (r .point) whole ⌝ }
-{
-    let start = behind(first);
-    let inside = word(file, i, ARM_GOALS);
-    let c = part(file, rows, points, out, inside, start, point, whole);
-    store_arm(file, out, i, first, start, c.record);
-    c
-}
-
-// The arms from record start on, of the switch whose point is at `whole`.
+// The arms from record i on, of the switch whose point is at `whole`: the goals of the first, the later arms, then its own record in front of them.
 fn arms(
-    file: &[u8],
+    file: &&[u8],
     rows: &[u64; ROWS],
     points: &[u64; POINTS],
-    out: &mut [u8],
-    start: usize,
-    first: usize,
-    point: usize,
+    out: &mut [u8; MAX_BYTES],
+    at: &mut [usize; CURSOR],
+    i: usize,
     whole: usize,
-) -> Cursor
-    requires { ⌜ Formed (now file) ⌝ }
-    requires { ⌜ Stands (now file) File.arms start ⌝ }
-    ensures { λ r. ⌜ ArmsLaid (now (file .entry)) (now (rows .entry)) (now (points .entry)) start point (now (out .entry)) (now (out .exit)) first (r .record) (r .point) whole ⌝ }
+)
+    requires { ⌜ Formed (now (now file)) ⌝ }
+    requires { ⌜ Stands (now (now file)) File.arms i ⌝ }
+    ensures { λ _. ⌜ ArmsLaid (now (now (file .entry))) (now (rows .entry)) (now (points .entry)) i (pointIn (now (at .entry))) (now (out .entry)) (now (out .exit)) (recordIn (now (at .entry))) (recordIn (now (at .exit))) (pointIn (now (at .exit))) whole ⌝ }
 {
-    let mut i = start;
-    let mut record = first;
-    let mut at = point;
-    while i != 0 {
-        let c = arm(file, rows, points, out, i, record, at, whole);
-        record = c.record;
-        at = c.point;
-        i = word(file, i, NEXT);
+    if i == 0 {
+        return;
     }
-    Cursor { record, point: at }
+    let first = record_in(at);
+    let start = behind(first);
+    let point = point_in(at);
+    put(at, start, point);
+    let inside = word(*file, i, ARM_GOALS);
+    part(file, rows, points, out, at, inside, whole);
+    let end = record_in(at);
+    let next = word(*file, i, NEXT);
+    arms(file, rows, points, out, at, next, whole);
+    store_arm(*file, out, i, first, start, end);
 }

@@ -2,6 +2,7 @@
 use crate::procedures::lay_procedures;
 use language::format::HEADER;
 use language::format::HEADER_TYPES;
+use language::format::MAX_BYTES;
 use laying::lay_chain;
 use laying::refer;
 use laying::span;
@@ -11,9 +12,9 @@ use records::word;
 use tables::ROWS;
 use tables::TABLE;
 ghost use mathlib.Core.Path.{_≡_};
-ghost use Prim.Native.Nat.{_*_, _≤_, _<_};
-ghost use lib.ListN.{length};
-ghost use Rattle.language.specs.Format.{recordBytes, maxRecords};
+ghost use Prim.Native.Nat.{ℕ, _*_, _≤_, _<_};
+ghost use lib.ListN.{length, getD, take};
+ghost use Rattle.language.specs.Format.{recordBytes, maxRecords, maxBytes};
 ghost use Rattle.language.specs.Lists.{frontWritten};
 ghost use Rattle.language.specs.Layout.{size, lay};
 ghost use Rattle.language.specs.Records.{programTree};
@@ -25,7 +26,7 @@ ghost use Rattle.insertion.specs.Procedures.{Given};
 ghost use Rattle.insertion.specs.Whole.{HeaderStored};
 
 // Stores the header: the types were laid from 1 to procedures, the procedures from there to end.
-fn store_header(out: &mut [u8], procedures: usize, end: usize)
+fn store_header(out: &mut [u8; MAX_BYTES], procedures: usize, end: usize)
     ensures { λ _. ⌜ HeaderStored (now (out .entry)) (now (out .exit)) procedures end ⌝ }
 {
     let w1 = span(procedures, end);
@@ -34,13 +35,13 @@ fn store_header(out: &mut [u8], procedures: usize, end: usize)
     store(out, 0, HEADER, w1, w2, count, 0, 0, 0, 0);
 }
 
-// Lays the whole file, as far as the slice has room for it.
+// Lays the whole file, as far as the memory has room for it.
 fn lay_file(
     file: &[u8],
     table: &[u64; TABLE],
     rows: &[u64; ROWS],
     points: &mut [u64; POINTS],
-    out: &mut [u8],
+    out: &mut [u8; MAX_BYTES],
 ) -> usize
     requires { ⌜ Given (now file) (now table) (now rows) ⌝ }
     requires { ⌜ length (now points) ≡ pointWords ⌝ }
@@ -54,42 +55,54 @@ fn lay_file(
     end
 }
 
-fn no_room() -> [u8; 1]
-    ensures { λ r. ⌜ 1 ≡ length r ⌝ }
+fn lent(memory: &[u8]) {}
+
+// What stands in memory are bytes: that is known of a slice that is lent on, and not of an array.
+fn are_bytes(memory: &[u8])
+    ensures { λ _. ⌜ ((j : ℕ) → getD (now (memory .entry)) j 0 < 256) ⌝ }
 {
-    [0; 1]
+    lent(memory);
 }
 
-// How many records the annotated file has; some number above 4,096 where it has more than that.
+// Memory for the longest annotated file.
+pub fn blank_laid() -> [u8; MAX_BYTES]
+    ensures { λ r. ⌜ maxBytes ≡ length r ⌝ }
+{
+    [0; MAX_BYTES]
+}
+
+// Lays the annotated file as the front part of `laid` and answers how many records it has; some number above 4,096 where it has more than that.
 pub fn measure(
     file: &[u8],
     table: &[u64; TABLE],
     rows: &[u64; ROWS],
     points: &mut [u64; POINTS],
+    laid: &mut [u8; MAX_BYTES],
 ) -> usize
     requires { ⌜ Given (now file) (now table) (now rows) ⌝ }
     requires { ⌜ length (now points) ≡ pointWords ⌝ }
+    requires { ⌜ maxBytes ≡ length (now laid) ⌝ }
     ensures { λ _. ⌜ length (now (points .exit)) ≡ pointWords ⌝ }
+    ensures { λ _. ⌜ maxBytes ≡ length (now (laid .exit)) ⌝ }
     ensures { λ r. ⌜ (size (programTree (annotate (program (now (file .entry))))) ≤ maxRecords → r ≡ size (programTree (annotate (program (now (file .entry)))))) ⌝ }
     ensures { λ r. ⌜ (maxRecords < size (programTree (annotate (program (now (file .entry))))) → maxRecords < r) ⌝ }
+    ensures { λ r. ⌜ (r ≤ maxRecords → take (recordBytes * r) (now (laid .exit)) ≡ fileOf (annotate (program (now (file .entry))))) ⌝ }
 {
-    let mut none = no_room();
-    lay_file(file, table, rows, points, &mut none)
+    let records = lay_file(file, table, rows, points, laid);
+    are_bytes(laid);
+    records
 }
 
-// Writes the annotated file as the front part of the slice, which has room for it. Bytes behind it stay as they are.
-pub fn write(
-    file: &[u8],
-    table: &[u64; TABLE],
-    rows: &[u64; ROWS],
-    points: &mut [u64; POINTS],
-    out: &mut [u8],
-)
-    requires { ⌜ Given (now file) (now table) (now rows) ⌝ }
-    requires { ⌜ length (now points) ≡ pointWords ⌝ }
-    requires { ⌜ size (programTree (annotate (program (now file)))) ≤ maxRecords ⌝ }
-    requires { ⌜ recordBytes * size (programTree (annotate (program (now file)))) ≤ length (now out) ⌝ }
-    ensures { λ _. ⌜ now (out .exit) ≡ frontWritten (fileOf (annotate (program (now (file .entry))))) (now (out .entry)) ⌝ }
+// Copies that many bytes of what was laid to the front part of the slice, which has room for them. Bytes behind them stay as they are.
+pub fn write(laid: &[u8; MAX_BYTES], bytes: usize, out: &mut [u8])
+    requires { ⌜ bytes ≤ maxBytes ⌝ }
+    requires { ⌜ maxBytes ≡ length (now laid) ⌝ }
+    requires { ⌜ bytes ≤ length (now out) ⌝ }
+    ensures { λ _. ⌜ now (out .exit) ≡ frontWritten (take bytes (now (laid .entry))) (now (out .entry)) ⌝ }
 {
-    lay_file(file, table, rows, points, out);
+    let mut k = 0;
+    while k < bytes {
+        out[k] = laid[k];
+        k += 1;
+    }
 }

@@ -7,13 +7,13 @@ use mathlib.Core.Path.{_≡_, ap₂, sym}
 use lib.ListN.{length}
 use Rattle.language.specs.Format.{maxRecords, switchKind, ifKind, armKind, procedureKind}
 use Rattle.language.specs.File.{kSwitch, kIf, kProcedure, kArm, kGoal, word}
-use Rattle.language.specs.Tree.{Tree, noWords, plain, leads}
+use Rattle.language.specs.Tree.{Tree, node, noWords, plain, leads}
 use Rattle.language.specs.Layout.{wordList, lay, layWords}
 use Rattle.language.specs.Records.{zeros, fourPlain}
 use Rattle.language.specs.Program.{four}
 use Rattle.chains.specs.Layout.{all-rows}
 use Rattle.writer.specs.Skips.{Behind}
-use Rattle.laying.specs.Lays.{Lays, lays-none, Stored, headOf, lays-number, lays-no-words, lays-leads, lays-head, Refers, Spans, lays-span}
+use Rattle.laying.specs.Lays.{Lays, lays-none, Stored, Goes, headOf, lays-number, lays-no-words, lays-leads, lays-head, lays-front, Refers, Spans, lays-span}
 
 -- what ends below 4,096 starts there
 pub lays-low : {a b : List ℕ} {c r : ℕ} {rs : List (List ℕ)} → Lays a b c r rs → r ≤ maxRecords → c ≤ maxRecords
@@ -98,14 +98,6 @@ module _ {f : List ℕ} {i : ℕ} {a b d : List ℕ} {c s e : ℕ} (B : Behind c
       (lays-number (word f i 2) (leads t (zeros 4)) (lays-leads t (zeros 4) L (lays-zeros b e 4))) (H .stored)
       (λ l n. ap₂ (λ u v. switchKind ∷ u ∷ word f i 2 ∷ v ∷ 0 ∷ 0 ∷ 0 ∷ 0 ∷ []) (H .refers .is l) (lays-span t (H .spans) L l .0))
 
-  pub arm-head : (t : Tree) → Lays a b s e (lay t s) → ArmStored f i b d c s e
-      → Lays a d c e (headOf kArm (word f i 1) (leads t (plain (word f i 3) (fourPlain (four (word f i 4) (word f i 5) (word f i 6) (word f i 7)) noWords))) c)
-  unfolding all-rows wordList fourPlain layWords
-  arm-head t L H =
-      lays-head kArm (word f i 1) (leads t (plain (word f i 3) (fourPlain (four (word f i 4) (word f i 5) (word f i 6) (word f i 7)) noWords))) B
-      (lays-leads t (plain (word f i 3) (fourPlain (four (word f i 4) (word f i 5) (word f i 6) (word f i 7)) noWords)) L (lays-none b e)) (H .stored)
-      (λ l n. ap₂ (λ u v. armKind ∷ u ∷ v ∷ word f i 3 ∷ word f i 4 ∷ word f i 5 ∷ word f i 6 ∷ word f i 7 ∷ []) (H .refers .is l) (lays-span t (H .spans) L l .0))
-
 module _ {f : List ℕ} {i : ℕ} {a b d g : List ℕ} {c s m e : ℕ} (B : Behind c 1 s) where
   pub if-head : (t u : Tree) → Lays a b s m (lay t s) → Lays b d m e (lay u m) → IfStored f i d g c s m e
       → Lays a g c e (headOf (kGoal kIf) (word f i 1) (plain (word f i 2) (plain (word f i 3) (leads t (leads u (zeros 2))))) c)
@@ -118,6 +110,15 @@ module _ {f : List ℕ} {i : ℕ} {a b d g : List ℕ} {c s m e : ℕ} (B : Behi
       let p = lays-span t (H .yes-spans) L (lays-low K l) in
       let q = lays-span u (H .no-spans) K l in
       rw (sym (p .1)) (ap₂ (λ v w. ifKind ∷ v ∷ word f i 2 ∷ word f i 3 ∷ w) (H .refers .is l) (ap₂ (λ v w. v ∷ w ∷ 0 ∷ 0 ∷ []) (p .0) (q .0))))
+
+  -- an arm, stored when the later arms are laid
+  pub arm-front : (t u : Tree) → Goes (word f i 1) u → Lays a b s m (lay t s) → Lays b d m e (lay u m) → ArmStored f i d g c s m
+      → Lays a g c e (lay (node kArm u (leads t (plain (word f i 3) (fourPlain (four (word f i 4) (word f i 5) (word f i 6) (word f i 7)) noWords)))) c)
+  unfolding all-rows wordList fourPlain layWords
+  arm-front t u o L K H =
+      lays-front kArm (word f i 1) u (leads t (plain (word f i 3) (fourPlain (four (word f i 4) (word f i 5) (word f i 6) (word f i 7)) noWords))) o B
+      (lays-leads t (plain (word f i 3) (fourPlain (four (word f i 4) (word f i 5) (word f i 6) (word f i 7)) noWords)) L (lays-none b m)) K (H .stored)
+      (λ l n. ap₂ (λ x y. armKind ∷ x ∷ y ∷ word f i 3 ∷ word f i 4 ∷ word f i 5 ∷ word f i 6 ∷ word f i 7 ∷ []) (H .refers .is l) (lays-span t (H .spans) L l .0))
 
 module _ {f : List ℕ} {i : ℕ} {a b d g h : List ℕ} {c s m n e : ℕ} (B : Behind c 1 s) where
   pub procedure-head : (t u v : Tree) → Lays a b s m (lay t s) → Lays b d m n (lay u m) → Lays d g n e (lay v n) → ProcedureStored f i g h c s m n e

@@ -142,6 +142,22 @@ lays-node {a} {b} {d} {c} {m} {r} k on t ws g p q =
     let u : Lays a d c r (headOf k on ws c ++ lay t (suc c + sizeWords ws)) = rw n at (lays-then (headOf k on ws c) (lay t) p q) in
     rw (sym (g (suc c + sizeWords ws))) u
 
+-- the parts, the rest of its chain, then the record in front of all that
+pub lays-front : {a b d e : List ℕ} {c m n r : ℕ} {v : List ℕ} (k : Kind) (on : ℕ) (t : Tree) (ws : Words) → Goes on t → Behind c 1 m
+    → Lays a b m n (layWords ws m) → Lays b d n r (lay t n) → Stored d e c v → (n ≤ maxRecords → m ≡ suc c → v ≡ row k .kind ∷ linked on n ∷ wordList m ws)
+    → Lays a e c r (lay (node k t ws) c)
+unfolding lay
+lays-front {a} {b} {d} {e} {c} {m} {n} {r} {v} k on t ws g B p q S h =
+    let ys : ℕ → List (List ℕ) = λ i. layWords ws i ++ lay t (i + sizeWords ws) in
+    let l : m + length (layWords ws m) ≡ m + sizeWords ws = ap (λ i. m + i) (layWords-length ws m) in
+    let u : Lays a d m r (ys m) = rw l at (lays-then (layWords ws m) (lay t) p q) in
+    lays-before (row k .kind ∷ reference (suc c + sizeWords ws) t ∷ wordList (suc c) ws) ys B u S
+    (λ i o j.
+    let x : length (ys (suc c)) ≡ sizeWords ws + length (lay t (suc c + sizeWords ws)) =
+    length-append (layWords ws (suc c)) (lay t (suc c + sizeWords ws)) ∙ ap (λ z. z + length (lay t (suc c + sizeWords ws))) (layWords-length ws (suc c)) in
+    let y : n ≡ suc c + sizeWords ws = omega (arith, p .place .fits (omega (arith, x, layWords-length ws m)), layWords-length ws m) in
+    rw (sym y, sym (g n), sym o) (h (omega (arith, x)) o))
+
 -- ---- references that the code makes, which fit in a word
 -- x refers to place c, if w is not 0
 pub record Refers (w c x : ℕ) : Type 0 where

@@ -1,15 +1,10 @@
 -- `lay_body` meets its contract.
+use mathlib.Core.Path.{sym}
+use Rattle.insertion.specs.Along.{along-rest}
 use Rattle.insertion.specs.Bodies.{body-laid}
 use borrow.Author.Needs.{needs}
 use Rattle.insertion.proofs.bodies.lay_body.Statement.{statement}
 use Rattle.insertion.proofs.bodies.lay_body.Tie as tie
-use Rattle.insertion.proofs.bodies.lay_body.Reads as reads
-use Rattle.insertion.proofs.bodies.lay_body.Lts as lts
-use Rattle.insertion.proofs.bodies.fill_points.Reads as fill-points-reads
-use Rattle.insertion.proofs.bodies.start_removed.Reads as start-removed-reads
-use Rattle.laying.proofs.lay_marks.Reads as lay-marks-reads
-use Rattle.insertion.proofs.walk.goals.Reads as goals-reads
-use Rattle.tables.proofs.word_at.Reads as word-at-reads
 
 fill-points-requires : tie.Need-fill-points-requires
 fill-points-requires c κs = search needs
@@ -23,16 +18,31 @@ word-at-requires c κs = search needs
 lay-marks-requires : tie.Need-lay-marks-requires
 lay-marks-requires c κs = search needs
 
+cursor-requires : tie.Need-cursor-requires
+cursor-requires c κs = search needs
+
+steps-requires : tie.Need-steps-requires
+steps-requires c κs =
+    let p = c .before .before .before .before .before .before .before .before .before .before .before .before .before .before .pre in
+    (p .0, rw (c .before .before .before .before .before .before .before .word-at .ensures) (p .1 .1 .0))
+
 goals-requires : tie.Need-goals-requires
 goals-requires c κs =
-    (c .before .before .before .before .before .before .before .before .before .before .before .before .before .before .pre .0, rw (c .before .before .before .before .before .before .word-at .ensures) (c .before .before .before .before .before .before .before .before .before .before .before .before .before .before .pre .1 .1 .0))
+    let e = c .before .before .before .before .steps .ensures in
+    (c .before .before .before .before .before .before .before .before .before .before .before .before .before .before .before .before .before .before .before .pre .0, (e .0 .stands, e .1))
 
-same-length : tie.Need-same-length
-same-length c = search needs
+record-in-requires : tie.Need-record-in-requires
+record-in-requires c κs = search needs
 
 returns : tie.Need-returns
 returns c =
-    (c .before .before .before .before .before .before .before .before .before .before .before .before .fill-points .ensures .0, body-laid _ _ (c .before .before .before .before .before .before .before .before .before .before .before .before .before .before .before .before .before .pre .0) (c .before .before .before .before .before .before .before .before .before .before .before .before .before .before .before .before .before .pre .1 .1 .0) _ _ _ _ _ (c .before .before .before .before .before .before .before .before .before .before .before .before .fill-points .ensures) (c .before .before .before .before .before .before .before .before .before .before .start-removed .ensures) (c .before .before .before .before .before .before .before .before .before .word-at .ensures) (c .before .before .before .before .before .before .before .lay-marks .ensures) (c .before .before .goals .ensures))
+    let p = c .before .before .before .before .before .before .before .before .before .before .before .before .before .before .before .before .before .before .before .before .before .before .pre in
+    let e = c .before .before .before .before .before .before .before .before .before .before .before .before .cursor .ensures in
+    let g = c .before .before .before .before .before .before .before .before .before .before .before .before .before .before .before .before .before .before .fill-points .ensures in (
+      g .0,
+      body-laid _ _ (p .0) (p .1 .1 .0) _ _ _ _ _ g (c .before .before .before .before .before .before .before .before .before .before .before .before .before .before .before .before .start-removed .ensures) (c .before .before .before .before .before .before .before .before .before .before .before .before .before .before .before .word-at .ensures) (c .before .before .before .before .before .before .before .before .before .before .before .before .before .lay-marks .ensures)
+          (rw (e .record-is, e .point-is, sym (c .record-in .ensures)) at (along-rest (c .before .before .before .before .before .before .before .steps .ensures .0) (c .before .before .goals .ensures))),
+    )
 
 pub lay-body-spec : {M : Type 1} → statement M
 lay-body-spec =
@@ -42,6 +52,8 @@ lay-body-spec =
     start-removed-requires
     word-at-requires
     lay-marks-requires
+    cursor-requires
+    steps-requires
     goals-requires
-    same-length
+    record-in-requires
     returns)

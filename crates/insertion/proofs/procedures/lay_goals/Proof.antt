@@ -26,15 +26,12 @@ part-lay-body-end c = search needs
 
 lay-body-requires : tie.Need-lay-body-requires
 lay-body-requires c κs =
-    let p = c .before .before .before .before .before .before .before .pre in
+    let p = c .before .before .before .before .before .before .pre in
     (p .0 .formed, (p .0 .prepared .accessed, (window-stands (p .0) (p .1 .0) (c .before .before .before .start-of .ensures .0), p .1 .1)))
-
-same-length : tie.Need-same-length
-same-length c = search needs
 
 returns : tie.Need-returns
 returns c =
-    (c .before .before .lay-body .ensures .0, goals-laid (c .before .before .before .before .before .before .before .before .before .before .pre .0) (c .before .before .before .before .before .before .before .before .before .before .pre .1 .0) (c .before .before .before .before .before .before .start-of .ensures .0) (c .before .before .lay-body .ensures .1))
+    (c .lay-body .ensures .0, goals-laid (c .before .before .before .before .before .before .before .pre .0) (c .before .before .before .before .before .before .before .pre .1 .0) (c .before .before .before .before .start-of .ensures .0) (c .lay-body .ensures .1))
 
 pub lay-goals-spec : {M : Type 1} → statement M
 lay-goals-spec =
@@ -46,5 +43,4 @@ lay-goals-spec =
     part-lay-body-start
     part-lay-body-end
     lay-body-requires
-    same-length
     returns)

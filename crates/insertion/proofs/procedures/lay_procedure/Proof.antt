@@ -21,7 +21,7 @@ word-requires c κs = search needs
 
 lay-chain-requires : tie.Need-lay-chain-requires
 lay-chain-requires c κs =
-    let p = c .before .before .before .before .before .before .pre in
+    let p = c .before .before .before .before .before .pre in
     (p .0 .formed, rw (c .before .word .ensures .0) (here (p .0 .formed) (p .1 .0 .0) (p .1 .0 .1) .to-variables .stands .below))
 
 word-requires-2 : tie.Need-word-requires-2
@@ -29,25 +29,21 @@ word-requires-2 c κs = search needs
 
 lay-chain-requires-2 : tie.Need-lay-chain-requires-2
 lay-chain-requires-2 c κs =
-    let p = c .before .before .before .before .before .before .before .before .before .before .before .pre in
+    let p = c .before .before .before .before .before .before .before .before .pre in
     (p .0 .formed, rw (c .word2 .ensures .0) (here (p .0 .formed) (p .1 .0 .0) (p .1 .0 .1) .to-regions .stands .below))
 
 lay-goals-requires : tie.Need-lay-goals-requires
 lay-goals-requires c κs =
-    let p = c .before .before .before .before .before .before .before .before .before .before .before .before .before .before .before .before .pre in
+    let p = c .before .before .before .before .before .before .before .before .before .before .before .pre in
     (p .0, (here-below (p .0 .formed) (p .1 .0 .0) (p .1 .0 .1), p .1 .1))
 
 store-procedure-requires : tie.Need-store-procedure-requires
 store-procedure-requires c κs = search needs
 
-same-length : tie.Need-same-length
-same-length c =
-    c .before .before .store-procedure .ensures .stored .same ∙ c .before .before .before .before .before .before .lay-goals .ensures .1 .same ∙ c .before .before .before .before .before .before .before .before .before .before .before .lay-chain2 .ensures .same ∙ c .before .before .before .before .before .before .before .before .before .before .before .before .before .before .before .before .lay-chain .ensures .same
-
 returns : tie.Need-returns
 returns c =
-    let p = c .before .before .before .before .before .before .before .before .before .before .before .before .before .before .before .before .before .before .before .before .before .before .before .pre in
-    (c .before .before .before .before .before .before .lay-goals .ensures .0, procedure-laid (p .0 .formed) (p .1 .0 .0) (p .1 .0 .1) (c .before .before .before .before .before .before .before .before .before .before .before .before .before .before .before .before .before .before .before .behind .ensures) (c .before .before .before .before .before .before .before .before .before .before .before .before .before .before .before .before .before .before .word .ensures .0) (c .before .before .before .before .before .before .before .before .before .before .before .before .before .before .before .before .lay-chain .ensures) (c .before .before .before .before .before .before .before .before .before .before .before .before .word2 .ensures .0) (c .before .before .before .before .before .before .before .before .before .before .before .lay-chain2 .ensures) (c .before .before .before .before .before .before .lay-goals .ensures .1) (c .before .before .store-procedure .ensures))
+    let p = c .before .before .before .before .before .before .before .before .before .before .before .before .before .before .pre in
+    (c .before .before .lay-goals .ensures .0, procedure-laid (p .0 .formed) (p .1 .0 .0) (p .1 .0 .1) (c .before .before .before .before .before .before .before .before .before .before .before .behind .ensures) (c .before .before .before .before .before .before .before .before .before .before .word .ensures .0) (c .before .before .before .before .before .before .before .before .lay-chain .ensures) (c .before .before .before .before .before .before .word2 .ensures .0) (c .before .before .before .before .before .lay-chain2 .ensures) (c .before .before .lay-goals .ensures .1) (c .store-procedure .ensures))
 
 pub lay-procedure-spec : {M : Type 1} → statement M
 lay-procedure-spec =
@@ -60,5 +56,4 @@ lay-procedure-spec =
     lay-chain-requires-2
     lay-goals-requires
     store-procedure-requires
-    same-length
     returns)

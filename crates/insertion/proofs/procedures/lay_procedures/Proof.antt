@@ -27,18 +27,18 @@ word-requires c κs =
 
 loop-holds : tie.Need-loop-holds Inv-loop μ-loop
 loop-holds c =
-    (laying-first _ _ (c .before .before .before .pre .0 .formed) (c .word .ensures .0), c .before .before .before .pre .1)
+    (laying-first _ _ (c .before .before .pre .0 .formed) (c .word .ensures .0), c .before .before .pre .1)
 
 lay-procedure-requires : tie.Need-lay-procedure-requires Inv-loop μ-loop
 lay-procedure-requires c κs =
     let v = c .before .before .before .before .loop .inv in
-    (c .before .before .before .before .before .before .before .before .pre .0, ((v .0 .turn, c .before .before .before .loop-test .taken), v .1))
+    (c .before .before .before .before .before .before .before .pre .0, ((v .0 .turn, c .before .before .before .loop-test .taken), v .1))
 
 add-q : tie.Need-add-q Inv-loop μ-loop
 add-q c =
-    let v = c .before .before .before .before .before .before .before .loop .inv in
-    let l = here-below (c .before .before .before .before .before .before .before .before .before .before .before .pre .0 .formed) (v .0 .turn) (c .before .before .before .before .before .before .loop-test .taken) in
-    omega (arith, l, c .before .before .before .before .before .before .before .before .before .before .before .pre .0 .prepared .few)
+    let v = c .before .before .before .before .before .loop .inv in
+    let l = here-below (c .before .before .before .before .before .before .before .before .pre .0 .formed) (v .0 .turn) (c .before .before .before .before .loop-test .taken) in
+    omega (arith, l, c .before .before .before .before .before .before .before .before .pre .0 .prepared .few)
 
 word-requires-2 : tie.Need-word-requires-2 Inv-loop μ-loop
 word-requires-2 c κs =
@@ -46,15 +46,11 @@ word-requires-2 c κs =
 
 loop-less : tie.Need-loop-less Inv-loop μ-loop
 loop-less c =
-    laying-falls (c .before .before .before .before .before .before .before .before .loop .inv .0) (c .before .before .before .before .before .before .before .before .before .before .before .before .pre .0 .formed) (c .before .before .before .before .before .before .before .loop-test .taken) (c .word2 .ensures .0)
+    laying-falls (c .before .before .before .before .before .before .loop .inv .0) (c .before .before .before .before .before .before .before .before .before .pre .0 .formed) (c .before .before .before .before .before .loop-test .taken) (c .word2 .ensures .0)
 
 loop-again : tie.Need-loop-again Inv-loop μ-loop
 loop-again c =
-    (laying-next (c .before .before .before .before .before .before .before .before .loop .inv .0) (c .before .before .before .before .before .before .before .before .before .before .before .before .pre .0 .formed) (c .before .before .before .before .before .before .before .loop-test .taken) (c .before .before .before .lay-procedure .ensures .1) (c .word2 .ensures .0), c .before .before .before .lay-procedure .ensures .0)
-
-same-length : tie.Need-same-length Inv-loop μ-loop
-same-length c =
-    c .before .loop .inv .0 .same
+    (laying-next (c .before .before .before .before .before .before .loop .inv .0) (c .before .before .before .before .before .before .before .before .before .pre .0 .formed) (c .before .before .before .before .before .loop-test .taken) (c .before .lay-procedure .ensures .1) (c .word2 .ensures .0), c .before .lay-procedure .ensures .0)
 
 returns : tie.Need-returns Inv-loop μ-loop
 returns c =
@@ -73,5 +69,4 @@ lay-procedures-spec =
     word-requires-2
     loop-less
     loop-again
-    same-length
     returns)

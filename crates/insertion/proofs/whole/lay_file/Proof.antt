@@ -17,7 +17,7 @@ word-requires c κs = search needs
 
 lay-chain-requires : tie.Need-lay-chain-requires
 lay-chain-requires c κs =
-    (c .before .before .before .before .pre .0 .formed, types-below (c .before .before .before .before .pre .0 .formed) (c .before .word .ensures .0))
+    (c .before .before .before .pre .0 .formed, types-below (c .before .before .before .pre .0 .formed) (c .before .word .ensures .0))
 
 lay-procedures-requires : tie.Need-lay-procedures-requires
 lay-procedures-requires c κs = search needs
@@ -25,13 +25,9 @@ lay-procedures-requires c κs = search needs
 store-header-requires : tie.Need-store-header-requires
 store-header-requires c κs = search needs
 
-same-length : tie.Need-same-length
-same-length c =
-    c .before .before .store-header .ensures .stored .same ∙ c .before .before .before .before .before .before .lay-procedures .ensures .1 .same ∙ c .before .before .before .before .before .before .before .before .before .before .before .lay-chain .ensures .same
-
 returns : tie.Need-returns
 returns c =
-    (c .before .before .before .before .before .before .lay-procedures .ensures .0, file-laid (c .before .before .before .before .before .before .before .before .before .before .before .before .before .before .before .before .pre .0 .formed) (c .before .before .before .before .before .before .before .before .before .before .before .before .before .word .ensures .0) (c .before .before .before .before .before .before .before .before .before .before .before .lay-chain .ensures) (c .before .before .before .before .before .before .lay-procedures .ensures .1) (c .before .before .store-header .ensures))
+    (c .before .before .lay-procedures .ensures .0, file-laid (c .before .before .before .before .before .before .before .before .before .pre .0 .formed) (c .before .before .before .before .before .before .before .word .ensures .0) (c .before .before .before .before .before .lay-chain .ensures) (c .before .before .lay-procedures .ensures .1) (c .store-header .ensures))
 
 pub lay-file-spec : {M : Type 1} → statement M
 lay-file-spec =
@@ -41,5 +37,4 @@ lay-file-spec =
     lay-chain-requires
     lay-procedures-requires
     store-header-requires
-    same-length
     returns)

@@ -1,0 +1,27 @@
+-- Where the walk stands, in two lent words: the next record to lay, and the place of the next goal's point.
+use Prim.Native.Nat.{ℕ, _≤_}
+use native.Mathlib.Omega.{arith}
+use mathlib.Core.List.{List, [], _∷_}
+use mathlib.Core.Path.{_≡_, refl, sym, _∙_}
+use lib.ListN.{length, getD, set, length-set}
+use lib.Seq.{getD-set-same, getD-set-other}
+
+abbrev pub cursorWords : ℕ
+cursorWords = 2
+
+unfoldable pub recordIn : List ℕ → ℕ
+recordIn c = getD c 0 0
+
+unfoldable pub pointIn : List ℕ → ℕ
+pointIn c = getD c 1 0
+
+pub record At (c : List ℕ) (r p : ℕ) : Type 0 where
+  pub record-is : recordIn c ≡ r
+  pub point-is : pointIn c ≡ p
+
+pub at-put : (c : List ℕ) → cursorWords ≤ length c → (r p : ℕ) → At (set (set c 0 r) 1 p) r p
+unfolding recordIn pointIn
+at-put c l r p = record {
+  record-is = getD-set-other (set c 0 r) 1 0 p 0 (λ z. omega arith) ∙ getD-set-same c 0 r 0 (omega arith);
+  point-is = getD-set-same (set c 0 r) 1 p 0 (omega (arith, length-set c 0 r));
+}
