@@ -4,26 +4,43 @@ use native.Mathlib.Omega.{arith}
 use native.Mathlib.Decide.{decLt}
 use mathlib.Core.Path.{_≡_, refl, ap, sym, _∙_}
 use mathlib.Core.Bool.{true}
+use borrow.Author.Tests.{leb-true}
+use Rattle.sets.specs.Tests.{and-true}
 use mathlib.Core.List.{List}
 use mathlib.Core.Logic.{inl, inr}
 use lib.ListN.{length, getD, replicate}
-use Rattle.language.specs.Format.{nextWord, headerTypes, headerProcedures, typeFunctors, maxFunctors, maxTypes, maxProcedures, maxVariables, maxRegions, places}
+use Rattle.language.specs.Format.{nextWord, headerTypes, headerProcedures, typeFunctors, procedureVariables, procedureRegions, maxFunctors, maxTypes, maxProcedures, maxVariables, maxRegions, places}
 use Rattle.language.specs.Lists.{nth, nth1}
-use Rattle.language.specs.File.{variables, regions, word, recordCount}
+use Rattle.language.specs.File.{procedures, variables, regions, word, recordCount}
 use Rattle.language.specs.Typing.{typesOk}
 use Rattle.language.specs.Answers.{program}
 use Rattle.chains.specs.Fields.{fieldOf, field-none, field-some}
-use Rattle.chains.specs.Formed.{Formed, Stands, procedures-stand, program-procedures}
+use Rattle.chains.specs.Formed.{Formed, Stands, procedures-stand, program-procedures, variablesAt, regionsAt}
 use Rattle.chains.specs.Records.{chainRecords, records-none, records-step}
-use Rattle.chains.specs.Elements.{procedures-count}
+use Rattle.chains.specs.Elements.{procedures-count, variables-count, regions-count}
+use Rattle.chains.specs.Is.{procedure-is}
+use Rattle.chains.specs.Declared.{procedure-at}
 use Rattle.chains.specs.Tables.{nth-past}
-use Rattle.declarations.specs.Places.{procedurePlaces, functorPlaces, placeIn, place-past, place-there, place-same, functorIn, functor-past, functor-there, functor-same, regionPlaces, ownPlaces, variableIn, regionIn}
-use Rattle.declarations.specs.Listing.{Lists, lists-place, Left, blank-at}
+use Rattle.declarations.specs.Places.{procedurePlaces, functorPlaces, filePlaces, placeIn, place-past, place-there, place-same, functorIn, functor-past, functor-there, functor-same, regionPlaces, ownPlaces, variableIn, regionIn}
+use Rattle.declarations.specs.Listing.{Lists, lists-entry, lists-place, Left, blank-at}
 use Rattle.declarations.specs.Parameters.{Linked}
 use Rattle.declarations.specs.Declares.{typeStart, functors-length, few-functors, first-record, Declares}
 use Rattle.declarations.specs.Functors.{stands-same}
-use Rattle.declarations.specs.Own.{Own, signatureFrom, declared}
+use Rattle.declarations.specs.Own.{OwnOf, signatureFrom, signatureAt, declared, fewDeclared}
 use Rattle.declarations.specs.TypeLaws.{few-types, type-count}
+
+-- where a type starts: no type has the number 0, and none a number past their count
+start-none : (f : List ℕ) → typeStart f 0 ≡ 0
+unfolding typeStart nth1
+start-none f = sym (field-none f typeFunctors refl)
+
+start-past : (f : List ℕ) (n : ℕ) → length (chainRecords f (word f 0 headerTypes)) ≤ n → typeStart f (suc n) ≡ 0
+unfolding typeStart nth1
+start-past f n h = sym (field-none f typeFunctors (nth-past (chainRecords f (word f 0 headerTypes)) n h))
+
+start-here : (f : List ℕ) (n : ℕ) {i start : ℕ} → nth 0 (chainRecords f (word f 0 headerTypes)) n ≡ i → (i ≡ 0 → ⊥) → start ≡ word f i typeFunctors → start ≡ typeStart f (suc n)
+unfolding typeStart nth1
+start-here f n {i} ei z es = es ∙ field-some f i typeFunctors z ∙ ap (λ j. fieldOf f j typeFunctors) (sym ei)
 
 -- at most 64 types, so another one has room
 module _ {f : List ℕ} (F : Formed f) (ok : typesOk (program f .types) ≡ true) where
@@ -32,6 +49,10 @@ module _ {f : List ℕ} (F : Formed f) (ok : typesOk (program f .types) ≡ true
 
   pub type-room : {n i : ℕ} → Left f (word f 0 headerTypes) n i → (i ≡ 0 → ⊥) → i < recordCount f → n < maxTypes
   type-room {i = i} L z b = omega (arith, types-few, L .count, ap length (records-step {w = word f i nextWord} F z b refl))
+
+  -- and each has at most 32 functors
+  pub functors-few : (n : ℕ) {i start : ℕ} → nth 0 (chainRecords f (word f 0 headerTypes)) n ≡ i → (i ≡ 0 → ⊥) → start ≡ word f i typeFunctors → length (chainRecords f start) ≤ maxFunctors
+  functors-few n {start = start} ei z es = omega (arith, ap (λ j. length (chainRecords f j)) (start-here f n ei z es), functors-length F (suc n), few-functors (program f .types) ok (suc n))
 
 -- ---- the functors of the first n types
 pub record FunctorsSo (f t u : List ℕ) (n : ℕ) : Type 0 where
@@ -50,19 +71,6 @@ no-records : (f : List ℕ) {i : ℕ} (m : ℕ) → i ≡ 0 → nth 0 (chainReco
 unfolding nth
 no-records f m z = ap (λ xs. nth 0 xs m) (records-none f z)
 
--- where a type starts: no type has the number 0, and none a number past their count
-start-none : (f : List ℕ) → typeStart f 0 ≡ 0
-unfolding typeStart nth1
-start-none f = sym (field-none f typeFunctors refl)
-
-start-past : (f : List ℕ) (n : ℕ) → length (chainRecords f (word f 0 headerTypes)) ≤ n → typeStart f (suc n) ≡ 0
-unfolding typeStart nth1
-start-past f n h = sym (field-none f typeFunctors (nth-past (chainRecords f (word f 0 headerTypes)) n h))
-
-start-here : (f : List ℕ) (n : ℕ) {i start : ℕ} → nth 0 (chainRecords f (word f 0 headerTypes)) n ≡ i → (i ≡ 0 → ⊥) → start ≡ word f i typeFunctors → start ≡ typeStart f (suc n)
-unfolding typeStart nth1
-start-here f n {i} ei z es = es ∙ field-some f i typeFunctors z ∙ ap (λ j. fieldOf f j typeFunctors) (sym ei)
-
 pub functors-none : (f : List ℕ) {t : List ℕ} → ((k : ℕ) → functorPlaces ≤ k → getD t k 0 ≡ 0) → FunctorsSo f t t 0
 functors-none f b = record {
   kept = refl;
@@ -72,12 +80,9 @@ functors-none f b = record {
 }
 
 module _ {f t u : List ℕ} {n : ℕ} (S : FunctorsSo f t u n) where
-  pub functors-blank : {at n′ : ℕ} → at ≡ functorPlaces + maxFunctors * n′ → n′ ≡ suc n → (m : ℕ) → m < maxFunctors → getD u (at + m) 0 ≡ 0
-  functors-blank {at} e en m l = S .blank (at + m) (omega arith)
-
   pub functors-next : {i start at n′ : ℕ} {u′ : List ℕ} → nth 0 (chainRecords f (word f 0 headerTypes)) n ≡ i → (i ≡ 0 → ⊥) → start ≡ word f i typeFunctors
-      → at ≡ functorPlaces + maxFunctors * n′ → n′ ≡ suc n → Lists f start at maxFunctors u u′ → FunctorsSo f t u′ n′
-  functors-next {i} {start} {at} {n′} {u′} ei z es ea en L = record {
+      → at ≡ functorPlaces + maxFunctors * n′ → n′ ≡ suc n → length (chainRecords f start) ≤ maxFunctors → Lists f start at u u′ → FunctorsSo f t u′ n′
+  functors-next {i} {start} {at} {n′} {u′} ei z es ea en few L = record {
     kept = L .kept ∙ S .kept;
     right = there;
     blank = λ k h. L .other k (inr (omega arith)) ∙ S .blank k (omega arith);
@@ -87,7 +92,7 @@ module _ {f t u : List ℕ} {n : ℕ} (S : FunctorsSo f t u n) where
       there : (ty m : ℕ) → ty ≤ n′ → m < maxFunctors → getD u′ (functorPlaces + maxFunctors * ty + m) 0 ≡ nth 0 (chainRecords f (typeStart f ty)) m
       there ty m h l =
           elim (decLt n ty) [
-            | yes d ↦ let q : ty ≡ suc n = omega arith in let p : functorPlaces + maxFunctors * suc n ≡ at = omega arith in rw (q, p, sym (start-here f n ei z es)) (L .here m l)
+            | yes d ↦ let q : ty ≡ suc n = omega arith in let p : functorPlaces + maxFunctors * suc n ≡ at = omega arith in rw (q, p, sym (start-here f n ei z es)) (lists-entry L maxFunctors (λ k a b. S .blank k (omega arith)) m l)
             | no d ↦ L .other (functorPlaces + maxFunctors * ty + m) (inl (omega arith)) ∙ S .right ty m (omega arith) l
           ]
 
@@ -116,16 +121,18 @@ module _ {f t u : List ℕ} {n : ℕ} (S : FunctorsSo f t u n) where
         each (suc k) m = elim (decLt n (suc k)) [ yes h ↦ past (suc k) m h ∙ sym (no-records f m (start-past f k (omega arith))) | no h ↦ there (suc k) m (omega arith) ]
 
 -- ---- all that the file declares
-module _ {f : List ℕ} (F : Formed f) {first : ℕ} (e : first ≡ word f 0 headerProcedures) {n : ℕ} (en : n ≡ length (chainRecords f first)) where
-  pub procedure-count : n ≡ length (program f .procedures)
-  procedure-count = rw e at en ∙ sym (ap length (program-procedures F) ∙ procedures-count F _ (procedures-stand F))
+module _ {f : List ℕ} (F : Formed f) (h : length (program f .procedures) ≤ maxProcedures) {first : ℕ} (e : first ≡ word f 0 headerProcedures) where
+  pub procedures-few : length (chainRecords f first) ≤ maxProcedures
+  procedures-few = omega (arith, ap (λ i. length (chainRecords f i)) e, ap length (program-procedures F), procedures-count F _ (procedures-stand F))
 
-  pub file-listed : {t0 t1 t2 t3 : List ℕ} → typesOk (program f .types) ≡ true → n ≤ maxProcedures → Lists f first procedurePlaces maxProcedures t0 t1 → Functors f t1 t2 → Linked f t2 t3 1 → Declares f t3
-  file-listed {t0} {t1} {t2} {t3} ok h L S K = record {
+  pub file-listed : typesOk (program f .types) ≡ true → {t0 t1 t2 t3 : List ℕ} → t0 ≡ replicate filePlaces 0 → Lists f first procedurePlaces t0 t1 → Functors f t1 t2 → Linked f t2 t3 1 → Declares f t3
+  file-listed ok {t0} {t1} {t2} {t3} b L S K = record {
     formed = F;
     types-ok = ok;
     functors = λ ty m. functor-same t2 ty m t3 (λ k l. K .other k (omega arith)) ∙ S .right ty m;
-    procedures = λ q. place-same t2 procedurePlaces maxProcedures q t3 (λ k a b. K .other k a) ∙ place-same t1 procedurePlaces maxProcedures q t2 (λ k a b. S .other k b) ∙ lists-place L (omega arith) q ∙ ap (λ i. nth 0 (chainRecords f i) q) e;
+    procedures = λ q.
+        place-same t2 procedurePlaces maxProcedures q t3 (λ k a b. K .other k a) ∙ place-same t1 procedurePlaces maxProcedures q t2 (λ k a b. S .other k b)
+        ∙ lists-place L maxProcedures (λ k x y. blank-at filePlaces b k) procedures-few q ∙ ap (λ i. nth 0 (chainRecords f i) q) e;
     parameters = λ v s. K .right v (elim (decLt 0 v) [ yes l ↦ inr (omega arith) | no l ↦ inl (omega arith) ]) s;
   }
 
@@ -140,33 +147,54 @@ numbered f i u at most z h l (suc n) =
       | no d ↦ sym (place-past u at (suc most) (suc n) (omega arith)) ∙ sym (nth-past (chainRecords f i) n (omega arith))
     ]
 
-module _ {f : List ℕ} (F : Formed f) {v r : ℕ} (sv : Stands f variables v) (sr : Stands f regions r) {t0 t1 t2 : List ℕ} (e : t0 ≡ replicate ownPlaces 0)
-    (L : Lists f v 1 maxVariables t0 t1) (M : Lists f r (regionPlaces + 1) maxRegions t1 t2) (h : length (chainRecords f v) ≤ maxVariables) (k : length (chainRecords f r) ≤ maxRegions) where
-  variables-listed : (x : ℕ) → variableIn t2 x ≡ nth1 0 (chainRecords f v) x
-  variables-listed =
-      numbered f v t2 0 maxVariables (M .other 0 (inl (omega arith)) ∙ L .other 0 (inl (omega arith)) ∙ blank-at ownPlaces e 0)
-      (λ n l. M .other (1 + n) (inl (omega arith)) ∙ L .here n l) h
+module _ {f : List ℕ} (F : Formed f) {i : ℕ} (s : Stands f procedures i) (z : i ≡ 0 → ⊥) (h : fewDeclared (signatureAt f i) ≡ true) where
+  variables-at : Stands f variables (word f i procedureVariables)
+  variables-at = procedure-at F refl (procedure-is s z) .to-variables .stands
 
-  regions-listed : (x : ℕ) → regionIn t2 x ≡ nth1 0 (chainRecords f r) x
-  regions-listed =
-      numbered f r t2 regionPlaces maxRegions (M .other regionPlaces (inl (omega arith)) ∙ L .other regionPlaces (inr (omega arith)) ∙ blank-at ownPlaces e regionPlaces) (M .here) k
+  regions-at : Stands f regions (word f i procedureRegions)
+  regions-at = procedure-at F refl (procedure-is s z) .to-regions .stands
 
-  first-variable : variableIn t2 1 ≡ v
-  unfolding nth1
-  first-variable = variables-listed 1 ∙ first-record F sv
+  module _ {v : ℕ} (ev : v ≡ word f i procedureVariables) where
+    pub variables-few : length (chainRecords f v) ≤ maxVariables
+    unfolding fewDeclared signatureAt signatureFrom
+    variables-few = omega (arith, ap (λ j. length (chainRecords f j)) ev, variables-count F _ variables-at, leb-true (length (variablesAt f (word f i procedureVariables))) maxVariables (and-true h .0))
 
-  first-region : regionIn t2 1 ≡ r
-  unfolding nth1
-  first-region = regions-listed 1 ∙ first-record F sr
+    module _ {r : ℕ} (er : r ≡ word f i procedureRegions) where
+      pub regions-few : length (chainRecords f r) ≤ maxRegions
+      unfolding fewDeclared signatureAt signatureFrom
+      regions-few = omega (arith, ap (λ j. length (chainRecords f j)) er, regions-count F _ regions-at, leb-true (length (regionsAt f (word f i procedureRegions))) maxRegions (and-true h .1))
 
-  pub declared-same : declared f t2 ≡ signatureFrom f v r
-  unfolding declared
-  declared-same = ap (λ i. signatureFrom f i (regionIn t2 1)) first-variable ∙ ap (signatureFrom f v) first-region
+      module _ {t0 t1 t2 : List ℕ} (e : t0 ≡ replicate ownPlaces 0) (L : Lists f v 1 t0 t1) (M : Lists f r (regionPlaces + 1) t1 t2) where
+        variables-listed : (x : ℕ) → variableIn t2 x ≡ nth1 0 (chainRecords f v) x
+        variables-listed =
+            numbered f v t2 0 maxVariables (M .other 0 (inl (omega arith)) ∙ L .other 0 (inl (omega arith)) ∙ blank-at ownPlaces e 0)
+            (λ n l. M .other (1 + n) (inl (omega arith)) ∙ lists-entry L maxVariables (λ k a b. blank-at ownPlaces e k) n l) variables-few
 
-  pub own-listed : Own f t2
-  own-listed = record {
-    variables-stand = stands-same first-variable sv;
-    regions-stand = stands-same first-region sr;
-    variables = λ x. variables-listed x ∙ ap (λ i. nth1 0 (chainRecords f i) x) (sym first-variable);
-    regions = λ x. regions-listed x ∙ ap (λ i. nth1 0 (chainRecords f i) x) (sym first-region);
-  }
+        -- the places of regions had zeros
+        zeros : (k : ℕ) → regionPlaces ≤ k → getD t1 k 0 ≡ 0
+        zeros k l = L .other k (inr (omega (arith, variables-few))) ∙ blank-at ownPlaces e k
+
+        regions-listed : (x : ℕ) → regionIn t2 x ≡ nth1 0 (chainRecords f r) x
+        regions-listed =
+            numbered f r t2 regionPlaces maxRegions (M .other regionPlaces (inl (omega arith)) ∙ zeros regionPlaces (omega arith))
+            (lists-entry M maxRegions (λ k a b. zeros k (omega arith))) regions-few
+
+        first-variable : variableIn t2 1 ≡ v
+        unfolding nth1
+        first-variable = variables-listed 1 ∙ first-record F (stands-same ev variables-at)
+
+        first-region : regionIn t2 1 ≡ r
+        unfolding nth1
+        first-region = regions-listed 1 ∙ first-record F (stands-same er regions-at)
+
+        pub own-listed : OwnOf f t2 i
+        unfolding declared signatureAt
+        own-listed = (
+          record {
+            variables-stand = stands-same (first-variable ∙ ev) variables-at;
+            regions-stand = stands-same (first-region ∙ er) regions-at;
+            variables = λ x. variables-listed x ∙ ap (λ j. nth1 0 (chainRecords f j) x) (sym first-variable);
+            regions = λ x. regions-listed x ∙ ap (λ j. nth1 0 (chainRecords f j) x) (sym first-region);
+          },
+          ap (λ j. signatureFrom f j (regionIn t2 1)) (first-variable ∙ ev) ∙ ap (signatureFrom f (word f i procedureVariables)) (first-region ∙ er),
+        )

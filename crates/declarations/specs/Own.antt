@@ -4,12 +4,13 @@ use native.Mathlib.Omega.{arith}
 use native.Mathlib.Decide.{decLt}
 use borrow.Author.Tests.{lt-ltb, le-ltb}
 use mathlib.Core.Path.{_≡_, refl, ap, sym, _∙_}
-use mathlib.Core.Bool.{true, false}
+use mathlib.Core.Bool.{Bool, true, false}
 use mathlib.Core.List.{List}
-use lib.Dec.{eqb, ltb}
+use lib.Dec.{eqb, leb, ltb}
 use lib.ListN.{length}
+use Rattle.sets.specs.Tests.{_&_}
 use Rattle.laws.specs.Tests.{refuse, pass}
-use Rattle.language.specs.Format.{variableType, regionType}
+use Rattle.language.specs.Format.{procedureVariables, procedureRegions, variableType, regionType, maxVariables, maxRegions}
 use Rattle.language.specs.Lists.{among, nth1}
 use Rattle.language.specs.File.{variables, regions, word}
 use Rattle.language.specs.Program.{Signature, typeOf}
@@ -36,6 +37,18 @@ signatureFrom f v r = record { variables = variablesAt f v; regions = regionsAt 
 -- the procedure's signature: the first variable and the first region start its chains
 unfoldable pub declared : List ℕ → List ℕ → Signature
 declared f t = signatureFrom f (variableIn t 1) (regionIn t 1)
+
+-- of the procedure of record i
+unfoldable pub signatureAt : List ℕ → ℕ → Signature
+signatureAt f i = signatureFrom f (word f i procedureVariables) (word f i procedureRegions)
+
+-- the table is of that procedure
+abbrev pub OwnOf : List ℕ → List ℕ → ℕ → Type 0
+OwnOf f t i = Own f t × (declared f t ≡ signatureAt f i)
+
+-- "64 variables and 64 regions a procedure"
+unfoldable pub fewDeclared : Signature → Bool
+fewDeclared S = leb (length (S .variables)) maxVariables & leb (length (S .regions)) maxRegions
 
 -- there is a record numbered x, from 1, where the chain is that long
 record-listed1 : (f : List ℕ) (i x : ℕ) {n : ℕ} → length (chainRecords f i) ≡ n → ltb 0 (nth1 0 (chainRecords f i) x) ≡ among n x

@@ -11,18 +11,18 @@ use Rattle.sets.specs.Tests.{_&_}
 use Rattle.laws.specs.Tests.{and-assoc, and-stop, and-on, refuse, pass}
 use Rattle.language.specs.Format.{nextWord, procedureVariables, procedureRegions, variableMode, variableType, variableRegion, regionType, regionClass, regionEdges, deadClass, maxVariables, maxRegions}
 use Rattle.language.specs.Lists.{all, choose}
-use Rattle.language.specs.File.{variables, regions, word}
-use Rattle.language.specs.Program.{Variable, Region, Signature, functorsOf, outMode}
+use Rattle.language.specs.File.{procedures, variables, regions, word}
+use Rattle.language.specs.Program.{Functor, Variable, Region, Signature, functorsOf, outMode}
 use Rattle.language.specs.Answers.{program}
 use Rattle.language.specs.Typing.{isType, regioned, isRegionOf, placesFrom, edgesOk, variableOk, regionOk, signatureOk}
 use Rattle.chains.specs.Formed.{Formed, Stands, functorsAt, edgesAt, variablesAt, regionsAt}
 use Rattle.chains.specs.Records.{chainRecords}
 use Rattle.chains.specs.Elements.{variables-count, regions-count}
-use Rattle.chains.specs.Is.{variable-is, region-is}
-use Rattle.chains.specs.Declared.{variable-at, region-at}
-use Rattle.declarations.specs.Places.{functorIn}
+use Rattle.chains.specs.Is.{procedure-is, variable-is, region-is}
+use Rattle.chains.specs.Declared.{procedure-at, variable-at, region-at}
+use Rattle.declarations.specs.Places.{variableIn, regionIn, functorIn}
 use Rattle.declarations.specs.Declares.{Declares, type-listed, type-some, type-none, functors-here}
-use Rattle.declarations.specs.Own.{Own, signatureFrom, declared}
+use Rattle.declarations.specs.Own.{declared, signatureFrom, signatureAt, fewDeclared}
 
 unfoldable pub variableAtRecord : List ℕ → ℕ → Variable
 variableAtRecord f i = record { mode = word f i variableMode; type = word f i variableType; region = word f i variableRegion }
@@ -30,9 +30,9 @@ variableAtRecord f i = record { mode = word f i variableMode; type = word f i va
 unfoldable pub regionAtRecord : List ℕ → ℕ → Region
 regionAtRecord f i = record { type = word f i regionType; class = word f i regionClass; edges = edgesAt f (word f i regionEdges) }
 
--- of the procedure of record i
-unfoldable pub signatureAt : List ℕ → ℕ → Signature
-signatureAt f i = signatureFrom f (word f i procedureVariables) (word f i procedureRegions)
+-- each variable and each region
+unfoldable pub eachDeclared : List (List Functor) → Signature → Bool
+eachDeclared T S = all (variableOk T S) (S .variables) & all (regionOk T S) (S .regions)
 
 -- ---- what the code tests, with what the procedure's table declares
 module _ (f own : List ℕ) where
@@ -47,10 +47,6 @@ module _ (f own : List ℕ) where
 
   abbrev pub RegionsTested : ℕ → Bool → Type 0
   RegionsTested i b = b ≡ all (regionOk (program f .types) (declared f own)) (regionsAt f i)
-
-  -- the table is of the procedure of record i
-  abbrev pub OwnOf : ℕ → Type 0
-  OwnOf i = Own f own × (declared f own ≡ signatureAt f i)
 
 module _ {f : List ℕ} {i : ℕ} (F : Formed f) where
   pub variables-step : Stands f variables i → (i ≡ 0 → ⊥) → variablesAt f i ≡ variableAtRecord f i ∷ variablesAt f (word f i nextWord)
@@ -106,37 +102,42 @@ module _ {f t : List ℕ} (D : Declares f t) (S : Signature) (i : ℕ) where
           pass (type-listed D ty) (lt-ltb 0 (functorIn t ty 0) (omega arith)) (and-on (le-leb (word f i regionClass) deadClass (omega arith))
           (k ∙ ap (λ fs. edgesOk (program f .types) S (placesFrom (program f .types) 0 fs) (edgesAt f e)) (functors-here D ty eg) ∙ ap (λ j. edgesOk (program f .types) S (placesFrom (program f .types) 0 (functorsOf (program f .types) ty)) (edgesAt f j)) ee)) ∙ sym region-as
 
--- ---- all of it: at most 64 variables from record v on, at most 64 regions from record r on
-module _ {f : List ℕ} (F : Formed f) (v r : ℕ) (sv : Stands f variables v) (sr : Stands f regions r) {l : ℕ} (el : l ≡ length (chainRecords f v)) where
-  abbrev own : Signature
-  own = signatureFrom f v r
+-- ---- all of it
+module _ (f : List ℕ) (i : ℕ) (F : Formed f) (s : Stands f procedures i) (z : i ≡ 0 → ⊥) {v l : ℕ} (ev : v ≡ word f i procedureVariables) (el : l ≡ length (chainRecords f v)) where
+  variables-few : leb l maxVariables ≡ leb (length (signatureAt f i .variables)) maxVariables
+  unfolding signatureAt signatureFrom
+  variables-few = ap (λ n. leb n maxVariables) (el ∙ ap (λ j. length (chainRecords f j)) ev ∙ sym (variables-count F _ (procedure-at F refl (procedure-is s z) .to-variables .stands)))
 
-  pub many-variables : maxVariables < l → false ≡ signatureOk (program f .types) own
-  unfolding signatureOk signatureFrom
-  many-variables h = and-stop _ (lt-leb (length (variablesAt f v)) maxVariables (omega (arith, variables-count F v sv)))
+  pub many-variables : maxVariables < l → false ≡ fewDeclared (signatureAt f i)
+  unfolding fewDeclared
+  many-variables h = refuse _ variables-few (lt-leb l maxVariables h)
 
-  module _ (h : l ≤ maxVariables) {m : ℕ} (em : m ≡ length (chainRecords f r)) where
-    few : leb (length (variablesAt f v)) maxVariables ≡ true
-    few = le-leb (length (variablesAt f v)) maxVariables (omega (arith, variables-count F v sv))
+  pub counts-all : l ≤ maxVariables → {r m : ℕ} → r ≡ word f i procedureRegions → m ≡ length (chainRecords f r) → leb m maxRegions ≡ fewDeclared (signatureAt f i)
+  unfolding fewDeclared signatureAt signatureFrom
+  counts-all h er em =
+      pass variables-few (le-leb l maxVariables h)
+      (ap (λ n. leb n maxRegions) (em ∙ ap (λ j. length (chainRecords f j)) er ∙ sym (regions-count F _ (procedure-at F refl (procedure-is s z) .to-regions .stands))))
 
-    pub many-regions : maxRegions < m → false ≡ signatureOk (program f .types) own
-    unfolding signatureOk signatureFrom
-    many-regions k = and-on few (and-stop _ (lt-leb (length (regionsAt f r)) maxRegions (omega (arith, regions-count F r sr))))
+-- from the first variable and the first region of the table on, all that it declares
+module _ (f own : List ℕ) (T : List (List Functor)) {i : ℕ} {b : Bool} where
+  pub variables-tested : i ≡ variableIn own 1 → b ≡ all (variableOk T (declared f own)) (variablesAt f i) → b ≡ all (variableOk T (declared f own)) (declared f own .variables)
+  unfolding declared signatureFrom
+  variables-tested ei e = rw ei at e
 
-    module _ (k : m ≤ maxRegions) {S : Signature} (e : S ≡ own) {q : Bool} (eq : q ≡ all (variableOk (program f .types) S) (variablesAt f v)) where
-      pub wrong-variable : q ≡ false → false ≡ signatureOk (program f .types) own
-      unfolding signatureOk signatureFrom
-      wrong-variable p = and-on few (and-on (le-leb (length (regionsAt f r)) maxRegions (omega (arith, regions-count F r sr))) (refuse _ (rw e at eq) p))
+  pub regions-tested : i ≡ regionIn own 1 → b ≡ all (regionOk T (declared f own)) (regionsAt f i) → b ≡ all (regionOk T (declared f own)) (declared f own .regions)
+  unfolding declared signatureFrom
+  regions-tested ei e = rw ei at e
 
-      pub signature-all : q ≡ true → {b : Bool} → b ≡ all (regionOk (program f .types) S) (regionsAt f r) → b ≡ signatureOk (program f .types) own
-      unfolding signatureOk signatureFrom
-      signature-all p g = and-on few (and-on (le-leb (length (regionsAt f r)) maxRegions (omega (arith, regions-count F r sr))) (pass (rw e at eq) p (rw e at g)))
+module _ (T : List (List Functor)) (S : Signature) {q : Bool} (e : q ≡ all (variableOk T S) (S .variables)) where
+  pub wrong-variable : q ≡ false → false ≡ eachDeclared T S
+  unfolding eachDeclared
+  wrong-variable p = refuse _ e p
 
--- the same by the words that the code has read
-module _ (f : List ℕ) (i : ℕ) {v r : ℕ} (ev : v ≡ word f i procedureVariables) (er : r ≡ word f i procedureRegions) where
-  pub signature-same : signatureFrom f v r ≡ signatureAt f i
-  unfolding signatureAt
-  signature-same = rw (ev, er)
+  pub each-all : q ≡ true → {b : Bool} → b ≡ all (regionOk T S) (S .regions) → b ≡ eachDeclared T S
+  unfolding eachDeclared
+  each-all p h = pass e p h
 
-  pub signature-ok-same : {b : Bool} → b ≡ signatureOk (program f .types) (signatureFrom f v r) → b ≡ signatureOk (program f .types) (signatureAt f i)
-  signature-ok-same e = e ∙ ap (signatureOk (program f .types)) signature-same
+-- the definition's two parts
+pub signature-parts : (T : List (List Functor)) (S : Signature) → (fewDeclared S & eachDeclared T S) ≡ signatureOk T S
+unfolding fewDeclared eachDeclared signatureOk
+signature-parts T S = and-assoc _ _ _

@@ -8,6 +8,7 @@ mod signatures;
 mod types;
 
 pub use listing::list_file;
+pub use listing::list_own;
 pub use names::functor;
 pub use names::has_type;
 pub use names::parameter;
@@ -18,6 +19,7 @@ pub use places::FILE_PLACES;
 pub use places::OWN_PLACES;
 pub use places::blank_file;
 pub use places::blank_own;
+pub use signatures::counts_ok;
 pub use signatures::signature_ok;
 pub use types::types_ok;
 

@@ -1,15 +1,18 @@
 // The records of chains, listed in a table.
 use crate::places::FILE_PLACES;
 use crate::places::FUNCTOR_PLACES;
+use crate::places::OWN_PLACES;
 use crate::places::PROCEDURE_PLACES;
+use crate::places::REGION_PLACES;
 use chains::record_count;
 use chains::word;
 use language::format::HEADER_PROCEDURES;
 use language::format::HEADER_TYPES;
 use language::format::KIND;
 use language::format::MAX_FUNCTORS;
-use language::format::MAX_PROCEDURES;
 use language::format::NEXT;
+use language::format::PROCEDURE_REGIONS;
+use language::format::PROCEDURE_VARIABLES;
 use language::format::TYPE_FUNCTORS;
 use language::format::VARIABLE;
 use language::format::VARIABLE_MODE;
@@ -18,16 +21,17 @@ ghost use mathlib.Core.Bool.{true};
 ghost use Prim.Native.Nat.{ℕ, _+_, _≤_, _<_};
 ghost use lib.ListN.{length, getD, replicate};
 ghost use Rattle.language.specs.Format.{maxProcedures};
-ghost use Rattle.language.specs.File.{recordCount};
+ghost use Rattle.language.specs.File.{procedures, recordCount};
 ghost use Rattle.language.specs.Typing.{typesOk};
 ghost use Rattle.language.specs.Answers.{program};
-ghost use Rattle.chains.specs.Formed.{Formed};
+ghost use Rattle.chains.specs.Formed.{Formed, Stands};
 ghost use Rattle.chains.specs.Records.{chainRecords};
-ghost use Rattle.declarations.specs.Places.{filePlaces, functorPlaces};
-ghost use Rattle.declarations.specs.Listing.{putAt, Blank, Lists};
+ghost use Rattle.declarations.specs.Places.{filePlaces, functorPlaces, ownPlaces};
+ghost use Rattle.declarations.specs.Listing.{Lists};
 ghost use Rattle.declarations.specs.Parameters.{linkOf, Linked};
 ghost use Rattle.declarations.specs.Filling.{Functors};
 ghost use Rattle.declarations.specs.Declares.{Declares};
+ghost use Rattle.declarations.specs.Own.{signatureAt, fewDeclared, OwnOf};
 
 pub fn wide(v: u16) -> usize
     ensures { λ r. ⌜ r ≡ v ⌝ }
@@ -42,33 +46,20 @@ fn narrow(v: usize) -> u16
     v as u16
 }
 
-// Stores i as entry n of the `most` from place `at` on, if there is such a place.
-fn put(table: &mut [u16], at: usize, most: usize, n: usize, i: usize)
-    requires { ⌜ at + most ≤ length (now table) ⌝ }
-    requires { ⌜ i < 65536 ⌝ }
-    ensures { λ _. ⌜ now (table .exit) ≡ putAt (now (table .entry)) at most n i ⌝ }
-{
-    if n < most {
-        table[at + n] = narrow(i);
-    }
-}
-
-// Lists the chain at record start in the `most` places from `at` on, as far as they reach. Returns how many records the chain has.
-pub fn list_records(file: &[u8], start: usize, at: usize, most: usize, table: &mut [u16]) -> usize
+// Lists the chain at record start in the places from `at` on.
+fn list_records(file: &[u8], start: usize, at: usize, table: &mut [u16])
     requires { ⌜ Formed (now file) ⌝ }
     requires { ⌜ start < recordCount (now file) ⌝ }
-    requires { ⌜ (at + most ≤ length (now table)) × Blank (now table) at most ⌝ }
-    ensures { λ r. ⌜ r ≡ length (chainRecords (now (file .entry)) start) ⌝ }
-    ensures { λ _. ⌜ Lists (now (file .entry)) start at most (now (table .entry)) (now (table .exit)) ⌝ }
+    requires { ⌜ at + length (chainRecords (now file) start) ≤ length (now table) ⌝ }
+    ensures { λ _. ⌜ Lists (now (file .entry)) start at (now (table .entry)) (now (table .exit)) ⌝ }
 {
     let mut i = start;
     let mut n = 0;
     while i != 0 {
-        put(table, at, most, n, i);
+        table[at + n] = narrow(i);
         n += 1;
         i = word(file, i, NEXT);
     }
-    n
 }
 
 // The functors of every type.
@@ -86,7 +77,6 @@ fn list_functors(file: &[u8], table: &mut [u16; FILE_PLACES])
             file,
             word(file, i, TYPE_FUNCTORS),
             FUNCTOR_PLACES + MAX_FUNCTORS * t,
-            MAX_FUNCTORS,
             table,
         );
         i = word(file, i, NEXT);
@@ -120,17 +110,31 @@ fn list_parameters(file: &[u8], table: &mut [u16; FILE_PLACES])
     }
 }
 
-// Lists all that the file declares. Returns how many procedures it has.
-pub fn list_file(file: &[u8], table: &mut [u16; FILE_PLACES]) -> usize
+// Lists all that a file declares that has types in order and no more procedures than there are places. The table is blank before.
+pub fn list_file(file: &[u8], table: &mut [u16; FILE_PLACES])
     requires { ⌜ Formed (now file) ⌝ }
-    requires { ⌜ typesOk (program (now file) .types) ≡ true ⌝ }
+    requires { ⌜ (typesOk (program (now file) .types) ≡ true) × (length (program (now file) .procedures) ≤ maxProcedures) ⌝ }
     requires { ⌜ now table ≡ replicate filePlaces 0 ⌝ }
-    ensures { λ r. ⌜ r ≡ length (program (now (file .entry)) .procedures) ⌝ }
-    ensures { λ r. ⌜ (r ≤ maxProcedures → Declares (now (file .entry)) (now (table .exit))) ⌝ }
+    ensures { λ _. ⌜ Declares (now (file .entry)) (now (table .exit)) ⌝ }
 {
     let first = word(file, 0, HEADER_PROCEDURES);
-    let count = list_records(file, first, PROCEDURE_PLACES, MAX_PROCEDURES, table);
+    list_records(file, first, PROCEDURE_PLACES, table);
     list_functors(file, table);
     list_parameters(file, table);
-    count
+}
+
+// Lists the variables and the regions of the procedure of record i, which has no more of either than there are places. The table is blank before.
+pub fn list_own(file: &[u8], i: usize, own: &mut [u16; OWN_PLACES])
+    requires { ⌜ Formed (now file) ⌝ }
+    requires { ⌜ Stands (now file) procedures i × (i ≡ 0 → ⊥) ⌝ }
+    requires { ⌜ (fewDeclared (signatureAt (now file) i) ≡ true) × (now own ≡ replicate ownPlaces 0) ⌝ }
+    ensures { λ _. ⌜ OwnOf (now (file .entry)) (now (own .exit)) i ⌝ }
+{
+    list_records(file, word(file, i, PROCEDURE_VARIABLES), 1, own);
+    list_records(
+        file,
+        word(file, i, PROCEDURE_REGIONS),
+        REGION_PLACES + 1,
+        own,
+    );
 }

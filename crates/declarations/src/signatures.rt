@@ -1,11 +1,12 @@
 // What a procedure declares: its variables and its regions.
 use crate::edges::edges_ok;
-use crate::listing::list_records;
 use crate::names::functor;
 use crate::names::is_region_of;
+use crate::names::region;
+use crate::names::variable;
 use crate::places::FILE_PLACES;
 use crate::places::OWN_PLACES;
-use crate::places::REGION_PLACES;
+use chains::chain_length;
 use chains::word;
 use language::format::CLASS_DEAD;
 use language::format::MAX_REGIONS;
@@ -21,16 +22,12 @@ use language::format::VARIABLE_MODE;
 use language::format::VARIABLE_REGION;
 use language::format::VARIABLE_TYPE;
 ghost use mathlib.Core.Path.{_≡_};
-ghost use mathlib.Core.Bool.{true};
-ghost use lib.ListN.{replicate};
 ghost use Rattle.language.specs.File.{procedures, variables, regions};
 ghost use Rattle.language.specs.Answers.{program};
-ghost use Rattle.language.specs.Typing.{signatureOk};
-ghost use Rattle.chains.specs.Formed.{Stands};
-ghost use Rattle.declarations.specs.Places.{ownPlaces};
+ghost use Rattle.chains.specs.Formed.{Formed, Stands};
 ghost use Rattle.declarations.specs.Declares.{Declares};
-ghost use Rattle.declarations.specs.Own.{Own};
-ghost use Rattle.declarations.specs.Signatures.{signatureAt, VariableTested, VariablesTested, RegionTested, RegionsTested, OwnOf};
+ghost use Rattle.declarations.specs.Own.{Own, declared, signatureAt, fewDeclared};
+ghost use Rattle.declarations.specs.Signatures.{eachDeclared, VariableTested, VariablesTested, RegionTested, RegionsTested};
 
 // The variable of record i.
 fn variable_ok(file: &[u8], table: &[u16; FILE_PLACES], own: &[u16; OWN_PLACES], i: usize) -> bool
@@ -108,29 +105,25 @@ fn regions_ok(
     true
 }
 
-// All that the procedure of record i declares. Lists it in `own`, which is blank before.
-pub fn signature_ok(
-    file: &[u8],
-    table: &[u16; FILE_PLACES],
-    i: usize,
-    own: &mut [u16; OWN_PLACES],
-) -> bool
-    requires { ⌜ Declares (now file) (now table) ⌝ }
+// Whether the procedure of record i has no more variables and no more regions than may be.
+pub fn counts_ok(file: &[u8], i: usize) -> bool
+    requires { ⌜ Formed (now file) ⌝ }
     requires { ⌜ Stands (now file) procedures i × (i ≡ 0 → ⊥) ⌝ }
-    requires { ⌜ now own ≡ replicate ownPlaces 0 ⌝ }
-    ensures { λ b. ⌜ b ≡ signatureOk (program (now (file .entry)) .types) (signatureAt (now (file .entry)) i) ⌝ }
-    ensures { λ b. ⌜ (b ≡ true → OwnOf (now (file .entry)) (now (own .exit)) i) ⌝ }
+    ensures { λ b. ⌜ b ≡ fewDeclared (signatureAt (now (file .entry)) i) ⌝ }
 {
-    let variables = word(file, i, PROCEDURE_VARIABLES);
-    let regions = word(file, i, PROCEDURE_REGIONS);
-    if MAX_VARIABLES < list_records(file, variables, 1, MAX_VARIABLES, own) {
+    if MAX_VARIABLES < chain_length(file, word(file, i, PROCEDURE_VARIABLES)) {
         return false;
     }
-    if MAX_REGIONS < list_records(file, regions, REGION_PLACES + 1, MAX_REGIONS, own) {
+    chain_length(file, word(file, i, PROCEDURE_REGIONS)) <= MAX_REGIONS
+}
+
+// All that the procedure at hand declares.
+pub fn signature_ok(file: &[u8], table: &[u16; FILE_PLACES], own: &[u16; OWN_PLACES]) -> bool
+    requires { ⌜ Declares (now file) (now table) × Own (now file) (now own) ⌝ }
+    ensures { λ b. ⌜ b ≡ eachDeclared (program (now (file .entry)) .types) (declared (now (file .entry)) (now (own .entry))) ⌝ }
+{
+    if !variables_ok(file, table, own, variable(own, 1)) {
         return false;
     }
-    if !variables_ok(file, table, own, variables) {
-        return false;
-    }
-    regions_ok(file, table, own, regions)
+    regions_ok(file, table, own, region(own, 1))
 }

@@ -1,10 +1,13 @@
 // Number 3 for a whole file: what it declares, then one procedure at a time what it declares and its goals.
 use crate::walk::goals;
+use chains::chain_length;
 use chains::word;
 use declarations::FILE_PLACES;
 use declarations::blank_file;
 use declarations::blank_own;
+use declarations::counts_ok;
 use declarations::list_file;
+use declarations::list_own;
 use declarations::signature_ok;
 use declarations::types_ok;
 use language::format::HEADER_PROCEDURES;
@@ -27,8 +30,12 @@ fn procedure_ok(file: &[u8], table: &[u16; FILE_PLACES], i: usize) -> bool
     requires { ⌜ Stands (now file) procedures i × (i ≡ 0 → ⊥) ⌝ }
     ensures { λ b. ⌜ b ≡ procedureOk (program (now (file .entry))) (procedureAtRecord (now (file .entry)) i) ⌝ }
 {
+    if !counts_ok(file, i) {
+        return false;
+    }
     let mut own = blank_own();
-    if !signature_ok(file, table, i, &mut own) {
+    list_own(file, i, &mut own);
+    if !signature_ok(file, table, &own) {
         return false;
     }
     goals(file, table, &own, word(file, i, PROCEDURE_GOALS))
@@ -56,15 +63,17 @@ fn procedures_ok(file: &[u8]) -> bool
     requires { ⌜ typesOk (program (now file) .types) ≡ true ⌝ }
     ensures { λ r. ⌜ r ≡ proceduresOk (program (now (file .entry))) ⌝ }
 {
-    let mut table = blank_file();
-    let count = list_file(file, &mut table);
+    let first = word(file, 0, HEADER_PROCEDURES);
+    let count = chain_length(file, first);
     if count == 0 {
         return false;
     }
     if MAX_PROCEDURES < count {
         return false;
     }
-    each_procedure_ok(file, &table, word(file, 0, HEADER_PROCEDURES))
+    let mut table = blank_file();
+    list_file(file, &mut table);
+    each_procedure_ok(file, &table, first)
 }
 
 // Whether number 3 does not apply to a file that passes numbers 1 and 2.

@@ -53,17 +53,5 @@ returns-2 c = edges-end _ _ _ (c .before .before .before .pre .0 .0) (c .before 
 
 pub edges-ok-spec : {M : Type 1} → statement M
 edges-ok-spec =
-    tie.close
-    (tie.spec
-    Inv-loop
-    μ-loop
-    loop-holds
-    functor-edges-requires
-    enum-known-after
-    enum-told
-    returns
-    add-g
-    word-requires
-    loop-less
-    loop-again
+    tie.close (tie.spec Inv-loop μ-loop loop-holds functor-edges-requires enum-known-after enum-told returns add-g word-requires loop-less loop-again
     returns-2)

@@ -65,24 +65,5 @@ returns-6 c = functor-all _ _ (functor-at (c .before .before .before .before .be
 
 pub functor-edges-spec : {M : Type 1} → statement M
 functor-edges-spec =
-    tie.close
-    (tie.spec
-    word-requires
-    returns
-    record-at-requires
-    enum-known-arity
-    returns-2
-    position-ok-requires
-    enum-known-e1
-    enum-told
-    returns-3
-    position-ok-requires-2
-    enum-known-e2
-    enum-told-2
-    returns-4
-    position-ok-requires-3
-    enum-known-e3
-    enum-told-3
-    returns-5
-    position-ok-requires-4
-    returns-6)
+    tie.close (tie.spec word-requires returns record-at-requires enum-known-arity returns-2 position-ok-requires enum-known-e1 enum-told returns-3
+    position-ok-requires-2 enum-known-e2 enum-told-2 returns-4 position-ok-requires-3 enum-known-e3 enum-told-3 returns-5 position-ok-requires-4 returns-6)

@@ -35,15 +35,4 @@ returns-6 : tie.Need-returns-6
 returns-6 c = place-all _ _ _ _ _ _ (edge-at (c .before .before .before .before .before .before .before .before .before .before .pre .0 .0) (c .before .before .before .before .before .before .before .record-at .ensures) (c .before .before .before .before .before .next .given .1)) (c .before .before .before .if2 .left) (c .before .before .if3 .left) (c .before .is-region-of .ensures) (not-false _ (c .if4 .left))
 
 pub place-ok-spec : {M : Type 1} → statement M
-place-ok-spec =
-    tie.close
-    (tie.spec
-    returns
-    record-at-requires
-    enum-known-next
-    returns-2
-    returns-3
-    returns-4
-    is-region-of-requires
-    returns-5
-    returns-6)
+place-ok-spec = tie.close (tie.spec returns record-at-requires enum-known-next returns-2 returns-3 returns-4 is-region-of-requires returns-5 returns-6)

@@ -31,13 +31,4 @@ returns-2 : tie.Need-returns-2
 returns-2 c = (c .narrow .ensures) ∙ link-parameter _ _ _ (λ z. c .before .if1 .left (c .before .before .word .ensures .0 ∙ z))
 
 pub link-spec : {M : Type 1} → statement M
-link-spec =
-    tie.close
-    (tie.spec
-    word-requires
-    word-requires-2
-    mul-result
-    element-copy-out-result
-    returns
-    narrow-requires
-    returns-2)
+link-spec = tie.close (tie.spec word-requires word-requires-2 mul-result element-copy-out-result returns narrow-requires returns-2)

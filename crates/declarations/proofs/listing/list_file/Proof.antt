@@ -6,7 +6,7 @@ use Rattle.chains.specs.Formed.{procedures-stand, counted}
 use Rattle.declarations.specs.Places.{filePlaces}
 use Rattle.declarations.specs.Functors.{stands-same}
 use Rattle.declarations.specs.Listing.{blank-length, blank-at}
-use Rattle.declarations.specs.Filling.{procedure-count, file-listed}
+use Rattle.declarations.specs.Filling.{procedures-few, file-listed}
 use Rattle.declarations.proofs.listing.list_file.Statement.{statement}
 use Rattle.declarations.proofs.listing.list_file.Tie as tie
 
@@ -14,23 +14,16 @@ word-requires : tie.Need-word-requires
 word-requires c κs = (c .before .pre .0, (omega arith, counted (c .before .pre .0) .some))
 
 list-records-requires : tie.Need-list-records-requires
-list-records-requires c κs = (c .before .before .before .pre .0, (stands-same (c .before .word .ensures .0) (procedures-stand (c .before .before .before .pre .0)) .below, (omega (arith, blank-length filePlaces (c .before .before .before .pre .1 .1)), λ n l. blank-at filePlaces (c .before .before .before .pre .1 .1) _)))
+list-records-requires c κs = (c .before .before .before .pre .0, (stands-same (c .before .word .ensures .0) (procedures-stand (c .before .before .before .pre .0)) .below, omega (arith, blank-length filePlaces (c .before .before .before .pre .1 .1), procedures-few (c .before .before .before .pre .0) (c .before .before .before .pre .1 .0 .1) (c .before .word .ensures .0))))
 
 list-functors-requires : tie.Need-list-functors-requires
-list-functors-requires c κs = (c .before .before .before .before .before .pre .0, (c .before .before .before .before .before .pre .1 .0, (omega (arith, blank-length filePlaces (c .before .before .before .before .before .pre .1 .1), c .before .list-records .ensures .1 .kept), λ k l. c .before .list-records .ensures .1 .other k (inr l) ∙ blank-at filePlaces (c .before .before .before .before .before .pre .1 .1) k)))
+list-functors-requires c κs = (c .before .before .before .before .before .pre .0, (c .before .before .before .before .before .pre .1 .0 .0, (omega (arith, blank-length filePlaces (c .before .before .before .before .before .pre .1 .1), c .before .list-records .ensures .kept), λ k l. c .before .list-records .ensures .other k (inr (omega (arith, procedures-few (c .before .before .before .before .before .pre .0) (c .before .before .before .before .before .pre .1 .0 .1) (c .before .before .before .word .ensures .0)))) ∙ blank-at filePlaces (c .before .before .before .before .before .pre .1 .1) k)))
 
 list-parameters-requires : tie.Need-list-parameters-requires
-list-parameters-requires c κs = (c .before .before .before .before .before .before .before .pre .0, (omega (arith, blank-length filePlaces (c .before .before .before .before .before .before .before .pre .1 .1), c .before .before .before .list-records .ensures .1 .kept, c .before .list-functors .ensures .kept), c .before .list-functors .ensures .other 0 (omega arith) ∙ c .before .before .before .list-records .ensures .1 .other 0 (inl (omega arith)) ∙ blank-at filePlaces (c .before .before .before .before .before .before .before .pre .1 .1) 0))
+list-parameters-requires c κs = (c .before .before .before .before .before .before .before .pre .0, (omega (arith, blank-length filePlaces (c .before .before .before .before .before .before .before .pre .1 .1), c .before .before .before .list-records .ensures .kept, c .before .list-functors .ensures .kept), c .before .list-functors .ensures .other 0 (omega arith) ∙ c .before .before .before .list-records .ensures .other 0 (inl (omega arith)) ∙ blank-at filePlaces (c .before .before .before .before .before .before .before .pre .1 .1) 0))
 
 returns : tie.Need-returns
-returns c = (procedure-count (c .before .before .before .before .before .before .before .before .pre .0) (c .before .before .before .before .before .before .word .ensures .0) (c .before .before .before .before .list-records .ensures .0), λ h. file-listed (c .before .before .before .before .before .before .before .before .pre .0) (c .before .before .before .before .before .before .word .ensures .0) (c .before .before .before .before .list-records .ensures .0) (c .before .before .before .before .before .before .before .before .pre .1 .0) h (c .before .before .before .before .list-records .ensures .1) (c .before .before .list-functors .ensures) (c .list-parameters .ensures))
+returns c = file-listed (c .before .before .before .before .before .before .before .before .pre .0) (c .before .before .before .before .before .before .before .before .pre .1 .0 .1) (c .before .before .before .before .before .before .word .ensures .0) (c .before .before .before .before .before .before .before .before .pre .1 .0 .0) (c .before .before .before .before .before .before .before .before .pre .1 .1) (c .before .before .before .before .list-records .ensures) (c .before .before .list-functors .ensures) (c .list-parameters .ensures)
 
 pub list-file-spec : {M : Type 1} → statement M
-list-file-spec =
-    tie.close
-    (tie.spec
-    word-requires
-    list-records-requires
-    list-functors-requires
-    list-parameters-requires
-    returns)
+list-file-spec = tie.close (tie.spec word-requires list-records-requires list-functors-requires list-parameters-requires returns)

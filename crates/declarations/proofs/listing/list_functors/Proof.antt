@@ -9,7 +9,7 @@ use Rattle.chains.specs.Is.{chain-next, type-is}
 use Rattle.chains.specs.Declared.{type-at}
 use Rattle.declarations.specs.Functors.{stands-same}
 use Rattle.declarations.specs.Listing.{Left, left-all, left-here, left-next, left-end}
-use Rattle.declarations.specs.Filling.{type-room, FunctorsSo, functors-none, functors-blank, functors-next, functors-all}
+use Rattle.declarations.specs.Filling.{type-room, functors-few, FunctorsSo, functors-none, functors-next, functors-all}
 use borrow.Author.Needs.{needs}
 use Rattle.declarations.proofs.listing.list_functors.Statement.{statement}
 use Rattle.declarations.proofs.listing.list_functors.Tie as tie
@@ -39,8 +39,11 @@ add-list-records : tie.Need-add-list-records Inv-loop μ-loop
 add-list-records c = search (needs, type-room (c .before .before .before .before .before .pre .0) (c .before .before .before .before .before .pre .1 .0) (c .before .before .loop .inv .1) (c .before .loop-test .taken) (c .before .before .loop .inv .2 .below))
 
 list-records-requires : tie.Need-list-records-requires Inv-loop μ-loop
-list-records-requires c κs = let l = c .before .before .before .loop .inv in let z = c .before .before .loop-test .taken in let F = c .before .before .before .before .before .before .pre .0 in
-    (F, (stands-same (c .before .word2 .ensures .0) (type-at F refl (type-is (l .2) z) .to-functors .stands) .below, (omega (arith, c .before .before .before .before .before .before .pre .1 .1 .0, l .0 .kept, type-room F (c .before .before .before .before .before .before .pre .1 .0) (l .1) z (l .2 .below)), functors-blank (l .0) refl (add-one _))))
+list-records-requires c κs = let l = c .before .before .before .loop .inv in
+    let z = c .before .before .loop-test .taken in
+    let F = c .before .before .before .before .before .before .pre .0 in
+    let few = functors-few F (c .before .before .before .before .before .before .pre .1 .0) _ (left-here (l .1) F z (l .2 .below)) z (c .before .word2 .ensures .0) in
+    (F, (stands-same (c .before .word2 .ensures .0) (type-at F refl (type-is (l .2) z) .to-functors .stands) .below, omega (arith, few, c .before .before .before .before .before .before .pre .1 .1 .0, l .0 .kept, type-room F (c .before .before .before .before .before .before .pre .1 .0) (l .1) z (l .2 .below))))
 
 word-requires-3 : tie.Need-word-requires-3 Inv-loop μ-loop
 word-requires-3 c κs = (c .before .before .before .before .before .before .before .pre .0, (omega arith, c .before .before .before .before .loop .inv .2 .below))
@@ -49,26 +52,16 @@ loop-less : tie.Need-loop-less Inv-loop μ-loop
 loop-less c = chain-next (c .before .before .before .before .before .before .before .before .pre .0) (c .before .before .before .before .before .loop .inv .2) (c .before .before .before .before .loop-test .taken) (c .word3 .ensures .0) .falls
 
 loop-again : tie.Need-loop-again Inv-loop μ-loop
-loop-again c = let l = c .before .before .before .before .before .loop .inv in let z = c .before .before .before .before .loop-test .taken in let F = c .before .before .before .before .before .before .before .before .pre .0 in
-    (functors-next (l .0) (left-here (l .1) F z (l .2 .below)) z (c .before .before .before .word2 .ensures .0) refl (add-one _) (c .before .list-records .ensures .1), left-next (l .1) F z (l .2 .below) (c .word3 .ensures .0) (add-one _), chain-next F (l .2) z (c .word3 .ensures .0) .stands)
+loop-again c = let l = c .before .before .before .before .before .loop .inv in
+    let z = c .before .before .before .before .loop-test .taken in
+    let F = c .before .before .before .before .before .before .before .before .pre .0 in
+    let h = left-here (l .1) F z (l .2 .below) in
+    (functors-next (l .0) h z (c .before .before .before .word2 .ensures .0) refl (add-one _) (functors-few F (c .before .before .before .before .before .before .before .before .pre .1 .0) _ h z (c .before .before .before .word2 .ensures .0)) (c .before .list-records .ensures), left-next (l .1) F z (l .2 .below) (c .word3 .ensures .0) (add-one _), chain-next F (l .2) z (c .word3 .ensures .0) .stands)
 
 returns : tie.Need-returns Inv-loop μ-loop
 returns c = functors-all (c .before .loop .inv .0) (c .before .before .before .before .pre .0) (c .before .before .before .before .pre .1 .0) (left-end (c .before .loop .inv .1) (c .loop-test .left))
 
 pub list-functors-spec : {M : Type 1} → statement M
 list-functors-spec =
-    tie.close
-    (tie.spec
-    Inv-loop
-    μ-loop
-    word-requires
-    loop-holds
-    add-t
-    word-requires-2
-    mul-list-records
-    add-list-records
-    list-records-requires
-    word-requires-3
-    loop-less
-    loop-again
-    returns)
+    tie.close (tie.spec Inv-loop μ-loop word-requires loop-holds add-t word-requires-2 mul-list-records add-list-records list-records-requires
+    word-requires-3 loop-less loop-again returns)

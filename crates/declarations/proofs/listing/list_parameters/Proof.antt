@@ -54,19 +54,5 @@ returns c = linked-all (c .before .loop .inv .0) (c .loop-test .left)
 
 pub list-parameters-spec : {M : Type 1} → statement M
 list-parameters-spec =
-    tie.close
-    (tie.spec
-    Inv-loop
-    μ-loop
-    record-count-requires
-    loop-holds
-    sub-i
-    word-requires
-    link-requires
-    mul-table
-    element-write-table
-    loop-less
-    loop-again
-    loop-less-2
-    loop-again-2
-    returns)
+    tie.close (tie.spec Inv-loop μ-loop record-count-requires loop-holds sub-i word-requires link-requires mul-table element-write-table loop-less
+    loop-again loop-less-2 loop-again-2 returns)

@@ -24,5 +24,4 @@ returns-2 : tie.Need-returns-2
 returns-2 c = (c .wide .ensures) ∙ place-there _ _ _ _ (c .before .before .if1 .left)
 
 pub place-spec : {M : Type 1} → statement M
-place-spec =
-    tie.close (tie.spec returns add-wide mul-wide shared-slice-read-wide wide-requires returns-2)
+place-spec = tie.close (tie.spec returns add-wide mul-wide shared-slice-read-wide wide-requires returns-2)

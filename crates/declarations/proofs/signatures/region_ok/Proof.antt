@@ -35,14 +35,4 @@ returns-3 : tie.Need-returns-3
 returns-3 c = region-edges (c .before .before .before .before .before .before .before .before .pre .0 .0) _ _ (c .before .before .before .before .before .before .word .ensures .0) (c .before .before .before .before .before .functor .ensures) (c .before .before .before .before .if1 .left) (c .before .before .before .word2 .ensures .0) (c .before .before .if2 .left) (c .before .word3 .ensures .0) (c .edges-ok .ensures)
 
 pub region-ok-spec : {M : Type 1} → statement M
-region-ok-spec =
-    tie.close
-    (tie.spec
-    word-requires
-    functor-requires
-    returns
-    word-requires-2
-    returns-2
-    word-requires-3
-    edges-ok-requires
-    returns-3)
+region-ok-spec = tie.close (tie.spec word-requires functor-requires returns word-requires-2 returns-2 word-requires-3 edges-ok-requires returns-3)

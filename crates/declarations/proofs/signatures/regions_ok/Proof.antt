@@ -42,15 +42,4 @@ returns-2 : tie.Need-returns-2 Inv-loop μ-loop
 returns-2 c = all-end _ (regions-none _ (c .loop-test .left)) ∙ c .before .loop .inv .1
 
 pub regions-ok-spec : {M : Type 1} → statement M
-regions-ok-spec =
-    tie.close
-    (tie.spec
-    Inv-loop
-    μ-loop
-    loop-holds
-    region-ok-requires
-    returns
-    word-requires
-    loop-less
-    loop-again
-    returns-2)
+regions-ok-spec = tie.close (tie.spec Inv-loop μ-loop loop-holds region-ok-requires returns word-requires loop-less loop-again returns-2)

@@ -34,14 +34,4 @@ returns-4 c = variable-cell (c .before .before .before .before .before .before .
 
 pub variable-ok-spec : {M : Type 1} → statement M
 variable-ok-spec =
-    tie.close
-    (tie.spec
-    word-requires
-    returns
-    word-requires-2
-    word-requires-3
-    returns-2
-    functor-requires
-    returns-3
-    is-region-of-requires
-    returns-4)
+    tie.close (tie.spec word-requires returns word-requires-2 word-requires-3 returns-2 functor-requires returns-3 is-region-of-requires returns-4)

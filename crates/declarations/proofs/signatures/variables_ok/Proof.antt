@@ -42,15 +42,4 @@ returns-2 : tie.Need-returns-2 Inv-loop μ-loop
 returns-2 c = all-end _ (variables-none _ (c .loop-test .left)) ∙ c .before .loop .inv .1
 
 pub variables-ok-spec : {M : Type 1} → statement M
-variables-ok-spec =
-    tie.close
-    (tie.spec
-    Inv-loop
-    μ-loop
-    loop-holds
-    variable-ok-requires
-    returns
-    word-requires
-    loop-less
-    loop-again
-    returns-2)
+variables-ok-spec = tie.close (tie.spec Inv-loop μ-loop loop-holds variable-ok-requires returns word-requires loop-less loop-again returns-2)

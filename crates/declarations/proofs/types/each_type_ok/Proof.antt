@@ -47,16 +47,4 @@ returns-3 c = all-end _ (types-none _ (c .loop-test .left)) ∙ c .before .loop 
 
 pub each-type-ok-spec : {M : Type 1} → statement M
 each-type-ok-spec =
-    tie.close
-    (tie.spec
-    Inv-loop
-    μ-loop
-    loop-holds
-    record-at-requires
-    enum-known-next
-    returns
-    type-ok-requires
-    returns-2
-    loop-less
-    loop-again
-    returns-3)
+    tie.close (tie.spec Inv-loop μ-loop loop-holds record-at-requires enum-known-next returns type-ok-requires returns-2 loop-less loop-again returns-3)

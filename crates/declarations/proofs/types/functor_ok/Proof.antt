@@ -33,15 +33,4 @@ returns-5 : tie.Need-returns-5
 returns-5 c = functor-all _ _ _ _ _ _ (c .before .before .before .before .before .before .before .if1 .left) (c .before .before .before .before .before .before .slot-ok .ensures) (not-false _ (c .before .before .before .before .before .if2 .left)) (c .before .before .before .before .slot-ok2 .ensures) (not-false _ (c .before .before .before .if3 .left)) (c .before .before .slot-ok3 .ensures) (not-false _ (c .before .if4 .left)) (c .slot-ok4 .ensures)
 
 pub functor-ok-spec : {M : Type 1} → statement M
-functor-ok-spec =
-    tie.close
-    (tie.spec
-    returns
-    slot-ok-requires
-    returns-2
-    slot-ok-requires-2
-    returns-3
-    slot-ok-requires-3
-    returns-4
-    slot-ok-requires-4
-    returns-5)
+functor-ok-spec = tie.close (tie.spec returns slot-ok-requires returns-2 slot-ok-requires-2 returns-3 slot-ok-requires-3 returns-4 slot-ok-requires-4 returns-5)

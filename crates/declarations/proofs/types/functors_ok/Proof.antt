@@ -47,16 +47,4 @@ returns-3 c = all-end _ (functors-none _ (c .loop-test .left)) ∙ c .before .lo
 
 pub functors-ok-spec : {M : Type 1} → statement M
 functors-ok-spec =
-    tie.close
-    (tie.spec
-    Inv-loop
-    μ-loop
-    loop-holds
-    record-at-requires
-    enum-known-next
-    returns
-    functor-ok-requires
-    returns-2
-    loop-less
-    loop-again
-    returns-3)
+    tie.close (tie.spec Inv-loop μ-loop loop-holds record-at-requires enum-known-next returns functor-ok-requires returns-2 loop-less loop-again returns-3)

@@ -22,11 +22,4 @@ returns-3 : tie.Need-returns-3
 returns-3 c = type-all _ _ ((c .before .before .before .chain-length .ensures) ∙ sym (functors-count (c .before .before .before .before .before .pre .0) _ (c .before .before .before .before .before .pre .1))) (c .before .before .if1 .left) (c .before .if2 .left) (c .functors-ok .ensures)
 
 pub type-ok-spec : {M : Type 1} → statement M
-type-ok-spec =
-    tie.close
-    (tie.spec
-    chain-length-requires
-    returns
-    returns-2
-    functors-ok-requires
-    returns-3)
+type-ok-spec = tie.close (tie.spec chain-length-requires returns returns-2 functors-ok-requires returns-3)

@@ -35,13 +35,4 @@ returns-2 : tie.Need-returns-2
 returns-2 c = call-some (c .before .before .before .before .before .before .before .pre .0 .0) _ _ (c .before .before .before .before .before .before .before .pre .1 .0) (c .before .before .before .before .before .word .ensures .0) (c .before .before .before .before .procedure .ensures) (c .before .before .before .if1 .left) (c .before .before .word2 .ensures .0) (c .before .word3 .ensures .0) (c .match-arguments .ensures)
 
 pub call-ok-spec : {M : Type 1} → statement M
-call-ok-spec =
-    tie.close
-    (tie.spec
-    word-requires
-    procedure-requires
-    returns
-    word-requires-2
-    word-requires-3
-    match-arguments-requires
-    returns-2)
+call-ok-spec = tie.close (tie.spec word-requires procedure-requires returns word-requires-2 word-requires-3 match-arguments-requires returns-2)

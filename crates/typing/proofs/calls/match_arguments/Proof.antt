@@ -65,20 +65,5 @@ returns-3 c = match-end _ _ _ _ (c .before .before .before .before .pre .0 .0 .f
 
 pub match-arguments-spec : {M : Type 1} → statement M
 match-arguments-spec =
-    tie.close
-    (tie.spec
-    Inv-loop
-    μ-loop
-    parameter-requires
-    loop-holds
-    returns
-    word-requires
-    word-requires-2
-    has-type-requires
-    returns-2
-    word-requires-3
-    word-requires-4
-    parameter-requires-2
-    loop-less
-    loop-again
-    returns-3)
+    tie.close (tie.spec Inv-loop μ-loop parameter-requires loop-holds returns word-requires word-requires-2 has-type-requires returns-2 word-requires-3
+    word-requires-4 parameter-requires-2 loop-less loop-again returns-3)

@@ -30,14 +30,4 @@ returns-2 : tie.Need-returns-2
 returns-2 c = argument-past _ _ _ _ (c .before .before .word .ensures .0) (omega (arith, c .if1 .left, c .before .word2 .ensures .0))
 
 pub argument-ok-spec : {M : Type 1} → statement M
-argument-ok-spec =
-    tie.close
-    (tie.spec
-    add-word
-    word-requires
-    word-requires-2
-    add-word-2
-    word-requires-3
-    has-type-requires
-    returns
-    returns-2)
+argument-ok-spec = tie.close (tie.spec add-word word-requires word-requires-2 add-word-2 word-requires-3 has-type-requires returns returns-2)

@@ -38,15 +38,4 @@ returns-2 : tie.Need-returns-2 Inv-loop μ-loop
 returns-2 c = slots-end _ _ _ _ (c .loop-test .left) ∙ c .before .loop .inv ∙ slots-whole _ _ _ _
 
 pub arguments-ok-spec : {M : Type 1} → statement M
-arguments-ok-spec =
-    tie.close
-    (tie.spec
-    Inv-loop
-    μ-loop
-    loop-holds
-    argument-ok-requires
-    returns
-    add-k
-    loop-less
-    loop-again
-    returns-2)
+arguments-ok-spec = tie.close (tie.spec Inv-loop μ-loop loop-holds argument-ok-requires returns add-k loop-less loop-again returns-2)

@@ -20,5 +20,4 @@ returns-3 : tie.Need-returns-3
 returns-3 c = arm-all _ _ _ _ _ (c .before .before .before .if1 .left) (c .before .before .word .ensures .0) (c .before .if2 .left) (c .arguments-ok .ensures)
 
 pub arm-fits-spec : {M : Type 1} → statement M
-arm-fits-spec =
-    tie.close (tie.spec returns word-requires returns-2 arguments-ok-requires returns-3)
+arm-fits-spec = tie.close (tie.spec returns word-requires returns-2 arguments-ok-requires returns-3)

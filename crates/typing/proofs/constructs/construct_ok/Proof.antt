@@ -37,14 +37,4 @@ returns-3 c = construct-all (c .before .before .before .before .before .before .
 
 pub construct-ok-spec : {M : Type 1} → statement M
 construct-ok-spec =
-    tie.close
-    (tie.spec
-    word-requires
-    variable-requires
-    returns
-    word-requires-2
-    word-requires-3
-    functor-requires
-    returns-2
-    arguments-ok-requires
-    returns-3)
+    tie.close (tie.spec word-requires variable-requires returns word-requires-2 word-requires-3 functor-requires returns-2 arguments-ok-requires returns-3)

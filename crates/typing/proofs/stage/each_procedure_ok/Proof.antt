@@ -41,15 +41,4 @@ returns-2 : tie.Need-returns-2 Inv-loop μ-loop
 returns-2 c = all-end _ (procedures-none _ (c .loop-test .left)) ∙ c .before .loop .inv .1
 
 pub each-procedure-ok-spec : {M : Type 1} → statement M
-each-procedure-ok-spec =
-    tie.close
-    (tie.spec
-    Inv-loop
-    μ-loop
-    loop-holds
-    procedure-ok-requires
-    returns
-    word-requires
-    loop-less
-    loop-again
-    returns-2)
+each-procedure-ok-spec = tie.close (tie.spec Inv-loop μ-loop loop-holds procedure-ok-requires returns word-requires loop-less loop-again returns-2)

@@ -29,13 +29,4 @@ returns-2 : tie.Need-returns-2
 returns-2 c = assign-all (c .before .before .before .before .before .before .before .pre .0 .0) (c .before .before .before .before .before .before .before .pre .0 .1) _ (c .before .before .before .before .before .word .ensures .0) (c .before .before .before .before .variable .ensures) (c .before .before .before .before .before .before .before .pre .1 .0) (c .before .before .before .if1 .left) (c .before .before .word2 .ensures .0) (c .before .word3 .ensures .0) (c .has-type .ensures)
 
 pub assign-ok-spec : {M : Type 1} → statement M
-assign-ok-spec =
-    tie.close
-    (tie.spec
-    word-requires
-    variable-requires
-    returns
-    word-requires-2
-    word-requires-3
-    has-type-requires
-    returns-2)
+assign-ok-spec = tie.close (tie.spec word-requires variable-requires returns word-requires-2 word-requires-3 has-type-requires returns-2)

@@ -66,23 +66,5 @@ returns-9 c = let e = c .before .word .ensures .0 in
 
 pub step-ok-spec : {M : Type 1} → statement M
 step-ok-spec =
-    tie.close
-    (tie.spec
-    word-requires
-    is-number-requires
-    sum-ok-requires
-    assign-ok-requires
-    construct-ok-requires
-    call-ok-requires
-    is-number-requires-2
-    lifetime-ok-requires
-    lifetime-ok-requires-2
-    returns
-    returns-2
-    returns-3
-    returns-4
-    returns-5
-    returns-6
-    returns-7
-    returns-8
-    returns-9)
+    tie.close (tie.spec word-requires is-number-requires sum-ok-requires assign-ok-requires construct-ok-requires call-ok-requires is-number-requires-2
+    lifetime-ok-requires lifetime-ok-requires-2 returns returns-2 returns-3 returns-4 returns-5 returns-6 returns-7 returns-8 returns-9)

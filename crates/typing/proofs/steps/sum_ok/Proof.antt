@@ -30,14 +30,4 @@ returns-4 : tie.Need-returns-4
 returns-4 c = sum-all (c .before .before .before .before .before .before .before .before .pre .0 .0) _ _ (c .before .before .before .before .before .before .before .before .pre .1 .0) (c .before .before .before .before .before .before .is-number .ensures) (not-false _ (c .before .before .before .before .before .if1 .left)) (c .before .before .before .before .word .ensures .0) (c .before .before .before .if2 .left) (c .before .before .is-number2 .ensures) (not-false _ (c .before .if3 .left)) (c .is-number3 .ensures)
 
 pub sum-ok-spec : {M : Type 1} → statement M
-sum-ok-spec =
-    tie.close
-    (tie.spec
-    is-number-requires
-    returns
-    word-requires
-    returns-2
-    is-number-requires-2
-    returns-3
-    is-number-requires-3
-    returns-4)
+sum-ok-spec = tie.close (tie.spec is-number-requires returns word-requires returns-2 is-number-requires-2 returns-3 is-number-requires-3 returns-4)
