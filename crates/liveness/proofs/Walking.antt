@@ -1,5 +1,5 @@
 -- The walk over goals, one law for each way through it, over the code's own values.
-use Prim.Native.Nat.{ℕ, _≤_}
+use Prim.Native.Nat.{ℕ, _≤_, _<_}
 use mathlib.Core.Bool.{Bool, true, false}
 use mathlib.Core.Path.{_≡_, refl, sym, ap, _∙_}
 use mathlib.Core.List.{List, [], _∷_, _++_}
@@ -8,7 +8,7 @@ use Rattle.sets.specs.Tests.{_&_}
 use Rattle.sets.specs.Sets.{emptySet, single, _∪_, _∖_}
 use Rattle.sets.specs.Members.{setOf}
 use Rattle.sets.specs.declared.Set.{Set}
-use Rattle.language.specs.File.{goals, arms, word}
+use Rattle.language.specs.File.{goals, arms, word, recordCount}
 use Rattle.language.specs.Program.{four, argumentsOf, Step, Goals, _then_, Goal, step, switch, ifLess, Arms, arm, Signature, Program, signatureOf}
 use Rattle.language.specs.Lifetimes.{liveStep, live, liveGoal, liveArms, stepClasses, goalsClasses, goalClasses, armsClasses}
 use Rattle.language.specs.Answers.{program}
@@ -117,12 +117,18 @@ module _ (f : List ℕ) (i : ℕ) where
     switch-at : SwitchAt f i (word f i 1) (word f i 2) (word f i 3)
     switch-at = switch-here F refl k
 
+    pub switch-there : i < recordCount f
+    switch-there = switch-at .below
+
     pub to-arms : {n : ℕ} → n ≡ word f i 3 → Onward f arms i n
     to-arms e = rw e (switch-at .to-arms)
 
   module _ (F : Formed f) (k : word f i 0 ≡ 14) where
     if-at : IfAt f i (word f i 1) (word f i 2) (word f i 3) (word f i 4) (word f i 5)
     if-at = if-here F refl k
+
+    pub if-there : i < recordCount f
+    if-there = if-at .below
 
     pub to-then : Onward f goals i (word f i 4)
     to-then = if-at .to-then

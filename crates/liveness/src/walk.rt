@@ -6,6 +6,7 @@ use crate::carried::live_in;
 use crate::carried::put_live;
 use crate::carried::put_point;
 use crate::step::step;
+use chains::word;
 use language::format::ARM_GOALS;
 use language::format::GOAL_X;
 use language::format::IF;
@@ -17,13 +18,12 @@ use language::format::KIND;
 use language::format::NEXT;
 use language::format::SWITCH;
 use language::format::SWITCH_ARMS;
-use records::word;
 use sets::Set;
 use tables::ROWS;
 use tables::gives_at;
 ghost use mathlib.Core.Path.{_≡_};
 ghost use Prim.Native.Nat.{_<_};
-ghost use Rattle.language.specs.File.{goals, arms, word};
+ghost use Rattle.language.specs.File.{goals, arms, word, recordCount};
 ghost use Rattle.language.specs.Format.{kindWord, switchKind, ifKind};
 ghost use Rattle.chains.specs.Formed.{Formed, Stands};
 ghost use Rattle.tables.specs.Filled.{Accessed};
@@ -60,7 +60,7 @@ fn part(
 )
     requires { ⌜ Formed (now file) ⌝ }
     requires { ⌜ Accessed (now file) (now rows) ⌝ }
-    requires { ⌜ (k < 8) × Stands (now file) goals (word (now file) i k) ⌝ }
+    requires { ⌜ (k < 8) × ((i < recordCount (now file)) × Stands (now file) goals (word (now file) i k)) ⌝ }
     ensures { λ _. ⌜ GoalsDone (now (file .entry)) (now (rows .entry)) (word (now (file .entry)) i k) (now (carried .entry)) (now (table .entry)) (now (carried .exit)) (now (table .exit)) ⌝ }
 {
     let start = word(file, i, k);

@@ -4,7 +4,7 @@ use native.Mathlib.Omega.{arith}
 use Rattle.language.specs.File.{word}
 use Rattle.chains.specs.Formed.{ahead}
 use Rattle.chains.specs.Is.{chain-next}
-use Rattle.liveness.proofs.Walking.{goals-last, to-next, goals-more, step-done, to-arms, switch-done, to-then, to-else, if-done, arms-last, arm-here, arms-more, part-stands, part-done}
+use Rattle.liveness.proofs.Walking.{goals-last, to-next, goals-more, step-done, to-arms, switch-done, to-then, to-else, if-done, arms-last, arm-here, arms-more, part-stands, part-done, switch-there, if-there}
 use borrow.Author.Needs.{needs}
 use Prim.Native.Nat.{ℕ, _+_, _*_, _<_}
 use borrow.Fn.Kinds.{In}
@@ -31,7 +31,7 @@ use Rattle.liveness.proofs.carried.live_in.Reads as live-in-reads
 use Rattle.liveness.proofs.carried.put_live.Reads as put-live-reads
 use Rattle.liveness.proofs.carried.put_point.Reads as put-point-reads
 use Rattle.liveness.proofs.step.step.Reads as step-reads
-use Rattle.records.proofs.word.Reads as word-reads
+use Rattle.chains.proofs.word.Reads as word-reads
 use Rattle.sets.proofs.Set.difference.Reads as difference-reads
 use Rattle.sets.proofs.Set.of.Reads as of-reads
 use Rattle.sets.proofs.Set.union.Reads as union-reads
@@ -128,7 +128,9 @@ arms-live-in-requires : (t : ℕ) → arms-lts.Need-live-in-requires (arms-calls
 arms-live-in-requires t c κs = search needs
 
 arms-word-requires : (t : ℕ) → arms-lts.Need-word-requires (arms-calls t) (arms-at t) arms.Post
-arms-word-requires t c κs = search needs
+arms-word-requires t c κs =
+    let p = c .before .before .before .before .pre .1 in
+    (p .0, (omega arith, p .1 .1 .below))
 
 arms-arms-requires : (t : ℕ) → arms-lts.Need-arms-requires (arms-calls t) (arms-at t) arms.Post
 arms-arms-requires t c κs =
@@ -148,7 +150,7 @@ arms-part-requires t c κs =
     let start = c .before .before .before .before .before .before .before .before .before .before .before .before .before .before in
     let p = start .pre .1 in
     let o = arm-here _ _ (p .0) (p .1 .1) (c .before .before .before .before .before .before .before .before .before .before .before .before .if1 .left) .to-goals in
-    (omega (arith, o .falls, start .pre .0), (p .0, (p .1 .0, (omega arith, o .stands))))
+    (omega (arith, o .falls, start .pre .0), (p .0, (p .1 .0, (omega arith, (p .1 .1 .below, o .stands)))))
 
 arms-live-in-requires-3 : (t : ℕ) → arms-lts.Need-live-in-requires-3 (arms-calls t) (arms-at t) arms.Post
 arms-live-in-requires-3 t c κs = search needs
@@ -180,7 +182,7 @@ branches-part-requires t c κs =
     let start = c .before .before .before .before .before in
     let p = start .pre .1 in
     let o = to-else _ _ (p .0) (p .1 .1) in
-    (omega (arith, o .falls, start .pre .0), (p .0, (p .1 .0, (omega arith, o .stands))))
+    (omega (arith, o .falls, start .pre .0), (p .0, (p .1 .0, (omega arith, (if-there _ _ (p .0) (p .1 .1), o .stands)))))
 
 branches-live-in-requires-2 : (t : ℕ) → branches-lts.Need-live-in-requires-2 (branches-calls t) (branches-at t) branches.Post
 branches-live-in-requires-2 t c κs = search needs
@@ -193,19 +195,23 @@ branches-part-requires-2 t c κs =
     let start = c .before .before .before .before .before .before .before .before .before .before .before .before in
     let p = start .pre .1 in
     let o = to-then _ _ (p .0) (p .1 .1) in
-    (omega (arith, o .falls, start .pre .0), (p .0, (p .1 .0, (omega arith, o .stands))))
+    (omega (arith, o .falls, start .pre .0), (p .0, (p .1 .0, (omega arith, (if-there _ _ (p .0) (p .1 .1), o .stands)))))
 
 branches-live-in-requires-3 : (t : ℕ) → branches-lts.Need-live-in-requires-3 (branches-calls t) (branches-at t) branches.Post
 branches-live-in-requires-3 t c κs = search needs
 
 branches-word-requires : (t : ℕ) → branches-lts.Need-word-requires (branches-calls t) (branches-at t) branches.Post
-branches-word-requires t c κs = search needs
+branches-word-requires t c κs =
+    let p = c .before .before .before .before .before .before .before .before .before .before .before .before .before .before .before .pre .1 in
+    (p .0, (omega arith, if-there _ _ (p .0) (p .1 .1)))
 
 branches-of-requires : (t : ℕ) → branches-lts.Need-of-requires (branches-calls t) (branches-at t) branches.Post
 branches-of-requires t c κs = search needs
 
 branches-word-requires-2 : (t : ℕ) → branches-lts.Need-word-requires-2 (branches-calls t) (branches-at t) branches.Post
-branches-word-requires-2 t c κs = search needs
+branches-word-requires-2 t c κs =
+    let p = c .before .before .before .before .before .before .before .before .before .before .before .before .before .before .before .before .before .pre .1 in
+    (p .0, (omega arith, if-there _ _ (p .0) (p .1 .1)))
 
 branches-of-requires-2 : (t : ℕ) → branches-lts.Need-of-requires-2 (branches-calls t) (branches-at t) branches.Post
 branches-of-requires-2 t c κs = search needs
@@ -230,7 +236,9 @@ branches-returns t c =
     (c .before .before .before .before .before .before .before .before .before .word .ensures .0) (c .before .before .before .before .before .before .before .before .of .ensures) (c .before .before .before .before .before .before .before .word2 .ensures .0) (c .before .before .before .before .before .before .of2 .ensures) (c .before .before .before .before .before .union .ensures) (c .before .before .before .before .union2 .ensures) (c .before .before .before .union3 .ensures) (c .put-point .ensures)
 
 goal-word-requires : (t : ℕ) → goal-lts.Need-word-requires (goal-calls t) (goal-at t) goal.Post
-goal-word-requires t c κs = search needs
+goal-word-requires t c κs =
+    let p = c .before .pre .1 in
+    (p .0, (omega arith, p .1 .1 .0 .below))
 
 goal-switch-requires : (t : ℕ) → goal-lts.Need-switch-requires (goal-calls t) (goal-at t) goal.Post
 goal-switch-requires t c κs =
@@ -267,7 +275,7 @@ goals-part-requires t c κs =
     let start = c .before .before .before .before in
     let p = start .pre .1 in
     let o = to-next _ _ (p .0) (p .1 .1) (c .before .before .if1 .left) in
-    (omega (arith, o .falls, start .pre .0), (p .0, (p .1 .0, (omega arith, o .stands))))
+    (omega (arith, o .falls, start .pre .0), (p .0, (p .1 .0, (omega arith, (p .1 .1 .below, o .stands)))))
 
 goals-goal-requires : (t : ℕ) → goals-lts.Need-goal-requires (goals-calls t) (goals-at t) goals.Post
 goals-goal-requires t c κs =
@@ -282,7 +290,9 @@ goals-returns-2 t c =
     goals-more _ _ _ (p .0) (p .1 .1) (c .before .before .before .before .before .before .if1 .left) (c .before .before .before .part .ensures) (c .goal .ensures)
 
 part-word-requires : (t : ℕ) → part-lts.Need-word-requires (part-calls t) (part-at t) part.Post
-part-word-requires t c κs = search needs
+part-word-requires t c κs =
+    let p = c .before .pre .1 in
+    (p .0, (p .1 .1 .0, p .1 .1 .1 .0))
 
 part-returns : (t : ℕ) → part-lts.Need-returns (part-calls t) (part-at t) part.Post
 part-returns t c = goals-last _ _ _ _ _ (sym (c .before .word .ensures .0) ∙ c .if1 .taken)
@@ -292,7 +302,7 @@ part-goals-requires t c κs =
     let start = c .before .before .before .before .before in
     let p = start .pre .1 in
     let e = c .before .before .before .word .ensures .0 in
-    (omega (arith, ap (ahead (start .args .file .now)) e, start .pre .0), (p .0, (p .1 .0, part-stands _ _ _ e (p .1 .1 .1))))
+    (omega (arith, ap (ahead (start .args .file .now)) e, start .pre .0), (p .0, (p .1 .0, part-stands _ _ _ e (p .1 .1 .1 .1))))
 
 part-returns-2 : (t : ℕ) → part-lts.Need-returns-2 (part-calls t) (part-at t) part.Post
 part-returns-2 t c = part-done _ _ _ _ (c .before .before .before .before .word .ensures .0) (c .goals .ensures)
@@ -301,7 +311,9 @@ switch-live-in-requires : (t : ℕ) → switch-lts.Need-live-in-requires (switch
 switch-live-in-requires t c κs = search needs
 
 switch-word-requires : (t : ℕ) → switch-lts.Need-word-requires (switch-calls t) (switch-at t) switch.Post
-switch-word-requires t c κs = search needs
+switch-word-requires t c κs =
+    let p = c .before .before .before .pre .1 in
+    (p .0, (omega arith, switch-there _ _ (p .0) (p .1 .1)))
 
 switch-arms-requires : (t : ℕ) → switch-lts.Need-arms-requires (switch-calls t) (switch-at t) switch.Post
 switch-arms-requires t c κs =
@@ -311,7 +323,9 @@ switch-arms-requires t c κs =
     (omega (arith, o .falls, start .pre .0), (p .0, (p .1 .0, o .stands)))
 
 switch-word-requires-2 : (t : ℕ) → switch-lts.Need-word-requires-2 (switch-calls t) (switch-at t) switch.Post
-switch-word-requires-2 t c κs = search needs
+switch-word-requires-2 t c κs =
+    let p = c .before .before .before .before .before .before .before .pre .1 in
+    (p .0, (omega arith, switch-there _ _ (p .0) (p .1 .1)))
 
 switch-of-requires : (t : ℕ) → switch-lts.Need-of-requires (switch-calls t) (switch-at t) switch.Post
 switch-of-requires t c κs = search needs
