@@ -1,5 +1,5 @@
--- What the runner program lends, and what it prints.
-use Prim.Native.Nat.{ℕ, _+_, _*_, _≤_}
+-- What the runner program prints.
+use Prim.Native.Nat.{ℕ, _≤_}
 use native.Mathlib.Omega.{arith}
 use mathlib.Core.Path.{_≡_, refl, sym, ap, subst, _∙_}
 use mathlib.Core.List.{List, _++_, map}
@@ -9,7 +9,7 @@ use mir.Syntax.{w32}
 use mir.Val.{toZ}
 use Rattle.language.specs.declared.Refusal.{Refusal}
 use Rattle.language.specs.declared.Verdict.the-variants.{Refused}
-use Rattle.language.specs.Machine.{Lent, runnerLent}
+use Rattle.language.specs.Machine.{runnerLent}
 use Rattle.language.specs.Answers.{checked, runFor, ran}
 use Rattle.language.specs.Output.{numberLines, refusalLine, endingLine, runnerOutput}
 use Rattle.lines.specs.Put.{Put, Front, put-front}
@@ -17,36 +17,11 @@ use Rattle.lines.specs.Answers.{refusal-length}
 use Rattle.word_machine.specs.Machine.{lentWords}
 use Rattle.machine.specs.declared.Outcome.{Outcome}
 use Rattle.machine.specs.Joining.{RanAs}
+use Rattle.running.specs.Lent.{printWords, stepsLent}
 
--- words for 1,024 cells, 1,024 regions, 100 frames and 1,024 printed numbers; steps; bytes of the lines
-abbrev pub cellWords : ℕ
-cellWords = 8192
-
-abbrev pub regionWords : ℕ
-regionWords = 2048
-
-abbrev pub frameWords : ℕ
-frameWords = 13600
-
-abbrev pub printWords : ℕ
-printWords = 1024
-
-abbrev pub stepsLent : ℕ
-stepsLent = 1000000
-
+-- bytes of the lines
 abbrev pub outputBytes : ℕ
 outputBytes = 12320
-
-lent : ℕ → ℕ → ℕ → ℕ → Lent
-lent a b c d = record { cellWords = a; regionWords = b; frameWords = c; printWords = d; steps = stepsLent }
-
--- they are what the definition lends
-pub lent-is : (m rs fw ps : List ℕ) → cellWords ≡ length m → regionWords ≡ length rs → frameWords ≡ length fw → printWords ≡ length ps
-    → lentWords m rs fw ps stepsLent ≡ runnerLent
-unfolding lentWords runnerLent lent
-lent-is m rs fw ps a b c d =
-    ap (λ k. lent k (length rs) (length fw) (length ps)) (sym a) ∙ ap (λ k. lent cellWords k (length fw) (length ps)) (sym b)
-    ∙ ap (λ k. lent cellWords regionWords k (length ps)) (sym c) ∙ ap (λ k. lent cellWords regionWords frameWords k) (sym d)
 
 -- ---- the lines
 pub prints-run : {f m rs fw ps px b e : List ℕ} {r : Outcome} {k : ℕ} → lentWords m rs fw ps stepsLent ≡ runnerLent → RanAs f m rs fw ps stepsLent r px

@@ -6,6 +6,11 @@ use libc::STDERR_FILENO;
 use libc::STDOUT_FILENO;
 use lines::put_refusal;
 use lines::runner_output;
+use running::lent::STEPS;
+use running::lent::cell_words;
+use running::lent::frame_words;
+use running::lent::print_words;
+use running::lent::region_words;
 use running::run_accepted;
 ghost use mathlib.Core.Path.{_≡_};
 ghost use lib.ListN.{length};
@@ -14,34 +19,7 @@ ghost use Rattle.language.specs.Machine.{runnerLent};
 ghost use Rattle.language.specs.Answers.{checked, ran};
 ghost use Rattle.language.specs.Output.{runnerOutput};
 ghost use Rattle.lines.specs.Put.{Front};
-ghost use Rattle.answering.specs.Ran.{cellWords, regionWords, frameWords, printWords, outputBytes};
-
-// "The runner program has 1,024 cells, 1,024 regions, 100 frames, 1,024 prints, 1,000,000 steps": 8, 2, 136 words and 1 each.
-fn cell_words() -> [u32; 8192]
-    ensures { λ r. ⌜ cellWords ≡ length r ⌝ }
-{
-    [0; 8192]
-}
-
-fn region_words() -> [u32; 2048]
-    ensures { λ r. ⌜ regionWords ≡ length r ⌝ }
-{
-    [0; 2048]
-}
-
-fn frame_words() -> [u32; 13600]
-    ensures { λ r. ⌜ frameWords ≡ length r ⌝ }
-{
-    [0; 13600]
-}
-
-fn print_words() -> [u32; 1024]
-    ensures { λ r. ⌜ printWords ≡ length r ⌝ }
-{
-    [0; 1024]
-}
-
-const STEPS: usize = 1000000;
+ghost use Rattle.answering.specs.Ran.{outputBytes};
 
 // Room for the lines: 12 bytes for each number printed, 32 for the ending.
 fn output() -> [u8; 12320]

@@ -1,4 +1,5 @@
+pub mod Arms
 pub mod Laws
+pub mod Naming
 pub mod Passing
-pub mod Regions
 pub mod Strays

@@ -1,114 +1,87 @@
--- What a call's arguments pass, with slots and modes as the plan has them; and the arm of a functor, one record at a time.
-use Prim.Native.Nat.{ℕ, suc, _+_, _*_}
-use mathlib.Core.Path.{_≡_, refl, sym, _∙_}
-use mathlib.Core.Bool.{Bool, true, false}
-use lib.Dec.{eqb}
+-- What a call's arguments pass along the links of the plan, one link at a time. The caller's frame is at a place, the callee's behind it.
+use Prim.Native.Nat.{ℕ, zero, suc, _+_, _-_, _*_, _/_, _≤_, _<_}
+use native.Mathlib.Omega.{arith}
+use mathlib.Core.Path.{_≡_, refl, _∙_}
 use mathlib.Core.List.{List, [], _∷_}
-use borrow.Author.Tests.{eq-eqb, ne-eqb}
+use borrow.Author.Tests.{lt-ltb, le-ltb}
 use lib.ListN.{length, getD, set}
-use Rattle.sets.specs.Members.{consIf}
+use Rattle.language.specs.Format.{maxRecords}
 use Rattle.language.specs.Lists.{choose}
-use Rattle.language.specs.File.{word}
-use Rattle.plans.specs.Plan.{slotsFrom, modesFrom}
-use Rattle.word_machine.specs.Tables.{Tables}
+use Rattle.language.specs.Program.{inMode, outMode}
+use Rattle.plans.specs.Plan.{insFrom, outsFrom, linksFrom, linked, LinkOk, tablesIn}
+use Rattle.word_machine.specs.Tables.{slotOf, givenOf}
 use Rattle.word_machine.specs.Copies.{copied-length}
-use Rattle.word_machine.specs.Machine.{copied, ofMode, armOf, valuesIn, valuesOut}
+use Rattle.word_machine.specs.Machine.{frameWords, copied, valuesIn, valuesOut}
 
-module _ (f plan : List ℕ) (from to : ℕ) where
-  unfoldable pub passedIn : List ℕ → List ℕ → List ℕ
-  passedIn as′ fw = copied (λ a. to + getD plan (slotsFrom + a) 0) (λ a. from + word f a 2) (ofMode (λ a. getD plan (modesFrom + a) 0) 1 as′) fw
+-- the links from a place of the plan on can be read
+abbrev pub Links : List ℕ → ℕ → Type 0
+Links plan from = (a : ℕ) → a < maxRecords → LinkOk (getD plan (from + a) 0)
 
-  unfoldable pub passedOut : List ℕ → List ℕ → List ℕ
-  passedOut as′ fw = copied (λ a. to + word f a 2) (λ a. from + getD plan (slotsFrom + a) 0) (ofMode (λ a. getD plan (modesFrom + a) 0) 2 as′) fw
+-- .. and are followed from record i on
+abbrev passes : List ℕ → ℕ → ℕ → List ℕ
+passes plan from i = linked (λ a. getD plan (from + a) 0) (maxRecords - i) i
 
-  -- ---- one argument more
-  pub in-none : (as′ fw : List ℕ) → as′ ≡ [] → fw ≡ passedIn as′ fw
-  unfolding passedIn copied ofMode
-  in-none as′ fw z = rw z
+unfoldable pub passedIn : List ℕ → ℕ → ℕ → List ℕ → List ℕ
+passedIn plan i at fw = copied (λ w. at + frameWords + slotOf w) (λ w. at + givenOf w) (passes plan insFrom i) fw
 
-  pub in-passed : (a : ℕ) (fw : List ℕ) → getD plan (modesFrom + a) 0 ≡ 1 → set fw (to + getD plan (slotsFrom + a) 0) (getD fw (from + word f a 2) 0) ≡ passedIn (a ∷ []) fw
-  unfolding passedIn copied ofMode consIf
-  in-passed a fw m = rw (eq-eqb (getD plan (modesFrom + a) 0) 1 m)
+unfoldable pub passedOut : List ℕ → ℕ → ℕ → List ℕ → List ℕ
+passedOut plan i at fw = copied (λ w. at + givenOf w) (λ w. at + frameWords + slotOf w) (passes plan outsFrom i) fw
 
-  -- as the code finds the words
-  pub in-done : (a slot arg mode v : ℕ) (fw fx : List ℕ) → slot ≡ getD plan (slotsFrom + a) 0 → arg ≡ word f a 2 → mode ≡ getD plan (modesFrom + a) 0 → mode ≡ 1
-      → v ≡ getD fw (from + arg) 0 → fx ≡ set fw (to + slot) v → fx ≡ passedIn (a ∷ []) fw
-  in-done a slot arg mode v fw fx es ea em h ev ef = rw (ef, ev, es, ea) (in-passed a fw (sym em ∙ h))
+-- ---- words are copied along links: record a is reached, w is its link, and `all` is what the copies come to
+module _ (to from link : ℕ → ℕ) where
+  pub record Along (all : List ℕ) (a w : ℕ) (fw : List ℕ) : Type 0 where
+    pub fuel : ℕ
+    pub enough : maxRecords ≤ fuel + a
+    pub here : a < maxRecords
+    pub word : w ≡ link a
+    pub rest : copied to from (linked link fuel a) fw ≡ all
 
-  pub in-other : (a : ℕ) (fw : List ℕ) → (getD plan (modesFrom + a) 0 ≡ 1 → ⊥) → fw ≡ passedIn (a ∷ []) fw
-  unfolding passedIn copied ofMode consIf
-  in-other a fw m = rw (ne-eqb (getD plan (modesFrom + a) 0) 1 m)
+  pub along-first : (i : ℕ) (fw : List ℕ) → i < maxRecords → Along (copied to from (linked link (maxRecords - i) i) fw) i (link i) fw
+  along-first i fw l = record { fuel = maxRecords - i; enough = omega arith; here = l; word = refl; rest = refl }
 
-  pub in-not : (a mode : ℕ) (fw : List ℕ) → mode ≡ getD plan (modesFrom + a) 0 → (mode ≡ 1 → ⊥) → fw ≡ passedIn (a ∷ []) fw
-  in-not a mode fw em h = in-other a fw (λ z. h (em ∙ z))
+  more : (fuel a n : ℕ) (fw fx : List ℕ) → n ≡ link a / 65536 → a < n → fx ≡ set fw (to (link n)) (getD fw (from (link n)) 0)
+      → copied to from (linked link fuel n) fx ≡ copied to from (linked link (suc fuel) a) fw
+  unfolding linked copied choose
+  more fuel a n fw fx en l ex = rw (← en, lt-ltb a n l, ex)
 
-  pub in-more : (a : ℕ) (as′ bs fw : List ℕ) → bs ≡ a ∷ as′ → passedIn as′ (passedIn (a ∷ []) fw) ≡ passedIn bs fw
-  unfolding passedIn copied ofMode consIf
-  in-more a as′ bs fw e = rw e (go (eqb (getD plan (modesFrom + a) 0) 1) refl)
+  -- the link leads on to record n
+  pub along-next : (all : List ℕ) (a w n v : ℕ) (fw fx : List ℕ) → Along all a w fw → n ≡ w / 65536 → a < n → n < maxRecords → v ≡ link n
+      → fx ≡ set fw (to v) (getD fw (from v) 0) → Along all n v fx
+  along-next all a w n v fw fx A en l q ev ex = go (A .fuel) (A .enough) (A .rest)
     where
-      go : (b : Bool) → eqb (getD plan (modesFrom + a) 0) 1 ≡ b → passedIn as′ (passedIn (a ∷ []) fw) ≡ passedIn (a ∷ as′) fw
-      go true q = rw q
-      go false q = rw q
+      go : (fuel : ℕ) → maxRecords ≤ fuel + a → copied to from (linked link fuel a) fw ≡ all → Along all n v fx
+      go zero e r = absurd (omega (arith, A .here))
+      go (suc m) e r = record {
+        fuel = m;
+        enough = omega arith;
+        here = q;
+        word = ev;
+        rest = more m a n fw fx (rw (← A .word) en) l (rw (← ev) ex) ∙ r;
+      }
 
-  pub in-length : (as′ fw : List ℕ) → length (passedIn as′ fw) ≡ length fw
-  unfolding passedIn
-  in-length as′ fw = copied-length _ _ _ fw
+  ended : (fuel a : ℕ) (fw : List ℕ) → link a / 65536 ≤ a → fw ≡ copied to from (linked link fuel a) fw
+  unfolding linked copied choose
+  ended zero a fw l = refl
+  ended (suc fuel) a fw l = rw (le-ltb a (link a / 65536) l)
 
-  pub out-none : (as′ fw : List ℕ) → as′ ≡ [] → fw ≡ passedOut as′ fw
-  unfolding passedOut copied ofMode
-  out-none as′ fw z = rw z
+  -- it does not
+  pub along-last : (all : List ℕ) (a w : ℕ) (fw : List ℕ) → Along all a w fw → w / 65536 ≤ a → fw ≡ all
+  along-last all a w fw A l = ended (A .fuel) a fw (rw (← A .word) l) ∙ A .rest
 
-  pub out-passed : (a : ℕ) (fw : List ℕ) → getD plan (modesFrom + a) 0 ≡ 2 → set fw (to + word f a 2) (getD fw (from + getD plan (slotsFrom + a) 0) 0) ≡ passedOut (a ∷ []) fw
-  unfolding passedOut copied ofMode consIf
-  out-passed a fw m = rw (eq-eqb (getD plan (modesFrom + a) 0) 2 m)
+-- ---- the machine's, for frame k at its place
+module _ (f plan images callees : List ℕ) (k at : ℕ) (e : at ≡ frameWords * k) where
+  pub passed-in : (i : ℕ) (fw : List ℕ) → passedIn plan i at fw ≡ valuesIn f (tablesIn plan images callees) k i fw
+  unfolding passedIn valuesIn tablesIn linksFrom choose
+  passed-in i fw = let z : at + frameWords ≡ frameWords * suc k = omega arith in rw (z, e)
 
-  -- as the code finds the words
-  pub out-done : (a slot arg mode v : ℕ) (fw fx : List ℕ) → slot ≡ getD plan (slotsFrom + a) 0 → arg ≡ word f a 2 → mode ≡ getD plan (modesFrom + a) 0 → mode ≡ 2
-      → v ≡ getD fw (from + slot) 0 → fx ≡ set fw (to + arg) v → fx ≡ passedOut (a ∷ []) fw
-  out-done a slot arg mode v fw fx es ea em h ev ef = rw (ef, ev, es, ea) (out-passed a fw (sym em ∙ h))
+  pub passed-out : (i : ℕ) (fw : List ℕ) → passedOut plan i at fw ≡ valuesOut f (tablesIn plan images callees) k i fw
+  unfolding passedOut valuesOut tablesIn linksFrom choose
+  passed-out i fw = let z : at + frameWords ≡ frameWords * suc k = omega arith in rw (z, e)
 
-  pub out-other : (a : ℕ) (fw : List ℕ) → (getD plan (modesFrom + a) 0 ≡ 2 → ⊥) → fw ≡ passedOut (a ∷ []) fw
-  unfolding passedOut copied ofMode consIf
-  out-other a fw m = rw (ne-eqb (getD plan (modesFrom + a) 0) 2 m)
+pub in-length : (plan : List ℕ) (i at : ℕ) (fw : List ℕ) → length (passedIn plan i at fw) ≡ length fw
+unfolding passedIn
+in-length plan i at fw = copied-length _ _ _ fw
 
-  pub out-not : (a mode : ℕ) (fw : List ℕ) → mode ≡ getD plan (modesFrom + a) 0 → (mode ≡ 2 → ⊥) → fw ≡ passedOut (a ∷ []) fw
-  out-not a mode fw em h = out-other a fw (λ z. h (em ∙ z))
-
-  pub out-more : (a : ℕ) (as′ bs fw : List ℕ) → bs ≡ a ∷ as′ → passedOut as′ (passedOut (a ∷ []) fw) ≡ passedOut bs fw
-  unfolding passedOut copied ofMode consIf
-  out-more a as′ bs fw e = rw e (go (eqb (getD plan (modesFrom + a) 0) 2) refl)
-    where
-      go : (b : Bool) → eqb (getD plan (modesFrom + a) 0) 2 ≡ b → passedOut as′ (passedOut (a ∷ []) fw) ≡ passedOut (a ∷ as′) fw
-      go true q = rw q
-      go false q = rw q
-
-  pub out-same : (as′ bs fw : List ℕ) → as′ ≡ bs → passedOut as′ fw ≡ passedOut bs fw
-  out-same as′ bs fw e = rw e
-
-  pub out-length : (as′ fw : List ℕ) → length (passedOut as′ fw) ≡ length fw
-  unfolding passedOut
-  out-length as′ fw = copied-length _ _ _ fw
-
--- ---- the machine's, for tables that are these lists
-module _ (f : List ℕ) (T : Tables) (plan : List ℕ) (s : T .slot ≡ (λ a. getD plan (slotsFrom + a) 0)) (m : T .mode ≡ (λ a. getD plan (modesFrom + a) 0)) where
-  pub passed-in : (k : ℕ) (as′ fw : List ℕ) → passedIn f plan (136 * k) (136 * suc k) as′ fw ≡ valuesIn f T k as′ fw
-  unfolding passedIn valuesIn
-  passed-in k as′ fw = rw (s, m)
-
-  pub passed-out : (k : ℕ) (as′ fw : List ℕ) → passedOut f plan (136 * suc k) (136 * k) as′ fw ≡ valuesOut f T k as′ fw
-  unfolding passedOut valuesOut
-  passed-out k as′ fw = rw (s, m)
-
--- ---- arms
-module _ (f : List ℕ) (k : ℕ) where
-  pub arm-none : (js : List ℕ) → js ≡ [] → 0 ≡ armOf f k js
-  unfolding armOf
-  arm-none js z = rw z
-
-  pub arm-here : (j : ℕ) (js ks : List ℕ) → ks ≡ j ∷ js → word f j 3 ≡ k → j ≡ armOf f k ks
-  unfolding armOf choose
-  arm-here j js ks e h = rw (e, eq-eqb (word f j 3) k h)
-
-  pub arm-later : (j : ℕ) (js ks : List ℕ) → ks ≡ j ∷ js → (word f j 3 ≡ k → ⊥) → armOf f k js ≡ armOf f k ks
-  unfolding armOf choose
-  arm-later j js ks e h = rw (e, ne-eqb (word f j 3) k h)
+pub out-length : (plan : List ℕ) (i at : ℕ) (fw : List ℕ) → length (passedOut plan i at fw) ≡ length fw
+unfolding passedOut
+out-length plan i at fw = copied-length _ _ _ fw

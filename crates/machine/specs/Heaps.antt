@@ -7,35 +7,32 @@ use mathlib.Core.List.{List}
 use mathlib.Core.Logic.{_⊎_, inl, inr}
 use lib.ListN.{set}
 use Rattle.language.specs.File.{word}
+use Rattle.language.specs.Format.{constructKind, createKind, removeKind, lifetimeRegion}
 use Rattle.language.specs.Machine.{Room}
 use Rattle.language.specs.declared.Stop.{Stop}
 use Rattle.language.specs.declared.Stop.the-variants.{Cells, Places}
 use Rattle.records.specs.Records.{recordAt}
-use Rattle.memory.specs.declared.Contents.{Contents}
 use Rattle.memory.specs.declared.Heap.{Heap}
 use Rattle.memory.specs.declared.Made.{Made}
 use Rattle.memory.specs.declared.Made.the-variants.{At, NoRoom}
 use Rattle.memory.specs.declared.Taken.{Taken}
 use Rattle.memory.specs.declared.Taken.the-variants.{Place, Full}
-use Rattle.memory.specs.Memory.{created, createdOf, createdRegions, createdRegionsOf, built, builtOf, builtCells, builtCellsOf, builtRegions, builtRegionsOf, removed, removedCells, removedRegions}
+use Rattle.memory.specs.Memory.{created, createdOf, createdRegions, createdRegionsOf, built, builtCells, builtRegions, removed, removedCells, removedRegions}
+use Rattle.memory.specs.Building.{built-none}
 use Rattle.plans.specs.Plan.{tablesIn}
 use Rattle.word_machine.specs.Tables.{Tables}
-use Rattle.word_machine.specs.Machine.{Went, went, stops, contentsOf, valueOf, regionFor, constructed, constructedBy, makesRegion, createdBy, dropsRegion, steps}
+use Rattle.word_machine.specs.Machine.{Went, went, stops, frameWords, regionsFrom, contentsOf, valueOf, regionFor, constructed, constructedBy, makesRegion, createdBy, dropsRegion, steps}
 use Rattle.machine.specs.declared.State.{State}
 use Rattle.machine.specs.declared.Kept.{Kept}
 use Rattle.machine.specs.declared.Kept.the-variants.{Left, Lacks}
 use Rattle.machine.specs.Words.{wordsOf, onwardTo, keptTo, Keeps, Changes}
 use Rattle.machine.specs.Places.{termIn, homeFor, regionFor as regionNamed, placed}
+use Rattle.machine.specs.Cells.{Constructs}
 use Rattle.machine.specs.Steps.{construct-record, create-record, remove-record}
 
 -- ---- answers told apart
-unfoldable roomless : Made → ℕ
-roomless (At y h) = 0
-roomless NoRoom = 1
-
 not-made : (y : ℕ) (h : Heap) → NoRoom ≡ At y h → ⊥
-unfolding roomless
-not-made y h e = let z : _≡_ {A = ℕ} 1 0 = ap roomless e in omega arith
+not-made y h e = let z : _≡_ {A = ℕ} 1 0 = cc in omega arith
 
 unfoldable lacking : Kept → ℕ
 lacking (Left h) = 0
@@ -46,15 +43,6 @@ unfolding lacking
 left-not h c e = let z : _≡_ {A = ℕ} 0 1 = ap lacking e in omega arith
 
 -- ---- a goal that finds no room changes nothing
-built-full : (h : Heap) (m rs : List ℕ) (r : ℕ) (c : Contents) (t : Taken) → NoRoom ≡ builtOf h t → (builtCellsOf m rs r c t ≡ m) × (builtRegionsOf h rs r t ≡ rs)
-unfolding builtOf builtCellsOf builtRegionsOf
-built-full h m rs r c (Place x p) e = absurd (not-made _ _ e)
-built-full h m rs r c Full e = (refl, refl)
-
-built-none : (h : Heap) (m rs : List ℕ) (r : ℕ) (c : Contents) → NoRoom ≡ built h m → (builtCells h m rs r c ≡ m) × (builtRegions h m rs r ≡ rs)
-unfolding built builtCells builtRegions
-built-none h m rs r c e = built-full h m rs r c _ e
-
 created-full : (h : Heap) (rs : List ℕ) (t : Taken) → NoRoom ≡ createdOf h t → createdRegionsOf h rs t ≡ rs
 unfolding createdOf createdRegionsOf
 created-full h rs (Place x p) e = absurd (not-made _ _ e)
@@ -65,25 +53,23 @@ unfolding created createdRegions
 created-none h rs e = created-full h rs _ e
 
 -- ---- the three
-pub remaining : (w : ℕ) → Changes w true → (w ≡ 11 → ⊥) → (w ≡ 18 → ⊥) → w ≡ 19
+pub remaining : (w : ℕ) → Changes w true → (w ≡ constructKind → ⊥) → (w ≡ createKind → ⊥) → w ≡ removeKind
 remaining w (inl e) n m = absurd (n e)
 remaining w (inr (inl e)) n m = absurd (m e)
 remaining w (inr (inr e)) n m = e
 
-module _ (f plan images table : List ℕ) (s : State) (h : Heap) (m rs fw : List ℕ) (D : s .at ≡ 136 * s .top) (w : ℕ) (ew : w ≡ word f (s .goal) 0) where
+module _ (f plan images callees : List ℕ) (s : State) (h : Heap) (m rs fw : List ℕ) (D : s .at ≡ frameWords * s .top) (w : ℕ) (ew : w ≡ word f (s .goal) 0) where
   abbrev T : Tables
-  T = tablesIn f plan images table
+  T = tablesIn plan images callees
 
   abbrev Steps : Room → List ℕ → Went
   Steps k ps = steps f T k (s .goal) (recordAt f (s .goal)) (wordsOf h m rs fw ps s)
 
-  module _ (md : Made) (m₁ rs₁ fx : List ℕ) (z : w ≡ 11) (e : md ≡ built h m)
-      (em : m₁ ≡ builtCells h m rs (homeFor plan (s .goal) (s .at) fw) (termIn f (s .goal) (s .at) fw)) (er : rs₁ ≡ builtRegions h m rs (homeFor plan (s .goal) (s .at) fw))
-      (ex : fx ≡ placed (s .at + word f (s .goal) 2) md fw) where
+  module _ (md : Made) (m₁ rs₁ fx : List ℕ) (z : w ≡ constructKind) (C : Constructs f plan (s .goal) (s .at) h m rs fw md m₁ rs₁ fx) where
     construct-left : (y : ℕ) (l : Heap) → md ≡ At y l → (k : Room) (ps : List ℕ) (next : ℕ) → next ≡ T .successor (s .goal)
         → went (wordsOf l m₁ rs₁ fx ps (onwardTo s next)) ≡ Steps k ps
     unfolding steps constructed constructedBy contentsOf valueOf regionFor wordsOf termIn homeFor placed tablesIn
-    construct-left y l d k ps next en = rw (construct-record f (s .goal) w ew z, en, em, er, ex, D, ← e, d)
+    construct-left y l d k ps next en = rw (construct-record f (s .goal) w ew z, en, C .1 .0, C .1 .1 .0, C .1 .1 .1, D, ← C .0, d)
 
     pub construct-keeps : (y : ℕ) (l : Heap) → md ≡ At y l → Keeps f T s h m rs fw (Left l) m₁ rs₁ fx
     unfolding keptTo
@@ -91,18 +77,18 @@ module _ (f plan images table : List ℕ) (s : State) (h : Heap) (m rs fw : List
 
     construct-stop : md ≡ NoRoom → (k : Room) (ps : List ℕ) → stops Cells ≡ Steps k ps
     unfolding steps constructed constructedBy wordsOf
-    construct-stop d k ps = rw (construct-record f (s .goal) w ew z, ← e, d)
+    construct-stop d k ps = rw (construct-record f (s .goal) w ew z, ← C .0, d)
 
     construct-same : md ≡ NoRoom → (m₁ ≡ m) × (rs₁ ≡ rs) × (fx ≡ fw)
     unfolding placed
-    construct-same d = let b = built-none h m rs (homeFor plan (s .goal) (s .at) fw) (termIn f (s .goal) (s .at) fw) (sym d ∙ e) in (em ∙ b .0, er ∙ b .1, rw (ex, d))
+    construct-same d = let b = built-none h m rs _ _ (sym d ∙ C .0) in (C .1 .0 ∙ b .0, C .1 .1 .0 ∙ b .1, rw (C .1 .1 .1, d))
 
     pub construct-lacks : md ≡ NoRoom → Keeps f T s h m rs fw (Lacks Cells) m₁ rs₁ fx
     unfolding keptTo
     construct-lacks d = record { comes = λ k ps next en. construct-stop d k ps; kept = λ c q. construct-same d }
 
-  module _ (md : Made) (rs₁ fx : List ℕ) (z : w ≡ 18) (e : md ≡ created h rs) (er : rs₁ ≡ createdRegions h rs)
-      (ex : fx ≡ placed (s .at + 64 + word f (s .goal) 2) md fw) where
+  module _ (md : Made) (rs₁ fx : List ℕ) (z : w ≡ createKind) (e : md ≡ created h rs) (er : rs₁ ≡ createdRegions h rs)
+      (ex : fx ≡ placed (s .at + regionsFrom + word f (s .goal) lifetimeRegion) md fw) where
     create-left : (y : ℕ) (l : Heap) → md ≡ At y l → (k : Room) (ps : List ℕ) (next : ℕ) → next ≡ T .successor (s .goal)
         → went (wordsOf l m rs₁ fx ps (onwardTo s next)) ≡ Steps k ps
     unfolding steps makesRegion createdBy wordsOf placed
@@ -124,7 +110,7 @@ module _ (f plan images table : List ℕ) (s : State) (h : Heap) (m rs fw : List
     unfolding keptTo
     create-lacks d = record { comes = λ k ps next en. create-stop d k ps; kept = λ c q. create-same d }
 
-  module _ (l : Heap) (m₁ rs₁ : List ℕ) (z : w ≡ 19)
+  module _ (l : Heap) (m₁ rs₁ : List ℕ) (z : w ≡ removeKind)
       (e : (l ≡ removed h rs (regionNamed f (s .goal) (s .at) fw)) × (m₁ ≡ removedCells h m rs (regionNamed f (s .goal) (s .at) fw))
       × (rs₁ ≡ removedRegions h rs (regionNamed f (s .goal) (s .at) fw))) where
     remove-left : (k : Room) (ps : List ℕ) (next : ℕ) → next ≡ T .successor (s .goal) → went (wordsOf l m₁ rs₁ fw ps (onwardTo s next)) ≡ Steps k ps

@@ -1,41 +1,78 @@
 -- What the goals with cells and regions do to words, one function for each part.
-use Prim.Native.Nat.{ℕ, _+_}
-use mathlib.Core.List.{List}
+use Prim.Native.Nat.{ℕ, zero, suc, _+_, _≤_, _<_}
+use mathlib.Core.Path.{_≡_}
+use mathlib.Core.List.{List, [], _∷_}
 use lib.ListN.{getD, set}
 use Rattle.language.specs.File.{word}
+use Rattle.language.specs.Format.{maxArity, maxVariables, goalX, termFunctor, termArguments, switchArms, lifetimeRegion}
 use Rattle.chains.specs.Records.{chainRecords}
 use Rattle.memory.specs.declared.Contents.{Contents}
 use Rattle.memory.specs.declared.Made.{Made}
 use Rattle.memory.specs.declared.Made.the-variants.{At, NoRoom}
-use Rattle.memory.specs.Memory.{cellWord}
+use Rattle.memory.specs.Memory.{cellWord, withWord}
 use Rattle.plans.specs.Plan.{sidesFrom}
-use Rattle.word_machine.specs.Machine.{armOf}
+use Rattle.word_machine.specs.Machine.{regionsFrom, armOf, givesEach, termOf}
+
+-- "8 a cell, 2 a region"
+abbrev pub cellWords : ℕ
+cellWords = 8
+
+abbrev pub regionWords : ℕ
+regionWords = 2
+
+-- the arguments of the construct or arm at record i are numbers of a frame's words
+abbrev pub Low : List ℕ → ℕ → Type 0
+Low f i = (n : ℕ) → n < maxArity → word f i (termArguments + n) ≤ maxVariables
+
+-- .. if it has one
+abbrev pub LowIfAny : List ℕ → ℕ → Type 0
+LowIfAny f i = (word f i termArguments ≡ 0 → ⊥) → Low f i
 
 -- k is the place of a frame's first word: the value of its variable x
 abbrev pub valueIn : ℕ → List ℕ → ℕ → ℕ
 valueIn k fw x = getD fw (k + x) 0
 
--- what the cell of the construct at record i holds
-unfoldable pub termIn : List ℕ → ℕ → ℕ → List ℕ → Contents
-termIn f i k fw = record { functor = word f i 3; a = valueIn k fw (word f i 4); b = valueIn k fw (word f i 5); c = valueIn k fw (word f i 6); d = valueIn k fw (word f i 7) }
+-- what the construct at record i makes of the words of cell x
+unfoldable pub termIn : List ℕ → ℕ → ℕ → List ℕ → List ℕ → ℕ → Contents
+termIn f i k fw m x =
+    termOf (valueIn k fw) (λ n. cellWord m x n) (word f i termFunctor)
+    (word f i termArguments) (word f i (termArguments + 1)) (word f i (termArguments + 2)) (word f i (termArguments + 3))
+
+-- the values of arguments, up to the first that is numbered 0, put into the words of cell x from word n on
+unfoldable pub poursEach : (ℕ → ℕ) → ℕ → ℕ → List ℕ → List ℕ → List ℕ
+poursEach value x n [] m = m
+poursEach value x n (zero ∷ as′) m = m
+poursEach value x n (suc a ∷ as′) m = poursEach value x (suc n) as′ (withWord m x n (value (suc a)))
+
+-- c words of record i from argument n on
+unfoldable pub argumentsFrom : List ℕ → ℕ → ℕ → ℕ → List ℕ
+argumentsFrom f i zero n = []
+argumentsFrom f i (suc c) n = word f i (termArguments + n) ∷ argumentsFrom f i c (suc n)
+
+-- .. and of cell p
+unfoldable pub wordsFrom : List ℕ → ℕ → ℕ → ℕ → List ℕ
+wordsFrom m p zero n = []
+wordsFrom m p (suc c) n = cellWord m p (suc n) ∷ wordsFrom m p c (suc n)
+
+-- the functor and the arguments of the construct at record i put into cell x
+unfoldable pub poured : List ℕ → ℕ → ℕ → List ℕ → ℕ → List ℕ → List ℕ
+poured f i k fw x m = poursEach (valueIn k fw) x 1 (argumentsFrom f i maxArity 0) (withWord m x 0 (word f i termFunctor))
 
 -- the place of its region, and of the region that a create or a remove names
 unfoldable pub homeFor : List ℕ → ℕ → ℕ → List ℕ → ℕ
-homeFor plan i k fw = getD fw (k + 64 + getD plan (sidesFrom + i) 0) 0
+homeFor plan i k fw = getD fw (k + regionsFrom + getD plan (sidesFrom + i) 0) 0
 
 unfoldable pub regionFor : List ℕ → ℕ → ℕ → List ℕ → ℕ
-regionFor f i k fw = getD fw (k + 64 + word f i 2) 0
+regionFor f i k fw = getD fw (k + regionsFrom + word f i lifetimeRegion) 0
 
 -- what was made is put into word a
 unfoldable pub placed : ℕ → Made → List ℕ → List ℕ
 placed a (At y h) fw = set fw a y
 placed a NoRoom fw = fw
 
--- the arm that the switch at record i takes, and what its arguments get from the cell at place p
+-- the arm that the switch at record i takes, and what its arguments get from cell p
 unfoldable pub armFor : List ℕ → ℕ → ℕ → List ℕ → List ℕ → ℕ
-armFor f i k m fw = armOf f (cellWord m (valueIn k fw (word f i 2)) 0) (chainRecords f (word f i 3))
+armFor f i k m fw = armOf f (cellWord m (valueIn k fw (word f i goalX)) 0) (chainRecords f (word f i switchArms))
 
 unfoldable pub armValues : List ℕ → ℕ → ℕ → ℕ → List ℕ → List ℕ → List ℕ
-armValues f j p k m fw =
-    set (set (set (set fw (k + word f j 4) (cellWord m p 1)) (k + word f j 5) (cellWord m p 2)) (k + word f j 6) (cellWord m p 3))
-    (k + word f j 7) (cellWord m p 4)
+armValues f j p k m fw = givesEach k (argumentsFrom f j maxArity 0) (wordsFrom m p maxArity 0) fw

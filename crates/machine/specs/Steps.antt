@@ -11,6 +11,7 @@ use mir.Syntax.{w32}
 use mir.Val.{toZ}
 use Rattle.language.specs.Lists.{nth, choose}
 use Rattle.language.specs.File.{Kind, kNone, kHeader, kType, kFunctor, kProcedure, kVariable, kRegion, kEdge, kArm, kArgument, kGoal, GoalKind, kLiteral, kSum, kAssign, kConstruct, kSwitch, kIf, kCall, kPrint, kCreate, kRemove, kinds, kindOf, row, rowIn, word}
+use Rattle.language.specs.Format.{literalKind, sumKind, assignKind, constructKind, switchKind, ifKind, callKind, printKind, createKind, removeKind}
 use Rattle.language.specs.Numbers.{less}
 use Rattle.language.specs.Machine.{Room, holds}
 use Rattle.language.specs.declared.Stop.{Stop}
@@ -22,60 +23,59 @@ use Rattle.memory.specs.declared.Heap.{Heap}
 use Rattle.memory.specs.declared.Made.{Made}
 use Rattle.memory.specs.declared.Made.the-variants.{At, NoRoom}
 use Rattle.memory.specs.Memory.{created, createdRegions, built, builtCells, builtRegions, removed, removedCells, removedRegions}
-use Rattle.plans.specs.Plan.{sidesFrom}
 use Rattle.word_machine.specs.Tables.{Tables, onto}
-use Rattle.word_machine.specs.Machine.{Words, Went, went, stops, literalWord, sumWord, given, withFrames, valueOf, contentsOf, constructed, constructedBy, makesRegion, createdBy, dropsRegion, printsWord, ifRoom, switches, entersArm, armWords, calls, calleeWords, steps}
+use Rattle.word_machine.specs.Machine.{Words, Went, went, stops, frameWords, literalWord, sumWord, given, withFrames, valueOf, contentsOf, constructed, constructedBy, makesRegion, createdBy, dropsRegion, printsWord, ifRoom, switches, entersArm, armWords, calls, calleeWords, steps}
 use Rattle.word_machine.specs.Machine
 use Rattle.machine.specs.declared.State.{State}
 use Rattle.machine.specs.declared.Step.{Step}
 use Rattle.machine.specs.declared.Step.the-variants.{Went as WentTo, Stops}
 use Rattle.machine.specs.Words.{Placed, wordsOf, cameTo, onwardTo, onward-placed, Goes}
-use Rattle.machine.specs.Places.{valueIn, termIn, homeFor, regionFor, placed, armFor, armValues}
+use Rattle.machine.specs.Places.{valueIn, argumentsFrom, wordsFrom, armFor, armValues}
 
 -- ---- the record by the number of its kind, w
 module _ (f : List ℕ) (i w : ℕ) (ew : w ≡ word f i 0) where
   pub of-kind : (n : ℕ) (k : Kind) → kindOf n ≡ k → w ≡ n → recordAt f i ≡ recordAs k (word f i)
   of-kind n k e z = record-as f i (ap kindOf (sym ew ∙ z) ∙ e)
 
-  pub literal-record : w ≡ 8 → recordAt f i ≡ Literal (word f i 1) (word f i 2) (word f i 3)
+  pub literal-record : w ≡ literalKind → recordAt f i ≡ Literal (word f i 1) (word f i 2) (word f i 3)
   unfolding kindOf kinds nth
-  literal-record z = of-kind 8 (kGoal kLiteral) refl z
+  literal-record z = of-kind literalKind (kGoal kLiteral) refl z
 
-  pub sum-record : w ≡ 9 → recordAt f i ≡ Sum (word f i 1) (word f i 2) (word f i 3) (word f i 4) (word f i 5)
+  pub sum-record : w ≡ sumKind → recordAt f i ≡ Sum (word f i 1) (word f i 2) (word f i 3) (word f i 4) (word f i 5)
   unfolding kindOf kinds nth
-  sum-record z = of-kind 9 (kGoal kSum) refl z
+  sum-record z = of-kind sumKind (kGoal kSum) refl z
 
-  pub assign-record : w ≡ 10 → recordAt f i ≡ Assign (word f i 1) (word f i 2) (word f i 3)
+  pub assign-record : w ≡ assignKind → recordAt f i ≡ Assign (word f i 1) (word f i 2) (word f i 3)
   unfolding kindOf kinds nth
-  assign-record z = of-kind 10 (kGoal kAssign) refl z
+  assign-record z = of-kind assignKind (kGoal kAssign) refl z
 
-  pub construct-record : w ≡ 11 → recordAt f i ≡ Construct (word f i 1) (word f i 2) (word f i 3) (word f i 4) (word f i 5) (word f i 6) (word f i 7)
+  pub construct-record : w ≡ constructKind → recordAt f i ≡ Construct (word f i 1) (word f i 2) (word f i 3) (word f i 4) (word f i 5) (word f i 6) (word f i 7)
   unfolding kindOf kinds nth
-  construct-record z = of-kind 11 (kGoal kConstruct) refl z
+  construct-record z = of-kind constructKind (kGoal kConstruct) refl z
 
-  pub switch-record : w ≡ 12 → recordAt f i ≡ Switch (word f i 1) (word f i 2) (word f i 3)
+  pub switch-record : w ≡ switchKind → recordAt f i ≡ Switch (word f i 1) (word f i 2) (word f i 3)
   unfolding kindOf kinds nth
-  switch-record z = of-kind 12 (kGoal kSwitch) refl z
+  switch-record z = of-kind switchKind (kGoal kSwitch) refl z
 
-  pub if-record : w ≡ 14 → recordAt f i ≡ If (word f i 1) (word f i 2) (word f i 3) (word f i 4) (word f i 5)
+  pub if-record : w ≡ ifKind → recordAt f i ≡ If (word f i 1) (word f i 2) (word f i 3) (word f i 4) (word f i 5)
   unfolding kindOf kinds nth
-  if-record z = of-kind 14 (kGoal kIf) refl z
+  if-record z = of-kind ifKind (kGoal kIf) refl z
 
-  pub call-record : w ≡ 15 → recordAt f i ≡ Call (word f i 1) (word f i 2) (word f i 3)
+  pub call-record : w ≡ callKind → recordAt f i ≡ Call (word f i 1) (word f i 2) (word f i 3)
   unfolding kindOf kinds nth
-  call-record z = of-kind 15 (kGoal kCall) refl z
+  call-record z = of-kind callKind (kGoal kCall) refl z
 
-  pub print-record : w ≡ 17 → recordAt f i ≡ Print (word f i 1) (word f i 2)
+  pub print-record : w ≡ printKind → recordAt f i ≡ Print (word f i 1) (word f i 2)
   unfolding kindOf kinds nth
-  print-record z = of-kind 17 (kGoal kPrint) refl z
+  print-record z = of-kind printKind (kGoal kPrint) refl z
 
-  pub create-record : w ≡ 18 → recordAt f i ≡ Create (word f i 1) (word f i 2)
+  pub create-record : w ≡ createKind → recordAt f i ≡ Create (word f i 1) (word f i 2)
   unfolding kindOf kinds nth
-  create-record z = of-kind 18 (kGoal kCreate) refl z
+  create-record z = of-kind createKind (kGoal kCreate) refl z
 
-  pub remove-record : w ≡ 19 → recordAt f i ≡ Remove (word f i 1) (word f i 2)
+  pub remove-record : w ≡ removeKind → recordAt f i ≡ Remove (word f i 1) (word f i 2)
   unfolding kindOf kinds nth
-  remove-record z = of-kind 19 (kGoal kRemove) refl z
+  remove-record z = of-kind removeKind (kGoal kRemove) refl z
 
 -- ---- a goal that leaves the heap alone
 stopped-not : (s : State) (c : Stop) → WentTo s ≡ Stops c → ⊥
@@ -93,12 +93,12 @@ went-same : (v t : State) → WentTo v ≡ WentTo t → v ≡ t
 went-same v t e = cc
 
 -- the words have frame k whole, if they hold more than k
-pub room-for : (n k : ℕ) → k < holds n 136 → 136 * suc k ≤ n
+pub room-for : (n k : ℕ) → k < holds n frameWords → frameWords * suc k ≤ n
 unfolding holds
 room-for n k l = omega arith
 
 -- .. and the callee's, if there is room for one frame more
-pub step-fits : (s : State) (n limit : ℕ) → Placed s n → limit ≡ holds n 136 → suc (s .top) < limit → s .at + 272 ≤ n
+pub step-fits : (s : State) (n limit : ℕ) → Placed s n → limit ≡ holds n frameWords → suc (s .top) < limit → s .at + 2 * frameWords ≤ n
 step-fits s n limit D e l = omega (arith, D .place, room-for n (suc (s .top)) (rw (← e) l))
 
 module _ (f : List ℕ) (T : Tables) (s : State) (m fw ps : List ℕ) where
@@ -117,65 +117,54 @@ module _ (f : List ℕ) (T : Tables) (s : State) (m fw ps : List ℕ) (D : Place
   goes-on v fx px e d = record { comes = λ k h rs a b. e k h rs; kept = λ c z. absurd (stopped-not v c z); stays = λ t z. rw (← went-same v t z) d }
 
   module _ (w next : ℕ) (ew : w ≡ word f (s .goal) 0) (en : next ≡ T .successor (s .goal)) where
-    literal-step : (k : Room) (h : Heap) (rs fx : List ℕ) → w ≡ 8 → fx ≡ set fw (s .at + word f (s .goal) 2) (literalWord (word f (s .goal) 3))
+    literal-step : (k : Room) (h : Heap) (rs fx : List ℕ) → w ≡ literalKind → fx ≡ set fw (s .at + word f (s .goal) 2) (literalWord (word f (s .goal) 3))
         → went (wordsOf h m rs fx ps (onwardTo s next)) ≡ Steps k h rs
     unfolding steps given withFrames wordsOf
     literal-step k h rs fx z ex = rw (literal-record f (s .goal) w ew z, ex, en, D .place)
 
-    pub literal-goes : (fx : List ℕ) → w ≡ 8 → fx ≡ set fw (s .at + word f (s .goal) 2) (literalWord (word f (s .goal) 3))
+    pub literal-goes : (fx : List ℕ) → w ≡ literalKind → fx ≡ set fw (s .at + word f (s .goal) 2) (literalWord (word f (s .goal) 3))
         → Goes f T s m fw ps (WentTo (onwardTo s next)) fx ps
     literal-goes fx z ex = goes-on _ fx ps (λ k h rs. literal-step k h rs fx z ex) (onward-placed _ D)
 
-    sum-step : (k : Room) (h : Heap) (rs fx : List ℕ) → w ≡ 9
+    sum-step : (k : Room) (h : Heap) (rs fx : List ℕ) → w ≡ sumKind
         → fx ≡ set fw (s .at + word f (s .goal) 2) (sumWord (word f (s .goal) 3) (valueIn (s .at) fw (word f (s .goal) 4)) (valueIn (s .at) fw (word f (s .goal) 5)))
         → went (wordsOf h m rs fx ps (onwardTo s next)) ≡ Steps k h rs
     unfolding steps given withFrames wordsOf valueOf
     sum-step k h rs fx z ex = rw (sum-record f (s .goal) w ew z, ex, en, D .place)
 
-    pub sum-goes : (fx : List ℕ) → w ≡ 9
+    pub sum-goes : (fx : List ℕ) → w ≡ sumKind
         → fx ≡ set fw (s .at + word f (s .goal) 2) (sumWord (word f (s .goal) 3) (valueIn (s .at) fw (word f (s .goal) 4)) (valueIn (s .at) fw (word f (s .goal) 5)))
         → Goes f T s m fw ps (WentTo (onwardTo s next)) fx ps
     sum-goes fx z ex = goes-on _ fx ps (λ k h rs. sum-step k h rs fx z ex) (onward-placed _ D)
 
-    assign-step : (k : Room) (h : Heap) (rs fx : List ℕ) → w ≡ 10 → fx ≡ set fw (s .at + word f (s .goal) 2) (valueIn (s .at) fw (word f (s .goal) 3))
+    assign-step : (k : Room) (h : Heap) (rs fx : List ℕ) → w ≡ assignKind → fx ≡ set fw (s .at + word f (s .goal) 2) (valueIn (s .at) fw (word f (s .goal) 3))
         → went (wordsOf h m rs fx ps (onwardTo s next)) ≡ Steps k h rs
     unfolding steps given withFrames wordsOf valueOf
     assign-step k h rs fx z ex = rw (assign-record f (s .goal) w ew z, ex, en, D .place)
 
-    pub assign-goes : (fx : List ℕ) → w ≡ 10 → fx ≡ set fw (s .at + word f (s .goal) 2) (valueIn (s .at) fw (word f (s .goal) 3))
+    pub assign-goes : (fx : List ℕ) → w ≡ assignKind → fx ≡ set fw (s .at + word f (s .goal) 2) (valueIn (s .at) fw (word f (s .goal) 3))
         → Goes f T s m fw ps (WentTo (onwardTo s next)) fx ps
     assign-goes fx z ex = goes-on _ fx ps (λ k h rs. assign-step k h rs fx z ex) (onward-placed _ D)
 
-    switch-step : (k : Room) (h : Heap) (rs fx : List ℕ) (j g : ℕ) → w ≡ 12 → j ≡ armFor f (s .goal) (s .at) m fw
-        → fx ≡ armValues f j (valueIn (s .at) fw (word f (s .goal) 2)) (s .at) m fw → g ≡ onto (word f j 2) next
-        → went (wordsOf h m rs fx ps (onwardTo s g)) ≡ Steps k h rs
-    unfolding steps switches entersArm armWords withFrames wordsOf valueOf armFor armValues
-    switch-step k h rs fx j g z ej ex eg = rw (switch-record f (s .goal) w ew z, eg, ex, ej, en, D .place)
-
-    pub switch-goes : (fx : List ℕ) (j g : ℕ) → w ≡ 12 → j ≡ armFor f (s .goal) (s .at) m fw
-        → fx ≡ armValues f j (valueIn (s .at) fw (word f (s .goal) 2)) (s .at) m fw → g ≡ onto (word f j 2) next
-        → Goes f T s m fw ps (WentTo (onwardTo s g)) fx ps
-    switch-goes fx j g z ej ex eg = goes-on _ fx ps (λ k h rs. switch-step k h rs fx j g z ej ex eg) (onward-placed _ D)
-
-    if-step : (k : Room) (h : Heap) (rs : List ℕ) (a g : ℕ) → w ≡ 14
+    if-step : (k : Room) (h : Heap) (rs : List ℕ) (a g : ℕ) → w ≡ ifKind
         → a ≡ choose (less (toZ w32 (valueIn (s .at) fw (word f (s .goal) 2))) (toZ w32 (valueIn (s .at) fw (word f (s .goal) 3)))) (word f (s .goal) 4) (word f (s .goal) 5)
         → g ≡ onto a next → went (wordsOf h m rs fw ps (onwardTo s g)) ≡ Steps k h rs
     unfolding steps withFrames wordsOf valueOf
     if-step k h rs a g z ea eg = rw (if-record f (s .goal) w ew z, eg, ea, en, D .place)
 
-    pub if-goes : (a g : ℕ) → w ≡ 14
+    pub if-goes : (a g : ℕ) → w ≡ ifKind
         → a ≡ choose (less (toZ w32 (valueIn (s .at) fw (word f (s .goal) 2))) (toZ w32 (valueIn (s .at) fw (word f (s .goal) 3)))) (word f (s .goal) 4) (word f (s .goal) 5)
         → g ≡ onto a next → Goes f T s m fw ps (WentTo (onwardTo s g)) fw ps
     if-goes a g z ea eg = goes-on _ fw ps (λ k h rs. if-step k h rs a g z ea eg) (onward-placed _ D)
 
     -- ---- a print
-    print-step : (k : Room) (h : Heap) (rs px : List ℕ) (v : ℕ) → w ≡ 17 → v ≡ valueIn (s .at) fw (word f (s .goal) 2) → px ≡ set ps (s .printed) v
+    print-step : (k : Room) (h : Heap) (rs px : List ℕ) (v : ℕ) → w ≡ printKind → v ≡ valueIn (s .at) fw (word f (s .goal) 2) → px ≡ set ps (s .printed) v
         → s .printed < k .prints → went (wordsOf h m rs fw px (record { top = s .top; at = s .at; goal = next; printed = s .printed + 1 })) ≡ Steps k h rs
     unfolding steps ifRoom printsWord wordsOf valueOf
     print-step k h rs px v z ev ex l =
         let o : s .printed + 1 ≡ suc (s .printed) = omega arith in rw (print-record f (s .goal) w ew z, lt-ltb (s .printed) (k .prints) l, ex, ev, en, o, D .place)
 
-    pub print-goes : (px : List ℕ) (v limit : ℕ) → w ≡ 17 → v ≡ valueIn (s .at) fw (word f (s .goal) 2) → px ≡ set ps (s .printed) v → limit ≡ holds (length ps) 1
+    pub print-goes : (px : List ℕ) (v limit : ℕ) → w ≡ printKind → v ≡ valueIn (s .at) fw (word f (s .goal) 2) → px ≡ set ps (s .printed) v → limit ≡ holds (length ps) 1
         → s .printed < limit → Goes f T s m fw ps (WentTo (record { top = s .top; at = s .at; goal = next; printed = s .printed + 1 })) fw px
     unfolding cameTo
     print-goes px v limit z ev ex el l =
@@ -186,23 +175,34 @@ module _ (f : List ℕ) (T : Tables) (s : State) (m fw ps : List ℕ) (D : Place
         }
 
   module _ (w : ℕ) (ew : w ≡ word f (s .goal) 0) where
-    print-stop : (k : Room) (h : Heap) (rs : List ℕ) → w ≡ 17 → k .prints ≤ s .printed → stops Prints ≡ Steps k h rs
+    switch-step : (k : Room) (h : Heap) (rs fx : List ℕ) (j g : ℕ) → w ≡ switchKind → j ≡ armFor f (s .goal) (s .at) m fw
+        → fx ≡ armValues f j (valueIn (s .at) fw (word f (s .goal) 2)) (s .at) m fw → g ≡ T .entry j
+        → went (wordsOf h m rs fx ps (onwardTo s g)) ≡ Steps k h rs
+    unfolding steps switches entersArm armWords withFrames wordsOf valueOf armFor armValues argumentsFrom wordsFrom
+    switch-step k h rs fx j g z ej ex eg = rw (switch-record f (s .goal) w ew z, eg, ex, ej, D .place)
+
+    pub switch-goes : (fx : List ℕ) (j g : ℕ) → w ≡ switchKind → j ≡ armFor f (s .goal) (s .at) m fw
+        → fx ≡ armValues f j (valueIn (s .at) fw (word f (s .goal) 2)) (s .at) m fw → g ≡ T .entry j
+        → Goes f T s m fw ps (WentTo (onwardTo s g)) fx ps
+    switch-goes fx j g z ej ex eg = goes-on _ fx ps (λ k h rs. switch-step k h rs fx j g z ej ex eg) (onward-placed _ D)
+
+    print-stop : (k : Room) (h : Heap) (rs : List ℕ) → w ≡ printKind → k .prints ≤ s .printed → stops Prints ≡ Steps k h rs
     unfolding steps ifRoom wordsOf
     print-stop k h rs z l = rw (print-record f (s .goal) w ew z, le-ltb (s .printed) (k .prints) l)
 
-    pub print-stops : (limit : ℕ) → w ≡ 17 → limit ≡ holds (length ps) 1 → limit ≤ s .printed → Goes f T s m fw ps (Stops Prints) fw ps
+    pub print-stops : (limit : ℕ) → w ≡ printKind → limit ≡ holds (length ps) 1 → limit ≤ s .printed → Goes f T s m fw ps (Stops Prints) fw ps
     unfolding cameTo
     print-stops limit z el l = record { comes = λ k h rs a b. print-stop k h rs z (rw (b ∙ sym el) l); kept = λ c e. (refl, refl); stays = λ t e. absurd (stopped-not t _ (sym e)) }
 
     -- ---- a call
-    call-step : (k : Room) (h : Heap) (rs fx : List ℕ) (g t p : ℕ) → w ≡ 15 → g ≡ T .body (word f (s .goal) 2)
-        → fx ≡ calleeWords f T (s .top) (s .goal) (word f (s .goal) 2) (word f (s .goal) 3) fw → t ≡ suc (s .top) → suc (s .top) < k .frames
+    call-step : (k : Room) (h : Heap) (rs fx : List ℕ) (g t p : ℕ) → w ≡ callKind → g ≡ T .body (word f (s .goal) 2)
+        → fx ≡ calleeWords f T (s .top) (s .goal) (word f (s .goal) 2) fw → t ≡ suc (s .top) → suc (s .top) < k .frames
         → went (wordsOf h m rs fx ps (record { top = t; at = p; goal = g; printed = s .printed })) ≡ Steps k h rs
     unfolding steps ifRoom calls wordsOf
     call-step k h rs fx g t p z eg ex et l = rw (call-record f (s .goal) w ew z, lt-ltb (suc (s .top)) (k .frames) l, ex, eg, et)
 
-    pub call-goes : (fx : List ℕ) (g t p limit : ℕ) → w ≡ 15 → g ≡ T .body (word f (s .goal) 2)
-        → fx ≡ calleeWords f T (s .top) (s .goal) (word f (s .goal) 2) (word f (s .goal) 3) fw → t ≡ suc (s .top) → p ≡ s .at + 136 → limit ≡ holds (length fw) 136 → suc (s .top) < limit
+    pub call-goes : (fx : List ℕ) (g t p limit : ℕ) → w ≡ callKind → g ≡ T .body (word f (s .goal) 2)
+        → fx ≡ calleeWords f T (s .top) (s .goal) (word f (s .goal) 2) fw → t ≡ suc (s .top) → p ≡ s .at + frameWords → limit ≡ holds (length fw) frameWords → suc (s .top) < limit
         → Goes f T s m fw ps (WentTo (record { top = t; at = p; goal = g; printed = s .printed })) fx ps
     unfolding cameTo
     call-goes fx g t p limit z eg ex et ep el l =
@@ -212,17 +212,17 @@ module _ (f : List ℕ) (T : Tables) (s : State) (m fw ps : List ℕ) (D : Place
           stays = λ v e. rw (← went-same _ v e) (record { place = omega (arith, D .place); fits = omega (arith, D .place, room-for (length fw) (suc (s .top)) (rw (← el) l)) });
         }
 
-    call-stop : (k : Room) (h : Heap) (rs : List ℕ) → w ≡ 15 → k .frames ≤ suc (s .top) → stops Frames ≡ Steps k h rs
+    call-stop : (k : Room) (h : Heap) (rs : List ℕ) → w ≡ callKind → k .frames ≤ suc (s .top) → stops Frames ≡ Steps k h rs
     unfolding steps ifRoom wordsOf
     call-stop k h rs z l = rw (call-record f (s .goal) w ew z, le-ltb (suc (s .top)) (k .frames) l)
 
-    pub call-stops : (limit : ℕ) → w ≡ 15 → limit ≡ holds (length fw) 136 → limit ≤ suc (s .top) → Goes f T s m fw ps (Stops Frames) fw ps
+    pub call-stops : (limit : ℕ) → w ≡ callKind → limit ≡ holds (length fw) frameWords → limit ≤ suc (s .top) → Goes f T s m fw ps (Stops Frames) fw ps
     unfolding cameTo
     call-stops limit z el l = record { comes = λ k h rs a b. call-stop k h rs z (rw (a ∙ sym el) l); kept = λ c e. (refl, refl); stays = λ t e. absurd (stopped-not t _ (sym e)) }
 
     -- ---- what is no goal: nothing changes
-    else-step : (k : Room) (h : Heap) (rs : List ℕ) (K : Kind) → kindOf (word f (s .goal) 0) ≡ K → (w ≡ 8 → ⊥) → (w ≡ 9 → ⊥) → (w ≡ 10 → ⊥) → (w ≡ 11 → ⊥) → (w ≡ 12 → ⊥)
-        → (w ≡ 14 → ⊥) → (w ≡ 15 → ⊥) → (w ≡ 17 → ⊥) → (w ≡ 18 → ⊥) → (w ≡ 19 → ⊥) → went (wordsOf h m rs fw ps s) ≡ Steps k h rs
+    else-step : (k : Room) (h : Heap) (rs : List ℕ) (K : Kind) → kindOf (word f (s .goal) 0) ≡ K → (w ≡ literalKind → ⊥) → (w ≡ sumKind → ⊥) → (w ≡ assignKind → ⊥) → (w ≡ constructKind → ⊥) → (w ≡ switchKind → ⊥)
+        → (w ≡ ifKind → ⊥) → (w ≡ callKind → ⊥) → (w ≡ printKind → ⊥) → (w ≡ createKind → ⊥) → (w ≡ removeKind → ⊥) → went (wordsOf h m rs fw ps s) ≡ Steps k h rs
     unfolding steps row rowIn
     else-step k h rs kNone e n8 n9 n10 n11 n12 n14 n15 n17 n18 n19 = rw (record-as f (s .goal) e)
     else-step k h rs kHeader e n8 n9 n10 n11 n12 n14 n15 n17 n18 n19 = rw (record-as f (s .goal) e)
@@ -245,6 +245,6 @@ module _ (f : List ℕ) (T : Tables) (s : State) (m fw ps : List ℕ) (D : Place
     else-step k h rs (kGoal kCreate) e n8 n9 n10 n11 n12 n14 n15 n17 n18 n19 = absurd (n18 (ew ∙ goal-number _ kCreate e))
     else-step k h rs (kGoal kRemove) e n8 n9 n10 n11 n12 n14 n15 n17 n18 n19 = absurd (n19 (ew ∙ goal-number _ kRemove e))
 
-    pub else-goes : (w ≡ 8 → ⊥) → (w ≡ 9 → ⊥) → (w ≡ 10 → ⊥) → (w ≡ 11 → ⊥) → (w ≡ 12 → ⊥) → (w ≡ 14 → ⊥) → (w ≡ 15 → ⊥) → (w ≡ 17 → ⊥) → (w ≡ 18 → ⊥) → (w ≡ 19 → ⊥)
+    pub else-goes : (w ≡ literalKind → ⊥) → (w ≡ sumKind → ⊥) → (w ≡ assignKind → ⊥) → (w ≡ constructKind → ⊥) → (w ≡ switchKind → ⊥) → (w ≡ ifKind → ⊥) → (w ≡ callKind → ⊥) → (w ≡ printKind → ⊥) → (w ≡ createKind → ⊥) → (w ≡ removeKind → ⊥)
         → Goes f T s m fw ps (WentTo s) fw ps
     else-goes n8 n9 n10 n11 n12 n14 n15 n17 n18 n19 = goes-on s fw ps (λ k h rs. else-step k h rs _ refl n8 n9 n10 n11 n12 n14 n15 n17 n18 n19) D

@@ -1,31 +1,27 @@
 -- What the code keeps and answers, as the machine on lists of words has it.
-use Prim.Native.Nat.{ℕ, _+_, _*_, _≤_, _<_}
+use Prim.Native.Nat.{ℕ, _+_, _*_, _≤_}
 use mathlib.Core.Path.{_≡_}
 use mathlib.Core.Bool.{Bool, true, false}
 use mathlib.Core.List.{List}
 use mathlib.Core.Logic.{_⊎_}
-use lib.ListN.{length, getD}
+use lib.ListN.{length}
 use Rattle.language.specs.declared.Stop.{Stop}
-use Rattle.language.specs.Format.{maxRecords}
+use Rattle.language.specs.Format.{constructKind, createKind, removeKind}
 use Rattle.language.specs.Machine.{Room, holds}
 use Rattle.memory.specs.declared.Heap.{Heap}
 use Rattle.records.specs.Records.{recordAt}
 use Rattle.word_machine.specs.Tables.{Tables}
-use Rattle.word_machine.specs.Machine.{Words, Went, went, stops, Outcome, steps}
+use Rattle.word_machine.specs.Machine.{Words, Went, went, stops, frameWords, steps}
 use Rattle.machine.specs.declared.State.{State}
 use Rattle.machine.specs.declared.Kept.{Kept}
 use Rattle.machine.specs.declared.Kept.the-variants.{Left, Lacks}
 use Rattle.machine.specs.declared.Step.{Step}
 use Rattle.machine.specs.declared.Step.the-variants.{Went as WentTo, Stops}
 
--- where chains go on fits a word of a frame
-abbrev pub Narrow : List ℕ → Type 0
-Narrow plan = (i : ℕ) → i < maxRecords → getD plan i 0 < 4294967296
-
 -- the newest frame's words start at their place, and n words have them all
 pub record Placed (s : State) (n : ℕ) : Type 0 where
-  pub place : s .at ≡ 136 * s .top
-  pub fits : s .at + 136 ≤ n
+  pub place : s .at ≡ frameWords * s .top
+  pub fits : s .at + frameWords ≤ n
 
 -- h is the heap; m, rs, fw and ps are the words lent for cells, regions, frames and printed numbers
 unfoldable pub wordsOf : Heap → List ℕ → List ℕ → List ℕ → List ℕ → State → Words
@@ -39,15 +35,15 @@ cameTo (Stops c) h m rs fw ps = stops c
 -- The goal at state s, one that leaves cells, regions and the heap alone, is carried out, whatever those are: r is the answer, fx and px the words of
 -- frames and printed numbers afterwards, which are as before where it stops.
 pub record Goes (f : List ℕ) (T : Tables) (s : State) (m fw ps : List ℕ) (r : Step) (fx px : List ℕ) : Type 0 where
-  pub comes : (k : Room) (h : Heap) (rs : List ℕ) → k .frames ≡ holds (length fw) 136 → k .prints ≡ holds (length ps) 1
+  pub comes : (k : Room) (h : Heap) (rs : List ℕ) → k .frames ≡ holds (length fw) frameWords → k .prints ≡ holds (length ps) 1
       → cameTo r h m rs fx px ≡ steps f T k (s .goal) (recordAt f (s .goal)) (wordsOf h m rs fw ps s)
   pub kept : (c : Stop) → r ≡ Stops c → (fx ≡ fw) × (px ≡ ps)
   pub stays : (v : State) → r ≡ WentTo v → Placed v (length fw)
 
 -- whether the goals of the kind w change the heap: constructs, creates and removes
 abbrev pub Changes : ℕ → Bool → Type 0
-Changes w true = (w ≡ 11) ⊎ ((w ≡ 18) ⊎ (w ≡ 19))
-Changes w false = (w ≡ 11 → ⊥) × (w ≡ 18 → ⊥) × (w ≡ 19 → ⊥)
+Changes w true = (w ≡ constructKind) ⊎ ((w ≡ createKind) ⊎ (w ≡ removeKind))
+Changes w false = (w ≡ constructKind → ⊥) × (w ≡ createKind → ⊥) × (w ≡ removeKind → ⊥)
 
 -- what their answer stands for, v being the state afterwards
 unfoldable pub keptTo : Kept → List ℕ → List ℕ → List ℕ → List ℕ → State → Went

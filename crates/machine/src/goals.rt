@@ -11,7 +11,6 @@ use language::format::IF_THEN;
 use language::format::IF_Y;
 use language::format::IF_Z;
 use language::format::LITERAL_VALUE;
-use language::format::NEXT;
 use language::format::SUM_OPERATION;
 use language::format::SUM_Y;
 use language::format::SUM_Z;
@@ -25,8 +24,9 @@ ghost use mir.Val.{toZ};
 ghost use Rattle.language.specs.Lists.{choose};
 ghost use Rattle.language.specs.Numbers.{less};
 ghost use Rattle.language.specs.File.{word};
+ghost use Rattle.language.specs.Format.{recordBytes, maxRecords, maxVariables, goalX, literalValue, sumOperation, sumY, sumZ, assignY, ifY, ifZ, ifThen, ifElse};
 ghost use Rattle.word_machine.specs.Tables.{onto as ontoOf};
-ghost use Rattle.word_machine.specs.Machine.{literalWord, sumWord};
+ghost use Rattle.word_machine.specs.Machine.{frameWords, literalWord, sumWord};
 
 // The first record of a chain, or where to go on if the chain is empty.
 pub fn onto(first: usize, onward: usize) -> usize
@@ -36,18 +36,19 @@ pub fn onto(first: usize, onward: usize) -> usize
 }
 
 // "After a goal chain ends, the next goal is the enclosing goal's next": the goal after the one at record i.
-pub fn successor(file: &[u8], plan: &[usize; PLAN], i: usize) -> usize
-    requires { ⌜ (i < 4096) × (16 * i + 16 ≤ length (now file)) ⌝ }
-    ensures { λ r. ⌜ r ≡ ontoOf (word (now (file .entry)) i 1) (getD (now (plan .entry)) i 0) ⌝ }
-    ensures { λ r. ⌜ (getD (now (plan .entry)) i 0 < 4294967296 → r < 4294967296) ⌝ }
+pub fn successor(plan: &[usize; PLAN], i: usize) -> usize
+    requires { ⌜ i < maxRecords ⌝ }
+    ensures { λ r. ⌜ r ≡ getD (now (plan .entry)) i 0 ⌝ }
 {
-    onto(word_in(file, i, NEXT), plan[i])
+    plan[i]
 }
 
 // "Literal .. gives X a value".
 pub fn literal(file: &[u8], i: usize, at: usize, frames: &mut [u32])
-    requires { ⌜ (16 * i + 16 ≤ length (now file)) × (at + 136 ≤ length (now frames)) ⌝ }
-    ensures { λ _. ⌜ now (frames .exit) ≡ set (now (frames .entry)) (at + word (now (file .entry)) i 2) (literalWord (word (now (file .entry)) i 3)) ⌝ }
+    requires { ⌜ (recordBytes * i + recordBytes ≤ length (now file)) × (at + frameWords ≤ length (now frames)) ⌝ }
+    requires { ⌜ word (now file) i goalX ≤ maxVariables ⌝ }
+    ensures { λ _. ⌜ now (frames .exit) ≡ set (now (frames .entry)) (at + word (now (file .entry)) i goalX)
+        (literalWord (word (now (file .entry)) i literalValue)) ⌝ }
 {
     let v = word_in(file, i, LITERAL_VALUE) as u32;
     give(frames, at, word_in(file, i, GOAL_X), literal_word(v));
@@ -55,10 +56,11 @@ pub fn literal(file: &[u8], i: usize, at: usize, frames: &mut [u32])
 
 // ".. sum ..".
 pub fn sum(file: &[u8], i: usize, at: usize, frames: &mut [u32])
-    requires { ⌜ (16 * i + 16 ≤ length (now file)) × (at + 136 ≤ length (now frames)) ⌝ }
-    ensures { λ _. ⌜ now (frames .exit) ≡ set (now (frames .entry)) (at + word (now (file .entry)) i 2)
-        (sumWord (word (now (file .entry)) i 3) (getD (now (frames .entry)) (at + word (now (file .entry)) i 4) 0)
-        (getD (now (frames .entry)) (at + word (now (file .entry)) i 5) 0)) ⌝ }
+    requires { ⌜ (recordBytes * i + recordBytes ≤ length (now file)) × (at + frameWords ≤ length (now frames)) ⌝ }
+    requires { ⌜ (word (now file) i goalX ≤ maxVariables) × (word (now file) i sumY ≤ maxVariables) × (word (now file) i sumZ ≤ maxVariables) ⌝ }
+    ensures { λ _. ⌜ now (frames .exit) ≡ set (now (frames .entry)) (at + word (now (file .entry)) i goalX)
+        (sumWord (word (now (file .entry)) i sumOperation) (getD (now (frames .entry)) (at + word (now (file .entry)) i sumY) 0)
+        (getD (now (frames .entry)) (at + word (now (file .entry)) i sumZ) 0)) ⌝ }
 {
     let y = value(&frames[..], at, word_in(file, i, SUM_Y));
     let z = value(&frames[..], at, word_in(file, i, SUM_Z));
@@ -68,9 +70,10 @@ pub fn sum(file: &[u8], i: usize, at: usize, frames: &mut [u32])
 
 // ".. and assign".
 pub fn assign(file: &[u8], i: usize, at: usize, frames: &mut [u32])
-    requires { ⌜ (16 * i + 16 ≤ length (now file)) × (at + 136 ≤ length (now frames)) ⌝ }
-    ensures { λ _. ⌜ now (frames .exit) ≡ set (now (frames .entry)) (at + word (now (file .entry)) i 2)
-        (getD (now (frames .entry)) (at + word (now (file .entry)) i 3) 0) ⌝ }
+    requires { ⌜ (recordBytes * i + recordBytes ≤ length (now file)) × (at + frameWords ≤ length (now frames)) ⌝ }
+    requires { ⌜ (word (now file) i goalX ≤ maxVariables) × (word (now file) i assignY ≤ maxVariables) ⌝ }
+    ensures { λ _. ⌜ now (frames .exit) ≡ set (now (frames .entry)) (at + word (now (file .entry)) i goalX)
+        (getD (now (frames .entry)) (at + word (now (file .entry)) i assignY) 0) ⌝ }
 {
     let v = value(&frames[..], at, word_in(file, i, ASSIGN_Y));
     give(frames, at, word_in(file, i, GOAL_X), v);
@@ -78,10 +81,11 @@ pub fn assign(file: &[u8], i: usize, at: usize, frames: &mut [u32])
 
 // The first goal of an if's part: "if Y < Z".
 pub fn part_of(file: &[u8], i: usize, at: usize, frames: &[u32]) -> usize
-    requires { ⌜ (16 * i + 16 ≤ length (now file)) × (at + 136 ≤ length (now frames)) ⌝ }
-    ensures { λ r. ⌜ r ≡ choose (less (toZ w32 (getD (now (frames .entry)) (at + word (now (file .entry)) i 2) 0))
-        (toZ w32 (getD (now (frames .entry)) (at + word (now (file .entry)) i 3) 0)))
-        (word (now (file .entry)) i 4) (word (now (file .entry)) i 5) ⌝ }
+    requires { ⌜ (recordBytes * i + recordBytes ≤ length (now file)) × (at + frameWords ≤ length (now frames)) ⌝ }
+    requires { ⌜ (word (now file) i ifY ≤ maxVariables) × (word (now file) i ifZ ≤ maxVariables) ⌝ }
+    ensures { λ r. ⌜ r ≡ choose (less (toZ w32 (getD (now (frames .entry)) (at + word (now (file .entry)) i ifY) 0))
+        (toZ w32 (getD (now (frames .entry)) (at + word (now (file .entry)) i ifZ) 0)))
+        (word (now (file .entry)) i ifThen) (word (now (file .entry)) i ifElse) ⌝ }
 {
     let y = value(frames, at, word_in(file, i, IF_Y));
     let z = value(frames, at, word_in(file, i, IF_Z));

@@ -1,7 +1,7 @@
 // One step: the goals that change the heap.
 use crate::Kept;
 use crate::State;
-use crate::places::construct;
+use crate::cells::construct;
 use crate::places::drop_region;
 use crate::places::make_region;
 use language::Stop;
@@ -19,8 +19,10 @@ ghost use mathlib.Core.List.{List};
 ghost use Prim.Native.Nat.{ℕ, _<_};
 ghost use lib.ListN.{length};
 ghost use Rattle.language.specs.File.{word, recordCount};
+ghost use Rattle.language.specs.Format.{kindWord};
 ghost use Rattle.chains.specs.Formed.{Formed};
-ghost use Rattle.plans.specs.Plan.{tablesIn};
+ghost use Rattle.chains.specs.Shapes.{IsConstruct, IsCreate};
+ghost use Rattle.plans.specs.Plan.{Numbered, tablesIn};
 ghost use Rattle.machine.specs.Words.{Placed, Changes, Keeps};
 
 // Whether goals of a kind change the heap.
@@ -45,9 +47,9 @@ fn construct_step(
     regions: &mut [u32],
     frames: &mut [u32],
 ) -> Kept
-    requires { ⌜ Formed (now file) ⌝ }
-    requires { ⌜ (state .goal < recordCount (now file)) × (word (now file) (state .goal) 0 ≡ 11) × Placed state (length (now frames)) ⌝ }
-    ensures { λ r. ⌜ ((images table : List ℕ) → Keeps (now (file .entry)) (tablesIn (now (file .entry)) (now (plan .entry)) images table) state heap
+    requires { ⌜ Formed (now file) × Numbered (now file) (now plan) ⌝ }
+    requires { ⌜ (state .goal < recordCount (now file)) × IsConstruct (now file) (state .goal) × Placed state (length (now frames)) ⌝ }
+    ensures { λ r. ⌜ ((images callees : List ℕ) → Keeps (now (file .entry)) (tablesIn (now (plan .entry)) images callees) state heap
         (now (cells .entry)) (now (regions .entry)) (now (frames .entry)) r (now (cells .exit)) (now (regions .exit)) (now (frames .exit))) ⌝ }
 {
     let i = state.goal;
@@ -77,9 +79,9 @@ fn create_step(
     regions: &mut [u32],
     frames: &mut [u32],
 ) -> Kept
-    requires { ⌜ Formed (now file) ⌝ }
-    requires { ⌜ (state .goal < recordCount (now file)) × (word (now file) (state .goal) 0 ≡ 18) × Placed state (length (now frames)) ⌝ }
-    ensures { λ r. ⌜ ((images table m : List ℕ) → Keeps (now (file .entry)) (tablesIn (now (file .entry)) (now (plan .entry)) images table) state heap
+    requires { ⌜ Formed (now file) × Numbered (now file) (now plan) ⌝ }
+    requires { ⌜ (state .goal < recordCount (now file)) × IsCreate (now file) (state .goal) × Placed state (length (now frames)) ⌝ }
+    ensures { λ r. ⌜ ((images callees m : List ℕ) → Keeps (now (file .entry)) (tablesIn (now (plan .entry)) images callees) state heap
         m (now (regions .entry)) (now (frames .entry)) r m (now (regions .exit)) (now (frames .exit))) ⌝ }
 {
     let i = state.goal;
@@ -101,10 +103,10 @@ pub fn keep(
     regions: &mut [u32],
     frames: &mut [u32],
 ) -> Kept
-    requires { ⌜ Formed (now file) ⌝ }
+    requires { ⌜ Formed (now file) × Numbered (now file) (now plan) ⌝ }
     requires { ⌜ (state .goal < recordCount (now file)) × Placed state (length (now frames)) ⌝ }
-    requires { ⌜ Changes (word (now file) (state .goal) 0) true ⌝ }
-    ensures { λ r. ⌜ ((images table : List ℕ) → Keeps (now (file .entry)) (tablesIn (now (file .entry)) (now (plan .entry)) images table) state heap
+    requires { ⌜ Changes (word (now file) (state .goal) kindWord) true ⌝ }
+    ensures { λ r. ⌜ ((images callees : List ℕ) → Keeps (now (file .entry)) (tablesIn (now (plan .entry)) images callees) state heap
         (now (cells .entry)) (now (regions .entry)) (now (frames .entry)) r (now (cells .exit)) (now (regions .exit)) (now (frames .exit))) ⌝ }
 {
     let i = state.goal;

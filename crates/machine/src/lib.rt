@@ -1,5 +1,7 @@
 // The runner: the goals of an accepted file carried out in lent words, step by step as the machine on lists of words does it (word_machine).
+mod arms;
 mod calls;
+mod cells;
 mod goals;
 mod heaps;
 mod places;

@@ -3,6 +3,7 @@ use crate::Kept;
 use crate::Outcome;
 use crate::State;
 use crate::Step;
+use crate::calls::body_of;
 use crate::calls::settle;
 use crate::calls::size_of;
 use crate::goals::successor;
@@ -17,19 +18,19 @@ use language::Stop;
 use language::format::KIND;
 use language::format::RECORD_BYTES;
 use memory::empty;
+use plans::CALLEES;
 use plans::PLAN;
 use records::word_in;
-use tables::body_of;
-ghost use Rattle.chains.specs.Formed.{Formed};
-ghost use Rattle.plans.specs.Plan.{tablesIn};
-ghost use Rattle.word_machine.specs.Machine.{wordRun};
-ghost use Rattle.machine.specs.Words.{Narrow};
-ghost use Rattle.machine.specs.Runs.{endedAt, firstState, runFirst, Ran};
+ghost use mathlib.Core.Path.{_≡_};
 ghost use Prim.Native.Nat.{_≤_};
 ghost use lib.ListN.{length};
 ghost use Rattle.language.specs.Machine.{holds};
+ghost use Rattle.chains.specs.Formed.{Formed};
 ghost use Rattle.memory.specs.Memory.{emptyHeap};
-ghost use mathlib.Core.Path.{_≡_};
+ghost use Rattle.plans.specs.Plan.{Narrow, Numbered, tablesIn};
+ghost use Rattle.word_machine.specs.Machine.{frameWords, wordRun};
+ghost use Rattle.machine.specs.Places.{cellWords, regionWords};
+ghost use Rattle.machine.specs.Runs.{endedAt, firstState, runFirst, Ran};
 
 // A run that ends at a state, after so many steps.
 fn ended(ending: Ending, steps: usize, state: State) -> Outcome
@@ -43,13 +44,13 @@ fn ended(ending: Ending, steps: usize, state: State) -> Outcome
 }
 
 // Before the first step: the entry's frame, at its first goal.
-pub fn first_state(table: &[u64]) -> State
-    ensures { λ r. ⌜ r ≡ firstState (now (table .entry)) ⌝ }
+pub fn first_state(callees: &[u64; CALLEES]) -> State
+    ensures { λ r. ⌜ r ≡ firstState (now (callees .entry)) ⌝ }
 {
     State {
         top: 0,
         at: 0,
-        goal: body_of(table, 0),
+        goal: body_of(callees, 0),
         printed: 0,
     }
 }
@@ -59,57 +60,65 @@ fn run_on(
     file: &[u8],
     plan: &[usize; PLAN],
     images: &[u8],
-    table: &[u64],
+    callees: &[u64; CALLEES],
     cells: &mut [u32],
     regions: &mut [u32],
     frames: &mut [u32],
     prints: &mut [u32],
     steps: usize,
 ) -> Outcome
-    requires { ⌜ Formed (now file) ⌝ }
-    requires { ⌜ Narrow (now plan) ⌝ }
-    requires { ⌜ 136 ≤ length (now frames) ⌝ }
-    ensures { λ r. ⌜ Ran (runFirst (now (file .entry)) (tablesIn (now (file .entry)) (now (plan .entry)) (now (images .entry)) (now (table .entry))) steps
-        (emptyHeap (holds (length (now (cells .entry))) 8) (holds (length (now (regions .entry))) 2))
-        (now (cells .entry)) (now (regions .entry)) (now (frames .entry)) (now (prints .entry)) (firstState (now (table .entry))))
+    requires { ⌜ Formed (now file) × Narrow (now plan) (now images) × Numbered (now file) (now plan) ⌝ }
+    requires { ⌜ frameWords ≤ length (now frames) ⌝ }
+    ensures { λ r. ⌜ Ran (runFirst (now (file .entry)) (tablesIn (now (plan .entry)) (now (images .entry)) (now (callees .entry))) steps
+        (emptyHeap (holds (length (now (cells .entry))) cellWords) (holds (length (now (regions .entry))) regionWords))
+        (now (cells .entry)) (now (regions .entry)) (now (frames .entry)) (now (prints .entry)) (firstState (now (callees .entry))))
         r (now (cells .exit)) (now (regions .exit)) (now (frames .exit)) (now (prints .exit)) ⌝ }
 {
     let mut heap = empty(&cells[..], &regions[..]);
-    let mut state = first_state(table);
-    let mut done = 0;
+    let mut state = first_state(callees);
+    let mut left = steps;
     loop {
-        let here = settle(file, plan, images, table, state, frames);
+        let here = settle(file, plan, images, callees, state, frames);
         let i = here.goal;
         if i == 0 {
-            return ended(Ending::Finished, done, here);
+            return ended(Ending::Finished, steps - left, here);
         }
-        if steps <= done {
-            return ended(Ending::Stopped(Stop::Steps), done, here);
+        if left == 0 {
+            return ended(Ending::Stopped(Stop::Steps), steps - left, here);
         }
         if file.len() / RECORD_BYTES <= i {
             state = here;
-            done += 1;
+            left -= 1;
             continue;
         }
         if changes_heap(word_in(file, i, KIND)) {
             let kept = keep(file, plan, here, heap, cells, regions, frames);
             match kept {
-                Kept::Left(left) => {
-                    heap = left;
-                    state = onward(here, successor(file, plan, i));
-                    done += 1;
+                Kept::Left(h) => {
+                    heap = h;
+                    state = onward(here, successor(plan, i));
+                    left -= 1;
                     continue;
                 }
-                Kept::Lacks(stop) => return ended(Ending::Stopped(stop), done, here),
+                Kept::Lacks(stop) => return ended(Ending::Stopped(stop), steps - left, here),
             }
         }
-        let went = go(file, plan, images, table, here, &cells[..], frames, prints);
+        let went = go(
+            file,
+            plan,
+            images,
+            callees,
+            here,
+            &cells[..],
+            frames,
+            prints,
+        );
         match went {
             Step::Went(next) => {
                 state = next;
-                done += 1;
+                left -= 1;
             }
-            Step::Stops(stop) => return ended(Ending::Stopped(stop), done, here),
+            Step::Stops(stop) => return ended(Ending::Stopped(stop), steps - left, here),
         }
     }
 }
@@ -119,28 +128,27 @@ pub fn run_words(
     file: &[u8],
     plan: &[usize; PLAN],
     images: &[u8],
-    table: &[u64],
+    callees: &[u64; CALLEES],
     cells: &mut [u32],
     regions: &mut [u32],
     frames: &mut [u32],
     prints: &mut [u32],
     steps: usize,
 ) -> Outcome
-    requires { ⌜ Formed (now file) ⌝ }
-    requires { ⌜ Narrow (now plan) ⌝ }
-    ensures { λ r. ⌜ Ran (wordRun (now (file .entry)) (tablesIn (now (file .entry)) (now (plan .entry)) (now (images .entry)) (now (table .entry)))
+    requires { ⌜ Formed (now file) × Narrow (now plan) (now images) × Numbered (now file) (now plan) ⌝ }
+    ensures { λ r. ⌜ Ran (wordRun (now (file .entry)) (tablesIn (now (plan .entry)) (now (images .entry)) (now (callees .entry)))
         (now (cells .entry)) (now (regions .entry)) (now (frames .entry)) (now (prints .entry)) steps)
         r (now (cells .exit)) (now (regions .exit)) (now (frames .exit)) (now (prints .exit)) ⌝ }
 {
     if frames.len() < FRAME_WORDS {
-        return ended(Ending::Stopped(Stop::Frames), 0, first_state(table));
+        return ended(Ending::Stopped(Stop::Frames), 0, first_state(callees));
     }
-    clear(frames, 1, size_of(table, 0));
+    clear(frames, 1, size_of(callees, 0));
     run_on(
         file,
         plan,
         images,
-        table,
+        callees,
         cells,
         regions,
         frames,

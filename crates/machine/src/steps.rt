@@ -1,6 +1,7 @@
 // One step: the goals that leave cells and regions alone.
 use crate::State;
 use crate::Step;
+use crate::arms::switch_arm;
 use crate::calls::call;
 use crate::goals::assign;
 use crate::goals::literal;
@@ -8,11 +9,9 @@ use crate::goals::onto;
 use crate::goals::part_of;
 use crate::goals::successor;
 use crate::goals::sum;
-use crate::places::switch_arm;
 use frames::FRAME_WORDS;
 use frames::value;
 use language::Stop;
-use language::format::ARM_GOALS;
 use language::format::ASSIGN;
 use language::format::CALL;
 use language::format::IF;
@@ -24,6 +23,7 @@ use language::format::SUM;
 use language::format::SWITCH;
 use memory::put;
 use memory::room;
+use plans::CALLEES;
 use plans::PLAN;
 use records::word_in;
 ghost use mathlib.Core.Path.{_≡_};
@@ -31,11 +31,12 @@ ghost use mathlib.Core.List.{List};
 ghost use Prim.Native.Nat.{ℕ, _<_};
 ghost use lib.ListN.{length};
 ghost use Rattle.language.specs.File.{word, recordCount};
+ghost use Rattle.language.specs.Format.{kindWord};
 ghost use mathlib.Core.Bool.{false};
 ghost use Rattle.chains.specs.Formed.{Formed};
 ghost use Rattle.chains.specs.Shapes.{IsCall, IsIf, IsPrint, IsSwitch};
-ghost use Rattle.plans.specs.Plan.{tablesIn};
-ghost use Rattle.machine.specs.Words.{Narrow, Placed, Changes, onwardTo, Goes};
+ghost use Rattle.plans.specs.Plan.{Narrow, Numbered, tablesIn};
+ghost use Rattle.machine.specs.Words.{Placed, Changes, onwardTo, Goes};
 
 const PRINT_WORDS: usize = 1;
 
@@ -56,14 +57,14 @@ fn call_step(
     file: &[u8],
     plan: &[usize; PLAN],
     images: &[u8],
-    table: &[u64],
+    callees: &[u64; CALLEES],
     state: State,
     frames: &mut [u32],
 ) -> Step
     requires { ⌜ Formed (now file) ⌝ }
-    requires { ⌜ Narrow (now plan) ⌝ }
+    requires { ⌜ Narrow (now plan) (now images) ⌝ }
     requires { ⌜ (state .goal < recordCount (now file)) × IsCall (now file) (state .goal) × Placed state (length (now frames)) ⌝ }
-    ensures { λ r. ⌜ ((m ps : List ℕ) → Goes (now (file .entry)) (tablesIn (now (file .entry)) (now (plan .entry)) (now (images .entry)) (now (table .entry)))
+    ensures { λ r. ⌜ ((m ps : List ℕ) → Goes (now (file .entry)) (tablesIn (now (plan .entry)) (now (images .entry)) (now (callees .entry)))
         state m (now (frames .entry)) ps r (now (frames .exit)) ps) ⌝ }
 {
     let k = state.top;
@@ -75,7 +76,7 @@ fn call_step(
     if limit <= above {
         return Step::Stops(Stop::Frames);
     }
-    let goal = call(file, plan, images, table, i, at, &mut frames[..]);
+    let goal = call(file, plan, images, callees, i, at, &mut frames[..]);
     Step::Went(State {
         top: k + 1,
         at: at + FRAME_WORDS,
@@ -92,9 +93,9 @@ fn print_step(
     frames: &[u32],
     prints: &mut [u32],
 ) -> Step
-    requires { ⌜ Formed (now file) ⌝ }
+    requires { ⌜ Formed (now file) × Numbered (now file) (now plan) ⌝ }
     requires { ⌜ (state .goal < recordCount (now file)) × IsPrint (now file) (state .goal) × Placed state (length (now frames)) ⌝ }
-    ensures { λ r. ⌜ ((images table m : List ℕ) → Goes (now (file .entry)) (tablesIn (now (file .entry)) (now (plan .entry)) images table)
+    ensures { λ r. ⌜ ((images callees m : List ℕ) → Goes (now (file .entry)) (tablesIn (now (plan .entry)) images callees)
         state m (now (frames .entry)) (now (prints .entry)) r (now (frames .entry)) (now (prints .exit))) ⌝ }
 {
     let k = state.top;
@@ -110,7 +111,7 @@ fn print_step(
     Step::Went(State {
         top: k,
         at,
-        goal: successor(file, plan, i),
+        goal: successor(plan, i),
         printed: printed + 1,
     })
 }
@@ -123,31 +124,28 @@ fn switch_step(
     cells: &[u32],
     frames: &mut [u32],
 ) -> Step
-    requires { ⌜ Formed (now file) ⌝ }
+    requires { ⌜ Formed (now file) × Numbered (now file) (now plan) ⌝ }
     requires { ⌜ (state .goal < recordCount (now file)) × IsSwitch (now file) (state .goal) × Placed state (length (now frames)) ⌝ }
-    ensures { λ r. ⌜ ((images table ps : List ℕ) → Goes (now (file .entry)) (tablesIn (now (file .entry)) (now (plan .entry)) images table)
+    ensures { λ r. ⌜ ((images callees ps : List ℕ) → Goes (now (file .entry)) (tablesIn (now (plan .entry)) images callees)
         state (now (cells .entry)) (now (frames .entry)) ps r (now (frames .exit)) ps) ⌝ }
 {
     let i = state.goal;
     let at = state.at;
     let j = switch_arm(file, i, at, cells, &mut frames[..]);
-    Step::Went(onward(
-        state,
-        onto(word_in(file, j, ARM_GOALS), successor(file, plan, i)),
-    ))
+    Step::Went(onward(state, successor(plan, j)))
 }
 
 // An if.
 fn if_step(file: &[u8], plan: &[usize; PLAN], state: State, frames: &[u32]) -> Step
-    requires { ⌜ Formed (now file) ⌝ }
+    requires { ⌜ Formed (now file) × Numbered (now file) (now plan) ⌝ }
     requires { ⌜ (state .goal < recordCount (now file)) × IsIf (now file) (state .goal) × Placed state (length (now frames)) ⌝ }
-    ensures { λ r. ⌜ ((images table m ps : List ℕ) → Goes (now (file .entry)) (tablesIn (now (file .entry)) (now (plan .entry)) images table)
+    ensures { λ r. ⌜ ((images callees m ps : List ℕ) → Goes (now (file .entry)) (tablesIn (now (plan .entry)) images callees)
         state m (now (frames .entry)) ps r (now (frames .entry)) ps) ⌝ }
 {
     let i = state.goal;
     let at = state.at;
     let part = part_of(file, i, at, frames);
-    Step::Went(onward(state, onto(part, successor(file, plan, i))))
+    Step::Went(onward(state, onto(part, successor(plan, i))))
 }
 
 // The goal at record state.goal, one that leaves cells and regions alone.
@@ -155,17 +153,17 @@ pub fn go(
     file: &[u8],
     plan: &[usize; PLAN],
     images: &[u8],
-    table: &[u64],
+    callees: &[u64; CALLEES],
     state: State,
     cells: &[u32],
     frames: &mut [u32],
     prints: &mut [u32],
 ) -> Step
-    requires { ⌜ Formed (now file) ⌝ }
-    requires { ⌜ Narrow (now plan) ⌝ }
+    requires { ⌜ Formed (now file) × Numbered (now file) (now plan) ⌝ }
+    requires { ⌜ Narrow (now plan) (now images) ⌝ }
     requires { ⌜ (state .goal < recordCount (now file)) × Placed state (length (now frames)) ⌝ }
-    requires { ⌜ Changes (word (now file) (state .goal) 0) false ⌝ }
-    ensures { λ r. ⌜ Goes (now (file .entry)) (tablesIn (now (file .entry)) (now (plan .entry)) (now (images .entry)) (now (table .entry))) state
+    requires { ⌜ Changes (word (now file) (state .goal) kindWord) false ⌝ }
+    ensures { λ r. ⌜ Goes (now (file .entry)) (tablesIn (now (plan .entry)) (now (images .entry)) (now (callees .entry))) state
         (now (cells .entry)) (now (frames .entry)) (now (prints .entry)) r (now (frames .exit)) (now (prints .exit)) ⌝ }
 {
     let i = state.goal;
@@ -173,19 +171,19 @@ pub fn go(
     match word_in(file, i, KIND) {
         LITERAL => {
             literal(file, i, at, &mut frames[..]);
-            Step::Went(onward(state, successor(file, plan, i)))
+            Step::Went(onward(state, successor(plan, i)))
         }
         SUM => {
             sum(file, i, at, &mut frames[..]);
-            Step::Went(onward(state, successor(file, plan, i)))
+            Step::Went(onward(state, successor(plan, i)))
         }
         ASSIGN => {
             assign(file, i, at, &mut frames[..]);
-            Step::Went(onward(state, successor(file, plan, i)))
+            Step::Went(onward(state, successor(plan, i)))
         }
         SWITCH => switch_step(file, plan, state, cells, &mut frames[..]),
         IF => if_step(file, plan, state, &frames[..]),
-        CALL => call_step(file, plan, images, table, state, &mut frames[..]),
+        CALL => call_step(file, plan, images, callees, state, &mut frames[..]),
         PRINT => print_step(file, plan, state, &frames[..], &mut prints[..]),
         _ => Step::Went(state),
     }

@@ -8,13 +8,12 @@ use lib.ListN.{set}
 use borrow.Author.Tests.{le-leb, lt-leb, eq-eqb, ne-eqb}
 use Rattle.language.specs.Lists.{choose}
 use Rattle.language.specs.Machine.{holds}
-use Rattle.memory.specs.declared.Contents.{Contents}
 use Rattle.memory.specs.declared.Pool.{Pool}
 use Rattle.memory.specs.declared.Taken.{Taken}
 use Rattle.memory.specs.declared.Taken.the-variants.{Place, Full}
 use Rattle.memory.specs.declared.Heap.{Heap}
 use Rattle.memory.specs.declared.Made.the-variants.{At, NoRoom}
-use Rattle.memory.specs.Memory.{link, first, last, headed, raised, taken, created, createdOf, createdRegions, createdRegionsOf, filled, hung, built, builtOf, builtCells, builtCellsOf, builtRegions, builtRegionsOf, removed, removedCells, removedRegions}
+use Rattle.memory.specs.Memory.{link, first, last, headed, raised, taken, created, createdOf, createdRegions, createdRegionsOf, hung, built, builtOf, removed, removedCells, removedRegions}
 
 module _ (p : Pool) (l : ℕ) where
   pub take-full : p .limit ≤ p .head → taken p l ≡ Full
@@ -39,16 +38,14 @@ module _ (h : Heap) (rs : List ℕ) (l : ℕ) (e : l ≡ first rs (h .regions .h
   unfolding created createdRegions createdOf createdRegionsOf
   create-made r p f rs₁ g = rw (g, ← e, ← d, f) (refl, refl)
 
-module _ (h : Heap) (m rs : List ℕ) (r : ℕ) (c : Contents) (l : ℕ) (e : l ≡ link m (h .cells .head)) (t : Taken) (dt : t ≡ taken (h .cells) l) where
-  pub build-full : t ≡ Full → (NoRoom ≡ built h m) × (m ≡ builtCells h m rs r c) × (rs ≡ builtRegions h m rs r)
-  unfolding built builtCells builtRegions builtOf builtCellsOf builtRegionsOf
-  build-full g = rw (← e, ← dt, g) (refl, refl, refl)
+module _ (h : Heap) (m : List ℕ) (l : ℕ) (e : l ≡ link m (h .cells .head)) (t : Taken) (dt : t ≡ taken (h .cells) l) where
+  pub cell-full : t ≡ Full → NoRoom ≡ built h m
+  unfolding built builtOf
+  cell-full g = rw (← e, ← dt, g)
 
-  pub build-made : (x : ℕ) (p : Pool) → t ≡ Place x p → (m₁ rs₁ : List ℕ) → m₁ ≡ filled m x c (first rs r)
-      → rs₁ ≡ hung rs r x (h .cells .limit)
-      → (At x (record { cells = p; regions = h .regions }) ≡ built h m) × (m₁ ≡ builtCells h m rs r c) × (rs₁ ≡ builtRegions h m rs r)
-  unfolding built builtCells builtRegions builtOf builtCellsOf builtRegionsOf
-  build-made x p g m₁ rs₁ em er = rw (em, er, ← e, ← dt, g) (refl, refl, refl)
+  pub cell-made : (x : ℕ) (p : Pool) → t ≡ Place x p → At x (record { cells = p; regions = h .regions }) ≡ built h m
+  unfolding built builtOf
+  cell-made x p g = rw (← e, ← dt, g)
 
 module _ (rs : List ℕ) (r x n l : ℕ) (e : l ≡ last rs r) (rs₁ : List ℕ) (e₁ : rs₁ ≡ set rs (2 * r) x) where
   pub hang-first : n ≤ l → (rs₂ : List ℕ) → rs₂ ≡ set rs₁ (2 * r + 1) x → rs₂ ≡ hung rs r x n

@@ -23,6 +23,9 @@ withWord m x k v = set m (8 * x + k) v
 abbrev pub link : List ℕ → ℕ → ℕ
 link m x = cellWord m x 5
 
+abbrev pub withLink : List ℕ → ℕ → ℕ → List ℕ
+withLink m x v = withWord m x 5 v
+
 -- a region's first and last cell; a free region's first word is the link to the next free one
 abbrev pub first : List ℕ → ℕ → ℕ
 first m r = getD m (2 * r) 0

@@ -5,16 +5,17 @@ mod pools;
 mod words;
 
 pub use cells::cell_word;
-pub use places::build;
+pub use cells::hang_cell;
 pub use places::create;
 pub use places::empty;
 pub use places::remove;
+pub use places::take_cell;
 pub use pools::room;
 pub use words::put;
 pub use words::word;
 
 // "Lent 32-bit words hold: 8 a cell, 2 a region".
-const CELL_WORDS: usize = 8;
+pub const CELL_WORDS: usize = 8;
 
 const REGION_WORDS: usize = 2;
 

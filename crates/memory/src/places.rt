@@ -1,14 +1,12 @@
 // Regions are created and removed, cells are built in them. No step looks through the memory.
 use crate::CELL_NEXT;
 use crate::CELL_WORDS;
-use crate::Contents;
 use crate::Heap;
 use crate::Made;
 use crate::Pool;
 use crate::REGION_LAST;
 use crate::REGION_WORDS;
 use crate::Taken;
-use crate::cells::add;
 use crate::pools::fresh;
 use crate::pools::room;
 use crate::pools::take;
@@ -17,7 +15,7 @@ use crate::words::word;
 ghost use mathlib.Core.Path.{_≡_};
 ghost use lib.ListN.{length};
 ghost use Rattle.language.specs.Machine.{holds};
-ghost use Rattle.memory.specs.Memory.{emptyHeap, created, createdRegions, built, builtCells, builtRegions, removed, removedCells, removedRegions};
+ghost use Rattle.memory.specs.Memory.{emptyHeap, created, createdRegions, built, removed, removedCells, removedRegions};
 
 // Before the first step. The words keep what stands there.
 pub fn empty(cells: &[u32], regions: &[u32]) -> Heap
@@ -53,17 +51,9 @@ pub fn create(heap: Heap, regions: &mut [u32]) -> Made
     )
 }
 
-// "A construct makes one cell": the first of a region's.
-pub fn build(
-    heap: Heap,
-    cells: &mut [u32],
-    regions: &mut [u32],
-    region: u32,
-    contents: Contents,
-) -> Made
-    ensures { λ r. ⌜ (r ≡ built heap (now (cells .entry)))
-        × (now (cells .exit) ≡ builtCells heap (now (cells .entry)) (now (regions .entry)) region contents)
-        × (now (regions .exit) ≡ builtRegions heap (now (cells .entry)) (now (regions .entry)) region) ⌝ }
+// "A construct makes one cell": its place, and the heap without it. The cell stands in no region yet.
+pub fn take_cell(heap: Heap, cells: &[u32]) -> Made
+    ensures { λ r. ⌜ r ≡ built heap (now (cells .entry)) ⌝ }
 {
     let free = heap.cells;
     let places = heap.regions;
@@ -71,14 +61,6 @@ pub fn build(
     let Taken::Place(cell, left) = take(free, link) else {
         return Made::NoRoom;
     };
-    add(
-        &mut cells[..],
-        &mut regions[..],
-        region,
-        cell,
-        contents,
-        free.limit,
-    );
     Made::At(
         cell,
         Heap {

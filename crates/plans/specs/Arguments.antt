@@ -15,8 +15,7 @@ use Rattle.chains.specs.Formed.{Formed, Stands, variablesAt, variables-none}
 use Rattle.chains.specs.Declared.{variable-at}
 use Rattle.chains.specs.Is.{variable-is, chain-next}
 use Rattle.chains.specs.Records.{chainRecords, records-none, records-step}
-use Rattle.plans.specs.Plan.{slotsFrom, modesFrom}
-use Rattle.plans.specs.Passes.{placed}
+use Rattle.plans.specs.Passes.{slotsFrom, modesFrom, placed}
 
 -- ---- the in and out variables from number k on
 from-local : {us vs : List Variable} {m t r : ℕ} (k : ℕ) → us ≡ record { mode = m; type = t; region = r } ∷ vs → m ≡ 0

@@ -1,11 +1,23 @@
 -- What a run reads beside the file.
 pub mod Plan
 pub mod Passes
+pub mod Tests
 pub mod Onward
 pub mod Images
 pub mod Parts
+pub mod Kept
+pub mod Down
 pub mod Placing
 pub mod Pictures
 pub mod Turns
 pub mod Arguments
+pub mod Links
+pub mod Joined
+pub mod Linking
+pub mod Ways
+pub mod Early
+pub mod Narrow
+pub mod Numbers
+pub mod Callees
+pub mod Sorts
 pub mod Tabling

@@ -1,22 +1,25 @@
 -- What the passes leave in the sides and the images: each record's side, and behind the place before them a call's images.
-use Prim.Native.Nat.{ℕ, zero, suc, _+_, _*_, _≤_, _<_}
+use Prim.Native.Nat.{ℕ, zero, suc, _+_, _-_, _*_, _≤_, _<_}
 use native.Mathlib.Omega.{arith}
 use native.Mathlib.Decide.{ℕ-discrete}
 use mathlib.Core.Bool.{Bool, true, false}
 use mathlib.Core.List.{List}
-use mathlib.Core.Path.{_≡_, refl, _∙_}
+use mathlib.Core.Path.{_≡_, refl, ap, _∙_}
 use lib.ListN.{length, getD, length-set}
 use lib.Seq.{getD-set-same, getD-set-other}
 use Rattle.language.specs.Lists.{choose}
+use Rattle.language.specs.File.{recordCount}
+use Rattle.language.specs.Format.{places, callKind}
 use Rattle.language.specs.Typing.{typingOk}
 use Rattle.language.specs.Answers.{program}
 use Rattle.region_graph.specs.Typed.{regions-few, signature-typed}
 use Rattle.plans.specs.Plan.{sidesFrom}
-use Rattle.plans.specs.Passes.{isCall, calleeOf, imageCount, imagesBefore, imageOf, eachFrom, sideAt, sidedAt, siding, copied, picturedAt, picturing}
+use Rattle.plans.specs.Passes.{isKind, calleeOf, Regional, imageCount, imagesBefore, imageOf, eachFrom, sideAt, sidedAt, siding, copied, picturedAt, picturing, imagesOf}
+use Rattle.plans.specs.Kept.{set-keeps}
 
 -- ---- sides
 module _ (f : List ℕ) where
-  siding-low : (m b : ℕ) (t : List ℕ) (p : ℕ) → p < sidesFrom + b → getD (siding f m b t) p 0 ≡ getD t p 0
+  pub siding-low : (m b : ℕ) (t : List ℕ) (p : ℕ) → p < sidesFrom + b → getD (siding f m b t) p 0 ≡ getD t p 0
   unfolding siding eachFrom sidedAt
   siding-low zero b t p l = refl
   siding-low (suc m) b t p l =
@@ -58,6 +61,12 @@ module _ (m : ℕ → ℕ) where
         ∙ copied-here n at t (omega arith) r h (omega (arith, ne))
   ]
 
+  -- images of regions are regions
+  pub copied-keeps : ((r : ℕ) → m r < places) → (n at : ℕ) (t : List ℕ) → Regional t → Regional (copied m n at t)
+  unfolding copied
+  copied-keeps h zero at t k = k
+  copied-keeps h (suc n) at t k = set-keeps (λ p v. v < places) (copied m n at t) (at + suc n) (m (suc n)) (h (suc n)) (copied-keeps h n at t k)
+
 -- ---- how many images there are
 module _ (f : List ℕ) where
   pub before-next : (i : ℕ) → imagesBefore f (suc i) ≡ imagesBefore f i + imageCount f i
@@ -72,7 +81,7 @@ module _ (f : List ℕ) where
   module _ (ok : typingOk (program f) ≡ true) where
     pub count-few : (i : ℕ) → imageCount f i ≤ 64
     unfolding imageCount
-    count-few i = count-by i (isCall f i) (regions-few (program f .types) (calleeOf f i) (signature-typed (program f) ok _))
+    count-few i = count-by i (isKind f callKind i) (regions-few (program f .types) (calleeOf f i) (signature-typed (program f) ok _))
 
     pub before-few : (i : ℕ) → imagesBefore f i ≤ 64 * i
     unfolding imagesBefore
@@ -91,7 +100,7 @@ module _ (f : List ℕ) (i : ℕ) (t : List ℕ) where
 
   pub pictured-length : length (picturedAt f i t) ≡ length t
   unfolding picturedAt
-  pictured-length = length-by (isCall f i)
+  pictured-length = length-by (isKind f callKind i)
 
   low-by : (b : Bool) (p : ℕ) → p ≤ imagesBefore f i → getD (choose b here t) p 0 ≡ getD t p 0
   unfolding choose
@@ -100,9 +109,9 @@ module _ (f : List ℕ) (i : ℕ) (t : List ℕ) where
 
   pictured-low : (p : ℕ) → p ≤ imagesBefore f i → getD (picturedAt f i t) p 0 ≡ getD t p 0
   unfolding picturedAt
-  pictured-low p l = low-by (isCall f i) p l
+  pictured-low p l = low-by (isKind f callKind i) p l
 
-  pictured-here : isCall f i ≡ true → imagesBefore f i + imageCount f i < length t → (r : ℕ) → 1 ≤ r → r ≤ imageCount f i
+  pictured-here : isKind f callKind i ≡ true → imagesBefore f i + imageCount f i < length t → (r : ℕ) → 1 ≤ r → r ≤ imageCount f i
       → getD (picturedAt f i t) (imagesBefore f i + r) 0 ≡ imageOf f i r
   unfolding picturedAt choose
   pictured-here c l r h k = rw c (copied-here (imageOf f i) (imageCount f i) (imagesBefore f i) t l r h k)
@@ -114,7 +123,7 @@ module _ (f : List ℕ) where
   picturing-low (suc m) b t p l = picturing-low m (suc b) (picturedAt f b t) p (omega (arith, before-next f b)) ∙ pictured-low f b t p l
 
   pub picturing-here : (m b : ℕ) (t : List ℕ) → ((j : ℕ) → j < b + m → imagesBefore f j + imageCount f j < length t) → (i : ℕ) → b ≤ i → i < b + m
-      → isCall f i ≡ true → (r : ℕ) → 1 ≤ r → r ≤ imageCount f i → getD (picturing f m b t) (imagesBefore f i + r) 0 ≡ imageOf f i r
+      → isKind f callKind i ≡ true → (r : ℕ) → 1 ≤ r → r ≤ imageCount f i → getD (picturing f m b t) (imagesBefore f i + r) 0 ≡ imageOf f i r
   unfolding picturing eachFrom
   picturing-here zero b t l i h k c r u v = absurd (omega arith)
   picturing-here (suc m) b t l i h k c r u v = elim (ℕ-discrete b i) [
@@ -122,6 +131,15 @@ module _ (f : List ℕ) where
     | no z ↦ picturing-here m (suc b) (picturedAt f b t) (λ j q. omega (arith, l j (omega arith), pictured-length f b t)) i (omega (arith, z)) (omega arith) c r u v
   ]
     where
-      first : isCall f b ≡ true → r ≤ imageCount f b → getD (picturing f m (suc b) (picturedAt f b t)) (imagesBefore f b + r) 0 ≡ imageOf f b r
+      first : isKind f callKind b ≡ true → r ≤ imageCount f b → getD (picturing f m (suc b) (picturedAt f b t)) (imagesBefore f b + r) 0 ≡ imageOf f b r
       first d w =
           picturing-low m (suc b) (picturedAt f b t) (imagesBefore f b + r) (omega (arith, before-next f b)) ∙ pictured-here f b t d (l b (omega arith)) r u w
+
+  picturing-length : (m b : ℕ) (t : List ℕ) → length (picturing f m b t) ≡ length t
+  unfolding picturing eachFrom
+  picturing-length zero b t = refl
+  picturing-length (suc m) b t = picturing-length m (suc b) (picturedAt f b t) ∙ pictured-length f b t
+
+  pub images-length : (t : List ℕ) {u : List ℕ} → u ≡ imagesOf f t → {k : ℕ} → k ≤ length t → k ≤ length u
+  unfolding imagesOf
+  images-length t e h = rw (ap length e ∙ picturing-length (recordCount f - 1) 1 t) h

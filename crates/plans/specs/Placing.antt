@@ -8,7 +8,7 @@ use borrow.Author.Tests.{eqb-true, eqb-false}
 use lib.ListN.{length, getD, set, length-set}
 use Rattle.language.specs.Lists.{count, choose}
 use Rattle.language.specs.File.{arguments, kLiteral, kSum, kAssign, kConstruct, kSwitch, kIf, kCall, kPrint, kCreate, kRemove, Kind, kNone, kHeader, kType, kFunctor, kProcedure, kVariable, kRegion, kEdge, kArm, kArgument, kGoal, kindOf, word}
-use Rattle.language.specs.Format.{maxRecords, kindWord, callArguments}
+use Rattle.language.specs.Format.{maxRecords, kindWord, callArguments, callKind}
 use Rattle.language.specs.Program.{Parameter, parametersOf}
 use Rattle.laws.specs.Counts.{hit-same, count-cons}
 use Rattle.records.specs.Records.{recordAs, recordAt}
@@ -18,8 +18,7 @@ use Rattle.chains.specs.Formed.{Formed, Stands, counted}
 use Rattle.chains.specs.Shapes.{goal-number, by-number, to-arguments}
 use Rattle.chains.specs.Records.{chainRecords, records-none, records-step, along}
 use Rattle.word_machine.specs.Filling.{stores, referred, filled, matched, matchedBy, matches}
-use Rattle.plans.specs.Plan.{slotsFrom, modesFrom, sidesFrom}
-use Rattle.plans.specs.Passes.{isCall, calleeOf, eachFrom, placed, placedAt, placing, sideAt, imagesBefore, sidedAt, siding}
+use Rattle.plans.specs.Passes.{slotsFrom, modesFrom, isKind, calleeOf, eachFrom, placed, placedAt, placing}
 use Rattle.plans.specs.Parts.{part, part-here, part-before, part-behind, part-read}
 
 -- each number of a list has a place in a sort
@@ -137,9 +136,9 @@ module _ {f : List ℕ} (F : Formed f) where
       (λ i s z h. let c = counted F in rw (records-step {w = word f i 1} F z (s .below) refl) (omega (arith, s .below), h))
 
   module _ (s : ℕ) (g : Parameter → ℕ) (one : (ps : List Parameter) (js t : List ℕ) → AllRecords js → part s (placed ps js t) ≡ matched g ps js (part s t)) where
-    by-test : (i : ℕ) (t : List ℕ) (b : Bool) → isCall f i ≡ b
+    by-test : (i : ℕ) (t : List ℕ) (b : Bool) → isKind f callKind i ≡ b
         → part s (choose b (placed (parametersOf (calleeOf f i)) (chainRecords f (word f i callArguments)) t) t) ≡ matchedBy f g (recordAt f i) (part s t)
-    unfolding isCall choose matchedBy all-rows recordAt
+    unfolding isKind choose matchedBy all-rows recordAt
     by-test i t true e =
         let k = eqb-true _ _ e in
         rw (by-number f i (kGoal kCall) refl k) (one (parametersOf (calleeOf f i)) (chainRecords f (word f i callArguments)) t (arguments-records _ (to-arguments F k refl .stands)))
@@ -147,7 +146,7 @@ module _ {f : List ℕ} (F : Formed f) where
 
     step-part : (i : ℕ) (t : List ℕ) → part s (placedAt f i t) ≡ matchedBy f g (recordAt f i) (part s t)
     unfolding placedAt
-    step-part i t = by-test i t (isCall f i) refl
+    step-part i t = by-test i t (isKind f callKind i) refl
 
     placing-part : (m b : ℕ) (t : List ℕ) → part s (placing f m b t) ≡ matches f g m b (part s t)
     unfolding placing eachFrom matches
@@ -168,7 +167,7 @@ module _ (f : List ℕ) where
 
   step-first : (i : ℕ) (t : List ℕ) → part 0 (placedAt f i t) ≡ part 0 t
   unfolding placedAt
-  step-first i t = first-by i t (isCall f i)
+  step-first i t = first-by i t (isKind f callKind i)
 
   pub placing-first : (m b : ℕ) (t : List ℕ) → part 0 (placing f m b t) ≡ part 0 t
   unfolding placing eachFrom
@@ -183,17 +182,9 @@ module _ (f : List ℕ) where
 
   step-length : (i : ℕ) (t : List ℕ) → length (placedAt f i t) ≡ length t
   unfolding placedAt
-  step-length i t = length-by i t (isCall f i)
+  step-length i t = length-by i t (isKind f callKind i)
 
   pub placing-length : (m b : ℕ) (t : List ℕ) → length (placing f m b t) ≡ length t
   unfolding placing eachFrom
   placing-length zero b t = refl
   placing-length (suc m) b t = placing-length m (suc b) (placedAt f b t) ∙ step-length b t
-
-  -- ---- the sides leave the sorts before them
-  pub siding-before : (s m b : ℕ) (t : List ℕ) → s + maxRecords ≤ sidesFrom → part s (siding f m b t) ≡ part s t
-  unfolding siding eachFrom sidedAt
-  siding-before s zero b t l = refl
-  siding-before s (suc m) b t l =
-      siding-before s m (suc b) (sidedAt f b t) l
-      ∙ part-behind s t (sidesFrom + b) (sideAt f (imagesBefore f b) b) (omega arith)

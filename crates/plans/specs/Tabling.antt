@@ -1,28 +1,28 @@
--- The plan and the images, as the passes leave them, are tables of the file.
+-- The plan, the images and the callees, as they are filled, are tables of the file.
 use Prim.Native.Nat.{ℕ, _+_, _-_, _≤_, _<_}
 use native.Mathlib.Omega.{arith}
-use native.Mathlib.Decide.{ℕ-discrete}
 use mathlib.Core.Bool.{true}
-use mathlib.Core.List.{List, [], _∷_}
+use mathlib.Core.List.{List, [], _∷_, map}
 use mathlib.Core.Logic.{_⊎_, ⊎-elim}
 use mathlib.Core.Path.{_≡_, refl, sym, ap, ap₂, _∙_}
-use lib.ListN.{length, getD, replicate, length-replicate}
-use Rattle.sets.specs.Sets.{member, _∪_, union-in}
-use Rattle.language.specs.Lists.{count, choose}
-use Rattle.language.specs.File.{kConstruct, kCall, word, recordCount}
-use Rattle.language.specs.Format.{maxRecords, kindWord, constructKind, procedureGoals}
-use Rattle.language.specs.Program.{Functor, Parameter, Signature, regionOf, signatureOf, parametersOf}
-use Rattle.language.specs.Typing.{signatureOk}
+use lib.ListN.{length, getD, replicate}
+use Rattle.sets.specs.Sets.{member, _∪_, union-in, loaded, loaded-stored}
+use Rattle.sets.specs.Members.{inList, cons-here, cons-later}
+use Rattle.language.specs.Lists.{choose}
+use Rattle.language.specs.File.{GoalKind, kConstruct, kSwitch, kIf, kGoal, arms, kindOf, word, recordCount}
+use Rattle.language.specs.Format.{callKind, kindWord, constructKind, procedureGoals, argumentVariable}
+use Rattle.language.specs.Program.{Functor, Signature, regionOf, signatureOf, parametersOf, argumentsIn, variablesIn}
+use Rattle.language.specs.Typing.{signatureOk, typingOk}
 use Rattle.language.specs.Regions.{mapping, imageIn}
 use Rattle.language.specs.Lifetimes.{born, dead, kept, startHeld}
 use Rattle.language.specs.Answers.{program}
-use Rattle.region_graph.specs.Typed.{region-in, signature-typed}
+use Rattle.region_graph.specs.Typed.{region-in, signature-typed, procedures-count}
 use Rattle.region_graph.specs.Procedure.{declared}
 use Rattle.region_graph.specs.Classes.{born-in, dead-in, kept-ranged}
 use Rattle.records.specs.Records.{recordAt}
 use Rattle.records.specs.declared.Record.the-variants.{Construct, Call}
 use Rattle.chains.specs.Layout.{all-rows}
-use Rattle.chains.specs.Formed.{Formed, argumentsAt, counted}
+use Rattle.chains.specs.Formed.{Formed, Stands, argumentsAt, counted}
 use Rattle.chains.specs.Fields.{field-some}
 use Rattle.chains.specs.Records.{chainRecords}
 use Rattle.chains.specs.Goals.{construct-at}
@@ -31,72 +31,24 @@ use Rattle.chains.specs.Kinds.{kindIn, kind-read}
 use Rattle.chains.specs.Is.{arm-is}
 use Rattle.chains.specs.Shapes.{goal-number}
 use Rattle.owners.specs.Owner.{ownerOf}
-use Rattle.owners.specs.Owners.{goals-owned, switch-owned, if-owned, arm-owned, procedureRecord, procedure-first, procedure-stands}
+use Rattle.owners.specs.Owners.{goal-kind, goals-owned, switch-owned, if-owned, arm-owned, procedureRecord, procedure-first, procedure-stands}
 use Rattle.tables.specs.Starts.{window-here, body-here}
-use Rattle.word_machine.specs.Tables.{Tables, onto, Starts, Matches, bodyRecord, Tabled}
-use Rattle.word_machine.specs.Filling.{referred, onwardWords, filled, matches, onwards, slots, modes, tablesOf}
-use Rattle.word_machine.specs.FillingLaws.{filled-length}
-use Rattle.word_machine.specs.FormedTree.{formed-tree}
-use Rattle.word_machine.specs.Tabling.{tabled}
-use Rattle.plans.specs.Plan.{slotsFrom, modesFrom, sidesFrom, planWords, imageBytes, tablesIn}
-use Rattle.plans.specs.Passes.{Ready, isCall, callerOf, placing, imageCount, imagesBefore, imageOf, sideAt, picturing, planOf, imagesOf}
-use Rattle.plans.specs.Parts.{part, part-read, part-zeros}
-use Rattle.plans.specs.Placing.{AllRecords, all-records, first-read, filled-first, filled-later, arguments-records, placing-slots, placing-modes, placing-first, placing-length, siding-before}
-use Rattle.plans.specs.Pictures.{siding-here, count-few, before-few, picturing-here}
-use Rattle.plans.specs.Turns.{call-yes, call-no, construct-yes}
-
--- ---- the sorts of the plan
-module _ {f : List ℕ} (F : Formed f) (plan₀ : List ℕ) (zeros : plan₀ ≡ replicate planWords 0) where
-  abbrev n : ℕ
-  n = recordCount f - 1
-
-  references : (i : ℕ) → 1 ≤ i → i < 1 + n → AllRecords (referred (recordAt f i))
-  references i a b = all-records (referred (recordAt f i)) (λ p h. go p h (ℕ-discrete p 0))
-    where
-      go : (p : ℕ) → 0 < count p (referred (recordAt f i)) → Dec (p ≡ 0) → p < maxRecords
-      go p h (yes e) = omega arith
-      go p h (no z) = let u = formed-tree f F .up i p a b z h in omega (arith, u .1, counted F .most)
-
-  first-is : part 0 (planOf f plan₀) ≡ onwards f
-  unfolding planOf onwards
-  first-is =
-      let c = counted F .some in
-      let m = counted F .most in
-      siding-before f 0 n 1 (placing f n 1 (filled onwardWords f n 1 plan₀)) (omega arith) ∙ placing-first f n 1 (filled onwardWords f n 1 plan₀)
-      ∙ filled-first onwardWords f n 1 plan₀ references (omega arith) ∙ ap (filled onwardWords f n 1) (part-zeros 0 planWords zeros (omega arith))
-
-  later-zeros : (s : ℕ) → maxRecords ≤ s → s + maxRecords ≤ planWords → part s (filled onwardWords f n 1 plan₀) ≡ replicate maxRecords 0
-  later-zeros s a b = filled-later onwardWords f s n 1 plan₀ a references ∙ part-zeros s planWords zeros b
-
-  slots-are : part slotsFrom (planOf f plan₀) ≡ slots f
-  unfolding planOf slots
-  slots-are =
-      siding-before f slotsFrom n 1 (placing f n 1 (filled onwardWords f n 1 plan₀)) (omega arith) ∙ placing-slots F n 1 (filled onwardWords f n 1 plan₀)
-      ∙ ap (matches f (λ a. a .variable) n 1) (later-zeros slotsFrom (omega arith) (omega arith))
-
-  modes-are : part modesFrom (planOf f plan₀) ≡ modes f
-  unfolding planOf modes
-  modes-are =
-      siding-before f modesFrom n 1 (placing f n 1 (filled onwardWords f n 1 plan₀)) (omega arith) ∙ placing-modes F n 1 (filled onwardWords f n 1 plan₀)
-      ∙ ap (matches f (λ a. a .mode) n 1) (later-zeros modesFrom (omega arith) (omega arith))
-
-  onward-read : (i : ℕ) → i < recordCount f → getD (planOf f plan₀) i 0 ≡ getD (onwards f) i 0
-  onward-read i l =
-      let m = counted F .most in
-      sym (first-read (planOf f plan₀) i (omega arith)) ∙ ap (λ (t : List ℕ). getD t i 0) first-is
-
-  slot-read : (a : ℕ) → a < maxRecords → getD (planOf f plan₀) (slotsFrom + a) 0 ≡ getD (slots f) a 0
-  slot-read a l = sym (part-read slotsFrom (planOf f plan₀) a l) ∙ ap (λ (t : List ℕ). getD t a 0) slots-are
-
-  mode-read : (a : ℕ) → a < maxRecords → getD (planOf f plan₀) (modesFrom + a) 0 ≡ getD (modes f) a 0
-  mode-read a l = sym (part-read modesFrom (planOf f plan₀) a l) ∙ ap (λ (t : List ℕ). getD t a 0) modes-are
-
-  side-read : (i : ℕ) → 0 < i → i < recordCount f → getD (planOf f plan₀) (sidesFrom + i) 0 ≡ sideAt f (imagesBefore f i) i
-  unfolding planOf
-  side-read i a b =
-      let m = counted F .most in
-      let e = placing-length f n 1 (filled onwardWords f n 1 plan₀) ∙ filled-length onwardWords f n 1 plan₀ ∙ ap length zeros ∙ length-replicate {A = ℕ} planWords 0 in
-      siding-here f n 1 (placing f n 1 (filled onwardWords f n 1 plan₀)) (omega (arith, e)) i a (omega arith)
+use Rattle.word_machine.specs.Tables.{Tables, Passed, slotOf, givenOf, Starts, bodyRecord, Tabled}
+use Rattle.word_machine.specs.Filling.{slots, modes, tablesOf}
+use Rattle.word_machine.specs.Arguments.{given-small, slot-small, slots-passed, givens-passed}
+use Rattle.word_machine.specs.Tabling.{argument-matches, tabled}
+use Rattle.word_machine.specs.Passing.{ofMode}
+use Rattle.plans.specs.Plan.{sidesFrom, linksFrom, planWords, imageBytes, calleesWords, tablesIn, Numbered}
+use Rattle.plans.specs.Passes.{Ready, callerOf, joining, imageCount, imagesBefore, imageOf, sideAt, picturing, planOf, imagesOf, calleesOf}
+use Rattle.plans.specs.Tests.{kind-yes, kind-no}
+use Rattle.plans.specs.Pictures.{count-few, before-few, picturing-here}
+use Rattle.plans.specs.Turns.{call-is}
+use Rattle.plans.specs.Links.{by-mode}
+use Rattle.plans.specs.Linking.{Numbers, says, more, call-links}
+use Rattle.plans.specs.Narrow.{home-few}
+use Rattle.plans.specs.Numbers.{all-numbered}
+use Rattle.plans.specs.Callees.{body-word, size-word, held-word, born-word}
+use Rattle.plans.specs.Sorts.{no-arm, is-arm, early, J, slot-read, mode-read, low-read, plan-goal, side-read}
 
 -- ---- a record that the tables name
 module _ {f : List ℕ} (F : Formed f) (i : ℕ) where
@@ -104,20 +56,16 @@ module _ {f : List ℕ} (F : Formed f) (i : ℕ) where
   unfolding sideAt choose all-rows
   construct-side e at =
       let k : word f i kindWord ≡ constructKind = goal-number (word f i kindWord) kConstruct (sym (kind-read f i refl) ∙ ap kindIn e) in
-      rw (call-no f i refl (λ q. omega (arith, k)), construct-yes f i refl k, construct-at F refl e .w2) refl
+      rw (kind-no f i callKind refl (λ q. omega (arith, k)), kind-yes f i constructKind refl k, construct-at F refl e .w2) refl
 
   module _ {m q ys : ℕ} (e : recordAt f i ≡ Call m q ys) where
-    call-is : isCall f i ≡ true
-    unfolding all-rows
-    call-is = call-yes f i refl (goal-number (word f i kindWord) kCall (sym (kind-read f i refl) ∙ ap kindIn e))
-
     call-side : (at : ℕ) → sideAt f at i ≡ at
     unfolding sideAt choose
-    call-side at = rw call-is refl
+    call-side at = rw (call-is F i e) refl
 
     call-count : imageCount f i ≡ length (signatureOf (program f) q .regions)
     unfolding imageCount choose
-    call-count = rw (call-is, call-at F refl e .w2) refl
+    call-count = rw (call-is F i e, call-at F refl e .w2) refl
 
     call-image : (r : ℕ) → imageOf f i r ≡ imageIn (mapping (callerOf f i) (signatureOf (program f) q) (argumentsAt f ys)) r
     unfolding imageOf
@@ -130,32 +78,78 @@ unfolding startHeld
 held-region T Q ok r h = region-in Q r (⊎-elim (λ s. ⊎-elim (λ d. dead-in Q r d .0) (kept-ranged T Q (declared T Q ok) r) (union-in (dead Q) (kept Q) r s)) (λ b. born-in Q r b .0) h)
 
 -- ---- all tables
-module _ {f table : List ℕ} (R : Ready f table) (plan₀ : List ℕ) (zeros : plan₀ ≡ replicate planWords 0) (images₀ : List ℕ) (room : imageBytes ≤ length images₀) where
+module _ {f table : List ℕ} (R : Ready f table) (plan₀ : List ℕ) (zeros : plan₀ ≡ replicate planWords 0) (images₀ : List ℕ) (room : imageBytes ≤ length images₀)
+    (callees₀ : List ℕ) (long : length callees₀ ≡ calleesWords) where
   abbrev F : Formed f
   F = R .formed
+
+  abbrev ok : typingOk (program f) ≡ true
+  ok = R .typed
 
   abbrev P : List ℕ
   P = planOf f plan₀
 
   abbrev T : Tables
-  T = tablesIn f P (imagesOf f images₀) table
+  T = tablesIn P (imagesOf f images₀) (calleesOf table callees₀)
 
-  successor-same : (i : ℕ) → i < recordCount f → T .successor i ≡ tablesOf f .successor i
-  unfolding tablesIn tablesOf
-  successor-same i l = ap (onto (word f i 1)) (onward-read F plan₀ zeros i l)
+  -- ---- where goals and arms go on
+  successor-same : (i : ℕ) → i < recordCount f → (g : GoalKind) → kindOf (word f i kindWord) ≡ kGoal g → T .successor i ≡ tablesOf f .successor i
+  unfolding tablesIn tablesOf choose
+  successor-same i l g k = plan-goal F ok plan₀ zeros i l ∙ rw (no-arm f i g k) refl
 
-  matches-same : (ps : List Parameter) (js : List ℕ) → AllRecords js → Matches (tablesOf f) ps js → Matches T ps js
-  unfolding tablesIn tablesOf
-  matches-same [] js a h = tt
-  matches-same (p ∷ ps) [] a h = tt
-  matches-same (p ∷ ps) (j ∷ js) a h =
-      (slot-read F plan₀ zeros j (a .0) ∙ h .0, mode-read F plan₀ zeros j (a .0) ∙ h .1, matches-same ps js (a .1) (h .2))
+  entry-same : (i : ℕ) (s : Stands f arms i) → (i ≡ 0 → ⊥) → T .entry i ≡ tablesOf f .entry i
+  unfolding tablesIn tablesOf choose
+  entry-same i s z = plan-goal F ok plan₀ zeros i (s .below) ∙ rw (is-arm f i s z) refl
 
+  -- ---- what calls pass
+  module _ (i m q ys k : ℕ) (e : recordAt f i ≡ Call m q ys) (p : Passed k) where
+    abbrev slot : ℕ → ℕ
+    slot a = getD (slots f) a 0
+
+    abbrev mode : ℕ → ℕ
+    mode a = getD (modes f) a 0
+
+    abbrev link : ℕ → ℕ
+    link a = getD P (linksFrom k + a) 0
+
+    link-is : (a : ℕ) → a < recordCount f → link a ≡ getD (joining f (early F ok plan₀ zeros)) (linksFrom k + a) 0
+    link-is a l =
+        low-read F ok plan₀ zeros (linksFrom k + a)
+        (by-mode (λ s. s + a < sidesFrom + 1) k (omega (arith, counted F .most)) (omega (arith, counted F .most)))
+
+    abbrev here : ℕ → ℕ
+    here = says F (early F ok plan₀ zeros) (J F ok plan₀ zeros) k p slot mode link (slot-read F ok plan₀ zeros) (mode-read F ok plan₀ zeros) link-is
+
+    abbrev behind : ℕ → ℕ
+    behind = more F (early F ok plan₀ zeros) (J F ok plan₀ zeros) k p slot mode link (slot-read F ok plan₀ zeros) (mode-read F ok plan₀ zeros) link-is
+
+    abbrev Small : List ℕ → Type 0
+    Small = Numbers F (early F ok plan₀ zeros) (J F ok plan₀ zeros) k p slot mode link (slot-read F ok plan₀ zeros) (mode-read F ok plan₀ zeros) link-is
+
+    all-small : (as′ : List ℕ) → ((a : ℕ) → inList a as′ ≡ true → (1 ≤ slot a) × (slot a ≤ 64) × (word f a argumentVariable ≤ 64)) → Small as′
+    all-small [] h = tt
+    all-small (a ∷ as′) h = (h a (cons-here a a as′ refl), all-small as′ (λ b i. h b (cons-later b a as′ i)))
+
+    passes-are : T .passes k i ≡ map here (ofMode mode k (chainRecords f ys))
+    unfolding tablesIn
+    passes-are =
+        call-links F (early F ok plan₀ zeros) (J F ok plan₀ zeros) k p slot mode link (slot-read F ok plan₀ zeros) (mode-read F ok plan₀ zeros) link-is i m q ys e
+        (all-small (chainRecords f ys) (λ a h.
+        let s = slot-small F ok i m q ys e slot mode (argument-matches F i m q ys e) a h in
+        (s .0, s .1, given-small F ok i m q ys e a h)))
+
+    slots-here : map slotOf (T .passes k i) ≡ variablesIn k (signatureOf (program f) q)
+    slots-here = ap (map slotOf) passes-are ∙ slots-passed F ok i m q ys e slot mode (argument-matches F i m q ys e) here behind (λ a h. refl) k
+
+    givens-here : map givenOf (T .passes k i) ≡ argumentsIn k (parametersOf (signatureOf (program f) q)) (argumentsAt f ys)
+    givens-here = ap (map givenOf) passes-are ∙ givens-passed F ok i m q ys e slot mode (argument-matches F i m q ys e) here behind (λ a h. refl) k
+
+  -- ---- images and regions
   fits : (j : ℕ) → j < 1 + (recordCount f - 1) → imagesBefore f j + imageCount f j < length images₀
   fits j l =
       let m = counted F .most in
       let s = counted F .some in
-      omega (arith, room, before-few f (R .typed) j, count-few f (R .typed) j)
+      omega (arith, room, before-few f ok j, count-few f ok j)
 
   image-here : (i m q ys r : ℕ) → recordAt f i ≡ Call m q ys
       → (member (startHeld (signatureOf (program f) q)) r ≡ true) ⊎ (member (born (signatureOf (program f) q)) r ≡ true)
@@ -163,8 +157,8 @@ module _ {f table : List ℕ} (R : Ready f table) (plan₀ : List ℕ) (zeros : 
   unfolding tablesIn imagesOf
   image-here i m q ys r e h =
       let c = call-at F refl e in
-      let b = held-region (program f .types) (signatureOf (program f) q) (signature-typed (program f) (R .typed) q) r h in
-      ap (λ (p : ℕ). getD (picturing f (recordCount f - 1) 1 images₀) (p + r) 0) (side-read F plan₀ zeros i (c .some) (c .below) ∙ call-side F i e (imagesBefore f i))
+      let b = held-region (program f .types) (signatureOf (program f) q) (signature-typed (program f) ok q) r h in
+      ap (λ (p : ℕ). getD (picturing f (recordCount f - 1) 1 images₀) (p + r) 0) (side-read F ok plan₀ zeros i (c .some) (c .below) ∙ call-side F i e (imagesBefore f i))
       ∙ picturing-here f (recordCount f - 1) 1 images₀ fits i (c .some) (omega (arith, c .some, c .below)) (call-is F i e) r (b .0) (omega (arith, b .1, call-count F i e))
       ∙ call-image F i e r
 
@@ -172,45 +166,54 @@ module _ {f table : List ℕ} (R : Ready f table) (plan₀ : List ℕ) (zeros : 
   unfolding tablesIn
   region-here i m x k a b c d e =
       let h = construct-at F refl e in
-      side-read F plan₀ zeros i (h .some) (h .below) ∙ construct-side F i e (imagesBefore f i)
+      side-read F ok plan₀ zeros i (h .some) (h .below) ∙ construct-side F i e (imagesBefore f i)
 
+  -- ---- procedures
   module _ (p : ℕ) (l : p < length (program f .procedures)) where
-    body-word : T .body p ≡ word f (procedureRecord f p) procedureGoals
+    few : p < 256
+    few = omega (arith, procedures-count (program f) ok .1)
+
+    body-window : T .body p ≡ word f (procedureRecord f p) procedureGoals
     unfolding tablesIn procedureRecord
-    body-word = body-here (R .windows) l
+    body-window = body-word table callees₀ long p few ∙ body-here (R .windows) l
 
     body-is : T .body p ≡ bodyRecord f p
     unfolding procedureRecord
-    body-is = body-word ∙ field-some f (procedureRecord f p) procedureGoals (procedure-stands F p l .1)
+    body-is = body-window ∙ field-some f (procedureRecord f p) procedureGoals (procedure-stands F p l .1)
 
     size-is : T .size p ≡ length (signatureOf (program f) p .variables)
     unfolding tablesIn signatureOf
-    size-is = window-here (R .windows) l .window .variable-count
+    size-is = size-word table callees₀ long p few ∙ window-here (R .windows) l .window .variable-count
 
     held-is : T .held p ≡ startHeld (signatureOf (program f) p)
     unfolding tablesIn signatureOf startHeld
-    held-is = let W = window-here (R .windows) l .window in ap₂ _∪_ (W .dead) (W .kept)
+    held-is =
+        let W = window-here (R .windows) l .window in
+        ap loaded (held-word table callees₀ long p few) ∙ loaded-stored _ ∙ ap₂ _∪_ (W .dead) (W .kept)
 
     bears-is : T .bears p ≡ born (signatureOf (program f) p)
     unfolding tablesIn signatureOf
-    bears-is = window-here (R .windows) l .window .born
+    bears-is = ap loaded (born-word table callees₀ long p few) ∙ loaded-stored _ ∙ window-here (R .windows) l .window .born
 
   plan-tabled : Tabled f T
   plan-tabled = record {
     onward = O .onward;
     owner = ownerOf f;
-    next = λ i s z. successor-same i (s .below) ∙ O .next i s z;
+    next = λ i s z. (let k = goal-kind s z in successor-same i (s .below) (k .0) (k .1) ∙ O .next i s z);
     goal-next = λ i s z y. (O .goal-next i s z y .0, goals-owned F s z refl y);
     arm-next = λ i s z y. (O .arm-next i s z y .0, arm-owned F refl (arm-is s z) .to-next y);
     arm-goals = λ i s z y. (O .arm-goals i s z y .0, arm-owned F refl (arm-is s z) .to-goals y);
     switch-arms = λ i m x cs e y.
-        (O .switch-arms i m x cs e y .0 ∙ sym (successor-same i (switch-at F refl e .below)), switch-owned F refl e .to-arms y);
-    if-then = λ i m y z a b e q. (O .if-then i m y z a b e q .0 ∙ sym (successor-same i (if-at F refl e .below)), if-owned F refl e .to-then q);
-    if-else = λ i m y z a b e q. (O .if-else i m y z a b e q .0 ∙ sym (successor-same i (if-at F refl e .below)), if-owned F refl e .to-else q);
+        (O .switch-arms i m x cs e y .0 ∙ sym (successor-same i (switch-at F refl e .below) kSwitch (kind i ∙ ap kindIn e)), switch-owned F refl e .to-arms y);
+    if-then = λ i m y z a b e q.
+        (O .if-then i m y z a b e q .0 ∙ sym (successor-same i (if-at F refl e .below) kIf (kind i ∙ ap kindIn e)), if-owned F refl e .to-then q);
+    if-else = λ i m y z a b e q.
+        (O .if-else i m y z a b e q .0 ∙ sym (successor-same i (if-at F refl e .below) kIf (kind i ∙ ap kindIn e)), if-owned F refl e .to-else q);
     bodies = bodies;
     region = region-here;
-    arguments = λ i m q ys e.
-        matches-same (parametersOf (signatureOf (program f) q)) (chainRecords f ys) (arguments-records F ys (call-at F refl e .to-arguments .stands)) (O .arguments i m q ys e);
+    arm-entry = λ i s z. entry-same i s z ∙ O .arm-entry i s z;
+    slots = λ i m q ys k e p. slots-here i m q ys k e p;
+    givens = λ i m q ys k e p. givens-here i m q ys k e p;
     image = image-here;
     body = body-is;
     size = size-is;
@@ -219,14 +222,24 @@ module _ {f table : List ℕ} (R : Ready f table) (plan₀ : List ℕ) (zeros : 
   }
     where
       O : Tabled f (tablesOf f)
-      O = tabled F
+      O = tabled F ok
+
+      kind : (i : ℕ) → kindOf (word f i kindWord) ≡ kindIn (recordAt f i)
+      kind i = sym (kind-read f i refl)
 
       bodies : (p : ℕ) → p < length (program f .procedures) → Starts (O .onward) (ownerOf f) (T .body p) 0 p
       bodies p l y =
           let same = sym (O .body p l) in
           let b = body-is p l ∙ same in
-          (ap (O .onward) b ∙ O .bodies p l (λ z. y (b ∙ z)) .0, ap (ownerOf f) (body-word p l) ∙ procedure-first F p l (λ z. y (body-word p l ∙ z)))
+          (ap (O .onward) b ∙ O .bodies p l (λ z. y (b ∙ z)) .0, ap (ownerOf f) (body-window p l) ∙ procedure-first F p l (λ z. y (body-window p l ∙ z)))
 
   -- .. whatever names they have
-  pub filled-tabled : {plan images : List ℕ} → plan ≡ planOf f plan₀ → images ≡ imagesOf f images₀ → Tabled f (tablesIn f plan images table)
-  filled-tabled e g = rw (e, g) plan-tabled
+  pub filled-tabled : {plan images callees : List ℕ} → plan ≡ planOf f plan₀ → images ≡ imagesOf f images₀ → callees ≡ calleesOf table callees₀
+      → Tabled f (tablesIn plan images callees)
+  filled-tabled e g h = rw (e, g, h) plan-tabled
+
+  pub filled-numbered : {plan : List ℕ} → plan ≡ planOf f plan₀ → Numbered f plan
+  unfolding tablesIn
+  filled-numbered e =
+      rw e (all-numbered F ok (λ i m x k a b c d q.
+      let r = home-few (program f .types) (callerOf f i) (signature-typed (program f) ok _) x in omega (arith, region-here i m x k a b c d q)))

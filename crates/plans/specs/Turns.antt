@@ -3,19 +3,21 @@ use Prim.Native.Nat.{ℕ, suc, _+_, _-_, _≤_, _<_}
 use native.Mathlib.Omega.{arith}
 use native.Mathlib.Decide.{ℕ-discrete}
 use native.Mathlib.Numerals.{add-one}
-use mathlib.Core.Bool.{true, false}
+use mathlib.Core.Bool.{true}
 use mathlib.Core.List.{List, [], _++_}
 use mathlib.Core.Path.{_≡_, refl, sym, ap, _∙_, fun-ext}
-use borrow.Author.Tests.{eq-eqb, ne-eqb}
 use lib.ListN.{length, getD, set, replicate, length-replicate}
 use Rattle.language.specs.Lists.{choose, nth}
-use Rattle.language.specs.File.{kConstruct, kinds, kindOf, word, recordCount}
+use Rattle.language.specs.File.{kConstruct, kCall, kGoal, kinds, kindOf, word, recordCount}
 use Rattle.language.specs.Format.{maxRecords, kindWord, callKind, constructKind, goalX, callProcedure, callArguments}
 use Rattle.language.specs.Program.{parametersFrom, parametersOf}
-use Rattle.chains.specs.Layout.{header-kind}
+use Rattle.records.specs.Records.{recordAt}
+use Rattle.records.specs.declared.Record.the-variants.{Call}
+use Rattle.chains.specs.Layout.{all-rows, header-kind}
 use Rattle.chains.specs.Formed.{Formed, counted, variablesAt}
 use Rattle.chains.specs.Records.{chainRecords}
-use Rattle.chains.specs.Shapes.{IsCall}
+use Rattle.chains.specs.Kinds.{kindIn, kind-read}
+use Rattle.chains.specs.Shapes.{IsCall, goal-number, by-number}
 use Rattle.owners.specs.Owner.{ownersOf}
 use Rattle.owners.specs.Owners.{listed-owner}
 use Rattle.regions.specs.Here.{Given, construct-kind, here}
@@ -24,8 +26,9 @@ use Rattle.tables.specs.Window.{Window, homeIn, firstPlace, regionsPlace}
 use Rattle.tables.specs.Starts.{windowIn}
 use Rattle.word_machine.specs.Filling.{onwardWords, filled}
 use Rattle.plans.specs.Plan.{sidesFrom}
+use Rattle.plans.specs.Passes.{Ready, eachFrom, isKind, calleeOf, placed, placedAt, placing, joining, imageCount, imagesBefore, imageOf, sideAt, sidedAt, siding, copied, picturedAt, picturing, planOf, imagesOf}
+use Rattle.plans.specs.Tests.{kind-is, kind-yes, kind-no}
 use Rattle.plans.specs.Images.{kind-differs, CallImages, Found}
-use Rattle.plans.specs.Passes.{Ready, eachFrom, isCall, isConstruct, calleeOf, placed, placedAt, placing, imageCount, imagesBefore, imageOf, sideAt, sidedAt, siding, copied, picturedAt, picturing, planOf, imagesOf}
 
 -- ---- a pass: record i is next
 module _ (step : ℕ → List ℕ → List ℕ) where
@@ -61,42 +64,34 @@ module _ {f : List ℕ} (step : ℕ → List ℕ → List ℕ) {n : ℕ} where
 
 -- ---- the kind of record i
 module _ (f : List ℕ) (i : ℕ) {w : ℕ} (e : w ≡ word f i kindWord) where
-  pub call-yes : w ≡ callKind → isCall f i ≡ true
-  unfolding isCall
-  call-yes k = eq-eqb _ _ (sym e ∙ k)
-
-  pub call-no : (w ≡ callKind → ⊥) → isCall f i ≡ false
-  unfolding isCall
-  call-no n = ne-eqb _ _ (λ k. n (e ∙ k))
-
-  pub construct-yes : w ≡ constructKind → isConstruct f i ≡ true
-  unfolding isConstruct
-  construct-yes k = eq-eqb _ _ (sym e ∙ k)
-
-  construct-no : (w ≡ constructKind → ⊥) → isConstruct f i ≡ false
-  unfolding isConstruct
-  construct-no n = ne-eqb _ _ (λ k. n (e ∙ k))
-
   -- what is done at records of other kinds
   pub placed-none : (w ≡ callKind → ⊥) → (t : List ℕ) → t ≡ placedAt f i t
   unfolding placedAt choose
-  placed-none n t = rw (call-no n) refl
+  placed-none n t = rw (kind-no f i callKind e n) refl
 
   pub count-none : (w ≡ callKind → ⊥) → 0 ≡ imageCount f i
   unfolding imageCount choose
-  count-none n = rw (call-no n) refl
+  count-none n = rw (kind-no f i callKind e n) refl
 
   pictured-none : (w ≡ callKind → ⊥) → (t : List ℕ) → t ≡ picturedAt f i t
   unfolding picturedAt choose
-  pictured-none n t = rw (call-no n) refl
+  pictured-none n t = rw (kind-no f i callKind e n) refl
 
   pub side-none : (w ≡ callKind → ⊥) → (w ≡ constructKind → ⊥) → (at : ℕ) → 0 ≡ sideAt f at i
   unfolding sideAt choose
-  side-none n m at = rw (call-no n, construct-no m) refl
+  side-none n m at = rw (kind-no f i callKind e n, kind-no f i constructKind e m) refl
 
   pub side-call : w ≡ callKind → (at : ℕ) → at ≡ sideAt f at i
   unfolding sideAt choose
-  side-call k at = rw (call-yes k) refl
+  side-call k at = rw (kind-yes f i callKind e k) refl
+
+pub call-is : {f : List ℕ} → (F : Formed f) (i : ℕ) {m q ys : ℕ} → recordAt f i ≡ Call m q ys → isKind f callKind i ≡ true
+unfolding all-rows
+call-is {f} F i e = kind-yes f i callKind refl (goal-number (word f i kindWord) kCall (sym (kind-read f i refl) ∙ ap kindIn e))
+
+pub call-record : (f : List ℕ) (i : ℕ) → isKind f callKind i ≡ true → recordAt f i ≡ Call (word f i 1) (word f i 2) (word f i 3)
+unfolding all-rows
+call-record f i e = by-number f i (kGoal kCall) refl (kind-is f i callKind e)
 
 -- ---- the table of owners
 pub owners-given : {f table owners : List ℕ} (behind : List ℕ) → Ready f table → owners ≡ ownersOf f ++ behind → Given f table owners
@@ -120,11 +115,11 @@ module _ {f table : List ℕ} (R : Ready f table) (i : ℕ) (p : 0 < i) (q : i <
   pub placed-call : {a : ℕ} (t : List ℕ) {u : List ℕ} → a ≡ word f i callArguments → u ≡ placed (parametersFrom 1 (variablesAt f (getD theirs firstPlace 0))) (chainRecords f a) t
       → u ≡ placedAt f i t
   unfolding placedAt choose parametersOf
-  placed-call t ea eu = rw (call-yes f i e k, ← callee-window .variables, ← ea) eu
+  placed-call t ea eu = rw (kind-yes f i callKind e k, ← callee-window .variables, ← ea) eu
 
   pub count-call : {r : ℕ} → r ≡ getD theirs regionsPlace 0 → r ≡ imageCount f i
   unfolding imageCount choose
-  count-call er = rw (call-yes f i e k) (er ∙ callee-window .region-count)
+  count-call er = rw (kind-yes f i callKind e k) (er ∙ callee-window .region-count)
 
 -- ---- the region of a construct's X
 pub side-construct : {f table owners : List ℕ} → Given f table owners → (i : ℕ) → 0 < i → i < recordCount f → (at : ℕ) {w : ℕ} → w ≡ word f i kindWord
@@ -133,7 +128,7 @@ pub side-construct : {f table owners : List ℕ} → Given f table owners → (i
 unfolding sideAt choose
 side-construct {f} G i p q at e n k h {x} ex er =
     let W = here G i p q h .window kConstruct (construct-kind f i (sym e ∙ k)) in
-    rw (call-no f i e n, construct-yes f i e k, ← ex) (er ∙ W .home x)
+    rw (kind-no f i callKind e n, kind-yes f i constructKind e k, ← ex) (er ∙ W .home x)
 
 -- ---- the places before the images, and the sides
 pub before-more : (f : List ℕ) (i : ℕ) {at c : ℕ} → at ≡ imagesBefore f i → c ≡ imageCount f i → at + c ≡ imagesBefore f (i + 1)
@@ -167,7 +162,7 @@ pictured-call : (f : List ℕ) (i : ℕ) {w : ℕ} → w ≡ word f i kindWord �
 unfolding picturedAt choose
 pictured-call f i e k en ea {found} m t eu =
     let d : (λ (r : ℕ). getD found r 0) ≡ imageOf f i = fun-ext (m .at) in
-    rw (call-yes f i e k, ← en, ← ea, ← d) eu
+    rw (kind-yes f i callKind e k, ← en, ← ea, ← d) eu
 
 -- .. at any record: no other has images
 pub pictured-next : {f : List ℕ} {i j : ℕ} {found : List ℕ} → Found f j found → (IsCall f i → j ≡ i) → {n at : ℕ} → n ≡ imageCount f i → at ≡ imagesBefore f i → (t : List ℕ)
@@ -180,11 +175,11 @@ pictured-next {f} {i} {j} {found} D h {n} {at} en ea t {u} eu = go (ℕ-discrete
         let z : n ≡ 0 = en ∙ sym (count-none f i refl k) in
         (rw z at eu) ∙ sym (copied-none _ at t) ∙ pictured-none f i refl k t
 
--- ---- the three passes over the plan, one after the other
-pub filled-plan : (f t : List ℕ) {u v w : List ℕ} → u ≡ filled onwardWords f (recordCount f - 1) 1 t → v ≡ placing f (recordCount f - 1) 1 u
-    → w ≡ siding f (recordCount f - 1) 1 v → w ≡ planOf f t
+-- ---- the passes over the plan, one after the other
+pub filled-plan : (f t : List ℕ) {u v w x : List ℕ} → u ≡ filled onwardWords f (recordCount f - 1) 1 t → v ≡ placing f (recordCount f - 1) 1 u → w ≡ joining f v
+    → x ≡ siding f (recordCount f - 1) 1 w → x ≡ planOf f t
 unfolding planOf
-filled-plan f t e g h = rw (h, g, e) refl
+filled-plan f t e g h k = rw (k, h, g, e) refl
 
 pub filled-images : (f t : List ℕ) {u : List ℕ} → u ≡ picturing f (recordCount f - 1) 1 t → u ≡ imagesOf f t
 unfolding imagesOf

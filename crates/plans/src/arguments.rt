@@ -1,7 +1,5 @@
 // The callee's variable that each argument of a call matches, and its mode.
-use crate::MODES;
 use crate::PLAN;
-use crate::SLOTS;
 use language::format;
 use records::word;
 use tables::FIRST;
@@ -17,8 +15,12 @@ ghost use Rattle.language.specs.Program.{parametersFrom};
 ghost use Rattle.chains.specs.Formed.{Formed, Stands, variablesAt};
 ghost use Rattle.chains.specs.Records.{chainRecords};
 ghost use Rattle.tables.specs.Window.{firstPlace};
-ghost use Rattle.plans.specs.Plan.{slotsFrom, modesFrom};
-ghost use Rattle.plans.specs.Passes.{Ready, placed, placedAt, placing};
+ghost use Rattle.plans.specs.Passes.{Ready, slotsFrom, modesFrom, placed, placedAt, placing};
+
+// Where the variables and the modes of arguments stand in the plan, before the links replace them.
+pub const SLOTS: usize = 4096;
+
+pub const MODES: usize = 8192;
 
 // The argument at record a matches variable x, which has this mode.
 fn put_match(plan: &mut [usize; PLAN], a: usize, x: usize, mode: usize)

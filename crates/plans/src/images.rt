@@ -19,7 +19,7 @@ ghost use Rattle.chains.specs.Shapes.{IsCall};
 ghost use Rattle.regions.specs.CallMap.{Blank};
 ghost use Rattle.regions.specs.CallEffect.{CallHere};
 ghost use Rattle.plans.specs.Plan.{imageBytes};
-ghost use Rattle.plans.specs.Passes.{copied, picturing};
+ghost use Rattle.plans.specs.Passes.{Regional, copied, picturing};
 ghost use Rattle.plans.specs.Images.{CallImages, Found};
 
 // Zeros in every place.
@@ -92,6 +92,8 @@ fn copy_images(found: &[usize; PLACES], n: usize, at: usize, images: &mut [u8; I
 // The images of all calls.
 pub fn fill_images(file: &[u8], table: &[u64], owners: &[u16], images: &mut [u8; IMAGES])
     requires { ⌜ Given (now file) (now table) (now owners) ⌝ }
+    requires { ⌜ Regional (now images) ⌝ }
+    ensures { λ _. ⌜ Regional (now (images .exit)) ⌝ }
     ensures { λ _. ⌜ now (images .exit) ≡ picturing (now (file .entry)) (recordCount (now (file .entry)) - 1) 1 (now (images .entry)) ⌝ }
 {
     let records = word(file, 0, format::HEADER_COUNT);

@@ -1,24 +1,45 @@
 // What a run reads beside the file, worked out once before the first step.
 mod arguments;
 mod blank;
+mod callees;
 mod fill;
 mod images;
+mod joining;
 mod onward;
 mod sides;
 mod steps;
 
+pub use blank::blank_callees;
 pub use blank::blank_images;
 pub use blank::blank_plan;
 pub use fill::fill_plan;
 
 // The plan: four words for each of 4,096 records, sort by sort (specs/Plan.antt). These are the places where the sorts after the first start.
-pub const SLOTS: usize = 4096;
+pub const INS: usize = 4096;
 
-pub const MODES: usize = 8192;
+pub const OUTS: usize = 8192;
 
 pub const SIDES: usize = 12288;
 
 pub const PLAN: usize = 16384;
 
+// A link is this many times the record that it leads to, and what an argument passes: the callee's variable, and this many times the caller's.
+pub const LINK: usize = 65536;
+
+pub const GIVEN: usize = 256;
+
 // A byte for each call and region of its callee, at most 64 for each of 4,096 records. Place 0 has none.
 pub const IMAGES: usize = 262145;
+
+// What a call reads of its callee: four words for each procedure.
+pub const CALLEES: usize = 1024;
+
+pub const CALLEE_WORDS: usize = 4;
+
+pub const CALLEE_BODY: usize = 0;
+
+pub const CALLEE_SIZE: usize = 1;
+
+pub const CALLEE_HELD: usize = 2;
+
+pub const CALLEE_BORN: usize = 3;

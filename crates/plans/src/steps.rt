@@ -16,7 +16,7 @@ fn put(table: &mut [usize], at: usize, value: usize)
 }
 
 // The first record of a chain, or where to go on if the chain is empty.
-fn onto(first: usize, onward: usize) -> usize
+pub fn onto(first: usize, onward: usize) -> usize
     ensures { λ r. ⌜ r ≡ ontoOf first onward ⌝ }
 {
     if first == 0 { onward } else { first }

@@ -10,6 +10,7 @@ use Rattle.language.specs.Output.{endingLine}
 use Rattle.lines.specs.Put.{Put, put-length}
 use Rattle.lines.specs.Answers.{ending-length}
 use Rattle.word_machine.specs.Tables.{Tables}
+use Rattle.running.specs.Lent.{frameWords}
 use Rattle.profiling.specs.declared.Point.{Point}
 use Rattle.profiling.specs.declared.Part.{Part}
 use Rattle.profiling.specs.declared.Part.the-variants.{More, Last}
@@ -58,6 +59,6 @@ pub ending-fits : {b m : List ℕ} {k : ℕ} (a : Ending) (n : ℕ) → n < 2 ^ 
 ending-fits a n h l P = omega (arith, P .behind, ending-length a n h, put-length P, l)
 
 -- ---- the entry has a frame
-pub frame-room : (n : ℕ) → 13600 ≡ n → 0 < holds n 136
+pub frame-room : (n : ℕ) → frameWords ≡ n → 0 < holds n 136
 unfolding holds
 frame-room n e = rw (← e) (omega arith)

@@ -3,17 +3,17 @@ use language::Ending;
 use libc::STDERR_FILENO;
 use libc::STDOUT_FILENO;
 use lines::put_ending;
+use plans::CALLEES;
 use plans::PLAN;
 use profiling::Part;
 use profiling::Point;
 use profiling::advance;
+use running::lent::STEPS;
 ghost use Prim.Native.Nat.{_≤_};
 ghost use lib.ListN.{length};
-ghost use Rattle.plans.specs.Plan.{tablesIn};
-ghost use Rattle.machine.specs.Words.{Narrow};
+ghost use Rattle.plans.specs.Plan.{tablesIn, Narrow, Numbered};
+ghost use Rattle.running.specs.Lent.{stepsLent};
 ghost use Rattle.profiling.specs.Moving.{Stands};
-
-const STEPS: usize = 1000000;
 
 // Writes bytes; where they cannot be written, a message to standard error.
 pub fn print(bytes: &[u8]) {
@@ -35,7 +35,7 @@ pub fn print_parts(
     file: &[u8],
     plan: &[usize; PLAN],
     images: &[u8],
-    table: &[u64],
+    callees: &[u64; CALLEES],
     first: Point,
     cells: &mut [u32],
     regions: &mut [u32],
@@ -43,9 +43,9 @@ pub fn print_parts(
     prints: &mut [u32],
     out: &mut [u8],
 )
-    requires { ⌜ Narrow (now plan) ⌝ }
+    requires { ⌜ Narrow (now plan) (now images) × Numbered (now file) (now plan) ⌝ }
     requires { ⌜ 105 ≤ length (now out) ⌝ }
-    requires { ⌜ Stands (now file) (tablesIn (now file) (now plan) (now images) (now table)) 1000000 (now cells) (now regions) (now frames) (now prints) first ⌝ }
+    requires { ⌜ Stands (now file) (tablesIn (now plan) (now images) (now callees)) stepsLent (now cells) (now regions) (now frames) (now prints) first ⌝ }
 {
     let mut point = first;
     loop {
@@ -53,7 +53,7 @@ pub fn print_parts(
             file,
             plan,
             images,
-            table,
+            callees,
             point,
             cells,
             regions,

@@ -10,11 +10,9 @@ use Rattle.language.specs.Answers.{checked}
 use Rattle.lines.specs.Put.{Put}
 use Rattle.memory.specs.declared.Heap.{Heap}
 use Rattle.memory.specs.Memory.{emptyHeap}
-use Rattle.tables.specs.Window.{variablesPlace}
-use Rattle.tables.specs.Starts.{windowIn}
 use Rattle.word_machine.specs.Tables.{Tables, Tabled}
 use Rattle.word_machine.specs.Machine.{blocks, cleared, startWords, lentWords}
-use Rattle.plans.specs.Plan.{tablesIn}
+use Rattle.plans.specs.Plan.{tablesIn, calleeWord, calleeSize}
 use Rattle.machine.specs.declared.State.{State}
 use Rattle.machine.specs.Words.{Placed, wordsOf}
 use Rattle.machine.specs.Runs.{firstState}
@@ -27,20 +25,20 @@ use Rattle.profiling.specs.Moving.{Stands, lent-same}
 use Rattle.profiling.specs.Noting.{heldAt}
 use Rattle.profiling.specs.Advancing.{same-held}
 
-module _ (f plan images table : List ℕ) (m rs fw fx ps : List ℕ) (l : ℕ) where
+module _ (f plan images callees : List ℕ) (m rs fw fx ps : List ℕ) (l : ℕ) where
   abbrev T : Tables
-  T = tablesIn f plan images table
+  T = tablesIn plan images callees
 
-  entered : (size : ℕ) (s : State) (h : Heap) → size ≡ getD (windowIn table 0) variablesPlace 0 → fx ≡ cleared 1 (blocks size) fw → s ≡ firstState table
+  entered : (size : ℕ) (s : State) (h : Heap) → size ≡ calleeWord callees 0 calleeSize → fx ≡ cleared 1 (blocks size) fw → s ≡ firstState callees
       → h ≡ emptyHeap (holds (length m) 8) (holds (length rs) 2) → startWords f T m rs fw ps ≡ wordsOf h m rs fx ps s
   unfolding startWords wordsOf firstState tablesIn
   entered size s h ez ex es eh = rw (es, eh, ex, ez)
 
-  placed-first : (s : State) → s ≡ firstState table → length fx ≡ length fw → 0 < holds (length fw) 136 → Placed s (length fx)
+  placed-first : (s : State) → s ≡ firstState callees → length fx ≡ length fw → 0 < holds (length fw) 136 → Placed s (length fx)
   unfolding firstState holds
   placed-first s es lx some = rw es (record { place = omega arith; fits = omega (arith, lx) })
 
-  pub begin-stands : (size : ℕ) (s : State) (h : Heap) → size ≡ getD (windowIn table 0) variablesPlace 0 → fx ≡ cleared 1 (blocks size) fw → s ≡ firstState table
+  pub begin-stands : (size : ℕ) (s : State) (h : Heap) → size ≡ calleeWord callees 0 calleeSize → fx ≡ cleared 1 (blocks size) fw → s ≡ firstState callees
       → h ≡ emptyHeap (holds (length m) 8) (holds (length rs) 2) → length fx ≡ length fw → checked f ≡ Accepted → Tabled f T → 0 < holds (length fw) 136
       → Stands f T l m rs fx ps (record { state = s; heap = h; counts = record { cells = 0; regions = 0 }; done = 0 })
   begin-stands size s h ez ex es eh lx e B some = record {

@@ -5,11 +5,11 @@ use crate::Point;
 use crate::moving::forward;
 use crate::noting::note;
 use crate::text::LINE_BYTES;
+use plans::CALLEES;
 use plans::PLAN;
 ghost use Prim.Native.Nat.{_≤_};
 ghost use lib.ListN.{length};
-ghost use Rattle.plans.specs.Plan.{tablesIn};
-ghost use Rattle.machine.specs.Words.{Narrow};
+ghost use Rattle.plans.specs.Plan.{tablesIn, Narrow, Numbered};
 ghost use Rattle.profiling.specs.Moving.{Stands};
 ghost use Rattle.profiling.specs.Advancing.{Advances};
 
@@ -19,7 +19,7 @@ pub fn advance(
     file: &[u8],
     plan: &[usize; PLAN],
     images: &[u8],
-    table: &[u64],
+    callees: &[u64; CALLEES],
     point: Point,
     cells: &mut [u32],
     regions: &mut [u32],
@@ -28,10 +28,10 @@ pub fn advance(
     steps: usize,
     out: &mut [u8],
 ) -> Part
-    requires { ⌜ Narrow (now plan) ⌝ }
+    requires { ⌜ Narrow (now plan) (now images) × Numbered (now file) (now plan) ⌝ }
     requires { ⌜ 105 ≤ length (now out) ⌝ }
-    requires { ⌜ Stands (now file) (tablesIn (now file) (now plan) (now images) (now table)) steps (now cells) (now regions) (now frames) (now prints) point ⌝ }
-    ensures { λ r. ⌜ Advances (now (file .entry)) (tablesIn (now (file .entry)) (now (plan .entry)) (now (images .entry)) (now (table .entry))) steps
+    requires { ⌜ Stands (now file) (tablesIn (now plan) (now images) (now callees)) steps (now cells) (now regions) (now frames) (now prints) point ⌝ }
+    ensures { λ r. ⌜ Advances (now (file .entry)) (tablesIn (now (plan .entry)) (now (images .entry)) (now (callees .entry))) steps
         (now (cells .entry)) (now (regions .entry)) (now (frames .entry)) (now (prints .entry)) point (now (out .entry))
         (now (cells .exit)) (now (regions .exit)) (now (frames .exit)) (now (prints .exit)) (now (out .exit)) r ⌝ }
 {
@@ -42,7 +42,7 @@ pub fn advance(
             file,
             plan,
             images,
-            table,
+            callees,
             here,
             cells,
             regions,

@@ -8,6 +8,7 @@ use frames::clear;
 use machine::first_state;
 use machine::size_of;
 use memory::empty;
+use plans::CALLEES;
 ghost use mathlib.Core.List.{List};
 ghost use Prim.Native.Nat.{ℕ, _≤_, _<_};
 ghost use mathlib.Core.Path.{_≡_};
@@ -22,15 +23,15 @@ ghost use Rattle.profiling.specs.Statement.{lineText, entryLine};
 ghost use Rattle.profiling.specs.Moving.{Stands};
 
 // "The entry's frame is taken first."
-pub fn begin(table: &[u64], cells: &[u32], regions: &[u32], frames: &mut [u32]) -> Point
+pub fn begin(callees: &[u64; CALLEES], cells: &[u32], regions: &[u32], frames: &mut [u32]) -> Point
     requires { ⌜ 136 ≤ length (now frames) ⌝ }
-    ensures { λ r. ⌜ ((f plan images ps : List ℕ) (l : ℕ) → checked f ≡ Accepted → Tabled f (tablesIn f plan images (now (table .entry)))
+    ensures { λ r. ⌜ ((f plan images ps : List ℕ) (l : ℕ) → checked f ≡ Accepted → Tabled f (tablesIn plan images (now (callees .entry)))
         → 0 < holds (length (now (frames .entry))) 136
-        → (r .done ≡ 0) × Stands f (tablesIn f plan images (now (table .entry))) l (now (cells .entry)) (now (regions .entry)) (now (frames .exit)) ps r) ⌝ }
+        → (r .done ≡ 0) × Stands f (tablesIn plan images (now (callees .entry))) l (now (cells .entry)) (now (regions .entry)) (now (frames .exit)) ps r) ⌝ }
 {
-    clear(frames, 1, size_of(table, 0));
+    clear(frames, 1, size_of(callees, 0));
     Point {
-        state: first_state(table),
+        state: first_state(callees),
         heap: empty(cells, regions),
         counts: Counts {
             cells: 0,

@@ -14,6 +14,7 @@ ghost use Prim.Native.Nat.{ℕ, _+_, _-_, _*_, _<_};
 ghost use lib.ListN.{getD};
 ghost use Rattle.records.specs.Records.{recordAt};
 ghost use Rattle.memory.specs.declared.Heap.{Heap};
+ghost use Rattle.word_machine.specs.Machine.{regionPlace};
 ghost use Rattle.machine.specs.Words.{wordsOf};
 ghost use Rattle.profiling.specs.Counting.{counted};
 
@@ -32,7 +33,7 @@ const REGION_WORD: usize = 64;
 // The place of what region number r of a frame stands for.
 fn region_place(frames: &[u32], frame: u32, r: usize) -> u32
     requires { ⌜ r < 65536 ⌝ }
-    ensures { λ p. ⌜ p ≡ getD (now (frames .entry)) (136 * frame + 64 + r) 0 ⌝ }
+    ensures { λ p. ⌜ p ≡ getD (now (frames .entry)) (regionPlace frame r) 0 ⌝ }
 {
     memory::word(frames, FRAME_WORDS * (frame as usize) + REGION_WORD + r)
 }

@@ -6,9 +6,9 @@ use crate::counting::count;
 use crate::turning::step;
 use language::Ending;
 use language::Stop;
+use plans::CALLEES;
 use plans::PLAN;
-ghost use Rattle.plans.specs.Plan.{tablesIn};
-ghost use Rattle.machine.specs.Words.{Narrow};
+ghost use Rattle.plans.specs.Plan.{tablesIn, Narrow, Numbered};
 ghost use Rattle.profiling.specs.Moving.{Stands, Moves};
 
 // "An ended run is finished before 10 is looked at."
@@ -16,7 +16,7 @@ pub fn forward(
     file: &[u8],
     plan: &[usize; PLAN],
     images: &[u8],
-    table: &[u64],
+    callees: &[u64; CALLEES],
     point: Point,
     cells: &mut [u32],
     regions: &mut [u32],
@@ -24,9 +24,9 @@ pub fn forward(
     prints: &mut [u32],
     steps: usize,
 ) -> Moved
-    requires { ⌜ Narrow (now plan) ⌝ }
-    requires { ⌜ Stands (now file) (tablesIn (now file) (now plan) (now images) (now table)) steps (now cells) (now regions) (now frames) (now prints) point ⌝ }
-    ensures { λ r. ⌜ Moves (now (file .entry)) (tablesIn (now (file .entry)) (now (plan .entry)) (now (images .entry)) (now (table .entry))) steps
+    requires { ⌜ Narrow (now plan) (now images) × Numbered (now file) (now plan) ⌝ }
+    requires { ⌜ Stands (now file) (tablesIn (now plan) (now images) (now callees)) steps (now cells) (now regions) (now frames) (now prints) point ⌝ }
+    ensures { λ r. ⌜ Moves (now (file .entry)) (tablesIn (now (plan .entry)) (now (images .entry)) (now (callees .entry))) steps
         (now (cells .entry)) (now (regions .entry)) (now (frames .entry)) (now (prints .entry)) point
         (now (cells .exit)) (now (regions .exit)) (now (frames .exit)) (now (prints .exit)) r ⌝ }
 {
@@ -54,7 +54,7 @@ pub fn forward(
         file,
         plan,
         images,
-        table,
+        callees,
         state,
         heap,
         cells,

@@ -11,14 +11,15 @@ use machine::onward;
 use machine::settle;
 use machine::successor;
 use memory::Heap;
+use plans::CALLEES;
 use plans::PLAN;
 use records::word_in;
 ghost use Prim.Native.Nat.{_<_};
 ghost use lib.ListN.{length};
 ghost use Rattle.language.specs.File.{recordCount};
 ghost use Rattle.chains.specs.Formed.{Formed};
-ghost use Rattle.plans.specs.Plan.{tablesIn};
-ghost use Rattle.machine.specs.Words.{Narrow, Placed};
+ghost use Rattle.plans.specs.Plan.{tablesIn, Narrow, Numbered};
+ghost use Rattle.machine.specs.Words.{Placed};
 ghost use Rattle.profiling.specs.Turning.{Turns};
 
 // The newest frame's next goal is carried out, and frames without goals go.
@@ -26,7 +27,7 @@ pub fn step(
     file: &[u8],
     plan: &[usize; PLAN],
     images: &[u8],
-    table: &[u64],
+    callees: &[u64; CALLEES],
     state: State,
     heap: Heap,
     cells: &mut [u32],
@@ -35,9 +36,9 @@ pub fn step(
     prints: &mut [u32],
 ) -> Turn
     requires { ⌜ Formed (now file) ⌝ }
-    requires { ⌜ Narrow (now plan) ⌝ }
+    requires { ⌜ Narrow (now plan) (now images) × Numbered (now file) (now plan) ⌝ }
     requires { ⌜ (state .goal < recordCount (now file)) × Placed state (length (now frames)) ⌝ }
-    ensures { λ r. ⌜ Turns (now (file .entry)) (tablesIn (now (file .entry)) (now (plan .entry)) (now (images .entry)) (now (table .entry))) state heap
+    ensures { λ r. ⌜ Turns (now (file .entry)) (tablesIn (now (plan .entry)) (now (images .entry)) (now (callees .entry))) state heap
         (now (cells .entry)) (now (regions .entry)) (now (frames .entry)) (now (prints .entry))
         r (now (cells .exit)) (now (regions .exit)) (now (frames .exit)) (now (prints .exit)) ⌝ }
 {
@@ -46,15 +47,24 @@ pub fn step(
         let kept = keep(file, plan, state, heap, cells, regions, frames);
         match kept {
             Kept::Left(left) => {
-                let next = onward(state, successor(file, plan, i));
-                return Turn::On(settle(file, plan, images, table, next, frames), left);
+                let next = onward(state, successor(plan, i));
+                return Turn::On(settle(file, plan, images, callees, next, frames), left);
             }
             Kept::Lacks(stop) => return Turn::Lacks(stop),
         }
     }
-    let went = go(file, plan, images, table, state, &cells[..], frames, prints);
+    let went = go(
+        file,
+        plan,
+        images,
+        callees,
+        state,
+        &cells[..],
+        frames,
+        prints,
+    );
     match went {
-        Step::Went(next) => Turn::On(settle(file, plan, images, table, next, frames), heap),
+        Step::Went(next) => Turn::On(settle(file, plan, images, callees, next, frames), heap),
         Step::Stops(stop) => Turn::Lacks(stop),
     }
 }

@@ -4,7 +4,6 @@ use native.Mathlib.Omega.{arith}
 use mathlib.Core.Path.{_≡_, refl, sym, ap, _∙_}
 use mathlib.Core.Bool.{true, false≢true}
 use mathlib.Core.List.{List, []}
-use lib.ListN.{length, length-replicate, replicate}
 use Rattle.language.specs.declared.Refusal.{Refusal}
 use Rattle.language.specs.declared.Verdict.the-variants.{Refused, Accepted}
 use Rattle.language.specs.declared.Ending.the-variants.{Refused as RunRefused}
@@ -54,6 +53,3 @@ accepted-kept e m rs fw ps m′ rs′ fw′ ps′ = record { all = λ v z. absur
 -- ---- what an accepted file has passed
 pub accepted-typed : {f : List ℕ} → checked f ≡ Accepted → Formed f × (typingOk (program f) ≡ true)
 accepted-typed {f} e = (accepted-formed f e, accepted-program f e .typing)
-
-pub blank-long : (n : ℕ) {t : List ℕ} → t ≡ replicate n 0 → n ≤ length t
-blank-long n e = omega (arith, ap length e, length-replicate {A = ℕ} n 0)

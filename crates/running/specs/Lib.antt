@@ -1,2 +1,3 @@
 pub mod Answer
-pub mod Narrow
+pub mod Lent
+pub mod Planned

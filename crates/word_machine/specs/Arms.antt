@@ -1,7 +1,7 @@
 -- The arm that a switch takes, by its record.
 use Prim.Native.Nat.{ℕ}
 use native.Mathlib.Omega.{arith}
-use mathlib.Core.Path.{_≡_, refl, sym, _∙_}
+use mathlib.Core.Path.{_≡_, refl, sym, ap, _∙_}
 use mathlib.Core.Bool.{true, false}
 use mathlib.Core.List.{List}
 use mathlib.Core.Logic.{_⊎_, inl, inr}
@@ -17,7 +17,7 @@ use Rattle.chains.specs.Formed.{Formed, Stands, goalsAt, armsAt, arms-none}
 use Rattle.chains.specs.Is.{arm-is}
 use Rattle.chains.specs.Parts.{arm-at}
 use Rattle.chains.specs.Records.{chainRecords, records-step, along}
-use Rattle.word_machine.specs.Tables.{Tables, Tabled, Starts}
+use Rattle.word_machine.specs.Tables.{Tables, Tabled, onto, Starts}
 use Rattle.word_machine.specs.Machine.{armOf}
 
 module _ {f : List ℕ} {T : Tables} (B : Tabled f T) (F : Formed f) where
@@ -27,6 +27,7 @@ module _ {f : List ℕ} {T : Tables} (B : Tabled f T) (F : Formed f) where
     pub goals-are : gs ≡ goalsAt f (word f j 2)
     pub stands : Stands f goals (word f j 2)
     pub starts : Starts (B .onward) (B .owner) (word f j 2) c p
+    pub entered : T .entry j ≡ onto (word f j 2) c
 
   picked-arguments : {ys zs : List ℕ} {gs hs : Goals} → picked ys gs ≡ picked zs hs → zs ≡ ys
   picked-arguments e = cc
@@ -42,6 +43,7 @@ module _ {f : List ℕ} {T : Tables} (B : Tabled f T) (F : Formed f) where
       goals-are = picked-goals e;
       stands = arm-at F refl (arm-is s z) .to-goals .stands;
       starts = λ y. let b = B .arm-goals j s z y in (b .0 ∙ o, b .1 ∙ w);
+      entered = B .arm-entry j s z ∙ ap (onto (word f j 2)) o;
     }
 
     one-arm : (j : ℕ) (s : Stands f arms j) (z : j ≡ 0 → ⊥) → B .onward j ≡ c → B .owner j ≡ p

@@ -9,8 +9,7 @@ use lib.IntN.{pos}
 use lib.ListN.{length, getD, set, length-set}
 use lib.Seq.{getD-set-same, getD-set-other}
 use Rattle.sets.specs.Members.{inList, members}
-use Rattle.language.specs.File.{word}
-use Rattle.language.specs.Program.{Signature}
+use Rattle.language.specs.Program.{inMode, Signature}
 use Rattle.language.specs.Typing.{isVariable}
 use Rattle.language.specs.Regions.{mapping, imageIn}
 use Rattle.language.specs.Lifetimes.{startHeld}
@@ -22,8 +21,8 @@ use Rattle.region_graph.specs.Shared.{region-top}
 use Rattle.chains.specs.Formed.{Formed}
 use Rattle.safety.specs.Premises.{Accepted, laws}
 use Rattle.heap.specs.Standing.{Stands}
-use Rattle.word_machine.specs.Tables.{Tables, Tabled}
-use Rattle.word_machine.specs.Machine.{goalPlace, valuePlace, regionPlace, callPlace, copied, cleared, blocks, valuesIn, regionsIn, calleeWords}
+use Rattle.word_machine.specs.Tables.{Tables, slotOf, givenOf, Tabled}
+use Rattle.word_machine.specs.Machine.{frameWords, goalPlace, valuePlace, regionPlace, callPlace, copied, cleared, blocks, valuesIn, regionsIn, calleeWords}
 use Rattle.word_machine.specs.Copies.{copied-length, copied-other, copied-related, cleared-length, cleared-before, cleared-after, cleared-in, blocks-most, blocks-least, puts-give, puts-stand}
 use Rattle.word_machine.specs.Relation.{Where, Means, Names, not-later, sig, FrameOk, Linked, Waiting, more, frame-later, waiting-later}
 use Rattle.word_machine.specs.Returns.{members-range, passing, caller-range, caller-variable, callee-range}
@@ -35,12 +34,12 @@ unfolding isVariable
 variable-count S x v = among-in (length (S .variables)) x v .1
 
 -- frame k stands for e, which goes on at record g; it calls q with arguments zs by the call at record i
-module _ {f : List ℕ} {T : Tables} (B : Tabled f T) (A : Accepted (program f)) (F : Formed f) {fw : List ℕ} {L : Where} {k i q ys : ℕ} {zs : List ℕ}
+module _ {f : List ℕ} {T : Tables} (B : Tabled f T) (A : Accepted (program f)) (F : Formed f) {fw : List ℕ} {L : Where} {k i q : ℕ} {zs : List ℕ}
     {e : RegionFrame} {fs : List RegionFrame} (G : FrameOk B fw k L (T .successor i) e)
-    (W : Waiting B fw L (e .frame .procedure) (e .frame .arguments) k fs) (N : Linked B i (e .frame .procedure) q zs) (w3 : ys ≡ word f i 3)
-    (room : 136 * suc (suc k) ≤ length fw) where
+    (W : Waiting B fw L (e .frame .procedure) (e .frame .arguments) k fs) (N : Linked B i (e .frame .procedure) q zs)
+    (room : frameWords * suc (suc k) ≤ length fw) where
   abbrev ins : List ℕ
-  ins = passing B A N 1
+  ins = passing B A N inMode (inl refl)
 
   abbrev helds : List ℕ
   helds = members (startHeld (sig f q))
@@ -58,14 +57,14 @@ module _ {f : List ℕ} {T : Tables} (B : Tabled f T) (A : Accepted (program f))
   fc = cleared (suc (goalPlace (suc k))) count fb
 
   abbrev fd : List ℕ
-  fd = copied (λ a. valuePlace (suc k) (T .slot a)) (λ a. valuePlace k (word f a 2)) ins fc
+  fd = copied (λ a. valuePlace (suc k) (slotOf a)) (λ a. valuePlace k (givenOf a)) ins fc
 
   abbrev fe : List ℕ
   fe = copied (λ r. regionPlace (suc k) r) (λ r. regionPlace k (T .image i r)) helds fd
 
-  pub callee-is : calleeWords f T k i q ys fw ≡ fe
+  pub callee-is : calleeWords f T k i q fw ≡ fe
   unfolding calleeWords regionsIn valuesIn
-  callee-is = rw (w3, B .held q (N .some), B .size q (N .some))
+  callee-is = rw (B .held q (N .some), B .size q (N .some))
 
   few : count ≤ 64
   few = blocks-most (length (sig f q .variables))
@@ -77,7 +76,7 @@ module _ {f : List ℕ} {T : Tables} (B : Tabled f T) (A : Accepted (program f))
   longc = cleared-length count (suc (goalPlace (suc k))) fb ∙ length-set fa (callPlace (suc k)) i ∙ length-set fw (goalPlace k) (T .successor i)
 
   longd : length fd ≡ length fw
-  longd = copied-length (λ a. valuePlace (suc k) (T .slot a)) (λ a. valuePlace k (word f a 2)) ins fc ∙ longc
+  longd = copied-length (λ a. valuePlace (suc k) (slotOf a)) (λ a. valuePlace k (givenOf a)) ins fc ∙ longc
 
   pub longe : length fe ≡ length fw
   longe = copied-length (λ r. regionPlace (suc k) r) (λ r. regionPlace k (T .image i r)) helds fd ∙ longd
@@ -88,11 +87,11 @@ module _ {f : List ℕ} {T : Tables} (B : Tabled f T) (A : Accepted (program f))
       getD-set-other fa (callPlace (suc k)) j i 0 (λ z. omega arith) ∙ getD-set-other fw (goalPlace k) j (T .successor i) 0 ne
 
   keptd : (j : ℕ) → (j ≤ goalPlace (suc k)) ⊎ (goalPlace (suc k) + 64 < j) → getD fd j 0 ≡ getD fc j 0
-  keptd j o = copied-other (λ a. valuePlace (suc k) (T .slot a)) (λ a. valuePlace k (word f a 2)) ins fc j (λ a h z. differ a h z o)
+  keptd j o = copied-other (λ a. valuePlace (suc k) (slotOf a)) (λ a. valuePlace k (givenOf a)) ins fc j (λ a h z. differ a h z o)
     where
-      differ : (a : ℕ) → inList a ins ≡ true → j ≡ valuePlace (suc k) (T .slot a) → (j ≤ goalPlace (suc k)) ⊎ (goalPlace (suc k) + 64 < j) → ⊥
-      differ a h z (inl o) = let r = callee-range B A N 1 a h in omega (arith, r .0)
-      differ a h z (inr o) = let r = callee-range B A N 1 a h in omega (arith, r .1)
+      differ : (a : ℕ) → inList a ins ≡ true → j ≡ valuePlace (suc k) (slotOf a) → (j ≤ goalPlace (suc k)) ⊎ (goalPlace (suc k) + 64 < j) → ⊥
+      differ a h z (inl o) = let r = callee-range B A N inMode (inl refl) a h in omega (arith, r .0)
+      differ a h z (inr o) = let r = callee-range B A N inMode (inl refl) a h in omega (arith, r .1)
 
   kepte : (j : ℕ) → (j ≤ goalPlace (suc k) + 64) ⊎ (goalPlace (suc k) + 128 < j) → getD fe j 0 ≡ getD fd j 0
   kepte j o = copied-other (λ r. regionPlace (suc k) r) (λ r. regionPlace k (T .image i r)) helds fd j (λ r h z. differ r h z o)
@@ -127,16 +126,21 @@ module _ {f : List ℕ} {T : Tables} (B : Tabled f T) (A : Accepted (program f))
       → Means L (getD fe (valuePlace (suc k) x) 0) (calleeFrame (program f) (e .frame) q zs .values x)
   unfolding calleeFrame Stands
   in-values x l h v =
-      rw (kepte (valuePlace (suc k) x) (inl (omega arith)), ← N .places 1, ← N .slots 1, ← puts-give (T .slot) (λ a. word f a 2) (e .frame .values) ins (λ y. numeral (pos 0)))
-      (copied-related (Means L) (136 * suc k) (λ a. valuePlace (suc k) (T .slot a)) (λ a. valuePlace k (word f a 2)) (T .slot)
-      (λ a. e .frame .values (word f a 2)) ins fc (λ y. numeral (pos 0)) x
-      (λ a m. let r = caller-range B A N 1 a m in let s = callee-range B A N 1 a m in (
+      rw (
+        kepte (valuePlace (suc k) x) (inl (omega arith)),
+        ← N .places inMode (inl refl),
+        ← N .slots inMode (inl refl),
+        ← puts-give slotOf givenOf (e .frame .values) ins (λ y. numeral (pos 0)),
+      )
+      (copied-related (Means L) (frameWords * suc k) (λ a. valuePlace (suc k) (slotOf a)) (λ a. valuePlace k (givenOf a)) slotOf
+      (λ a. e .frame .values (givenOf a)) ins fc (λ y. numeral (pos 0)) x
+      (λ a m. let r = caller-range B A N inMode (inl refl) a m in let s = callee-range B A N inMode (inl refl) a m in (
         refl,
         omega (arith, s .1, longc),
-        rw (keptc-low (valuePlace k (word f a 2)) (omega (arith, r .1)) ∙ keptb (valuePlace k (word f a 2)) (λ z. omega (arith, r .0)) (omega (arith, r .1)))
-            (G .values (word f a 2) (r .0) (r .1) (caller-variable B A N 1 a m)),
+        rw (keptc-low (valuePlace k (givenOf a)) (omega (arith, r .1)) ∙ keptb (valuePlace k (givenOf a)) (λ z. omega (arith, r .0)) (omega (arith, r .1)))
+            (G .values (givenOf a) (r .0) (r .1) (caller-variable B A N inMode (inl refl) a m)),
       ))
-      (λ a b m n z. let r = callee-range B A N 1 a m in let s = caller-range B A N 1 b n in omega (arith, s .1))
+      (λ a b m n z. let r = callee-range B A N inMode (inl refl) a m in let s = caller-range B A N inMode (inl refl) b n in omega (arith, s .1))
       (rw (cleared-in count (suc (goalPlace (suc k))) fb (valuePlace (suc k) x) (omega arith) (omega (arith, variable-count (sig f q) x v, enough))
       (omega (arith, few, longc, cleared-length count (suc (goalPlace (suc k))) fb))) refl))
 
@@ -148,7 +152,7 @@ module _ {f : List ℕ} {T : Tables} (B : Tabled f T) (A : Accepted (program f))
   unfolding calleeStands
   in-regions r l h =
       rw (← puts-stand (λ u. u) (λ u. e .stands (imageIn (mapping (sig f (e .frame .procedure)) (sig f q) zs) u)) helds (λ u. 0))
-      (copied-related (Names L) (136 * suc k + 64) (λ u. regionPlace (suc k) u) (λ u. regionPlace k (T .image i u)) (λ u. u)
+      (copied-related (Names L) (frameWords * suc k + 64) (λ u. regionPlace (suc k) u) (λ u. regionPlace k (T .image i u)) (λ u. u)
       (λ u. e .stands (imageIn (mapping (sig f (e .frame .procedure)) (sig f q) zs) u)) helds fd (λ u. 0) r
       (λ u m. let b = held-image u m in let s = members-range _ u m in
       (refl, omega (arith, s .2, longd), source u (N .images u (inl (s .0)) .0) (b .0) (b .1)))
@@ -172,5 +176,5 @@ module _ {f : List ℕ} {T : Tables} (B : Tabled f T) (A : Accepted (program f))
   pub called-waiting : Waiting B fe L q zs (suc k) (e ∷ fs)
   called-waiting =
       let l : Linked B (getD fe (callPlace (suc k)) 0) (e .frame .procedure) q zs = rw call-word N in
-      let G′ : FrameOk B fe k L (getD fe (goalPlace k) 0) e = rw goal-word (frame-later B (not-later L) longe (λ j a b. caller-word (136 * k + j) (λ z. omega arith) (omega arith)) G) in
+      let G′ : FrameOk B fe k L (getD fe (goalPlace k) 0) e = rw goal-word (frame-later B (not-later L) longe (λ j a b. caller-word (frameWords * k + j) (λ z. omega arith) (omega arith)) G) in
       more l G′ (waiting-later B (not-later L) longe (λ j h. caller-word j (λ z. omega arith) (omega arith)) (caller-word (callPlace k) (λ z. omega arith) (omega arith)) W)

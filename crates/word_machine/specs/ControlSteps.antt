@@ -22,10 +22,10 @@ use Rattle.language.specs.AcceptedRun as Run
 use Rattle.language.specs.Machine.{Room, goes, roomOr}
 use Rattle.language.specs.Answers.{program}
 use Rattle.records.specs.Records.{recordAt}
-use Rattle.records.specs.declared.Record.the-variants.{Switch, If, Call}
+use Rattle.records.specs.declared.Record.the-variants.{Switch, If}
 use Rattle.chains.specs.Formed.{Formed, Stands, goalsAt, armsAt, argumentsAt}
 use Rattle.chains.specs.Records.{chainRecords}
-use Rattle.chains.specs.Parts.{if-at, switch-at, call-at}
+use Rattle.chains.specs.Parts.{if-at, switch-at}
 use Rattle.safety.specs.Premises.{Accepted, laws}
 use Rattle.region_graph.specs.Shared.{variable-top}
 use Rattle.heap.specs.Words.{argumentWords, arguments-are}
@@ -33,13 +33,14 @@ use Rattle.heap.specs.Standing.{StandEach}
 use Rattle.heap.specs.Represents.{Reads}
 use Rattle.heap.specs.Reading.{reads}
 use Rattle.word_machine.specs.Tables.{Tables, Tabled, onto, Starts}
-use Rattle.word_machine.specs.Machine.{Words, valuePlace, regionPlace, callPlace, withFrames, valueOf, went, ifRoom, armOf, entersArm, switches, calls}
+use Rattle.word_machine.specs.Machine.{frameWords, Words, valuePlace, regionPlace, callPlace, withFrames, valueOf, went, ifRoom, armOf, givesEach, entersArm, switches, calls}
+use Rattle.word_machine.specs.Trimmed.{Ranged}
 use Rattle.word_machine.specs.Successors.{Todo, todo-before}
 use Rattle.word_machine.specs.Premises.{Number, Found}
 use Rattle.word_machine.specs.Relation.{Where, whereIn, Means, not-later, sig, FrameOk, Linked, Waiting, waiting-later, waiting-depth, Running, Stored}
 use Rattle.word_machine.specs.Stepping.{frame-goals}
 use Rattle.word_machine.specs.Arms.{ArmFound, arm-found}
-use Rattle.word_machine.specs.Switching.{setEach, arm-each, each-length, Ranged, each-other, each-means}
+use Rattle.word_machine.specs.Switching.{arm-each, each-length, each-other, each-means}
 use Rattle.word_machine.specs.Calls.{callee-is, longe, called-frame, called-waiting}
 use Rattle.word_machine.specs.Steps.{After, onward, halts, value-means, value-number}
 
@@ -77,35 +78,34 @@ module _ {f : List ℕ} {T : Tables} (B : Tabled f T) (A : Accepted (program f))
       (record { represents = Q .represents; printed = Q .printed; frame-room = Q .frame-room; print-room = Q .print-room }))
 
   -- ---- a call
-  module _ (q ys : ℕ) (N : Linked B i (u .frame .procedure) q (argumentsAt f ys)) (w3 : ys ≡ word f i 3) (room : 136 * suc (suc (w .top)) ≤ length (w .frames)) where
-    call-running : Running B (calls f T w i q ys) L (calleeRegions (program f) u q (argumentsAt f ys)) (u ∷ fs)
+  module _ (q ys : ℕ) (N : Linked B i (u .frame .procedure) q (argumentsAt f ys)) (room : frameWords * suc (suc (w .top)) ≤ length (w .frames)) where
+    call-running : Running B (calls f T w i q) L (calleeRegions (program f) u q (argumentsAt f ys)) (u ∷ fs)
     unfolding calls calleeRegions calleeFrame
     call-running =
-        let c = callee-is B A F G W N w3 room in
-        record { newest = rw c (called-frame B A F G W N w3 room); waiting = rw c (called-waiting B A F G W N w3 room) }
+        let c = callee-is B A F G W N room in
+        record { newest = rw c (called-frame B A F G W N room); waiting = rw c (called-waiting B A F G W N room) }
 
-    call-stored : Stored K qs (calls f T w i q ys) m ρ χ
+    call-stored : Stored K qs (calls f T w i q) m ρ χ
     unfolding calls
     call-stored = record {
       represents = Q .represents;
       printed = Q .printed;
-      frame-room = rw (callee-is B A F G W N w3 room, longe B A F G W N w3 room) (Q .frame-room);
+      frame-room = rw (callee-is B A F G W N room, longe B A F G W N room) (Q .frame-room);
       print-room = Q .print-room;
     }
 
-  call-by : (n q ys : ℕ) → recordAt f i ≡ Call n q ys → Linked B i (u .frame .procedure) q (argumentsAt f ys) → (b : Bool) → ltb (suc (w .top)) (K .frames) ≡ b
-      → After B A F K qs (step (call q (argumentsAt f ys))) u fs m (roomOr b Frames) (ifRoom b Frames (calls f T w i q ys))
+  call-by : (q ys : ℕ) → Linked B i (u .frame .procedure) q (argumentsAt f ys) → (b : Bool) → ltb (suc (w .top)) (K .frames) ≡ b
+      → After B A F K qs (step (call q (argumentsAt f ys))) u fs m (roomOr b Frames) (ifRoom b Frames (calls f T w i q))
   unfolding roomOr ifRoom Run.take
-  call-by n q ys e N false o = halts
-  call-by n q ys e N true o =
-      let w3 = call-at F refl e .w3 in
-      let r : 136 * suc (suc (w .top)) ≤ length (w .frames) = omega (arith, ltb-true (suc (w .top)) (K .frames) o, Q .frame-room) in
-      onward refl (call-running q ys N w3 r) (call-stored q ys N w3 r)
+  call-by q ys N false o = halts
+  call-by q ys N true o =
+      let r : frameWords * suc (suc (w .top)) ≤ length (w .frames) = omega (arith, ltb-true (suc (w .top)) (K .frames) o, Q .frame-room) in
+      onward refl (call-running q ys N r) (call-stored q ys N r)
 
-  pub call-after : (n q ys : ℕ) → recordAt f i ≡ Call n q ys → Linked B i (u .frame .procedure) q (argumentsAt f ys)
+  pub call-after : (q ys : ℕ) → Linked B i (u .frame .procedure) q (argumentsAt f ys)
       → After B A F K qs (step (call q (argumentsAt f ys))) u fs m (roomOr (ltb (suc (length fs)) (K .frames)) Frames)
-      (ifRoom (ltb (suc (w .top)) (K .frames)) Frames (calls f T w i q ys))
-  call-after n q ys e N = rw (← waiting-depth B W) (call-by n q ys e N (ltb (suc (w .top)) (K .frames)) refl)
+      (ifRoom (ltb (suc (w .top)) (K .frames)) Frames (calls f T w i q))
+  call-after q ys N = rw (← waiting-depth B W) (call-by q ys N (ltb (suc (w .top)) (K .frames)) refl)
 
   -- ---- a switch on X, whose cell stands at place p and has functor c: the arm at record j has arguments ys and goals gs
   module _ (j : ℕ) (ys : List ℕ) (gs : Goals) (vs : List Value) (p : ℕ) (found : ArmFound B F (T .successor i) (u .frame .procedure) ys gs j)
@@ -118,10 +118,10 @@ module _ {f : List ℕ} {T : Tables} (B : Tabled f T) (A : Accepted (program f))
     four′ = fourWords (four (word f j 4) (word f j 5) (word f j 6) (word f j 7))
 
     abbrev fw : List ℕ
-    fw = setEach (136 * w .top) four′ (argumentWords (w .cells) p) (w .frames)
+    fw = givesEach (frameWords * w .top) four′ (argumentWords (w .cells) p) (w .frames)
 
     long : length fw ≡ length (w .frames)
-    long = each-length (136 * w .top) four′ (argumentWords (w .cells) p) (w .frames)
+    long = each-length (frameWords * w .top) four′ (argumentWords (w .cells) p) (w .frames)
 
     trimmed-are : ys ≡ trimmed four′
     unfolding argumentsOf
@@ -131,29 +131,29 @@ module _ {f : List ℕ} {T : Tables} (B : Tabled f T) (A : Accepted (program f))
     unfolding fourWords
     arm-values x l h v =
         rw trimmed-are
-        (each-means (136 * w .top) L x l four′ (argumentWords (w .cells) p) vs (w .frames) (u .frame .values) (rw (arguments-are (w .cells) p) (omega arith))
+        (each-means (frameWords * w .top) L x four′ (argumentWords (w .cells) p) vs (w .frames) (u .frame .values) (rw (arguments-are (w .cells) p) (omega arith))
         (omega (arith, G .fits)) words (count ∙ ap length trimmed-are) (rw trimmed-are at range) (G .values x l h v))
 
-    other : (k : ℕ) → (k < 136 * w .top) ⊎ (136 * w .top + 64 < k) → getD fw k 0 ≡ getD (w .frames) k 0
-    other k = each-other (136 * w .top) four′ (argumentWords (w .cells) p) (w .frames) k (rw trimmed-are at range)
+    other : (k : ℕ) → (k < frameWords * w .top) ⊎ (frameWords * w .top + 64 < k) → getD fw k 0 ≡ getD (w .frames) k 0
+    other k = each-other (frameWords * w .top) four′ (argumentWords (w .cells) p) (w .frames) k (rw trimmed-are at range)
 
-    arm-frame : FrameOk B fw (w .top) L (onto (word f j 2) (T .successor i)) inArm
+    arm-frame : FrameOk B fw (w .top) L (T .entry j) inArm
     unfolding withFrame
     arm-frame = record {
       fits = omega (arith, G .fits, long);
       values = arm-values;
       regions = λ r l h. rw (other (regionPlace (w .top) r) (inr (omega arith))) (G .regions r l h);
-      todo = rw (found .goals-are) (todo-before B F _ _ _ (G .todo) (word f j 2) (found .stands) (found .starts));
+      todo = rw (found .goals-are, found .entered) (todo-before B F _ _ _ (G .todo) (word f j 2) (found .stands) (found .starts));
     }
 
     arm-waiting : Waiting B fw L (u .frame .procedure) (u .frame .arguments) (w .top) fs
     arm-waiting = waiting-later B (not-later L) long (λ k h. other k (inl h)) (other (callPlace (w .top)) (inr (omega arith))) W
 
-    arm-running : Running B (entersArm f T w p j (T .successor i)) L inArm fs
+    arm-running : Running B (entersArm f T w p j) L inArm fs
     unfolding entersArm withFrames withFrame
     arm-running = let e = arm-each f T w p j in record { newest = rw e arm-frame; waiting = rw e arm-waiting }
 
-    arm-stored : Stored K qs (entersArm f T w p j (T .successor i)) m ρ χ
+    arm-stored : Stored K qs (entersArm f T w p j) m ρ χ
     unfolding entersArm withFrames
     arm-stored = record { represents = Q .represents; printed = Q .printed; frame-room = rw (arm-each f T w p j, long) (Q .frame-room); print-room = Q .print-room }
 
@@ -165,7 +165,7 @@ module _ {f : List ℕ} {T : Tables} (B : Tabled f T) (A : Accepted (program f))
 
   pub switch-after : (n x cs : ℕ) → recordAt f i ≡ Switch n x cs → isVariable (sig f (u .frame .procedure)) x ≡ true
       → m .alive (liesIn (m .cells) (u .frame .values x)) ≡ true → Found (sig f (u .frame .procedure)) (m .cells) (u .frame .values x) (armsAt f cs)
-      → After B A F K qs (switch x (armsAt f cs)) u fs m goes (went (switches f T w (valueOf w x) cs (T .successor i)))
+      → After B A F K qs (switch x (armsAt f cs)) u fs m goes (went (switches f T w (valueOf w x) cs))
   unfolding switches Run.take
   switch-after n x cs e v l H =
       let R = reads (Q .represents) (valueOf w x) (u .frame .values x) (value-means B A F K qs w u fs m ρ χ i G W Q x v) l in

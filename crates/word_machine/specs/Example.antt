@@ -17,12 +17,13 @@ use Rattle.chains.specs.Formed.{argumentsAt}
 use Rattle.chains.specs.Fields.{fieldOf}
 use Rattle.chains.specs.Records.{recordsUpTo, chainRecords}
 use Rattle.memory.specs.Memory as Memory
-use Rattle.word_machine.specs.Tables.{onto}
+use Rattle.word_machine.specs.Tables.{onto, slotOf, givenOf}
+use Rattle.word_machine.specs.Passing.{packed, ofMode}
 use Rattle.word_machine.specs.Filling.{stores, referred, onwardWords, ownerWords, filled, matched, matchedBy, matches, onwards, owners, slots, modes, tablesOf}
 use Rattle.word_machine.specs.Machine as M
 
 unfoldable pub opened : Unit {0}
-unfolding computing Steps.argumentsAt argumentsAt recordAt fieldOf recordsUpTo chainRecords onto stores referred onwardWords ownerWords filled matched matchedBy matches onwards owners slots modes tablesOf Memory.unused Memory.taken Memory.emptyHeap Memory.createdOf Memory.createdRegionsOf Memory.created Memory.createdRegions Memory.filled Memory.hung Memory.builtOf Memory.builtCellsOf Memory.builtRegionsOf Memory.built Memory.builtCells Memory.builtRegions Memory.removed Memory.removedCells Memory.removedRegions M.literalWord M.sumWord M.copied M.cleared M.blocks M.armOf M.ofMode M.withFrames M.given M.valueOf M.regionFor M.ifRoom M.contentsOf M.constructedBy M.constructed M.createdBy M.makesRegion M.dropsRegion M.printsWord M.armWords M.entersArm M.switches M.valuesIn M.regionsIn M.calleeWords M.calls M.valuesOut M.regionsOut M.returnWords M.returned M.settledFrom M.settled M.settledIf M.steps M.stepped M.endedWith M.afterStep M.runOn M.startWords M.noFrame M.runFrom M.lentWords M.wordRun
+unfolding computing slotOf givenOf packed ofMode Steps.argumentsAt argumentsAt recordAt fieldOf recordsUpTo chainRecords onto stores referred onwardWords ownerWords filled matched matchedBy matches onwards owners slots modes tablesOf Memory.unused Memory.taken Memory.emptyHeap Memory.createdOf Memory.createdRegionsOf Memory.created Memory.createdRegions Memory.filled Memory.hung Memory.builtOf Memory.builtCellsOf Memory.builtRegionsOf Memory.built Memory.builtCells Memory.builtRegions Memory.removed Memory.removedCells Memory.removedRegions M.literalWord M.sumWord M.copied M.cleared M.blocks M.armOf M.givesEach M.withFrames M.given M.valueOf M.regionFor M.ifRoom M.termOf M.contentsOf M.constructedBy M.constructed M.createdBy M.makesRegion M.dropsRegion M.printsWord M.armWords M.entersArm M.switches M.valuesIn M.regionsIn M.calleeWords M.calls M.valuesOut M.regionsOut M.returnWords M.returned M.settledFrom M.settled M.settledIf M.steps M.stepped M.endedWith M.afterStep M.runOn M.startWords M.noFrame M.runFrom M.lentWords M.wordRun
 opened = tt
 
 -- what a run ended with and printed

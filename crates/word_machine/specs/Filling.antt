@@ -1,7 +1,7 @@
 -- Tables with a word for each record, filled by one pass over the records in rising order: what a record's word is says what the words of the
 -- records are that it refers to. A word 0 refers to nothing; the table's word 0 means nothing.
 use Prim.Native.Nat.{ℕ, zero, suc, _-_}
-use mathlib.Core.List.{List, [], _∷_}
+use mathlib.Core.List.{List, [], _∷_, map}
 use lib.ListN.{length, getD, set, replicate}
 use Rattle.language.specs.File.{word, recordCount}
 use Rattle.language.specs.Program.{Parameter, regionOf, signatureOf, parametersOf}
@@ -14,6 +14,7 @@ use Rattle.records.specs.declared.Record.the-variants.{Header, «Type» as Type
 use Rattle.chains.specs.Formed.{argumentsAt}
 use Rattle.chains.specs.Records.{chainRecords}
 use Rattle.word_machine.specs.Tables.{Tables, onto, bodyRecord}
+use Rattle.word_machine.specs.Passing.{packed, ofMode}
 
 -- words stored at places in turn
 unfoldable pub stores : List ℕ → List ℕ → List ℕ → List ℕ
@@ -145,9 +146,9 @@ module _ (f : List ℕ) where
   unfoldable pub tablesOf : Tables
   tablesOf = record {
     successor = λ i. onto (word f i 1) (getD onwards i 0);
+    entry = λ j. onto (word f j 2) (getD onwards j 0);
     region = λ i. regionOf (signatureOf (program f) (getD owners i 0)) (word f i 2);
-    slot = λ j. getD slots j 0;
-    mode = λ j. getD modes j 0;
+    passes = λ m i. map (λ a. packed (getD slots a 0) (word f a 2) 0) (ofMode (λ a. getD modes a 0) m (chainRecords f (word f i 3)));
     image = λ i r. imageIn (mapping (signatureOf (program f) (getD owners i 0)) (signatureOf (program f) (word f i 2)) (argumentsAt f (word f i 3))) r;
     body = λ p. bodyRecord f p;
     size = λ p. length (signatureOf (program f) p .variables);

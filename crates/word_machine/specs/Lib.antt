@@ -1,6 +1,10 @@
 pub mod GoalKinds
 pub mod Tables
 pub mod Machine
+pub mod Trimmed
+pub mod Passing
+pub mod Typed
+pub mod Arguments
 pub mod Statement
 pub mod Successors
 pub mod Copies

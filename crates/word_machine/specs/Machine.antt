@@ -10,13 +10,14 @@ use lib.IntN.{_+ℤ_, _-ℤ_}
 use lib.ListN.{length, getD, set}
 use mir.Syntax.{w32}
 use mir.Val.{toZ}
-use Rattle.sets.specs.Members.{consIf, members}
+use Rattle.sets.specs.Members.{members}
 use Rattle.language.specs.declared.Stop.{Stop}
 use Rattle.language.specs.declared.Stop.the-variants.{Steps, Cells, Places, Frames, Prints}
 use Rattle.language.specs.declared.Ending.{Ending}
 use Rattle.language.specs.declared.Ending.the-variants.{Finished, Stopped}
 use Rattle.language.specs.Lists.{choose}
-use Rattle.language.specs.File.{word}
+use Rattle.language.specs.File.{word, recordCount}
+use Rattle.language.specs.Program.{inMode, outMode}
 use Rattle.language.specs.Numbers.{literalNumber, residue, less}
 use Rattle.language.specs.Machine.{Lent, Room, holds, roomIn}
 use Rattle.records.specs.Records.{recordAt}
@@ -28,7 +29,7 @@ use Rattle.memory.specs.declared.Heap.{Heap}
 use Rattle.memory.specs.declared.Made.{Made}
 use Rattle.memory.specs.declared.Made.the-variants.{At, NoRoom}
 use Rattle.memory.specs.Memory.{cellWord, emptyHeap, created, createdRegions, built, builtCells, builtRegions, removed, removedCells, removedRegions}
-use Rattle.word_machine.specs.Tables.{Tables, onto}
+use Rattle.word_machine.specs.Tables.{Tables, onto, slotOf, givenOf}
 
 -- the lent words and what a run keeps beside them: the newest frame's number, its next goal's record, and how many numbers are printed
 pub record Words : Type 0 where
@@ -41,18 +42,29 @@ pub record Words : Type 0 where
   pub goal : ℕ
   pub printed : ℕ
 
+-- ---- "136 a frame": the next goal, 64 values, what 64 region numbers stand for, the call
+abbrev pub frameWords : ℕ
+frameWords = 136
+
+-- the word before that of region 1, and the call's
+abbrev pub regionsFrom : ℕ
+regionsFrom = 64
+
+abbrev pub callFrom : ℕ
+callFrom = 129
+
 -- ---- words of frame k
 abbrev pub goalPlace : ℕ → ℕ
-goalPlace k = 136 * k
+goalPlace k = frameWords * k
 
 abbrev pub valuePlace : ℕ → ℕ → ℕ
-valuePlace k x = 136 * k + x
+valuePlace k x = frameWords * k + x
 
 abbrev pub regionPlace : ℕ → ℕ → ℕ
-regionPlace k r = 136 * k + 64 + r
+regionPlace k r = frameWords * k + regionsFrom + r
 
 abbrev pub callPlace : ℕ → ℕ
-callPlace k = 136 * k + 129
+callPlace k = frameWords * k + callFrom
 
 -- ---- numbers as words: "read as two's complement", "wrap modulo 2^32"
 unfoldable pub literalWord : ℕ → ℕ
@@ -81,10 +93,12 @@ unfoldable pub armOf : List ℕ → ℕ → List ℕ → ℕ
 armOf f k [] = 0
 armOf f k (j ∷ js) = choose (eqb (word f j 3) k) j (armOf f k js)
 
--- the records of a mode among those of a call's arguments
-unfoldable pub ofMode : (ℕ → ℕ) → ℕ → List ℕ → List ℕ
-ofMode mode m [] = []
-ofMode mode m (a ∷ as′) = consIf (eqb (mode a) m) a (ofMode mode m as′)
+-- variables of the frame at `base` get words in turn, up to the first that is numbered 0 and stands for none
+unfoldable pub givesEach : ℕ → List ℕ → List ℕ → List ℕ → List ℕ
+givesEach base [] ws fw = fw
+givesEach base (x ∷ xs) [] fw = fw
+givesEach base (zero ∷ xs) (w ∷ ws) fw = fw
+givesEach base (suc x ∷ xs) (w ∷ ws) fw = givesEach base xs ws (set fw (base + suc x) w)
 
 -- ---- changes of a part
 unfoldable pub withFrames : Words → List ℕ → ℕ → Words
@@ -110,8 +124,18 @@ ifRoom true c w = went w
 ifRoom false c w = stops c
 
 -- ---- constructs and creates
+-- a cell's words for functor k: the values of its arguments, up to the first that is numbered 0; behind them, what stands there
+unfoldable pub termOf : (ℕ → ℕ) → (ℕ → ℕ) → ℕ → ℕ → ℕ → ℕ → ℕ → Contents
+termOf value old k zero b c d = record { functor = k; a = old 1; b = old 2; c = old 3; d = old 4 }
+termOf value old k (suc a) zero c d = record { functor = k; a = value (suc a); b = old 2; c = old 3; d = old 4 }
+termOf value old k (suc a) (suc b) zero d = record { functor = k; a = value (suc a); b = value (suc b); c = old 3; d = old 4 }
+termOf value old k (suc a) (suc b) (suc c) zero = record { functor = k; a = value (suc a); b = value (suc b); c = value (suc c); d = old 4 }
+termOf value old k (suc a) (suc b) (suc c) (suc d) =
+    record { functor = k; a = value (suc a); b = value (suc b); c = value (suc c); d = value (suc d) }
+
+-- the words of the next cell to be made
 unfoldable pub contentsOf : Words → ℕ → ℕ → ℕ → ℕ → ℕ → Contents
-contentsOf w k a b c d = record { functor = k; a = valueOf w a; b = valueOf w b; c = valueOf w c; d = valueOf w d }
+contentsOf w k a b c d = termOf (valueOf w) (λ n. cellWord (w .cells) (w .heap .cells .head) n) k a b c d
 
 unfoldable pub constructedBy : Words → ℕ → ℕ → List ℕ → List ℕ → Made → Went
 constructedBy w x i m rs (At y h) =
@@ -166,33 +190,33 @@ module _ (f : List ℕ) (T : Tables) where
   -- ---- a switch: the arm of X's cell at record j; the cell at place p
   unfoldable pub armWords : Words → ℕ → ℕ → List ℕ
   armWords w p j =
-      set (set (set (set (w .frames) (valuePlace (w .top) (word f j 4)) (cellWord (w .cells) p 1)) (valuePlace (w .top) (word f j 5)) (cellWord (w .cells) p 2))
-      (valuePlace (w .top) (word f j 6)) (cellWord (w .cells) p 3)) (valuePlace (w .top) (word f j 7)) (cellWord (w .cells) p 4)
+      givesEach (goalPlace (w .top)) (word f j 4 ∷ word f j 5 ∷ word f j 6 ∷ word f j 7 ∷ [])
+      (cellWord (w .cells) p 1 ∷ cellWord (w .cells) p 2 ∷ cellWord (w .cells) p 3 ∷ cellWord (w .cells) p 4 ∷ []) (w .frames)
 
-  unfoldable pub entersArm : Words → ℕ → ℕ → ℕ → Words
-  entersArm w p j i = withFrames w (armWords w p j) (onto (word f j 2) i)
+  unfoldable pub entersArm : Words → ℕ → ℕ → Words
+  entersArm w p j = withFrames w (armWords w p j) (T .entry j)
 
-  unfoldable pub switches : Words → ℕ → ℕ → ℕ → Words
-  switches w p cs i = entersArm w p (armOf f (cellWord (w .cells) p 0) (chainRecords f cs)) i
+  unfoldable pub switches : Words → ℕ → ℕ → Words
+  switches w p cs = entersArm w p (armOf f (cellWord (w .cells) p 0) (chainRecords f cs))
 
   -- ---- a call at record i: the callee's frame k over the caller's, with its in values and what its dead and kept regions stand for
-  unfoldable pub valuesIn : ℕ → List ℕ → List ℕ → List ℕ
-  valuesIn k as′ fw = copied (λ a. valuePlace (suc k) (T .slot a)) (λ a. valuePlace k (word f a 2)) (ofMode (T .mode) 1 as′) fw
+  unfoldable pub valuesIn : ℕ → ℕ → List ℕ → List ℕ
+  valuesIn k i fw = copied (λ a. valuePlace (suc k) (slotOf a)) (λ a. valuePlace k (givenOf a)) (T .passes inMode i) fw
 
   unfoldable pub regionsIn : ℕ → ℕ → List ℕ → List ℕ → List ℕ
   regionsIn k i rs fw = copied (λ r. regionPlace (suc k) r) (λ r. regionPlace k (T .image i r)) rs fw
 
-  unfoldable pub calleeWords : ℕ → ℕ → ℕ → ℕ → List ℕ → List ℕ
-  calleeWords k i q ys fw =
-      regionsIn k i (members (T .held q)) (valuesIn k (chainRecords f ys) (cleared (suc (goalPlace (suc k))) (blocks (T .size q)) (set (set fw (goalPlace k) (T .successor i)) (callPlace (suc k)) i)))
+  unfoldable pub calleeWords : ℕ → ℕ → ℕ → List ℕ → List ℕ
+  calleeWords k i q fw =
+      regionsIn k i (members (T .held q)) (valuesIn k i (cleared (suc (goalPlace (suc k))) (blocks (T .size q)) (set (set fw (goalPlace k) (T .successor i)) (callPlace (suc k)) i)))
 
-  unfoldable pub calls : Words → ℕ → ℕ → ℕ → Words
-  calls w i q ys =
+  unfoldable pub calls : Words → ℕ → ℕ → Words
+  calls w i q =
       record {
         heap = w .heap;
         cells = w .cells;
         regions = w .regions;
-        frames = calleeWords (w .top) i q ys (w .frames);
+        frames = calleeWords (w .top) i q (w .frames);
         prints = w .prints;
         top = suc (w .top);
         goal = T .body q;
@@ -200,14 +224,15 @@ module _ (f : List ℕ) (T : Tables) where
       }
 
   -- ---- a return to frame k: out values and born regions pass back to it
-  unfoldable pub valuesOut : ℕ → List ℕ → List ℕ → List ℕ
-  valuesOut k as′ fw = copied (λ a. valuePlace k (word f a 2)) (λ a. valuePlace (suc k) (T .slot a)) (ofMode (T .mode) 2 as′) fw
+  unfoldable pub valuesOut : ℕ → ℕ → List ℕ → List ℕ
+  valuesOut k i fw = copied (λ a. valuePlace k (givenOf a)) (λ a. valuePlace (suc k) (slotOf a)) (T .passes outMode i) fw
 
   unfoldable pub regionsOut : ℕ → ℕ → List ℕ → List ℕ → List ℕ
   regionsOut k i rs fw = copied (λ r. regionPlace k (T .image i r)) (λ r. regionPlace (suc k) r) rs fw
 
+  -- the call at record i made frame suc k; nothing passes where the file has no such record
   unfoldable pub returnWords : ℕ → ℕ → List ℕ → List ℕ
-  returnWords k i fw = regionsOut k i (members (T .bears (word f i 2))) (valuesOut k (chainRecords f (word f i 3)) fw)
+  returnWords k i fw = choose (ltb i (recordCount f)) (regionsOut k i (members (T .bears (word f i 2))) (valuesOut k i fw)) fw
 
   unfoldable pub returned : ℕ → Words → Words
   returned k w =
@@ -241,10 +266,10 @@ module _ (f : List ℕ) (T : Tables) where
   steps k i (Sum n x o y z) w = went (given w x (sumWord o (valueOf w y) (valueOf w z)) (T .successor i))
   steps k i (Assign n x y) w = went (given w x (valueOf w y) (T .successor i))
   steps k i (Construct n x t a b c d) w = constructed w x (T .successor i) (regionFor w (T .region i)) (contentsOf w t a b c d)
-  steps k i (Switch n x cs) w = went (switches w (valueOf w x) cs (T .successor i))
+  steps k i (Switch n x cs) w = went (switches w (valueOf w x) cs)
   steps k i (If n y z a b) w =
       went (withFrames w (w .frames) (onto (choose (less (toZ w32 (valueOf w y)) (toZ w32 (valueOf w z))) a b) (T .successor i)))
-  steps k i (Call n q ys) w = ifRoom (ltb (suc (w .top)) (k .frames)) Frames (calls w i q ys)
+  steps k i (Call n q ys) w = ifRoom (ltb (suc (w .top)) (k .frames)) Frames (calls w i q)
   steps k i (Print n y) w = ifRoom (ltb (w .printed) (k .prints)) Prints (printsWord w (valueOf w y) (T .successor i))
   steps k i (Create n r) w = makesRegion w r (T .successor i)
   steps k i (Remove n r) w = went (dropsRegion w (regionFor w r) (T .successor i))

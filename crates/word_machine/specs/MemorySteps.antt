@@ -15,7 +15,7 @@ use mir.Val.{toZ}
 use Rattle.sets.specs.Members.{inList}
 use Rattle.language.specs.declared.Stop.the-variants.{Cells, Places, Prints}
 use Rattle.language.specs.Lists.{put}
-use Rattle.language.specs.Program.{four, fourWords, argumentsOf, construct, print, create, remove, step, regionOf}
+use Rattle.language.specs.Program.{four, argumentsOf, construct, print, create, remove, step, regionOf}
 use Rattle.language.specs.Typing.{isVariable, isRegion}
 use Rattle.language.specs.Frames.{cellAt, numberIn, giving, cellFor}
 use Rattle.language.specs.AcceptedRun.{RegionFrame, RegionCell, Memory, withCell, withPrinted, withRegion, withoutRegion, withFrame, regionFor}
@@ -25,10 +25,12 @@ use Rattle.language.specs.Answers.{program}
 use Rattle.laws.specs.Choices.{put-same, put-other}
 use Rattle.chains.specs.Formed.{Formed}
 use Rattle.safety.specs.Premises.{Accepted, laws}
-use Rattle.region_graph.specs.Shared.{region-top}
+use Rattle.region_graph.specs.Shared.{variable-top, region-top}
+use Rattle.memory.specs.declared.Contents.{Contents}
 use Rattle.memory.specs.declared.Made.{Made}
 use Rattle.memory.specs.declared.Made.the-variants.{At, NoRoom}
-use Rattle.memory.specs.Memory.{built, created, createdRegions}
+use Rattle.memory.specs.Memory.{built, builtCells, builtRegions, created, createdRegions}
+use Rattle.heap.specs.Words.{wordsOf}
 use Rattle.heap.specs.Standing.{StandEach, stands-new, each-argument}
 use Rattle.heap.specs.Represents.{Creates, stops-12, creates, Builds, stops-11, builds}
 use Rattle.heap.specs.Reading.{alive-made, prints}
@@ -38,6 +40,7 @@ use Rattle.heap.specs.Removing.{remove-ok}
 use Rattle.word_machine.specs.Tables.{Tables, Tabled}
 use Rattle.word_machine.specs.Machine.{Words, valuePlace, regionPlace, valueOf, went, ifRoom, contentsOf, constructedBy, constructed, createdBy, makesRegion, dropsRegion, printsWord}
 use Rattle.word_machine.specs.Machine as M
+use Rattle.word_machine.specs.Trimmed.{term-functor, term-words}
 use Rattle.word_machine.specs.Statement.{Printed}
 use Rattle.word_machine.specs.Premises.{Number}
 use Rattle.word_machine.specs.Relation.{whereIn, Later, Names, sig, FrameOk, Waiting, Stored}
@@ -173,13 +176,26 @@ module _ {f : List ℕ} {T : Tables} (B : Tabled f T) (A : Accepted (program f))
         same-printed : Printed qs (w .prints) (w .printed) (withCell m new .printed)
         same-printed = Q .printed
 
-    argument-words : StandEach χ (length (m .cells)) (map (valueOf w) (fourWords (four a b c d))) (map (u .frame .values) (argumentsOf (four a b c d)))
-    argument-words = each-argument χ (length (m .cells)) (valueOf w) (u .frame .values) (four a b c d) (λ y h. value-means B A F K qs w u fs m ρ χ i G W Q y (vs y h))
+    argument-words : StandEach χ (length (m .cells)) (wordsOf (contentsOf w k a b c d)) (map (u .frame .values) (argumentsOf (four a b c d)))
+    unfolding contentsOf
+    argument-words =
+        term-words χ (length (m .cells)) (valueOf w) _ (u .frame .values) k a b c d (λ y h. variable-top _ _ (laws A (u .frame .procedure)) y (vs y h))
+        (each-argument χ (length (m .cells)) (valueOf w) (u .frame .values) (four a b c d) (λ y h. value-means B A F K qs w u fs m ρ χ i G W Q y (vs y h)))
+
+    functor-word : contentsOf w k a b c d .functor ≡ k
+    unfolding contentsOf
+    functor-word = term-functor (valueOf w) _ k a b c d
 
     pub construct-after : After B A F K qs (step (construct x k (four a b c d))) u fs m (roomOr (ltb (cellsHeld (m .alive) (m .cells)) (K .cells)) Cells)
         (constructed w x (T .successor i) (M.regionFor w r) (contentsOf w k a b c d))
-    unfolding constructed contentsOf cellFor fourWords regionFor
+    unfolding constructed cellFor regionFor
     construct-after =
         rw (is, region-word (regionOf (sig f (u .frame .procedure)) x) o l)
-        (construct-by (built (w .heap) (w .cells)) _ _
-        (build-ok (Q .represents) (regionFor (program f) u x) l (contentsOf w k a b c d) (map (u .frame .values) (argumentsOf (four a b c d))) argument-words))
+        (construct-by (built (w .heap) (w .cells)) _ _ (of-functor k (contentsOf w k a b c d) functor-word argument-words))
+      where
+        of-functor : (t : ℕ) (C : Contents) → C .functor ≡ t → StandEach χ (length (m .cells)) (wordsOf C) (map (u .frame .values) (argumentsOf (four a b c d)))
+            → Builds K (w .cells) (w .regions) m ρ χ (regionFor (program f) u x)
+            (record { functor = t; contents = map (u .frame .values) (argumentsOf (four a b c d)) }) (built (w .heap) (w .cells))
+            (builtCells (w .heap) (w .cells) (w .regions) (ρ (regionFor (program f) u x)) C)
+            (builtRegions (w .heap) (w .cells) (w .regions) (ρ (regionFor (program f) u x)))
+        of-functor t C e s = rw (← e) (build-ok (Q .represents) (regionFor (program f) u x) l C (map (u .frame .values) (argumentsOf (four a b c d))) s)

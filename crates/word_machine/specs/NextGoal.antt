@@ -121,7 +121,7 @@ module _ {f : List ℕ} {T : Tables} (B : Tabled f T) (A : Accepted (program f))
   is-call n p ys r =
       let z = O .is ∙ call-at F refl r .goal in
       let N = linked B A F i n p ys r (rw (O .mine) (typed _ z)) (rw (O .mine) (next-regioned A e fs m I _ rest (goals-are _ z))) in
-      rw (z, r) (call-after B A F K qs w u fs m ρ χ i (O .mine) G′ W′ Q n p ys r (rw (O .mine) at N))
+      rw (z, r) (call-after B A F K qs w u fs m ρ χ i (O .mine) G′ W′ Q p ys (rw (O .mine) at N))
 
   is-print : (n y : ℕ) → recordAt f i ≡ Print n y → Goes g
   unfolding outlookFor steps goalOk stepOk withFrame withGoals

@@ -8,7 +8,7 @@ use mathlib.Core.Logic.{_⊎_}
 use lib.ListN.{length, getD}
 use Rattle.sets.specs.Sets.{member}
 use Rattle.sets.specs.Members.{inList}
-use Rattle.language.specs.File.{word}
+use Rattle.language.specs.File.{word, recordCount}
 use Rattle.language.specs.Program.{Signature, signatureOf, parametersOf, argumentsIn, variablesIn}
 use Rattle.language.specs.Typing.{isVariable, isRegion}
 use Rattle.language.specs.Regions.{mapping, imageIn}
@@ -17,11 +17,10 @@ use Rattle.language.specs.Frames.{Value}
 use Rattle.language.specs.AcceptedRun.{RegionFrame, Memory}
 use Rattle.language.specs.Machine.{Room}
 use Rattle.language.specs.Answers.{program}
-use Rattle.chains.specs.Records.{chainRecords}
 use Rattle.heap.specs.Standing.{Stands, stands-more}
 use Rattle.heap.specs.Represents.{Represents}
-use Rattle.word_machine.specs.Tables.{Tables, Tabled}
-use Rattle.word_machine.specs.Machine.{Words, goalPlace, valuePlace, regionPlace, callPlace, ofMode}
+use Rattle.word_machine.specs.Tables.{Tables, slotOf, givenOf, Passed, Tabled}
+use Rattle.word_machine.specs.Machine.{frameWords, Words, goalPlace, valuePlace, regionPlace, callPlace}
 use Rattle.word_machine.specs.Statement.{Printed}
 use Rattle.word_machine.specs.Successors.{Todo}
 
@@ -64,17 +63,18 @@ sig f p = signatureOf (program f) p
 module _ {f : List ℕ} {T : Tables} (B : Tabled f T) where
   -- frame k of the words fw, whose next goal is at record i, stands for the frame e
   pub record FrameOk (fw : List ℕ) (k : ℕ) (L : Where) (i : ℕ) (e : RegionFrame) : Type 0 where
-    pub fits : 136 * suc k ≤ length fw
+    pub fits : frameWords * suc k ≤ length fw
     pub values : (x : ℕ) → 1 ≤ x → x ≤ 64 → isVariable (sig f (e .frame .procedure)) x ≡ true → Means L (getD fw (valuePlace k x) 0) (e .frame .values x)
     pub regions : (r : ℕ) → 1 ≤ r → r ≤ 64 → Names L (getD fw (regionPlace k r) 0) (e .stands r)
     pub todo : Todo B (e .frame .procedure) i (e .frame .goals)
 
   -- record i is a call of q with arguments zs, from procedure p
   pub record Linked (i p q : ℕ) (zs : List ℕ) : Type 0 where
+    pub there : i < recordCount f
     pub some : q < length (program f .procedures)
     pub callee : word f i 2 ≡ q
-    pub slots : (m : ℕ) → map (T .slot) (ofMode (T .mode) m (chainRecords f (word f i 3))) ≡ variablesIn m (sig f q)
-    pub places : (m : ℕ) → map (λ a. word f a 2) (ofMode (T .mode) m (chainRecords f (word f i 3))) ≡ argumentsIn m (parametersOf (sig f q)) zs
+    pub slots : (m : ℕ) → Passed m → map slotOf (T .passes m i) ≡ variablesIn m (sig f q)
+    pub places : (m : ℕ) → Passed m → map givenOf (T .passes m i) ≡ argumentsIn m (parametersOf (sig f q)) zs
     pub variables : (y : ℕ) → inList y zs ≡ true → isVariable (sig f p) y ≡ true
     pub images : (r : ℕ) → (member (startHeld (sig f q)) r ≡ true) ⊎ (member (born (sig f q)) r ≡ true)
         → (T .image i r ≡ imageIn (mapping (sig f p) (sig f q) zs) r) × (isRegion (sig f p) (T .image i r) ≡ true)
@@ -88,7 +88,7 @@ module _ {f : List ℕ} {T : Tables} (B : Tabled f T) where
 
   -- ---- words of a frame that stay as they are
   module _ {L L′ : Where} (t : Later L L′) {fw fw′ : List ℕ} (long : length fw′ ≡ length fw) where
-    pub frame-later : {k i : ℕ} {e : RegionFrame} → ((j : ℕ) → 1 ≤ j → j ≤ 128 → getD fw′ (136 * k + j) 0 ≡ getD fw (136 * k + j) 0)
+    pub frame-later : {k i : ℕ} {e : RegionFrame} → ((j : ℕ) → 1 ≤ j → j ≤ 128 → getD fw′ (frameWords * k + j) 0 ≡ getD fw (frameWords * k + j) 0)
         → FrameOk fw k L i e → FrameOk fw′ k L′ i e
     frame-later {k} {i} {e} same F = record {
       fits = omega (arith, F .fits);
@@ -98,14 +98,14 @@ module _ {f : List ℕ} {T : Tables} (B : Tabled f T) where
     }
       where
         place : (r : ℕ) → 1 ≤ r → r ≤ 64 → getD fw′ (regionPlace k r) 0 ≡ getD fw (regionPlace k r) 0
-        place r l h = let z : 136 * k + (64 + r) ≡ 136 * k + 64 + r = omega arith in rw (← z) (same (64 + r) (omega arith) (omega arith))
+        place r l h = let z : frameWords * k + (64 + r) ≡ frameWords * k + 64 + r = omega arith in rw (← z) (same (64 + r) (omega arith) (omega arith))
 
-    pub waiting-later : {q k : ℕ} {zs : List ℕ} {fs : List RegionFrame} → ((j : ℕ) → j < 136 * k → getD fw′ j 0 ≡ getD fw j 0)
+    pub waiting-later : {q k : ℕ} {zs : List ℕ} {fs : List RegionFrame} → ((j : ℕ) → j < frameWords * k → getD fw′ j 0 ≡ getD fw j 0)
         → getD fw′ (callPlace k) 0 ≡ getD fw (callPlace k) 0 → Waiting fw L q zs k fs → Waiting fw′ L′ q zs k fs
     waiting-later same call none = none
     waiting-later {q = q} {k = suc k} {zs = zs} same call (more {e = e} l F W) =
         let l′ : Linked (getD fw′ (callPlace (suc k)) 0) (e .frame .procedure) q zs = rw call l in
-        let F′ : FrameOk fw′ k L′ (getD fw′ (goalPlace k) 0) e = rw (same (goalPlace k) (omega arith)) (frame-later (λ j a b. same (136 * k + j) (omega arith)) F) in
+        let F′ : FrameOk fw′ k L′ (getD fw′ (goalPlace k) 0) e = rw (same (goalPlace k) (omega arith)) (frame-later (λ j a b. same (frameWords * k + j) (omega arith)) F) in
         more l′ F′ (waiting-later (λ j h. same j (omega arith)) (same (callPlace k) (omega arith)) W)
 
   pub waiting-depth : {fw : List ℕ} {L : Where} {q k : ℕ} {zs : List ℕ} {fs : List RegionFrame} → Waiting fw L q zs k fs → k ≡ length fs
@@ -121,5 +121,5 @@ module _ {f : List ℕ} {T : Tables} (B : Tabled f T) where
 pub record Stored (k : Room) (qs : List ℕ) (w : Words) (M : Memory) (ρ χ : ℕ → ℕ) : Type 0 where
   pub represents : Represents k (w .heap) (w .cells) (w .regions) M ρ χ
   pub printed : Printed qs (w .prints) (w .printed) (M .printed)
-  pub frame-room : 136 * k .frames ≤ length (w .frames)
+  pub frame-room : frameWords * k .frames ≤ length (w .frames)
   pub print-room : k .prints ≤ length (w .prints)

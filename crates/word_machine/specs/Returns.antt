@@ -5,25 +5,26 @@ use mathlib.Core.Path.{_≡_, refl, ap, _∙_}
 use mathlib.Core.Bool.{true}
 use mathlib.Core.List.{List, [], _∷_}
 use mathlib.Core.Logic.{_⊎_, inl, inr}
+use borrow.Author.Tests.{lt-ltb}
 use lib.ListN.{length, getD}
 use Rattle.sets.specs.Sets.{member}
 use Rattle.sets.specs.Members.{inList, members, membersFrom-in, cons-here, cons-later}
 use Rattle.language.specs.Lists.{put}
-use Rattle.language.specs.File.{word}
-use Rattle.language.specs.Program.{Goals, done, _then_, parametersOf}
+use Rattle.language.specs.File.{recordCount}
+use Rattle.language.specs.Program.{outMode, Goals, done, _then_, parametersOf}
 use Rattle.language.specs.Typing.{isVariable}
 use Rattle.language.specs.Regions.{mapping, imageIn}
 use Rattle.language.specs.Lifetimes.{born}
 use Rattle.language.specs.Frames.{returning, settle}
 use Rattle.language.specs.AcceptedRun.{RegionFrame, standEach, mappingFrom, returnStands, returningRegions}
 use Rattle.language.specs.Answers.{program}
+use Rattle.laws.specs.Choices.{choose-true}
 use Rattle.laws.specs.Lists.{image-listed}
 use Rattle.region_graph.specs.Parameters.{arguments-in, parameter-variable, mode-parameter}
 use Rattle.region_graph.specs.Shared.{variable-top, region-top}
-use Rattle.chains.specs.Records.{chainRecords}
 use Rattle.safety.specs.Premises.{Accepted, laws}
-use Rattle.word_machine.specs.Tables.{Tables, Tabled}
-use Rattle.word_machine.specs.Machine.{Words, valuePlace, regionPlace, callPlace, copied, ofMode, valuesOut, regionsOut, returnWords, returned, settledFrom}
+use Rattle.word_machine.specs.Tables.{Tables, slotOf, givenOf, Passed, Tabled}
+use Rattle.word_machine.specs.Machine.{frameWords, Words, valuePlace, regionPlace, callPlace, copied, valuesOut, regionsOut, returnWords, returned, settledFrom}
 use Rattle.word_machine.specs.Successors.{todo-end, todo-next}
 use Rattle.word_machine.specs.Copies.{copied-length, copied-other, copied-related, puts-give, puts-stand}
 use Rattle.word_machine.specs.Relation.{Where, Means, Names, not-later, sig, FrameOk, Linked, Waiting, none, more, waiting-later, Running}
@@ -44,23 +45,23 @@ stand-named name name′ meant (r ∷ rs) t h =
 
 module _ {f : List ℕ} {T : Tables} (B : Tabled f T) (A : Accepted (program f)) where
   -- ---- the variables that a call's arguments pass
-  module _ {i p q : ℕ} {zs : List ℕ} (N : Linked B i p q zs) (m : ℕ) where
+  module _ {i p q : ℕ} {zs : List ℕ} (N : Linked B i p q zs) (m : ℕ) (d : Passed m) where
     abbrev pub passing : List ℕ
-    passing = ofMode (T .mode) m (chainRecords f (word f i 3))
+    passing = T .passes m i
 
-    pub caller-variable : (a : ℕ) → inList a passing ≡ true → isVariable (sig f p) (word f a 2) ≡ true
+    pub caller-variable : (a : ℕ) → inList a passing ≡ true → isVariable (sig f p) (givenOf a) ≡ true
     caller-variable a h =
-        N .variables (word f a 2) (arguments-in m (parametersOf (sig f q)) zs (word f a 2) (rw (N .places m) at (image-listed (λ j. word f j 2) passing a h)))
+        N .variables (givenOf a) (arguments-in m (parametersOf (sig f q)) zs (givenOf a) (rw (N .places m d) at (image-listed givenOf passing a h)))
 
-    pub callee-variable : (a : ℕ) → inList a passing ≡ true → isVariable (sig f q) (T .slot a) ≡ true
+    pub callee-variable : (a : ℕ) → inList a passing ≡ true → isVariable (sig f q) (slotOf a) ≡ true
     callee-variable a h =
-        parameter-variable (sig f q) (T .slot a) (mode-parameter (sig f q) m (T .slot a) (rw (N .slots m) at (image-listed (T .slot) passing a h)))
+        parameter-variable (sig f q) (slotOf a) (mode-parameter (sig f q) m (slotOf a) (rw (N .slots m d) at (image-listed slotOf passing a h)))
 
-    pub caller-range : (a : ℕ) → inList a passing ≡ true → (1 ≤ word f a 2) × (word f a 2 ≤ 64)
-    caller-range a h = variable-top _ _ (laws A p) (word f a 2) (caller-variable a h)
+    pub caller-range : (a : ℕ) → inList a passing ≡ true → (1 ≤ givenOf a) × (givenOf a ≤ 64)
+    caller-range a h = variable-top _ _ (laws A p) (givenOf a) (caller-variable a h)
 
-    pub callee-range : (a : ℕ) → inList a passing ≡ true → (1 ≤ T .slot a) × (T .slot a ≤ 64)
-    callee-range a h = variable-top _ _ (laws A q) (T .slot a) (callee-variable a h)
+    pub callee-range : (a : ℕ) → inList a passing ≡ true → (1 ≤ slotOf a) × (slotOf a ≤ 64)
+    callee-range a h = variable-top _ _ (laws A q) (slotOf a) (callee-variable a h)
 
   -- ---- frame suc k, which stands for e, returns to frame k, which stands for u
   module _ {fw : List ℕ} {L : Where} {k i g : ℕ} {e u : RegionFrame} {fs : List RegionFrame} (F : FrameOk B fw (suc k) L i e)
@@ -70,38 +71,38 @@ module _ {f : List ℕ} {T : Tables} (B : Tabled f T) (A : Accepted (program f))
     c = getD fw (callPlace (suc k)) 0
 
     abbrev outs : List ℕ
-    outs = passing N 2
+    outs = passing N outMode (inr refl)
 
     abbrev borns : List ℕ
     borns = members (born (sig f (e .frame .procedure)))
 
     abbrev fw1 : List ℕ
-    fw1 = copied (λ a. valuePlace k (word f a 2)) (λ a. valuePlace (suc k) (T .slot a)) outs fw
+    fw1 = copied (λ a. valuePlace k (givenOf a)) (λ a. valuePlace (suc k) (slotOf a)) outs fw
 
     abbrev fw2 : List ℕ
     fw2 = copied (λ r. regionPlace k (T .image c r)) (λ r. regionPlace (suc k) r) borns fw1
 
     long1 : length fw1 ≡ length fw
-    long1 = copied-length (λ a. valuePlace k (word f a 2)) (λ a. valuePlace (suc k) (T .slot a)) outs fw
+    long1 = copied-length (λ a. valuePlace k (givenOf a)) (λ a. valuePlace (suc k) (slotOf a)) outs fw
 
     long2 : length fw2 ≡ length fw
     long2 = copied-length (λ r. regionPlace k (T .image c r)) (λ r. regionPlace (suc k) r) borns fw1 ∙ long1
 
     -- words that are no value of frame k stay, then those that are no region's of it
-    kept1 : (j : ℕ) → (j ≤ 136 * k) ⊎ (136 * k + 64 < j) → getD fw1 j 0 ≡ getD fw j 0
-    kept1 j o = copied-other (λ a. valuePlace k (word f a 2)) (λ a. valuePlace (suc k) (T .slot a)) outs fw j (λ a h z. differ a h z o)
+    kept1 : (j : ℕ) → (j ≤ frameWords * k) ⊎ (frameWords * k + 64 < j) → getD fw1 j 0 ≡ getD fw j 0
+    kept1 j o = copied-other (λ a. valuePlace k (givenOf a)) (λ a. valuePlace (suc k) (slotOf a)) outs fw j (λ a h z. differ a h z o)
       where
-        differ : (a : ℕ) → inList a outs ≡ true → j ≡ valuePlace k (word f a 2) → (j ≤ 136 * k) ⊎ (136 * k + 64 < j) → ⊥
-        differ a h z (inl o) = let r = caller-range N 2 a h in omega (arith, r .0)
-        differ a h z (inr o) = let r = caller-range N 2 a h in omega (arith, r .1)
+        differ : (a : ℕ) → inList a outs ≡ true → j ≡ valuePlace k (givenOf a) → (j ≤ frameWords * k) ⊎ (frameWords * k + 64 < j) → ⊥
+        differ a h z (inl o) = let r = caller-range N outMode (inr refl) a h in omega (arith, r .0)
+        differ a h z (inr o) = let r = caller-range N outMode (inr refl) a h in omega (arith, r .1)
 
     born-image : (r : ℕ) → inList r borns ≡ true → (1 ≤ T .image c r) × (T .image c r ≤ 64)
     born-image r h = region-top _ _ (laws A (u .frame .procedure)) (T .image c r) (N .images r (inr (members-range _ r h .0)) .1)
 
-    kept2 : (j : ℕ) → (j ≤ 136 * k + 64) ⊎ (136 * k + 128 < j) → getD fw2 j 0 ≡ getD fw1 j 0
+    kept2 : (j : ℕ) → (j ≤ frameWords * k + 64) ⊎ (frameWords * k + 128 < j) → getD fw2 j 0 ≡ getD fw1 j 0
     kept2 j o = copied-other (λ r. regionPlace k (T .image c r)) (λ r. regionPlace (suc k) r) borns fw1 j (λ r h z. differ r h z o)
       where
-        differ : (r : ℕ) → inList r borns ≡ true → j ≡ regionPlace k (T .image c r) → (j ≤ 136 * k + 64) ⊎ (136 * k + 128 < j) → ⊥
+        differ : (r : ℕ) → inList r borns ≡ true → j ≡ regionPlace k (T .image c r) → (j ≤ frameWords * k + 64) ⊎ (frameWords * k + 128 < j) → ⊥
         differ r h z (inl o) = let b = born-image r h in omega (arith, b .0)
         differ r h z (inr o) = let b = born-image r h in omega (arith, b .1)
 
@@ -109,12 +110,17 @@ module _ {f : List ℕ} {T : Tables} (B : Tabled f T) (A : Accepted (program f))
         → Means L (getD fw2 (valuePlace k x) 0) (returning (program f) (e .frame) (u .frame) .values x)
     unfolding returning
     out-values x l h v =
-        rw (kept2 (valuePlace k x) (inl (omega arith)), ← N .places 2, ← N .slots 2, ← puts-give (λ a. word f a 2) (T .slot) (e .frame .values) outs (u .frame .values))
-        (copied-related (Means L) (136 * k) (λ a. valuePlace k (word f a 2)) (λ a. valuePlace (suc k) (T .slot a)) (λ a. word f a 2)
-        (λ a. e .frame .values (T .slot a)) outs fw (u .frame .values) x
-        (λ a m. let r = caller-range N 2 a m in let s = callee-range N 2 a m in
-        (refl, omega (arith, r .1, G .fits), F .values (T .slot a) (s .0) (s .1) (callee-variable N 2 a m)))
-        (λ a b m n z. let r = caller-range N 2 a m in let s = callee-range N 2 b n in omega (arith, r .1, s .0))
+        rw (
+          kept2 (valuePlace k x) (inl (omega arith)),
+          ← N .places outMode (inr refl),
+          ← N .slots outMode (inr refl),
+          ← puts-give givenOf slotOf (e .frame .values) outs (u .frame .values),
+        )
+        (copied-related (Means L) (frameWords * k) (λ a. valuePlace k (givenOf a)) (λ a. valuePlace (suc k) (slotOf a)) givenOf
+        (λ a. e .frame .values (slotOf a)) outs fw (u .frame .values) x
+        (λ a m. let r = caller-range N outMode (inr refl) a m in let s = callee-range N outMode (inr refl) a m in
+        (refl, omega (arith, r .1, G .fits), F .values (slotOf a) (s .0) (s .1) (callee-variable N outMode (inr refl) a m)))
+        (λ a b m n z. let r = caller-range N outMode (inr refl) a m in let s = callee-range N outMode (inr refl) b n in omega (arith, r .1, s .0))
         (G .values x l h v))
 
     out-regions : (r : ℕ) → 1 ≤ r → r ≤ 64 → Names L (getD fw2 (regionPlace k r) 0)
@@ -126,7 +132,7 @@ module _ {f : List ℕ} {T : Tables} (B : Tabled f T) (A : Accepted (program f))
               (λ q m. N .images q (inr (members-range _ q m .0)) .0),
           ← puts-stand (T .image c) (e .stands) borns (u .stands),
         )
-        (copied-related (Names L) (136 * k + 64) (λ q. regionPlace k (T .image c q)) (λ q. regionPlace (suc k) q) (T .image c) (e .stands) borns fw1 (u .stands) r
+        (copied-related (Names L) (frameWords * k + 64) (λ q. regionPlace k (T .image c q)) (λ q. regionPlace (suc k) q) (T .image c) (e .stands) borns fw1 (u .stands) r
         (λ q m. let b = born-image q m in let s = members-range _ q m in
         (refl, omega (arith, b .1, G .fits, long1), rw (kept1 (regionPlace (suc k) q) (inr (omega arith))) (F .regions q (s .1) (s .2))))
         (λ a b m n z. let r = born-image a m in let s = members-range _ b n in omega (arith, r .1))
@@ -143,7 +149,7 @@ module _ {f : List ℕ} {T : Tables} (B : Tabled f T) (A : Accepted (program f))
 
     pub return-is : returnWords f T k c fw ≡ fw2
     unfolding returnWords regionsOut valuesOut
-    return-is = rw (N .callee, B .bears (e .frame .procedure) (N .some))
+    return-is = choose-true _ _ fw (lt-ltb c (recordCount f) (N .there)) ∙ (rw (N .callee, B .bears (e .frame .procedure) (N .some)))
 
   -- ---- a run that has gone on: it has ended, or its newest frame has a goal
   pub data Related (w : Words) (L : Where) (frames : List RegionFrame) : Type 0 where

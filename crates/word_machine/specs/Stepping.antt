@@ -16,7 +16,7 @@ use Rattle.language.specs.Answers.{program}
 use Rattle.region_graph.specs.Shared.{variable-top, region-top}
 use Rattle.safety.specs.Premises.{Accepted, laws}
 use Rattle.word_machine.specs.Tables.{Tables, Tabled}
-use Rattle.word_machine.specs.Machine.{valuePlace, regionPlace, callPlace}
+use Rattle.word_machine.specs.Machine.{frameWords, valuePlace, regionPlace, callPlace}
 use Rattle.word_machine.specs.Successors.{Todo}
 use Rattle.word_machine.specs.Copies.{set-related}
 use Rattle.word_machine.specs.Relation.{Where, Later, Means, Names, not-later, sig, FrameOk, Waiting, frame-later, waiting-later}
@@ -55,7 +55,7 @@ module _ {f : List ℕ} {T : Tables} (B : Tabled f T) (A : Accepted (program f))
       unfolding withFrame giving
       set-frame a s = record {
         fits = omega (arith, G .fits, long);
-        values = λ y l h u. set-related (Means L) (136 * k) fw x w a (e .frame .values) y (omega (arith, G .fits, high)) s (G .values y l h u);
+        values = λ y l h u. set-related (Means L) (frameWords * k) fw x w a (e .frame .values) y (omega (arith, G .fits, high)) s (G .values y l h u);
         regions = λ r l h. rw (other (regionPlace k r) (λ z. omega (arith, high))) (G .regions r l h);
         todo = G .todo;
       }
@@ -82,7 +82,7 @@ module _ {f : List ℕ} {T : Tables} (B : Tabled f T) (A : Accepted (program f))
       name-frame s n = record {
         fits = omega (arith, G .fits, long′);
         values = λ y l h u. rw (other′ (valuePlace k y) (λ z. omega (arith, low′))) (G .values y l h u);
-        regions = λ q l h. set-related (Names L) (136 * k + 64) fw r w s (e .stands) q (omega (arith, G .fits, high′)) n (G .regions q l h);
+        regions = λ q l h. set-related (Names L) (frameWords * k + 64) fw r w s (e .stands) q (omega (arith, G .fits, high′)) n (G .regions q l h);
         todo = G .todo;
       }
 

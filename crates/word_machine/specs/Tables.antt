@@ -1,15 +1,15 @@
 -- The tables that a run reads beside the file: worked out once, before the first step. How the code keeps them is its own affair.
-use Prim.Native.Nat.{ℕ, zero, suc, _<_}
+use Prim.Native.Nat.{ℕ, zero, suc, _/_, _%_, _<_}
 use mathlib.Core.Path.{_≡_}
 use mathlib.Core.Bool.{true}
-use mathlib.Core.List.{List, [], _∷_}
+use mathlib.Core.List.{List, map}
 use mathlib.Core.Logic.{_⊎_}
 use lib.ListN.{length}
 use Rattle.sets.specs.Sets.{member}
 use Rattle.sets.specs.declared.Set.{Set}
 use Rattle.language.specs.Lists.{nth}
 use Rattle.language.specs.File.{goals, arms, word}
-use Rattle.language.specs.Program.{Parameter, regionOf, signatureOf, parametersOf}
+use Rattle.language.specs.Program.{inMode, outMode, regionOf, signatureOf, parametersOf, argumentsIn, variablesIn}
 use Rattle.language.specs.Regions.{mapping, imageIn}
 use Rattle.language.specs.Lifetimes.{born, startHeld}
 use Rattle.language.specs.Answers.{program}
@@ -21,14 +21,25 @@ use Rattle.chains.specs.Records.{chainRecords}
 
 pub record Tables : Type 0 where
   pub successor : ℕ → ℕ  -- of a goal's record: the record of the goal that comes next, 0 at the procedure's end
+  pub entry : ℕ → ℕ  -- of an arm's record: the record of its first goal; where it has none, of the goal after the switch
   pub region : ℕ → ℕ  -- of a construct's record: the region number of X
-  pub slot : ℕ → ℕ  -- of a record of a call's argument: the callee's variable that it matches
-  pub mode : ℕ → ℕ  -- .. and that variable's mode
+  pub passes : ℕ → ℕ → List ℕ  -- of a mode and a call's record: what its arguments of that mode pass, a word for each (slotOf, givenOf)
   pub image : ℕ → ℕ → ℕ  -- of a call's record and a region of the callee: the caller's region
   pub body : ℕ → ℕ  -- of a procedure's number: the record of its first goal
   pub size : ℕ → ℕ  -- .. how many variables it has
   pub held : ℕ → Set  -- .. its dead and kept regions
   pub bears : ℕ → Set  -- .. its born regions
+
+-- what an argument passes, as one word: the callee's variable, the caller's, and more that means nothing here
+unfoldable pub slotOf : ℕ → ℕ
+slotOf w = w % 256
+
+unfoldable pub givenOf : ℕ → ℕ
+givenOf w = w / 256 % 256
+
+-- the modes that pass values: in and out
+abbrev pub Passed : ℕ → Type 0
+Passed m = (m ≡ inMode) ⊎ (m ≡ outMode)
 
 -- the first record of a chain, or where to go on if the chain is empty
 unfoldable pub onto : ℕ → ℕ → ℕ
@@ -38,12 +49,6 @@ onto (suc i) c = suc i
 -- a chain that starts at record w goes on at record c after its end, and is procedure p's
 abbrev pub Starts : (ℕ → ℕ) → (ℕ → ℕ) → ℕ → ℕ → ℕ → Type 0
 Starts onward owner w c p = (w ≡ 0 → ⊥) → (onward w ≡ c) × (owner w ≡ p)
-
--- the records of a call's arguments beside the callee's in and out variables
-abbrev pub Matches : Tables → List Parameter → List ℕ → Type 0
-Matches T [] as′ = Unit {0}
-Matches T (a ∷ ps) [] = Unit {0}
-Matches T (a ∷ ps) (j ∷ as′) = (T .slot j ≡ a .variable) × (T .mode j ≡ a .mode) × Matches T ps as′
 
 -- the record of a procedure's first goal
 abbrev pub bodyRecord : List ℕ → ℕ → ℕ
@@ -64,7 +69,10 @@ pub record Tabled (f : List ℕ) (T : Tables) : Type 0 where
   pub if-else : (i n y z a b : ℕ) → recordAt f i ≡ If n y z a b → Starts onward owner b (T .successor i) (owner i)
   pub bodies : (p : ℕ) → p < length (program f .procedures) → Starts onward owner (T .body p) 0 p
   pub region : (i n x k a b c d : ℕ) → recordAt f i ≡ Construct n x k a b c d → T .region i ≡ regionOf (signatureOf (program f) (owner i)) x
-  pub arguments : (i n q ys : ℕ) → recordAt f i ≡ Call n q ys → Matches T (parametersOf (signatureOf (program f) q)) (chainRecords f ys)
+  pub arm-entry : (i : ℕ) → Stands f arms i → (i ≡ 0 → ⊥) → T .entry i ≡ onto (word f i 2) (onward i)
+  pub slots : (i n q ys m : ℕ) → recordAt f i ≡ Call n q ys → Passed m → map slotOf (T .passes m i) ≡ variablesIn m (signatureOf (program f) q)
+  pub givens : (i n q ys m : ℕ) → recordAt f i ≡ Call n q ys → Passed m
+      → map givenOf (T .passes m i) ≡ argumentsIn m (parametersOf (signatureOf (program f) q)) (argumentsAt f ys)
   pub image : (i n q ys r : ℕ) → recordAt f i ≡ Call n q ys
       → (member (startHeld (signatureOf (program f) q)) r ≡ true) ⊎ (member (born (signatureOf (program f) q)) r ≡ true)
       → T .image i r ≡ imageIn (mapping (signatureOf (program f) (owner i)) (signatureOf (program f) q) (argumentsAt f ys)) r

@@ -2,16 +2,18 @@
 use Prim.Native.Nat.{ℕ, zero, suc, _+_, _-_, _≤_, _<_}
 use native.Mathlib.Omega.{arith}
 use mathlib.Core.Path.{_≡_, refl, sym, ap, _∙_}
-use mathlib.Core.List.{List, [], _∷_}
+use mathlib.Core.Bool.{true}
+use mathlib.Core.List.{List, [], _∷_, map}
 use mathlib.Core.Logic.{_≢_}
 use lib.ListN.{length, getD, replicate, length-replicate, getD-replicate}
 use Rattle.language.specs.Lists.{nth}
 use Rattle.language.specs.File.{GoalKind, kLiteral, kSum, kAssign, kConstruct, kSwitch, kIf, kCall, kPrint, kCreate, kRemove, kGoal, goals, arms, procedures, word, recordCount}
-use Rattle.language.specs.Program.{Parameter, signatureOf, parametersOf}
+use Rattle.language.specs.Program.{Parameter, signatureOf, parametersOf, argumentsIn, variablesIn}
+use Rattle.language.specs.Typing.{typingOk}
 use Rattle.language.specs.Answers.{program}
 use Rattle.records.specs.Records.{recordAs, recordAt}
 use Rattle.records.specs.declared.Record.the-variants.{Switch, If, Call}
-use Rattle.chains.specs.Formed.{Formed, Stands, counted, procedures-stand, program-procedures}
+use Rattle.chains.specs.Formed.{Formed, Stands, argumentsAt, counted, procedures-stand, program-procedures}
 use Rattle.chains.specs.Fields.{field-some}
 use Rattle.chains.specs.Is.{arm-is, procedure-is}
 use Rattle.word_machine.specs.GoalKinds.{goal-is}
@@ -20,7 +22,9 @@ use Rattle.chains.specs.Goals.{construct-at}
 use Rattle.chains.specs.Parts.{switch-at, if-at, call-at}
 use Rattle.chains.specs.Records.{chainRecords, records-none, records-step}
 use Rattle.chains.specs.Elements.{procedures-count}
-use Rattle.word_machine.specs.Tables.{onto, Starts, Matches, bodyRecord, Tabled}
+use Rattle.word_machine.specs.Tables.{slotOf, givenOf, onto, Starts, bodyRecord, Tabled}
+use Rattle.word_machine.specs.Passing.{packed, Matches}
+use Rattle.word_machine.specs.Arguments.{slots-passed, givens-passed}
 use Rattle.word_machine.specs.Filling.{referred, onwardWords, ownerWords, onwards, owners, slots, modes, tablesOf}
 use Rattle.word_machine.specs.FillingLaws.{Holds, filled-other, filled-holds}
 use Rattle.word_machine.specs.FormedTree.{formed-tree, first-free}
@@ -150,13 +154,18 @@ module _ {f : List ℕ} (F : Formed f) where
       rw (← w) (a .1 .0 (λ z. y (sym w ∙ z)), b .1 .0 (λ z. y (sym w ∙ z)) ∙ h .0 ∙ omega arith)
 
   -- ---- arguments
-  both-say : (ps : List Parameter) (js : List ℕ) → Says (λ a. a .variable) ps js (slots f) → Says (λ a. a .mode) ps js (modes f) → Matches (tablesOf f) ps js
-  unfolding tablesOf
+  abbrev pub Slot : ℕ → ℕ
+  Slot a = getD (slots f) a 0
+
+  abbrev pub Mode : ℕ → ℕ
+  Mode a = getD (modes f) a 0
+
+  both-say : (ps : List Parameter) (js : List ℕ) → Says (λ a. a .variable) ps js (slots f) → Says (λ a. a .mode) ps js (modes f) → Matches Slot Mode ps js
   both-say [] js a b = tt
   both-say (p ∷ ps) [] a b = tt
   both-say (p ∷ ps) (j ∷ js) a b = (a .0, b .0, both-say ps js (a .1) (b .1))
 
-  argument-matches : (i n q ys : ℕ) → recordAt f i ≡ Call n q ys → Matches (tablesOf f) (parametersOf (signatureOf (program f) q)) (chainRecords f ys)
+  pub argument-matches : (i n q ys : ℕ) → recordAt f i ≡ Call n q ys → Matches Slot Mode (parametersOf (signatureOf (program f) q)) (chainRecords f ys)
   unfolding slots modes
   argument-matches i n q ys e =
       let c = call-at F refl e in
@@ -164,9 +173,21 @@ module _ {f : List ℕ} (F : Formed f) where
       (matches-say F (λ a. a .variable) (recordCount f - 1) 1 (replicate 4096 0) few i n q ys e (omega (arith, c .some)) (omega (arith, c .some, c .below)))
       (matches-say F (λ a. a .mode) (recordCount f - 1) 1 (replicate 4096 0) few i n q ys e (omega (arith, c .some)) (omega (arith, c .some, c .below)))
 
-  pub tabled : Tabled f (tablesOf f)
+  -- ---- all tables, of a file that passes number 3
+  module _ (ok : typingOk (program f) ≡ true) (i n q ys m : ℕ) (e : recordAt f i ≡ Call n q ys) where
+    passed-here : (map slotOf (tablesOf f .passes m i) ≡ variablesIn m (signatureOf (program f) q))
+        × (map givenOf (tablesOf f .passes m i) ≡ argumentsIn m (parametersOf (signatureOf (program f) q)) (argumentsAt f ys))
+    unfolding tablesOf
+    passed-here =
+        let M = argument-matches i n q ys e in
+        rw (← call-at F refl e .w3) (
+          slots-passed F ok i n q ys e Slot Mode M (λ a. packed (Slot a) (word f a 2) 0) (λ a. 0) (λ a h. refl) m,
+          givens-passed F ok i n q ys e Slot Mode M (λ a. packed (Slot a) (word f a 2) 0) (λ a. 0) (λ a h. refl) m,
+        )
+
+  pub tabled : typingOk (program f) ≡ true → Tabled f (tablesOf f)
   unfolding tablesOf
-  tabled = record {
+  tabled ok = record {
     onward = Onward;
     owner = Owner;
     next = λ i s z. refl;
@@ -178,7 +199,9 @@ module _ {f : List ℕ} (F : Formed f) where
     if-else = λ i n y z a b e. if-parts i n y z a b e .1;
     bodies = body-starts;
     region = λ i n x k a b c d e. rw (construct-at F refl e .w2);
-    arguments = argument-matches;
+    arm-entry = λ i s z. refl;
+    slots = λ i n q ys m e d. passed-here ok i n q ys m e .0;
+    givens = λ i n q ys m e d. passed-here ok i n q ys m e .1;
     image = λ i n q ys r e h. let c = call-at F refl e in rw (c .w2, c .w3);
     body = λ p l. refl;
     size = λ p l. refl;

@@ -52,4 +52,4 @@ joined f e T B m rs fw ps l = rw e (from-gives f e T B m rs fw ps l _ refl)
 -- the tables that the passes of Filling give are such tables
 pub joined-filled : (f : List ℕ) → checked f ≡ Accepted → (m rs fw ps : List ℕ) (l : ℕ)
     → Gives ps (wordRun f (tablesOf f) m rs fw ps l) (ran f (lentWords m rs fw ps l))
-joined-filled f e = joined f e (tablesOf f) (tabled (accepted-formed f e))
+joined-filled f e = joined f e (tablesOf f) (tabled (accepted-formed f e) (accepted-program f e .typing))

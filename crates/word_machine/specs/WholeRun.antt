@@ -2,11 +2,15 @@
 use Prim.Native.Nat.{ℕ, zero, suc, _*_, _≤_, _<_}
 use native.Mathlib.Omega.{arith}
 use mathlib.Core.Path.{_≡_, refl, sym, ap, _∙_}
-use mathlib.Core.Bool.{false≢true}
+use mathlib.Core.Bool.{Bool, true, false, false≢true}
 use mathlib.Core.List.{List, [], _∷_}
+use lib.Dec.{ltb}
 use lib.ListN.{length, getD}
 use Rattle.sets.specs.Tests.{and-true}
+use Rattle.sets.specs.Members.{members}
 use Rattle.language.specs.declared.Ending.the-variants.{Stopped}
+use Rattle.language.specs.Lists.{choose}
+use Rattle.language.specs.File.{word, recordCount}
 use Rattle.language.specs.Program.{Goals, _then_, Goal, Program, procedureAt}
 use Rattle.language.specs.Typing.{typingOk}
 use Rattle.language.specs.Frames.{entryFrame, withGoals}
@@ -24,7 +28,7 @@ use Rattle.safety.specs.Safety.{steps-fine, taken, busy}
 use Rattle.heap.specs.Standing.{Stands}
 use Rattle.heap.specs.Reading.{starts}
 use Rattle.word_machine.specs.Tables.{Tables, Tabled}
-use Rattle.word_machine.specs.Machine.{Words, valuePlace, Went, cleared, blocks, valuesOut, regionsOut, returnWords, returned, settledFrom, settled, settledIf, steps, stepped, endedWith, afterStep, runOn, startWords, lentWords}
+use Rattle.word_machine.specs.Machine.{frameWords, Words, valuePlace, Went, cleared, blocks, valuesOut, regionsOut, returnWords, returned, settledFrom, settled, settledIf, steps, stepped, endedWith, afterStep, runOn, startWords, lentWords}
 use Rattle.word_machine.specs.Statement.{Gives}
 use Rattle.word_machine.specs.Copies.{copied-length, cleared-length, cleared-in, blocks-most, blocks-least}
 use Rattle.word_machine.specs.Relation.{whereIn, sig, FrameOk, none, Running, Stored}
@@ -59,8 +63,12 @@ fine-inv s e fs (over p d) z = absurd (false≢true (cc))
 module _ {f : List ℕ} {T : Tables} (B : Tabled f T) (A : Accepted (program f)) (F : Formed f) (K : Room) (qs : List ℕ) where
   -- ---- returns change frames only
   return-length : (k i : ℕ) (fw : List ℕ) → length (returnWords f T k i fw) ≡ length fw
-  unfolding returnWords regionsOut valuesOut
-  return-length k i fw = copied-length _ _ _ _ ∙ copied-length _ _ _ fw
+  unfolding returnWords regionsOut valuesOut choose
+  return-length k i fw = by (ltb i (recordCount f))
+    where
+      by : (b : Bool) → length (choose b (regionsOut f T k i (members (T .bears (word f i 2))) (valuesOut f T k i fw)) fw) ≡ length fw
+      by true = copied-length _ _ _ _ ∙ copied-length _ _ _ fw
+      by false = refl
 
   settled-stored : {m : Memory} {ρ χ : ℕ → ℕ} (k i : ℕ) (w : Words) → Stored K qs w m ρ χ → Stored K qs (settledFrom f T k i w) m ρ χ
   unfolding settledFrom returned
@@ -156,7 +164,7 @@ module _ {f : List ℕ} {T : Tables} (B : Tabled f T) (A : Accepted (program f))
     unfolding typingOk
     entry-some = let a = among-in _ (length (program f .procedures)) (and-true (and-true (A .typing) .1) .0) in omega (arith, a .0)
 
-    room : 136 * K .frames ≤ length fw
+    room : frameWords * K .frames ≤ length fw
     unfolding roomIn lentWords holds
     room = rw k (omega arith)
 

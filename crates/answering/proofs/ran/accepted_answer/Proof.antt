@@ -1,7 +1,8 @@
 -- `accepted_answer` meets its contract.
 use native.Mathlib.Omega.{arith}
 use borrow.Author.Needs.{needs}
-use Rattle.answering.specs.Ran.{lent-is, prints-run, printed-fit, few-printed}
+use Rattle.running.specs.Lent.{lent-is}
+use Rattle.answering.specs.Ran.{prints-run, printed-fit, few-printed}
 use Rattle.answering.proofs.ran.accepted_answer.Statement.{statement}
 use Rattle.answering.proofs.ran.accepted_answer.Tie as tie
 

@@ -1,98 +1,122 @@
-use Rattle.machine.specs.Calls.{call-as}
-use mathlib.Core.Path.{ap, sym, _∙_}
-use mathlib.Core.List.{List}
-use Prim.Native.Nat.{ℕ}
-use lib.ListN.{getD}
-use Rattle.tables.specs.Window.{bodyPlace}
-use Rattle.tables.specs.Starts.{window-lent, windowIn}
-use Rattle.frames.specs.Strays.{whole}
-use Rattle.machine.specs.Calls.{call-as, entered}
+use native.Mathlib.Omega.{arith}
+use mathlib.Core.Path.{refl}
+use Rattle.machine.specs.Calls.{call-as, pictured}
 use borrow.Author.Needs.{needs}
 use Rattle.machine.proofs.calls.call.Statement.{statement}
 use Rattle.machine.proofs.calls.call.Tie as tie
 use Rattle.machine.proofs.calls.call.Reads as reads
 use Rattle.machine.proofs.calls.call.Lts as lts
-use Rattle.machine.proofs.calls.enter.Reads as enter-reads
+use Rattle.frames.proofs.clear.Reads as clear-reads
+use Rattle.frames.proofs.regions_in.Reads as regions-in-reads
+use Rattle.frames.proofs.values_in.Reads as values-in-reads
+use Rattle.machine.proofs.calls.body_of.Reads as body-of-reads
+use Rattle.machine.proofs.calls.callee_word.Reads as callee-word-reads
+use Rattle.machine.proofs.calls.mark.Reads as mark-reads
+use Rattle.machine.proofs.calls.size_of.Reads as size-of-reads
+use Rattle.machine.proofs.goals.successor.Reads as successor-reads
 use Rattle.records.proofs.word_in.Reads as word-in-reads
-use Rattle.tables.proofs.word_at.Reads as word-at-reads
-use Rattle.tables.proofs.start_of.Reads as start-of-reads
+use Rattle.sets.proofs.Set.loaded.Reads as loaded-reads
 
--- src/calls.rt:120:33
+-- src/calls.rt:98:9
 word-in-requires : tie.Need-word-in-requires
-word-in-requires c κs = let w = whole (c .before .before .before .before .pre .0) (c .before .before .before .before .args .i) (c .before .before .before .before .pre .1 .0 .0) in search needs
+word-in-requires c κs = search needs
 
--- src/calls.rt:120:9
-start-of-requires : tie.Need-start-of-requires
-start-of-requires c κs = search needs
+-- src/calls.rt:99:31
+successor-requires : tie.Need-successor-requires
+successor-requires c κs = search needs
 
--- src/calls.rt:121:31
-mul-enter : tie.Need-mul-enter
-mul-enter c = search needs
+-- src/calls.rt:99:31
+cast-mark : tie.Need-cast-mark
+cast-mark c = omega (arith, c .successor .ensures, c .before .before .before .before .before .before .pre .1 .0 .goals _ (c .before .before .before .before .before .before .pre .0 .0))
 
--- src/calls.rt:121:31
-sub-enter : tie.Need-sub-enter
-sub-enter c = search needs
+-- src/calls.rt:99:58
+cast-mark-2 : tie.Need-cast-mark-2
+cast-mark-2 c = search needs
 
--- src/calls.rt:121:31
-part-enter-start : tie.Need-part-enter-start
-part-enter-start c = search needs
+-- src/calls.rt:99:5
+mark-requires : tie.Need-mark-requires
+mark-requires c κs = search needs
 
--- src/calls.rt:121:31
-part-enter-end : tie.Need-part-enter-end
-part-enter-end c = search needs
+-- src/calls.rt:100:28
+add-clear : tie.Need-add-clear
+add-clear c = search needs
 
--- src/calls.rt:121:5
-enter-requires : tie.Need-enter-requires
-enter-requires c κs = search needs
+-- src/calls.rt:100:28
+add-clear-2 : tie.Need-add-clear-2
+add-clear-2 c = search needs
 
--- src/calls.rt:122:13
-mul-word-at : tie.Need-mul-word-at
-mul-word-at c = search needs
+-- src/calls.rt:100:50
+size-of-requires : tie.Need-size-of-requires
+size-of-requires c κs = search needs
 
--- src/calls.rt:122:13
-sub-word-at : tie.Need-sub-word-at
-sub-word-at c = search needs
+-- src/calls.rt:100:5
+clear-requires : tie.Need-clear-requires
+clear-requires c κs = search needs
 
--- src/calls.rt:122:13
-part-word-at-start : tie.Need-part-word-at-start
-part-word-at-start c = search needs
+-- src/calls.rt:101:5
+values-in-requires : tie.Need-values-in-requires
+values-in-requires c κs = search needs
 
--- src/calls.rt:122:13
-part-word-at-end : tie.Need-part-word-at-end
-part-word-at-end c = search needs
+-- src/calls.rt:102:28
+callee-word-requires : tie.Need-callee-word-requires
+callee-word-requires c κs = search needs
 
--- src/calls.rt:122:5
-word-at-requires : tie.Need-word-at-requires
-word-at-requires c κs = search needs
+-- src/calls.rt:102:9
+loaded-requires : tie.Need-loaded-requires
+loaded-requires c κs = search needs
 
--- src/calls.rt:104:1
+-- src/calls.rt:103:35
+add-regions-in : tie.Need-add-regions-in
+add-regions-in c = search needs
+
+-- src/calls.rt:103:30
+mul-regions-in : tie.Need-mul-regions-in
+mul-regions-in c = search needs
+
+-- src/calls.rt:103:30
+element-copy-out-regions-in : tie.Need-element-copy-out-regions-in
+element-copy-out-regions-in c = search needs
+
+-- src/calls.rt:103:5
+regions-in-requires : tie.Need-regions-in-requires
+regions-in-requires c κs = (pictured (c .before .before .before .before .before .before .before .before .before .before .before .before .before .before .before .before .before .before .before .before .before .before .pre .1 .0) _ (c .before .before .before .before .before .before .before .before .before .before .before .before .before .before .before .before .before .before .before .before .before .before .pre .0 .0), search needs)
+
+-- src/calls.rt:104:5
+body-of-requires : tie.Need-body-of-requires
+body-of-requires c κs = search needs
+
+-- src/calls.rt:82:1
 same-length : tie.Need-same-length
 same-length c = search needs
 
--- src/calls.rt:104:1
+-- src/calls.rt:82:1
 returns : tie.Need-returns
-returns c =
-    let l = window-lent (c .before .before .before .before .before .before .before .before .before .before .before .before .before .args .table .now) _ (c .before .before .before .before .before .before .before .start-of .ensures .0) in
-    let q = c .before .before .before .before .before .before .before .before .word-in .ensures .0 in (
-      c .word-at .ensures ∙ ap (λ (t : List ℕ). getD t bodyPlace 0) l ∙ ap (λ (p : ℕ). getD (windowIn (c .before .before .before .before .before .before .before .before .before .before .before .before .before .args .table .now) p) bodyPlace 0) q,
-      λ k e. call-as _ _ _ _ k _ _ _ _ _ _ e l q (c .before .before .before .before .enter .ensures),
-    )
+returns c = (
+  rw (← c .before .before .before .before .before .before .before .before .before .before .before .before .before .before .before .before .before .before .before .before .before .before .word-in .ensures .0) (c .body-of .ensures),
+  λ k e. call-as _ _ _ _ k _ _ _ _ _ _ _ _ _ _ _ _ _ e (c .before .before .before .before .before .before .before .before .before .before .before .before .before .before .before .before .before .before .before .before .before .before .word-in .ensures .0) (c .before .before .before .before .before .before .before .before .before .before .before .before .before .before .before .before .before .before .before .before .successor .ensures) (c .before .before .before .before .before .before .before .before .before .before .before .before .before .before .before .before .before .before .before .mark .ensures) (c .before .before .before .before .before .before .before .before .before .before .before .before .before .before .before .size-of .ensures) (c .before .before .before .before .before .before .before .before .before .before .before .before .before .before .clear .ensures)
+      (c .before .before .before .before .before .before .before .before .before .before .values-in .ensures) (c .before .before .before .before .before .before .before .callee-word .ensures) (c .before .before .before .before .before .before .loaded .ensures) refl (c .before .before .before .regions-in .ensures),
+)
 
 pub call-spec : {M : Type 1} → statement M
 call-spec =
     tie.close
     (tie.spec
     word-in-requires
-    start-of-requires
-    mul-enter
-    sub-enter
-    part-enter-start
-    part-enter-end
-    enter-requires
-    mul-word-at
-    sub-word-at
-    part-word-at-start
-    part-word-at-end
-    word-at-requires
+    successor-requires
+    cast-mark
+    cast-mark-2
+    mark-requires
+    add-clear
+    add-clear-2
+    size-of-requires
+    clear-requires
+    values-in-requires
+    callee-word-requires
+    loaded-requires
+    add-regions-in
+    mul-regions-in
+    element-copy-out-regions-in
+    regions-in-requires
+    body-of-requires
     same-length
     returns)

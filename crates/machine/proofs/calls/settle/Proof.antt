@@ -6,7 +6,7 @@ use mathlib.Core.List.{List}
 use lib.ListN.{length}
 use Rattle.memory.specs.declared.Heap.{Heap}
 use Rattle.plans.specs.Plan.{tablesIn}
-use Rattle.word_machine.specs.Machine.{settledFrom, settled}
+use Rattle.word_machine.specs.Machine.{frameWords, settledFrom, settled}
 use Rattle.machine.specs.Words.{wordsOf}
 use Rattle.machine.specs.Calls.{settle-first, settle-entry, settle-goal, settle-return, return-length}
 use borrow.Author.Needs.{needs}
@@ -18,17 +18,17 @@ use Rattle.machine.proofs.calls.settle.Lts as lts
 use Rattle.machine.proofs.calls.give_back.Reads as give-back-reads
 
 abbrev Inv-loop : tie.InvT-loop
-Inv-loop file plan images table frames₀ printed top₀ at₀ goal₀ frames top at goal =
+Inv-loop file plan images callees frames₀ printed top₀ at₀ goal₀ frames top at goal =
     ((h : Heap) (m rs ps : List ℕ)
-    → settledFrom file (tablesIn file plan images table) top goal (wordsOf h m rs frames ps (record { top = top; at = at; goal = goal; printed = printed }))
-    ≡ settled file (tablesIn file plan images table) (wordsOf h m rs frames₀ ps (record { top = top₀; at = at₀; goal = goal₀; printed = printed })))
-    × (length frames ≡ length frames₀) × (at ≡ 136 * top) × (at + 136 ≤ length frames)
+    → settledFrom file (tablesIn plan images callees) top goal (wordsOf h m rs frames ps (record { top = top; at = at; goal = goal; printed = printed }))
+    ≡ settled file (tablesIn plan images callees) (wordsOf h m rs frames₀ ps (record { top = top₀; at = at₀; goal = goal₀; printed = printed })))
+    × (length frames ≡ length frames₀) × (at ≡ frameWords * top) × (at + frameWords ≤ length frames)
 
 abbrev μ-loop : tie.MeasureT-loop
-μ-loop file plan images table frames₀ printed top₀ at₀ goal₀ frames top at goal = top
+μ-loop file plan images callees frames₀ printed top₀ at₀ goal₀ frames top at goal = top
 
 loop-holds : tie.Need-loop-holds Inv-loop μ-loop
-loop-holds c = ((λ h m rs ps. settle-first _ _ h m rs ps _ _ _ _ _), refl, c .before .before .before .before .pre .1 .place, c .before .before .before .before .pre .1 .fits)
+loop-holds c = ((λ h m rs ps. settle-first _ _ h m rs ps _ _ _ _ _), refl, c .before .before .before .pre .0 .1 .place, c .before .before .before .pre .0 .1 .fits)
 
 same-length : tie.Need-same-length Inv-loop μ-loop
 same-length c = c .before .before .loop .inv .1
@@ -57,7 +57,7 @@ give-back-requires : tie.Need-give-back-requires Inv-loop μ-loop
 give-back-requires c κs =
     let l = c .before .before .before .before .before .loop .inv in
     let z = c .before .before .before .if1 .left in
-    (c .before .before .before .before .before .before .before .before .before .before .pre .0, omega (arith, l .2, l .3, z))
+    (c .before .before .before .before .before .before .before .before .before .pre .0 .0, (c .before .before .before .before .before .before .before .before .before .pre .1, omega (arith, l .2, l .3, z)))
 
 loop-less : tie.Need-loop-less Inv-loop μ-loop
 loop-less c = omega (arith, c .before .before .before .before .before .before .if1 .left, c .before .before .before .before .before .before .before .before .loop .inv .2)
@@ -67,7 +67,7 @@ loop-again c =
     let l = c .before .before .before .before .before .before .before .before .loop in
     let z = c .before .before .before .before .before .before .if1 .left in
     let g = c .before .before .give-back .ensures (l .top - 1) (omega (arith, z, l .inv .2)) in (
-      (λ h m rs ps. settle-return _ _ h m rs ps _ _ _ _ _ _ _ (l .frames) _ (omega (arith, z, l .inv .2)) (c .before .before .before .before .before .before .before .loop-test .taken) (omega (arith, z, l .inv .2)) (c .before .before .before .before .wide .ensures .0) g ∙ l .inv .0 h m rs ps),
+      (λ h m rs ps. settle-return _ _ h m rs ps _ _ _ _ _ _ _ (l .frames) _ (omega (arith, z, l .inv .2)) (c .before .before .before .before .before .before .before .loop-test .taken) (omega (arith, z, l .inv .2)) (c .before .before .before .before .wide .ensures) g ∙ l .inv .0 h m rs ps),
       ap length g ∙ return-length _ _ _ _ (l .frames) ∙ l .inv .1,
       omega (arith, z, l .inv .2),
       omega (arith, z, l .inv .2, l .inv .3, ap length g ∙ return-length _ _ _ _ (l .frames)),

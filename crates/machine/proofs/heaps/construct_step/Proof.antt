@@ -1,3 +1,4 @@
+use Rattle.machine.specs.Numbers.{construct-low}
 use mathlib.Core.Path.{refl}
 use Rattle.machine.specs.Heaps.{construct-keeps, construct-lacks}
 use Rattle.frames.specs.Strays.{whole}
@@ -6,7 +7,7 @@ use Rattle.machine.proofs.heaps.construct_step.Statement.{statement}
 use Rattle.machine.proofs.heaps.construct_step.Tie as tie
 
 construct-requires : tie.Need-construct-requires
-construct-requires c κs = let w = whole (c .before .before .before .before .before .before .before .pre .0) (c .before .before .before .before .before .before .before .args .state .goal) (c .before .before .before .before .before .before .before .pre .1 .0) in search needs
+construct-requires c κs = let p = c .before .before .before .before .before .before .before .pre in let w = whole (p .0 .0) _ (p .1 .0) in ((w .0, w .1, p .1 .2 .fits), construct-low (p .0 .1) _ refl (p .1 .1))
 
 enum-known-made : tie.Need-enum-known-made
 enum-known-made c = search needs
@@ -24,9 +25,7 @@ same-length-3 : tie.Need-same-length-3
 same-length-3 c = search needs
 
 returns : tie.Need-returns
-returns c =
-    λ images table. construct-lacks _ _ _ _ _ _ _ _ _ (c .before .before .before .before .before .before .before .before .before .before .before .before .before .before .before .before .pre .1 .2 .place) _ refl _ _ _ _ (c .before .before .before .before .before .before .before .before .before .before .before .before .before .before .before .before .pre .1 .1) (c .before .before .before .before .before .before .before .before .construct .ensures .0) (c .before .before .before .before .before .before .before .before .construct .ensures .1 .0) (c .before .before .before .before .before .before .before .before .construct .ensures .1 .1 .0) (c .before .before .before .before .before .before .before .before .construct .ensures .1 .1 .1)
-    (c .enum-told .given .1)
+returns c = λ images callees. construct-lacks _ _ _ _ _ _ _ _ _ (c .before .before .before .before .before .before .before .before .before .before .before .before .before .before .before .before .pre .1 .2 .place) _ refl _ _ _ _ (c .before .before .before .before .before .before .before .before .before .before .before .before .before .before .before .before .pre .1 .1) (c .before .before .before .before .before .before .before .before .construct .ensures) (c .enum-told .given .1)
 
 same-length-4 : tie.Need-same-length-4
 same-length-4 c = search needs
@@ -38,9 +37,7 @@ same-length-6 : tie.Need-same-length-6
 same-length-6 c = search needs
 
 returns-2 : tie.Need-returns-2
-returns-2 c =
-    λ images table. construct-keeps _ _ _ _ _ _ _ _ _ (c .before .before .before .before .before .before .before .before .before .before .before .before .before .before .before .before .before .pre .1 .2 .place) _ refl _ _ _ _ (c .before .before .before .before .before .before .before .before .before .before .before .before .before .before .before .before .before .pre .1 .1) (c .before .before .before .before .before .before .before .before .before .construct .ensures .0) (c .before .before .before .before .before .before .before .before .before .construct .ensures .1 .0) (c .before .before .before .before .before .before .before .before .before .construct .ensures .1 .1 .0) (c .before .before .before .before .before .before .before .before .before .construct .ensures .1 .1 .1) _ _
-    (c .before .made .given .1)
+returns-2 c = λ images callees. construct-keeps _ _ _ _ _ _ _ _ _ (c .before .before .before .before .before .before .before .before .before .before .before .before .before .before .before .before .before .pre .1 .2 .place) _ refl _ _ _ _ (c .before .before .before .before .before .before .before .before .before .before .before .before .before .before .before .before .before .pre .1 .1) (c .before .before .before .before .before .before .before .before .before .construct .ensures) _ _ (c .before .made .given .1)
 
 pub construct-step-spec : {M : Type 1} → statement M
 construct-step-spec =

@@ -1,3 +1,4 @@
+use Rattle.machine.specs.Numbers.{create-low}
 use mathlib.Core.Path.{refl}
 use Rattle.machine.specs.Heaps.{create-keeps, create-lacks}
 use Rattle.frames.specs.Strays.{whole}
@@ -6,7 +7,7 @@ use Rattle.machine.proofs.heaps.create_step.Statement.{statement}
 use Rattle.machine.proofs.heaps.create_step.Tie as tie
 
 make-region-requires : tie.Need-make-region-requires
-make-region-requires c κs = let w = whole (c .before .before .before .before .before .pre .0) (c .before .before .before .before .before .args .state .goal) (c .before .before .before .before .before .pre .1 .0) in search needs
+make-region-requires c κs = let p = c .before .before .before .before .before .pre in ((whole (p .0 .0) _ (p .1 .0) .1, p .1 .2 .fits), create-low (p .0 .1) _ refl (p .1 .1))
 
 enum-known-made : tie.Need-enum-known-made
 enum-known-made c = search needs
@@ -22,7 +23,7 @@ same-length-2 c = search needs
 
 returns : tie.Need-returns
 returns c =
-    λ images table m. create-lacks _ _ _ _ _ _ _ _ _ (c .before .before .before .before .before .before .before .before .before .before .before .before .pre .1 .2 .place) _ refl _ _ _ (c .before .before .before .before .before .before .before .before .before .before .before .before .pre .1 .1) (c .before .before .before .before .before .before .make-region .ensures .0) (c .before .before .before .before .before .before .make-region .ensures .1 .0) (c .before .before .before .before .before .before .make-region .ensures .1 .1)
+    λ images callees m. create-lacks _ _ _ _ _ _ _ _ _ (c .before .before .before .before .before .before .before .before .before .before .before .before .pre .1 .2 .place) _ refl _ _ _ (c .before .before .before .before .before .before .before .before .before .before .before .before .pre .1 .1) (c .before .before .before .before .before .before .make-region .ensures .0) (c .before .before .before .before .before .before .make-region .ensures .1 .0) (c .before .before .before .before .before .before .make-region .ensures .1 .1)
     (c .enum-told .given .1)
 
 same-length-3 : tie.Need-same-length-3
@@ -33,7 +34,7 @@ same-length-4 c = search needs
 
 returns-2 : tie.Need-returns-2
 returns-2 c =
-    λ images table m. create-keeps _ _ _ _ _ _ _ _ _ (c .before .before .before .before .before .before .before .before .before .before .before .before .before .pre .1 .2 .place) _ refl _ _ _ (c .before .before .before .before .before .before .before .before .before .before .before .before .before .pre .1 .1) (c .before .before .before .before .before .before .before .make-region .ensures .0) (c .before .before .before .before .before .before .before .make-region .ensures .1 .0) (c .before .before .before .before .before .before .before .make-region .ensures .1 .1) _ _
+    λ images callees m. create-keeps _ _ _ _ _ _ _ _ _ (c .before .before .before .before .before .before .before .before .before .before .before .before .before .pre .1 .2 .place) _ refl _ _ _ (c .before .before .before .before .before .before .before .before .before .before .before .before .before .pre .1 .1) (c .before .before .before .before .before .before .before .make-region .ensures .0) (c .before .before .before .before .before .before .before .make-region .ensures .1 .0) (c .before .before .before .before .before .before .before .make-region .ensures .1 .1) _ _
     (c .before .made .given .1)
 
 pub create-step-spec : {M : Type 1} → statement M

@@ -1,3 +1,5 @@
+use mathlib.Core.Path.{refl}
+use Rattle.machine.specs.Numbers.{remove-low}
 use mathlib.Core.Path.{_∙_, sym}
 use mathlib.Core.Path.{_≡_}
 use Rattle.frames.specs.Strays.{whole}
@@ -13,7 +15,7 @@ use Rattle.machine.proofs.heaps.create_step.Reads as create-step-reads
 use Rattle.records.proofs.word_in.Reads as word-in-reads
 
 word-in-requires : tie.Need-word-in-requires
-word-in-requires c κs = let w = whole (c .before .before .before .before .pre .0) (c .before .before .before .before .args .state .goal) (c .before .before .before .before .pre .1 .0 .0) in search needs
+word-in-requires c κs = let w = whole (c .before .before .before .before .pre .0 .0) (c .before .before .before .before .args .state .goal) (c .before .before .before .before .pre .1 .0 .0) in search needs
 
 construct-step-requires : tie.Need-construct-step-requires
 construct-step-requires c κs = let p = c .before .before .before .before .before .before .before .before .before .pre in (p .0, (p .1 .0 .0, sym (c .before .before .before .before .word-in .ensures .0) ∙ c .before .before .before .match .keys1, p .1 .0 .1))
@@ -22,7 +24,7 @@ create-step-requires : tie.Need-create-step-requires
 create-step-requires c κs = let p = c .before .before .before .before .before .before .before .before .pre in (p .0, (p .1 .0 .0, sym (c .before .before .before .word-in .ensures .0) ∙ c .before .before .match .keys2, p .1 .0 .1))
 
 drop-region-requires : tie.Need-drop-region-requires
-drop-region-requires c κs = let w = whole (c .before .before .before .before .before .before .before .before .before .pre .0) (c .before .before .before .before .before .before .before .before .before .args .state .goal) (c .before .before .before .before .before .before .before .before .before .pre .1 .0 .0) in search needs
+drop-region-requires c κs = let p = c .before .before .before .before .before .before .before .before .before .pre in let e = c .before .before .before .before .word-in .ensures .0 in let m = c .before .before .before .match .rest in ((whole (p .0 .0) _ (p .1 .0 .0) .1, p .1 .0 .1 .fits), remove-low (p .0 .1) _ refl (remaining _ (p .1 .1) (λ z. m .0 .1 (e ∙ z)) (λ z. m .1 (e ∙ z))))
 
 same-length : tie.Need-same-length
 same-length c = search needs
@@ -43,7 +45,7 @@ same-length-5 : tie.Need-same-length-5
 same-length-5 c = search needs
 
 returns-2 : tie.Need-returns-2
-returns-2 c = λ images table. c .before .before .before .before .create-step .ensures images table _
+returns-2 c = λ images callees. c .before .before .before .before .create-step .ensures images callees _
 
 same-length-6 : tie.Need-same-length-6
 same-length-6 c = search needs
@@ -56,7 +58,7 @@ same-length-8 c = search needs
 
 returns-3 : tie.Need-returns-3
 returns-3 c =
-    λ images table. remove-keeps _ _ _ _ _ _ _ _ _ (c .before .before .before .before .before .before .before .before .before .before .before .before .before .before .pre .1 .0 .1 .place) _ (c .before .before .before .before .before .before .before .before .before .word-in .ensures .0) _ _ _
+    λ images callees. remove-keeps _ _ _ _ _ _ _ _ _ (c .before .before .before .before .before .before .before .before .before .before .before .before .before .before .pre .1 .0 .1 .place) _ (c .before .before .before .before .before .before .before .before .before .word-in .ensures .0) _ _ _
     (c .before .before .before .before .before .before .before .before .before .word-in .ensures .0 ∙ remaining _ (c .before .before .before .before .before .before .before .before .before .before .before .before .before .before .pre .1 .1) (λ z. c .before .before .before .before .before .before .before .before .match .rest .0 .1 (c .before .before .before .before .before .before .before .before .before .word-in .ensures .0 ∙ z)) (λ z. c .before .before .before .before .before .before .before .before .match .rest .1 (c .before .before .before .before .before .before .before .before .before .word-in .ensures .0 ∙ z))) (c .before .before .before .before .drop-region .ensures)
 
 pub keep-spec : {M : Type 1} → statement M

@@ -4,13 +4,13 @@ use Rattle.machine.proofs.runs.first_state.Statement.{statement}
 use Rattle.machine.proofs.runs.first_state.Tie as tie
 use Rattle.machine.proofs.runs.first_state.Reads as reads
 use Rattle.machine.proofs.runs.first_state.Lts as lts
-use Rattle.tables.proofs.body_of.Reads as body-of-reads
+use Rattle.machine.proofs.calls.body_of.Reads as body-of-reads
 
--- src/runs.rt:51:15
+-- src/runs.rt:53:15
 body-of-requires : tie.Need-body-of-requires
 body-of-requires c κs = search needs
 
--- src/runs.rt:46:1
+-- src/runs.rt:47:1
 returns : tie.Need-returns
 returns c = first-state _ _ (c .body-of .ensures)
 

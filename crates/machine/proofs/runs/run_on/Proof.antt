@@ -1,6 +1,5 @@
 -- `run_on` meets its contract: what is done so far and the steps still to come make the whole.
 use borrow.Author.Needs.{needs}
-use Prim.Native.Nat.{_-_}
 use native.Mathlib.Omega.{arith}
 use mathlib.Core.Path.{_∙_}
 use Rattle.plans.specs.Plan.{tablesIn}
@@ -25,12 +24,12 @@ use Rattle.memory.proofs.empty.Reads as empty-reads
 use Rattle.records.proofs.word_in.Reads as word-in-reads
 
 abbrev Inv-loop : tie.InvT-loop
-Inv-loop file plan images table cells₀ regions₀ frames₀ prints₀ steps heap₀ state₀ done₀ cells regions frames prints heap state done =
-    Going file (tablesIn file plan images table) steps cells₀ regions₀ frames₀ prints₀ (runFirst file (tablesIn file plan images table) steps heap₀ cells₀ regions₀ frames₀ prints₀ state₀) done heap cells regions frames prints state
+Inv-loop file plan images callees cells₀ regions₀ frames₀ prints₀ steps heap₀ state₀ left₀ cells regions frames prints heap state left =
+    Going file (tablesIn plan images callees) steps cells₀ regions₀ frames₀ prints₀ (runFirst file (tablesIn plan images callees) steps heap₀ cells₀ regions₀ frames₀ prints₀ state₀) left heap cells regions frames prints state
 
 abbrev μ-loop : tie.MeasureT-loop
-μ-loop file plan images table cells₀ regions₀ frames₀ prints₀ steps heap₀ state₀ done₀ cells regions frames prints heap state done =
-    steps - done
+μ-loop file plan images callees cells₀ regions₀ frames₀ prints₀ steps heap₀ state₀ left₀ cells regions frames prints heap state left =
+    left
 
 -- src/runs.rt:75:9
 empty-requires : tie.Need-empty-requires Inv-loop μ-loop
@@ -42,11 +41,14 @@ first-state-requires c κs = search needs
 
 -- src/runs.rt:78:5
 loop-holds : tie.Need-loop-holds Inv-loop μ-loop
-loop-holds c = first _ _ _ _ _ _ _ _ (c .before .before .before .before .before .before .before .before .before .before .before .args .table .now) _ (c .first-state .ensures) (c .before .before .before .before .before .before .before .before .before .before .before .pre .1 .1)
+loop-holds c = first _ _ _ _ _ _ _ _ (c .before .before .before .before .before .before .before .before .before .before .args .callees .now) _ (c .first-state .ensures) (c .before .before .before .before .before .before .before .before .before .before .pre .1)
 
 -- src/runs.rt:79:13
 settle-requires : tie.Need-settle-requires Inv-loop μ-loop
-settle-requires c κs = search needs
+settle-requires c κs = ((c .before .before .before .before .before .before .before .before .before .before .before .before .pre .0 .0, c .before .loop .inv .placed), c .before .before .before .before .before .before .before .before .before .before .before .before .pre .0 .1)
+
+sub-ended : tie.Need-sub-ended Inv-loop μ-loop
+sub-ended c = omega (arith, c .before .before .before .before .before .loop .inv .most)
 
 -- src/runs.rt:82:13
 ended-requires : tie.Need-ended-requires Inv-loop μ-loop
@@ -73,6 +75,9 @@ returns : tie.Need-returns Inv-loop μ-loop
 returns c =
     first-as _ _ _ _ _ _ _ _ _ _ _ _ _ _ _ _ (c .before .before .before .before .before .before .before .before .empty .ensures) (c .before .before .before .before .before .before .before .first-state .ensures)
     (run-finished _ _ _ _ _ _ _ _ _ _ _ _ _ _ _ (arrives _ _ _ _ _ _ _ _ _ _ _ _ _ _ _ _ _ (c .before .before .before .before .before .before .loop .inv) (c .before .before .before .before .settle .ensures .0) (c .before .before .before .before .settle .ensures .1) (c .before .before .before .before .settle .kept .1 .1 .1 .1 .1 .0)) _ (c .before .if1 .taken) (c .ended .ensures))
+
+sub-ended-2 : tie.Need-sub-ended-2 Inv-loop μ-loop
+sub-ended-2 c = omega (arith, c .before .before .before .before .before .before .loop .inv .most)
 
 -- src/runs.rt:85:13
 ended-requires-2 : tie.Need-ended-requires-2 Inv-loop μ-loop
@@ -101,8 +106,8 @@ returns-2 c =
     (run-spent _ _ _ _ _ _ _ _ _ _ _ _ _ _ _ (arrives _ _ _ _ _ _ _ _ _ _ _ _ _ _ _ _ _ (c .before .before .before .before .before .before .before .loop .inv) (c .before .before .before .before .before .settle .ensures .0) (c .before .before .before .before .before .settle .ensures .1) (c .before .before .before .before .before .settle .kept .1 .1 .1 .1 .1 .0)) _ (c .before .before .if1 .left) (c .before .if2 .taken) (c .ended2 .ensures))
 
 -- src/runs.rt:89:13
-add-done : tie.Need-add-done Inv-loop μ-loop
-add-done c = let a = c .before .if2 .left in let b = c .before .before .before .before .before .before .before .before .before .before .before .before .before .before .before .before .before .before .before .fits .steps .fits in search needs
+sub-left : tie.Need-sub-left Inv-loop μ-loop
+sub-left c = omega (arith, c .before .if2 .left)
 
 -- src/runs.rt:78:5
 loop-less : tie.Need-loop-less Inv-loop μ-loop
@@ -110,11 +115,11 @@ loop-less c = omega (arith, c .before .if2 .left)
 
 -- src/runs.rt:78:5
 loop-again : tie.Need-loop-again Inv-loop μ-loop
-loop-again c = past-on _ _ _ _ _ _ _ _ _ _ _ _ _ _ _ (arrives _ _ _ _ _ _ _ _ _ _ _ _ _ _ _ _ _ (c .before .before .before .before .before .before .before .loop .inv) (c .before .before .before .before .before .settle .ensures .0) (c .before .before .before .before .before .settle .ensures .1) (c .before .before .before .before .before .settle .kept .1 .1 .1 .1 .1 .0)) (c .before .before .before .before .before .before .before .before .before .before .before .before .before .before .before .before .before .before .before .pre .0) (c .before .before .if1 .left) (c .before .if2 .left) (past-length (c .before .before .before .before .before .before .before .before .before .before .before .before .before .before .before .before .before .before .before .pre .0) _ (c .if3 .taken))
+loop-again c = past-on _ _ _ _ _ _ _ _ _ _ _ _ _ _ _ (arrives _ _ _ _ _ _ _ _ _ _ _ _ _ _ _ _ _ (c .before .before .before .before .before .before .before .loop .inv) (c .before .before .before .before .before .settle .ensures .0) (c .before .before .before .before .before .settle .ensures .1) (c .before .before .before .before .before .settle .kept .1 .1 .1 .1 .1 .0)) (c .before .before .before .before .before .before .before .before .before .before .before .before .before .before .before .before .before .before .pre .0 .0) (c .before .before .if1 .left) (omega (arith, c .before .if2 .left)) (past-length (c .before .before .before .before .before .before .before .before .before .before .before .before .before .before .before .before .before .before .pre .0 .0) _ (c .if3 .taken))
 
 -- src/runs.rt:92:25
 word-in-requires : tie.Need-word-in-requires Inv-loop μ-loop
-word-in-requires c κs = let w = whole (c .before .before .before .before .before .before .before .before .before .before .before .before .before .before .before .before .before .before .before .pre .0) _ (in-length (c .before .before .before .before .before .before .before .before .before .before .before .before .before .before .before .before .before .before .before .pre .0) _ (c .if3 .left)) in search needs
+word-in-requires c κs = let w = whole (c .before .before .before .before .before .before .before .before .before .before .before .before .before .before .before .before .before .before .pre .0 .0) _ (in-length (c .before .before .before .before .before .before .before .before .before .before .before .before .before .before .before .before .before .before .pre .0 .0) _ (c .if3 .left)) in search needs
 
 -- src/runs.rt:92:12
 changes-heap-requires : tie.Need-changes-heap-requires Inv-loop μ-loop
@@ -122,7 +127,7 @@ changes-heap-requires c κs = search needs
 
 -- src/runs.rt:93:17
 keep-requires : tie.Need-keep-requires Inv-loop μ-loop
-keep-requires c κs = (c .before .before .before .before .before .before .before .before .before .before .before .before .before .before .before .before .before .before .before .before .before .before .before .before .before .pre .0, ((in-length (c .before .before .before .before .before .before .before .before .before .before .before .before .before .before .before .before .before .before .before .before .before .before .before .before .before .pre .0) _ (c .before .before .before .before .before .before .if3 .left), c .before .before .before .before .before .before .before .before .before .before .before .settle .ensures .1), changed _ _ _ (c .before .before .before .before .before .word-in .ensures .0) (c .before .before .before .before .changes-heap .ensures) (c .before .before .before .if4 .taken)))
+keep-requires c κs = ((c .before .before .before .before .before .before .before .before .before .before .before .before .before .before .before .before .before .before .before .before .before .before .before .before .pre .0 .0, c .before .before .before .before .before .before .before .before .before .before .before .before .before .before .before .before .before .before .before .before .before .before .before .before .pre .0 .2), ((in-length (c .before .before .before .before .before .before .before .before .before .before .before .before .before .before .before .before .before .before .before .before .before .before .before .before .pre .0 .0) _ (c .before .before .before .before .before .before .if3 .left), c .before .before .before .before .before .before .before .before .before .before .before .settle .ensures .1), changed _ _ _ (c .before .before .before .before .before .word-in .ensures .0) (c .before .before .before .before .changes-heap .ensures) (c .before .before .before .if4 .taken)))
 
 -- src/runs.rt:95:28
 enum-known-kept : tie.Need-enum-known-kept Inv-loop μ-loop
@@ -130,15 +135,15 @@ enum-known-kept c = search needs
 
 -- src/runs.rt:97:42
 successor-requires : tie.Need-successor-requires Inv-loop μ-loop
-successor-requires c κs = let w = whole (c .before .before .before .before .before .before .before .before .before .before .before .before .before .before .before .before .before .before .before .before .before .before .before .before .before .before .before .before .before .before .before .before .before .before .before .pre .0) _ (in-length (c .before .before .before .before .before .before .before .before .before .before .before .before .before .before .before .before .before .before .before .before .before .before .before .before .before .before .before .before .before .before .before .before .before .before .before .pre .0) _ (c .before .before .before .before .before .before .before .before .before .before .before .before .before .before .before .before .if3 .left)) in search needs
+successor-requires c κs = let w = whole (c .before .before .before .before .before .before .before .before .before .before .before .before .before .before .before .before .before .before .before .before .before .before .before .before .before .before .before .before .before .before .before .before .before .before .pre .0 .0) _ (in-length (c .before .before .before .before .before .before .before .before .before .before .before .before .before .before .before .before .before .before .before .before .before .before .before .before .before .before .before .before .before .before .before .before .before .before .pre .0 .0) _ (c .before .before .before .before .before .before .before .before .before .before .before .before .before .before .before .before .if3 .left)) in search needs
 
 -- src/runs.rt:97:21
 onward-requires : tie.Need-onward-requires Inv-loop μ-loop
 onward-requires c κs = search needs
 
 -- src/runs.rt:98:21
-add-done-2 : tie.Need-add-done-2 Inv-loop μ-loop
-add-done-2 c = let a = c .before .before .before .before .before .before .before .before .before .before .before .before .before .before .before .before .before .before .before .if2 .left in let b = c .before .before .before .before .before .before .before .before .before .before .before .before .before .before .before .before .before .before .before .before .before .before .before .before .before .before .before .before .before .before .before .before .before .before .before .before .before .fits .steps .fits in search needs
+sub-left-2 : tie.Need-sub-left-2 Inv-loop μ-loop
+sub-left-2 c = omega (arith, c .before .before .before .before .before .before .before .before .before .before .before .before .before .before .before .before .before .before .before .if2 .left)
 
 -- src/runs.rt:78:5
 loop-less-2 : tie.Need-loop-less-2 Inv-loop μ-loop
@@ -147,12 +152,15 @@ loop-less-2 c = omega (arith, c .before .before .before .before .before .before 
 -- src/runs.rt:78:5
 loop-again-2 : tie.Need-loop-again-2 Inv-loop μ-loop
 loop-again-2 c =
-    kept-on _ _ _ _ _ _ _ _ _ _ _ _ _ _ _ (arrives _ _ _ _ _ _ _ _ _ _ _ _ _ _ _ _ _ (c .before .before .before .before .before .before .before .before .before .before .before .before .before .before .before .before .before .before .before .before .before .before .before .before .before .loop .inv) (c .before .before .before .before .before .before .before .before .before .before .before .before .before .before .before .before .before .before .before .before .before .before .before .settle .ensures .0) (c .before .before .before .before .before .before .before .before .before .before .before .before .before .before .before .before .before .before .before .before .before .before .before .settle .ensures .1) (c .before .before .before .before .before .before .before .before .before .before .before .before .before .before .before .before .before .before .before .before .before .before .before .settle .kept .1 .1 .1 .1 .1 .0)) _ _ _ _ _ _ _ (c .before .before .before .before .before .before .before .before .before .before .before .before .before .before .before .before .before .before .before .before .if1 .left) (c .before .before .before .before .before .before .before .before .before .before .before .before .before .before .before .before .before .before .before .if2 .left) (c .before .before .before .before .before .before .before .before .before .before .before .keep .ensures _ _) (c .before .before .before .kept .given .1) (successor-as _ _ _ _ _ _ (c .before .successor .ensures .0)) (c .onward .ensures)
+    kept-on _ _ _ _ _ _ _ _ _ _ _ _ _ _ _ (arrives _ _ _ _ _ _ _ _ _ _ _ _ _ _ _ _ _ (c .before .before .before .before .before .before .before .before .before .before .before .before .before .before .before .before .before .before .before .before .before .before .before .before .before .loop .inv) (c .before .before .before .before .before .before .before .before .before .before .before .before .before .before .before .before .before .before .before .before .before .before .before .settle .ensures .0) (c .before .before .before .before .before .before .before .before .before .before .before .before .before .before .before .before .before .before .before .before .before .before .before .settle .ensures .1) (c .before .before .before .before .before .before .before .before .before .before .before .before .before .before .before .before .before .before .before .before .before .before .before .settle .kept .1 .1 .1 .1 .1 .0)) _ _ _ _ _ _ _ (c .before .before .before .before .before .before .before .before .before .before .before .before .before .before .before .before .before .before .before .before .if1 .left) (omega (arith, c .before .before .before .before .before .before .before .before .before .before .before .before .before .before .before .before .before .before .before .if2 .left)) (c .before .before .before .before .before .before .before .before .before .before .before .keep .ensures _ _) (c .before .before .before .kept .given .1) (successor-as _ _ _ _ _ (c .before .successor .ensures)) (c .onward .ensures)
     (c .before .before .before .before .before .before .before .before .before .before .before .keep .kept .1 .1 .1 .1 .0) (c .before .before .before .before .before .before .before .before .before .before .before .keep .kept .1 .1 .1 .1 .1 .0) (c .before .before .before .before .before .before .before .before .before .before .before .keep .kept .1 .1 .1 .1 .1 .1 .0)
 
 -- src/runs.rt:101:29
 enum-known-kept-2 : tie.Need-enum-known-kept-2 Inv-loop μ-loop
 enum-known-kept-2 c = search needs
+
+sub-ended-3 : tie.Need-sub-ended-3 Inv-loop μ-loop
+sub-ended-3 c = omega (arith, c .before .before .before .before .before .before .before .before .before .before .before .before .before .before .before .before .before .before .before .before .before .before .before .loop .inv .most)
 
 -- src/runs.rt:101:38
 ended-requires-3 : tie.Need-ended-requires-3 Inv-loop μ-loop
@@ -178,19 +186,19 @@ same-length-12 c = c .before .before .before .before .before .before .before .be
 returns-3 : tie.Need-returns-3 Inv-loop μ-loop
 returns-3 c =
     first-as _ _ _ _ _ _ _ _ _ _ _ _ _ _ _ _ (c .before .before .before .before .before .before .before .before .before .before .before .before .before .before .before .before .before .before .before .before .before .before .before .before .before .before .empty .ensures) (c .before .before .before .before .before .before .before .before .before .before .before .before .before .before .before .before .before .before .before .before .before .before .before .before .before .first-state .ensures)
-    (kept-stopped _ _ _ _ _ _ _ _ _ _ _ _ _ _ _ (arrives _ _ _ _ _ _ _ _ _ _ _ _ _ _ _ _ _ (c .before .before .before .before .before .before .before .before .before .before .before .before .before .before .before .before .before .before .before .before .before .before .before .before .loop .inv) (c .before .before .before .before .before .before .before .before .before .before .before .before .before .before .before .before .before .before .before .before .before .before .settle .ensures .0) (c .before .before .before .before .before .before .before .before .before .before .before .before .before .before .before .before .before .before .before .before .before .before .settle .ensures .1) (c .before .before .before .before .before .before .before .before .before .before .before .before .before .before .before .before .before .before .before .before .before .before .settle .kept .1 .1 .1 .1 .1 .0)) _ _ _ _ _ _ (c .before .before .before .before .before .before .before .before .before .before .before .before .before .before .before .before .before .before .before .if1 .left) (c .before .before .before .before .before .before .before .before .before .before .before .before .before .before .before .before .before .before .if2 .left) (c .before .before .before .before .before .before .before .before .before .before .keep .ensures _ _) (c .before .before .kept2 .given .1) (c .ended3 .ensures))
+    (kept-stopped _ _ _ _ _ _ _ _ _ _ _ _ _ _ _ (arrives _ _ _ _ _ _ _ _ _ _ _ _ _ _ _ _ _ (c .before .before .before .before .before .before .before .before .before .before .before .before .before .before .before .before .before .before .before .before .before .before .before .before .loop .inv) (c .before .before .before .before .before .before .before .before .before .before .before .before .before .before .before .before .before .before .before .before .before .before .settle .ensures .0) (c .before .before .before .before .before .before .before .before .before .before .before .before .before .before .before .before .before .before .before .before .before .before .settle .ensures .1) (c .before .before .before .before .before .before .before .before .before .before .before .before .before .before .before .before .before .before .before .before .before .before .settle .kept .1 .1 .1 .1 .1 .0)) _ _ _ _ _ _ (c .before .before .before .before .before .before .before .before .before .before .before .before .before .before .before .before .before .before .before .if1 .left) (omega (arith, c .before .before .before .before .before .before .before .before .before .before .before .before .before .before .before .before .before .before .if2 .left)) (c .before .before .before .before .before .before .before .before .before .before .keep .ensures _ _) (c .before .before .kept2 .given .1) (c .ended3 .ensures))
 
 -- src/runs.rt:104:13
 go-requires : tie.Need-go-requires Inv-loop μ-loop
-go-requires c κs = (c .before .before .before .before .before .before .before .before .before .before .before .before .before .before .before .before .before .before .before .before .before .before .before .before .before .pre .0, (c .before .before .before .before .before .before .before .before .before .before .before .before .before .before .before .before .before .before .before .before .before .before .before .before .before .pre .1 .0, ((in-length (c .before .before .before .before .before .before .before .before .before .before .before .before .before .before .before .before .before .before .before .before .before .before .before .before .before .pre .0) _ (c .before .before .before .before .before .before .if3 .left), c .before .before .before .before .before .before .before .before .before .before .before .settle .ensures .1), unchanged _ _ _ (c .before .before .before .before .before .word-in .ensures .0) (c .before .before .before .before .changes-heap .ensures) (c .before .before .before .if4 .left))))
+go-requires c κs = ((c .before .before .before .before .before .before .before .before .before .before .before .before .before .before .before .before .before .before .before .before .before .before .before .before .pre .0 .0, c .before .before .before .before .before .before .before .before .before .before .before .before .before .before .before .before .before .before .before .before .before .before .before .before .pre .0 .2), (c .before .before .before .before .before .before .before .before .before .before .before .before .before .before .before .before .before .before .before .before .before .before .before .before .pre .0 .1, ((in-length (c .before .before .before .before .before .before .before .before .before .before .before .before .before .before .before .before .before .before .before .before .before .before .before .before .pre .0 .0) _ (c .before .before .before .before .before .before .if3 .left), c .before .before .before .before .before .before .before .before .before .before .before .settle .ensures .1), unchanged _ _ _ (c .before .before .before .before .before .word-in .ensures .0) (c .before .before .before .before .changes-heap .ensures) (c .before .before .before .if4 .left))))
 
 -- src/runs.rt:106:24
 enum-known-went : tie.Need-enum-known-went Inv-loop μ-loop
 enum-known-went c = search needs
 
 -- src/runs.rt:108:17
-add-done-3 : tie.Need-add-done-3 Inv-loop μ-loop
-add-done-3 c = let a = c .before .before .before .before .before .before .before .before .before .before .before .before .before .before .before .if2 .left in let b = c .before .before .before .before .before .before .before .before .before .before .before .before .before .before .before .before .before .before .before .before .before .before .before .before .before .before .before .before .before .before .before .before .before .fits .steps .fits in search needs
+sub-left-3 : tie.Need-sub-left-3 Inv-loop μ-loop
+sub-left-3 c = omega (arith, c .before .before .before .before .before .before .before .before .before .before .before .before .before .before .before .if2 .left)
 
 -- src/runs.rt:78:5
 loop-less-3 : tie.Need-loop-less-3 Inv-loop μ-loop
@@ -198,11 +206,14 @@ loop-less-3 c = omega (arith, c .before .before .before .before .before .before 
 
 -- src/runs.rt:78:5
 loop-again-3 : tie.Need-loop-again-3 Inv-loop μ-loop
-loop-again-3 c = went-on _ _ _ _ _ _ _ _ _ _ _ _ _ _ _ (arrives _ _ _ _ _ _ _ _ _ _ _ _ _ _ _ _ _ (c .before .before .before .before .before .before .before .before .before .before .before .before .before .before .before .before .before .before .before .before .before .loop .inv) (c .before .before .before .before .before .before .before .before .before .before .before .before .before .before .before .before .before .before .before .settle .ensures .0) (c .before .before .before .before .before .before .before .before .before .before .before .before .before .before .before .before .before .before .before .settle .ensures .1) (c .before .before .before .before .before .before .before .before .before .before .before .before .before .before .before .before .before .before .before .settle .kept .1 .1 .1 .1 .1 .0)) _ _ _ _ (c .before .before .before .before .before .before .before .before .before .before .before .before .before .before .before .before .if1 .left) (c .before .before .before .before .before .before .before .before .before .before .before .before .before .before .before .if2 .left) (c .before .before .before .before .before .before .before .go .ensures) (c .before .went .given .1) (c .before .before .before .before .before .before .before .go .kept .1 .1 .1 .1 .1 .1 .0) (c .before .before .before .before .before .before .before .go .kept .1 .1 .1 .1 .1 .1 .1 .0)
+loop-again-3 c = went-on _ _ _ _ _ _ _ _ _ _ _ _ _ _ _ (arrives _ _ _ _ _ _ _ _ _ _ _ _ _ _ _ _ _ (c .before .before .before .before .before .before .before .before .before .before .before .before .before .before .before .before .before .before .before .before .before .loop .inv) (c .before .before .before .before .before .before .before .before .before .before .before .before .before .before .before .before .before .before .before .settle .ensures .0) (c .before .before .before .before .before .before .before .before .before .before .before .before .before .before .before .before .before .before .before .settle .ensures .1) (c .before .before .before .before .before .before .before .before .before .before .before .before .before .before .before .before .before .before .before .settle .kept .1 .1 .1 .1 .1 .0)) _ _ _ _ (c .before .before .before .before .before .before .before .before .before .before .before .before .before .before .before .before .if1 .left) (omega (arith, c .before .before .before .before .before .before .before .before .before .before .before .before .before .before .before .if2 .left)) (c .before .before .before .before .before .before .before .go .ensures) (c .before .went .given .1) (c .before .before .before .before .before .before .before .go .kept .1 .1 .1 .1 .1 .1 .0) (c .before .before .before .before .before .before .before .go .kept .1 .1 .1 .1 .1 .1 .1 .0)
 
 -- src/runs.rt:110:25
 enum-known-went-2 : tie.Need-enum-known-went-2 Inv-loop μ-loop
 enum-known-went-2 c = search needs
+
+sub-ended-4 : tie.Need-sub-ended-4 Inv-loop μ-loop
+sub-ended-4 c = omega (arith, c .before .before .before .before .before .before .before .before .before .before .before .before .before .before .before .before .before .before .before .before .before .loop .inv .most)
 
 -- src/runs.rt:110:34
 ended-requires-4 : tie.Need-ended-requires-4 Inv-loop μ-loop
@@ -228,7 +239,7 @@ same-length-16 c = c .before .before .before .before .before .before .before .be
 returns-4 : tie.Need-returns-4 Inv-loop μ-loop
 returns-4 c =
     first-as _ _ _ _ _ _ _ _ _ _ _ _ _ _ _ _ (c .before .before .before .before .before .before .before .before .before .before .before .before .before .before .before .before .before .before .before .before .before .before .before .before .empty .ensures) (c .before .before .before .before .before .before .before .before .before .before .before .before .before .before .before .before .before .before .before .before .before .before .before .first-state .ensures)
-    (went-stopped _ _ _ _ _ _ _ _ _ _ _ _ _ _ _ (arrives _ _ _ _ _ _ _ _ _ _ _ _ _ _ _ _ _ (c .before .before .before .before .before .before .before .before .before .before .before .before .before .before .before .before .before .before .before .before .before .before .loop .inv) (c .before .before .before .before .before .before .before .before .before .before .before .before .before .before .before .before .before .before .before .before .settle .ensures .0) (c .before .before .before .before .before .before .before .before .before .before .before .before .before .before .before .before .before .before .before .before .settle .ensures .1) (c .before .before .before .before .before .before .before .before .before .before .before .before .before .before .before .before .before .before .before .before .settle .kept .1 .1 .1 .1 .1 .0)) _ _ _ _ _ (c .before .before .before .before .before .before .before .before .before .before .before .before .before .before .before .before .before .if1 .left) (c .before .before .before .before .before .before .before .before .before .before .before .before .before .before .before .before .if2 .left) (c .before .before .before .before .before .before .before .before .go .ensures) (c .before .before .went2 .given .1) (c .ended4 .ensures))
+    (went-stopped _ _ _ _ _ _ _ _ _ _ _ _ _ _ _ (arrives _ _ _ _ _ _ _ _ _ _ _ _ _ _ _ _ _ (c .before .before .before .before .before .before .before .before .before .before .before .before .before .before .before .before .before .before .before .before .before .before .loop .inv) (c .before .before .before .before .before .before .before .before .before .before .before .before .before .before .before .before .before .before .before .before .settle .ensures .0) (c .before .before .before .before .before .before .before .before .before .before .before .before .before .before .before .before .before .before .before .before .settle .ensures .1) (c .before .before .before .before .before .before .before .before .before .before .before .before .before .before .before .before .before .before .before .before .settle .kept .1 .1 .1 .1 .1 .0)) _ _ _ _ _ (c .before .before .before .before .before .before .before .before .before .before .before .before .before .before .before .before .before .if1 .left) (omega (arith, c .before .before .before .before .before .before .before .before .before .before .before .before .before .before .before .before .if2 .left)) (c .before .before .before .before .before .before .before .before .go .ensures) (c .before .before .went2 .given .1) (c .ended4 .ensures))
 
 pub run-on-spec : {M : Type 1} → statement M
 run-on-spec =
@@ -240,19 +251,21 @@ run-on-spec =
     first-state-requires
     loop-holds
     settle-requires
+    sub-ended
     ended-requires
     same-length
     same-length-2
     same-length-3
     same-length-4
     returns
+    sub-ended-2
     ended-requires-2
     same-length-5
     same-length-6
     same-length-7
     same-length-8
     returns-2
-    add-done
+    sub-left
     loop-less
     loop-again
     word-in-requires
@@ -261,10 +274,11 @@ run-on-spec =
     enum-known-kept
     successor-requires
     onward-requires
-    add-done-2
+    sub-left-2
     loop-less-2
     loop-again-2
     enum-known-kept-2
+    sub-ended-3
     ended-requires-3
     same-length-9
     same-length-10
@@ -273,10 +287,11 @@ run-on-spec =
     returns-3
     go-requires
     enum-known-went
-    add-done-3
+    sub-left-3
     loop-less-3
     loop-again-3
     enum-known-went-2
+    sub-ended-4
     ended-requires-4
     same-length-13
     same-length-14

@@ -23,7 +23,7 @@ ended-requires c κs = search needs
 
 -- src/runs.rt:134:9
 returns : tie.Need-returns
-returns c = frameless _ _ _ _ _ _ _ (c .before .before .before .before .before .before .before .before .before .before .args .table .now) _ _ (c .before .before .if1 .taken) (c .before .first-state .ensures) (c .ended .ensures)
+returns c = frameless _ _ _ _ _ _ _ (c .before .before .before .before .before .before .before .before .before .args .callees .now) _ _ (c .before .before .if1 .taken) (c .before .first-state .ensures) (c .ended .ensures)
 
 -- src/runs.rt:136:22
 size-of-requires : tie.Need-size-of-requires
@@ -35,7 +35,7 @@ clear-requires c κs = search needs
 
 -- src/runs.rt:137:5
 run-on-requires : tie.Need-run-on-requires
-run-on-requires c κs = let p = c .before .before .before .before .before .before .before .before .before .before .before .before .before .before .before .before .before .pre in (p .0, (p .1, omega (arith, c .before .before .before .before .before .before .before .before .before .if1 .left, c .before .before .before .before .before .before .clear .kept .0)))
+run-on-requires c κs = let p = c .before .before .before .before .before .before .before .before .before .before .before .before .before .before .before .before .pre in (p, omega (arith, c .before .before .before .before .before .before .before .before .before .if1 .left, c .before .before .before .before .before .before .clear .kept .0))
 
 -- src/runs.rt:116:1
 same-length : tie.Need-same-length
@@ -56,7 +56,7 @@ same-length-4 c = search needs
 -- src/runs.rt:116:1
 returns-2 : tie.Need-returns-2
 returns-2 c =
-    from-start _ _ _ _ _ (c .before .before .before .before .before .before .before .before .before .before .before .before .before .before .before .before .before .before .before .before .before .before .before .before .before .before .args .frames .now) _ (c .before .before .before .before .before .before .before .before .before .before .before .before .before .before .before .before .before .before .before .before .before .before .before .before .before .before .args .table .now) _ _ _ _ _ _ _ (c .before .before .before .before .before .before .before .before .before .before .before .before .before .before .before .before .before .before .if1 .left) (body-as _ _ _ _ _ _ refl) (size-as _ _ _ _ _ _ (c .before .before .before .before .before .before .before .before .before .before .before .before .before .before .before .before .size-of .ensures)) (c .before .before .before .before .before .before .before .before .before .before .before .before .before .before .before .clear .ensures)
+    from-start _ _ _ _ _ (c .before .before .before .before .before .before .before .before .before .before .before .before .before .before .before .before .before .before .before .before .before .before .before .before .before .args .frames .now) _ (c .before .before .before .before .before .before .before .before .before .before .before .before .before .before .before .before .before .before .before .before .before .before .before .before .before .args .callees .now) _ _ _ _ _ _ _ (c .before .before .before .before .before .before .before .before .before .before .before .before .before .before .before .before .before .before .if1 .left) (body-as _ _ _ _ _ refl) (size-as _ _ _ _ _ (c .before .before .before .before .before .before .before .before .before .before .before .before .before .before .before .before .size-of .ensures)) (c .before .before .before .before .before .before .before .before .before .before .before .before .before .before .before .clear .ensures)
     (c .before .before .before .before .before .before .before .before .before .before .before .before .before .before .before .clear .kept .0) (c .before .before .before .before .before .before .before .before .run-on .ensures)
 
 pub run-words-spec : {M : Type 1} → statement M

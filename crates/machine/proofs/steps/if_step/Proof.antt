@@ -1,3 +1,4 @@
+use Rattle.machine.specs.Numbers.{if-low}
 use mathlib.Core.Path.{refl}
 use Rattle.machine.specs.Calls.{successor-as}
 use Rattle.machine.specs.Steps.{goes-same, if-goes}
@@ -7,10 +8,10 @@ use Rattle.machine.proofs.steps.if_step.Statement.{statement}
 use Rattle.machine.proofs.steps.if_step.Tie as tie
 
 part-of-requires : tie.Need-part-of-requires
-part-of-requires c κs = let w = whole (c .before .before .pre .0) (c .before .before .args .state .goal) (c .before .before .pre .1 .0) in search needs
+part-of-requires c κs = let p = c .before .before .pre in ((whole (p .0 .0) _ (p .1 .0) .1, p .1 .2 .fits), if-low (p .0 .1) _ refl (p .1 .1))
 
 successor-requires : tie.Need-successor-requires
-successor-requires c κs = let w = whole (c .before .before .before .pre .0) (c .before .before .before .args .state .goal) (c .before .before .before .pre .1 .0) in search needs
+successor-requires c κs = whole (c .before .before .before .pre .0 .0) _ (c .before .before .before .pre .1 .0) .0
 
 onto-requires : tie.Need-onto-requires
 onto-requires c κs = search needs
@@ -20,8 +21,8 @@ onward-requires c κs = search needs
 
 returns : tie.Need-returns
 returns c =
-    λ images table m ps. goes-same _ _ _ _ _ _ _ _ _ _ (c .onward .ensures)
-    (if-goes _ _ _ _ _ _ (c .before .before .before .before .before .before .pre .1 .2) _ _ refl (successor-as _ _ _ _ _ _ (c .before .before .successor .ensures .0)) _ _ (c .before .before .before .before .before .before .pre .1 .1) (c .before .before .before .part-of .ensures) (c .before .onto .ensures))
+    λ images callees m ps. goes-same _ _ _ _ _ _ _ _ _ _ (c .onward .ensures)
+    (if-goes _ _ _ _ _ _ (c .before .before .before .before .before .before .pre .1 .2) _ _ refl (successor-as _ _ _ _ _ (c .before .before .successor .ensures)) _ _ (c .before .before .before .before .before .before .pre .1 .1) (c .before .before .before .part-of .ensures) (c .before .onto .ensures))
 
 pub if-step-spec : {M : Type 1} → statement M
 if-step-spec = tie.close (tie.spec part-of-requires successor-requires onto-requires onward-requires returns)

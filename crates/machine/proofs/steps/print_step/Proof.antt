@@ -1,3 +1,5 @@
+use native.Mathlib.Omega.{arith}
+use Rattle.machine.specs.Numbers.{print-low}
 use Prim.Native.Nat.{_*_}
 use mathlib.Core.Path.{refl}
 use Rattle.frames.specs.Strays.{whole}
@@ -25,15 +27,15 @@ cast-limit c = search needs
 
 -- src/steps.rt:103:9
 returns : tie.Need-returns
-returns c = λ images table m. print-stops _ _ _ _ _ _ (c .before .before .before .before .before .pre .1 .2) _ refl _ (c .before .before .before .before .before .pre .1 .1) (c .before .room .ensures) (c .if1 .taken)
+returns c = λ images callees m. print-stops _ _ _ _ _ _ (c .before .before .before .before .before .pre .1 .2) _ refl _ (c .before .before .before .before .before .pre .1 .1) (c .before .room .ensures) (c .if1 .taken)
 
 -- src/steps.rt:105:30
 word-in-requires : tie.Need-word-in-requires
-word-in-requires c κs = let w = whole (c .before .before .before .before .before .pre .0) (c .before .before .before .before .before .args .state .goal) (c .before .before .before .before .before .pre .1 .0) in search needs
+word-in-requires c κs = let p = c .before .before .before .before .before .pre in let w = whole (p .0 .0) _ (p .1 .0) in (omega arith, w .1)
 
 -- src/steps.rt:105:9
 value-requires : tie.Need-value-requires
-value-requires c κs = search needs
+value-requires c κs = let p = c .before .before .before .before .before .before .pre in (rw (c .word-in .ensures .0) (print-low (p .0 .1) _ refl (p .1 .1)), p .1 .2 .fits)
 
 -- src/steps.rt:106:5
 put-requires : tie.Need-put-requires
@@ -41,7 +43,7 @@ put-requires c κs = search needs
 
 -- src/steps.rt:109:15
 successor-requires : tie.Need-successor-requires
-successor-requires c κs = let w = whole (c .before .before .before .before .before .before .before .before .before .before .before .pre .0) (c .before .before .before .before .before .before .before .before .before .before .before .args .state .goal) (c .before .before .before .before .before .before .before .before .before .before .before .pre .1 .0) in search needs
+successor-requires c κs = whole (c .before .before .before .before .before .before .before .before .before .before .before .pre .0 .0) _ (c .before .before .before .before .before .before .before .before .before .before .before .pre .1 .0) .0
 
 -- src/steps.rt:110:18
 add-t19 : tie.Need-add-t19
@@ -54,7 +56,7 @@ same-length c = search needs
 -- src/steps.rt:86:1
 returns-2 : tie.Need-returns-2
 returns-2 c =
-    λ images table m. print-goes _ _ _ _ _ _ (c .before .before .before .before .before .before .before .before .before .before .before .before .pre .1 .2) _ _ refl (successor-as _ _ _ _ _ _ (c .successor .ensures .0)) _ _ _ (c .before .before .before .before .before .before .before .before .before .before .before .before .pre .1 .1)
+    λ images callees m. print-goes _ _ _ _ _ _ (c .before .before .before .before .before .before .before .before .before .before .before .before .pre .1 .2) _ _ refl (successor-as _ _ _ _ _ (c .successor .ensures)) _ _ _ (c .before .before .before .before .before .before .before .before .before .before .before .before .pre .1 .1)
     (value-as (c .before .before .before .before .before .before .before .before .before .before .before .before .args .state .at) _ _ _ (c .before .before .before .before .before .before .before .before .before .before .before .before .args .frames .now) (c .before .before .before .before .before .value .ensures) (c .before .before .before .before .before .before .word-in .ensures .0)) (c .before .before .before .put .ensures) (c .before .before .before .before .before .before .before .before .room .ensures) (c .before .before .before .before .before .before .before .if1 .left)
 
 pub print-step-spec : {M : Type 1} → statement M

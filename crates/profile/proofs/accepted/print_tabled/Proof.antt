@@ -66,8 +66,9 @@ slice-aggregate-print-parts-5 c = search needs
 
 print-parts-requires : tie.Need-print-parts-requires
 print-parts-requires c κs =
-    let p = c .before .before .before .before .before .before .before .before .before .before .before .before .before .before .before .before .before .before .before .before .before .before .before .before .pre in
-    (p .1 .1, (omega (arith, c .before .before .before .before .before .before .before .before .before .before .put-entry .kept .0, c .before .before .before .before .before .before .before .before .before .before .before .before .before .before .before .before .before .before .output .ensures), c .before .before .before .before .before .before .before .before .before .before .before .before .before .begin .ensures _ _ _ _ _ (p .0) (p .1 .0) (frame-room _ (c .before .before .before .before .before .before .before .before .before .before .before .before .before .before .before .before .before .before .before .before .frame-words .ensures)) .1))
+    let p = c .before .before .before .before .before .before .before .before .before .before .before .before .before .before .before .before .before .before .before .before .before .before .pre in
+    let e = c .before .before .before .before .before .before .before .before .before .before .before .before .begin .ensures _ _ _ _ _ (p .accepted) (p .tabled) (frame-room _ (c .before .before .before .before .before .before .before .before .before .before .before .before .before .before .before .before .before .before .frame-words .ensures)) .1 in
+    ((p .narrow, p .numbered), (omega (arith, c .before .before .before .before .before .before .before .before .before .put-entry .kept .0, c .before .before .before .before .before .before .before .before .before .before .before .before .before .before .before .before .output .ensures), e))
 
 returns : tie.Need-returns
 returns c = search needs

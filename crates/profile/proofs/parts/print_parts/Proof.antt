@@ -4,24 +4,25 @@ use native.Mathlib.Omega.{arith}
 use mathlib.Core.Path.{sym, _∙_}
 use lib.Seq.{length-take-le}
 use Rattle.plans.specs.Plan.{tablesIn}
+use Rattle.running.specs.Lent.{stepsLent}
 use Rattle.profile.specs.Parts.{Going, going-first, going-on, advanced, last-fits}
 use borrow.Author.Needs.{needs}
 use Rattle.profile.proofs.parts.print_parts.Statement.{statement}
 use Rattle.profile.proofs.parts.print_parts.Tie as tie
 
 abbrev Inv-loop : tie.InvT-loop
-Inv-loop file plan images table cells₀ regions₀ frames₀ prints₀ out₀ point₀ cells regions frames prints out point =
-    Going file (tablesIn file plan images table) 1000000 cells₀ regions₀ frames₀ prints₀ out₀ cells regions frames prints out point
+Inv-loop file plan images callees cells₀ regions₀ frames₀ prints₀ out₀ point₀ cells regions frames prints out point =
+    Going file (tablesIn plan images callees) stepsLent cells₀ regions₀ frames₀ prints₀ out₀ cells regions frames prints out point
 
 abbrev μ-loop : tie.MeasureT-loop
-μ-loop file plan images table cells₀ regions₀ frames₀ prints₀ out₀ point₀ cells regions frames prints out point =
-    1000000 - point .done
+μ-loop file plan images callees cells₀ regions₀ frames₀ prints₀ out₀ point₀ cells regions frames prints out point =
+    stepsLent - point .done
 
 loop-holds : tie.Need-loop-holds Inv-loop μ-loop
-loop-holds c = going-first _ (c .before .before .before .before .before .before .before .before .pre .1 .1)
+loop-holds c = going-first _ (c .before .before .before .before .before .before .before .pre .1 .1)
 
 advance-requires : tie.Need-advance-requires Inv-loop μ-loop
-advance-requires c κs = (c .before .before .before .before .before .before .before .before .before .before .before .before .before .before .pre .0, (omega (arith, c .before .before .before .before .before .before .before .before .before .before .before .before .before .before .pre .1 .0, c .before .before .before .before .before .loop .inv .size), c .before .before .before .before .before .loop .inv .stands))
+advance-requires c κs = (c .before .before .before .before .before .before .before .before .before .before .before .before .before .pre .0, (omega (arith, c .before .before .before .before .before .before .before .before .before .before .before .before .before .pre .1 .0, c .before .before .before .before .before .loop .inv .size), c .before .before .before .before .before .loop .inv .stands))
 
 enum-known-part : tie.Need-enum-known-part Inv-loop μ-loop
 enum-known-part c = search needs
@@ -59,7 +60,7 @@ print-requires-2 c κs = search needs
 
 print-ending-requires : tie.Need-print-ending-requires Inv-loop μ-loop
 print-ending-requires c κs =
-    omega (arith, c .before .before .before .before .before .before .before .before .before .before .before .before .before .before .before .before .before .before .before .before .before .before .before .before .before .before .before .before .before .before .before .pre .1 .0, c .before .before .before .before .before .before .before .before .before .before .before .before .before .before .before .before .before .before .before .before .before .before .loop .inv .size, c .before .before .before .before .before .before .before .before .before .before .before .before .before .before .before .before .advance .kept .1 .1 .1 .1 .1 .1 .1 .1 .1 .1 .0)
+    omega (arith, c .before .before .before .before .before .before .before .before .before .before .before .before .before .before .before .before .before .before .before .before .before .before .before .before .before .before .before .before .before .before .pre .1 .0, c .before .before .before .before .before .before .before .before .before .before .before .before .before .before .before .before .before .before .before .before .before .before .loop .inv .size, c .before .before .before .before .before .before .before .before .before .before .before .before .before .before .before .before .advance .kept .1 .1 .1 .1 .1 .1 .1 .1 .1 .1 .0)
 
 same-length : tie.Need-same-length Inv-loop μ-loop
 same-length c = (c .before .before .before .before .before .before .before .before .before .before .before .before .before .before .before .before .before .before .before .advance .kept .1 .1 .1 .1 .1 .0) ∙ c .before .before .before .before .before .before .before .before .before .before .before .before .before .before .before .before .before .before .before .before .before .before .before .before .before .loop .inv .cells

@@ -10,20 +10,20 @@ use Rattle.profiling.proofs.advancing.advance.Statement.{statement}
 use Rattle.profiling.proofs.advancing.advance.Tie as tie
 
 abbrev Inv-loop : tie.InvT-loop
-Inv-loop file plan images table cells₀ regions₀ frames₀ prints₀ steps out₀ here₀ at₀ cells regions frames prints out here at =
-    Under file (tablesIn file plan images table) steps cells₀ regions₀ frames₀ prints₀ here₀ out₀ cells regions frames prints out here at
+Inv-loop file plan images callees cells₀ regions₀ frames₀ prints₀ steps out₀ here₀ at₀ cells regions frames prints out here at =
+    Under file (tablesIn plan images callees) steps cells₀ regions₀ frames₀ prints₀ here₀ out₀ cells regions frames prints out here at
 
 abbrev μ-loop : tie.MeasureT-loop
-μ-loop file plan images table cells₀ regions₀ frames₀ prints₀ steps out₀ here₀ at₀ cells regions frames prints out here at = steps - here .done
+μ-loop file plan images callees cells₀ regions₀ frames₀ prints₀ steps out₀ here₀ at₀ cells regions frames prints out here at = steps - here .done
 
 loop-holds : tie.Need-loop-holds Inv-loop μ-loop
-loop-holds c = under-first _ (c .before .before .before .before .before .before .before .before .pre .1 .1)
+loop-holds c = under-first _ (c .before .before .before .before .before .before .before .pre .1 .1)
 
 sub-loop : tie.Need-sub-loop Inv-loop μ-loop
 sub-loop c = omega (arith, c .loop .inv .fits)
 
 forward-requires : tie.Need-forward-requires Inv-loop μ-loop
-forward-requires c κs = (c .before .before .before .before .before .before .before .before .before .before .before .before .before .before .pre .0, c .before .before .before .before .before .loop .inv .stands)
+forward-requires c κs = (c .before .before .before .before .before .before .before .before .before .before .before .before .before .pre .0, c .before .before .before .before .before .loop .inv .stands)
 
 enum-known-moved : tie.Need-enum-known-moved Inv-loop μ-loop
 enum-known-moved c = search needs
@@ -76,7 +76,7 @@ same-length-10 : tie.Need-same-length-10 Inv-loop μ-loop
 same-length-10 c = c .before .loop .inv .size
 
 returns-2 : tie.Need-returns-2 Inv-loop μ-loop
-returns-2 c = under-more (c .before .loop .inv) (c .before .before .before .before .before .before .before .before .before .before .pre .1 .0) (omega arith)
+returns-2 c = under-more (c .before .loop .inv) (c .before .before .before .before .before .before .before .before .before .pre .1 .0) (omega arith)
 
 pub advance-spec : {M : Type 1} → statement M
 advance-spec =

@@ -18,7 +18,7 @@ use Rattle.records.proofs.word_in.Reads as word-in-reads
 
 -- src/turning.rt:44:21
 word-in-requires : tie.Need-word-in-requires
-word-in-requires c κs = let w = whole (c .before .before .before .before .before .before .before .pre .0) _ (c .before .before .before .before .before .before .before .pre .1 .1 .0) in search needs
+word-in-requires c κs = let w = whole (c .before .before .before .before .before .before .pre .0) _ (c .before .before .before .before .before .before .pre .1 .1 .0) in search needs
 
 -- src/turning.rt:44:8
 changes-heap-requires : tie.Need-changes-heap-requires
@@ -26,7 +26,9 @@ changes-heap-requires c κs = search needs
 
 -- src/turning.rt:45:13
 keep-requires : tie.Need-keep-requires
-keep-requires c κs = (c .before .before .before .before .before .before .before .before .before .before .before .before .before .pre .0, (c .before .before .before .before .before .before .before .before .before .before .before .before .before .pre .1 .1, changed _ _ _ (c .before .before .before .before .before .word-in .ensures .0) (c .before .before .before .before .changes-heap .ensures) (c .before .before .before .if1 .taken)))
+keep-requires c κs =
+    let p = c .before .before .before .before .before .before .before .before .before .before .before .before .pre in
+    ((p .0, p .1 .0 .1), (p .1 .1, changed _ _ _ (c .before .before .before .before .before .word-in .ensures .0) (c .before .before .before .before .changes-heap .ensures) (c .before .before .before .if1 .taken)))
 
 -- src/turning.rt:47:24
 enum-known-kept : tie.Need-enum-known-kept
@@ -34,7 +36,7 @@ enum-known-kept c = search needs
 
 -- src/turning.rt:48:42
 successor-requires : tie.Need-successor-requires
-successor-requires c κs = let w = whole (c .before .before .before .before .before .before .before .before .before .before .before .before .before .before .before .before .before .before .before .before .before .before .before .pre .0) _ (c .before .before .before .before .before .before .before .before .before .before .before .before .before .before .before .before .before .before .before .before .before .before .before .pre .1 .1 .0) in search needs
+successor-requires c κs = let w = whole (c .before .before .before .before .before .before .before .before .before .before .before .before .before .before .before .before .before .before .before .before .before .before .pre .0) _ (c .before .before .before .before .before .before .before .before .before .before .before .before .before .before .before .before .before .before .before .before .before .before .pre .1 .1 .0) in search needs
 
 -- src/turning.rt:48:21
 onward-requires : tie.Need-onward-requires
@@ -42,7 +44,7 @@ onward-requires c κs = search needs
 
 -- src/turning.rt:49:33
 settle-requires : tie.Need-settle-requires
-settle-requires c κs = (c .before .before .before .before .before .before .before .before .before .before .before .before .before .before .before .before .before .before .before .before .before .before .before .before .before .before .pre .0, placed-onward _ (c .before .onward .ensures) (c .before .before .before .before .before .before .before .before .before .before .before .before .keep .kept .1 .1 .1 .1 .1 .1 .0) (c .before .before .before .before .before .before .before .before .before .before .before .before .before .before .before .before .before .before .before .before .before .before .before .before .before .before .pre .1 .1 .1))
+settle-requires c κs = ((c .before .before .before .before .before .before .before .before .before .before .before .before .before .before .before .before .before .before .before .before .before .before .before .before .before .pre .0, placed-onward _ (c .before .onward .ensures) (c .before .before .before .before .before .before .before .before .before .before .before .before .keep .kept .1 .1 .1 .1 .1 .1 .0) (c .before .before .before .before .before .before .before .before .before .before .before .before .before .before .before .before .before .before .before .before .before .before .before .before .before .pre .1 .1 .1)), c .before .before .before .before .before .before .before .before .before .before .before .before .before .before .before .before .before .before .before .before .before .before .before .before .before .pre .1 .0 .0)
 
 -- src/turning.rt:49:17
 same-length : tie.Need-same-length
@@ -59,7 +61,7 @@ same-length-3 c = search needs
 -- src/turning.rt:49:17
 returns : tie.Need-returns
 returns c =
-    kept-turns _ _ _ _ _ _ _ _ _ _ _ _ (c .before .before .before .before .before .before .before .before .before .before .before .before .before .before .before .keep .ensures _ _) _ _ _ _ _ (c .before .before .before .before .before .before .before .kept .given .1) (successor-as _ _ _ _ _ _ (c .before .before .before .before .before .successor .ensures .0))
+    kept-turns _ _ _ _ _ _ _ _ _ _ _ _ (c .before .before .before .before .before .before .before .before .before .before .before .before .before .before .before .keep .ensures _ _) _ _ _ _ _ (c .before .before .before .before .before .before .before .kept .given .1) (successor-as _ _ _ _ _ (c .before .before .before .before .before .successor .ensures))
     (c .before .before .before .before .onward .ensures) (c .before .before .settle .ensures .0) (c .before .before .settle .ensures .1)
 
 -- src/turning.rt:51:25
@@ -84,7 +86,9 @@ returns-2 c = kept-lacks _ _ _ _ _ _ _ _ _ _ _ _ (c .before .before .before .bef
 
 -- src/turning.rt:54:9
 go-requires : tie.Need-go-requires
-go-requires c κs = (c .before .before .before .before .before .before .before .before .before .before .before .before .before .pre .0, (c .before .before .before .before .before .before .before .before .before .before .before .before .before .pre .1 .0, (c .before .before .before .before .before .before .before .before .before .before .before .before .before .pre .1 .1, unchanged _ _ _ (c .before .before .before .before .before .word-in .ensures .0) (c .before .before .before .before .changes-heap .ensures) (c .before .before .before .if1 .left))))
+go-requires c κs =
+    let p = c .before .before .before .before .before .before .before .before .before .before .before .before .pre in
+    ((p .0, p .1 .0 .1), (p .1 .0 .0, (p .1 .1, unchanged _ _ _ (c .before .before .before .before .before .word-in .ensures .0) (c .before .before .before .before .changes-heap .ensures) (c .before .before .before .if1 .left))))
 
 -- src/turning.rt:56:20
 enum-known-went : tie.Need-enum-known-went
@@ -92,7 +96,7 @@ enum-known-went c = search needs
 
 -- src/turning.rt:56:38
 settle-requires-2 : tie.Need-settle-requires-2
-settle-requires-2 c κs = (c .before .before .before .before .before .before .before .before .before .before .before .before .before .before .before .before .before .before .before .before .before .before .pre .0, placed-long (c .before .before .before .before .before .before .before .before .go .kept .1 .1 .1 .1 .1 .1 .0) (c .before .before .before .before .before .before .before .before .go .ensures .stays _ (c .before .before .went .given .1)))
+settle-requires-2 c κs = ((c .before .before .before .before .before .before .before .before .before .before .before .before .before .before .before .before .before .before .before .before .before .pre .0, placed-long (c .before .before .before .before .before .before .before .before .go .kept .1 .1 .1 .1 .1 .1 .0) (c .before .before .before .before .before .before .before .before .go .ensures .stays _ (c .before .before .went .given .1))), c .before .before .before .before .before .before .before .before .before .before .before .before .before .before .before .before .before .before .before .before .before .pre .1 .0 .0)
 
 -- src/turning.rt:57:21
 enum-known-went-2 : tie.Need-enum-known-went-2

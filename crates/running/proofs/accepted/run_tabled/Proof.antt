@@ -6,7 +6,7 @@ use Rattle.running.proofs.accepted.run_tabled.Statement.{statement}
 use Rattle.running.proofs.accepted.run_tabled.Tie as tie
 
 run-words-requires : tie.Need-run-words-requires
-run-words-requires c κs = let p = c .before .before .before .before .before .before .before .before .before .before .before .pre in (accepted-typed (p .0) .0, p .1 .1)
+run-words-requires c κs = let p = c .before .before .before .before .before .before .before .before .before .before .pre in (accepted-typed (p .accepted) .0, p .narrow, p .numbered)
 
 same-length : tie.Need-same-length
 same-length c = search needs
@@ -21,7 +21,7 @@ same-length-4 : tie.Need-same-length-4
 same-length-4 c = search needs
 
 returns : tie.Need-returns
-returns c = let p = c .before .before .before .before .before .before .before .before .before .before .before .before .before .before .before .before .before .before .before .before .pre in ran-as-defined _ (p .0) _ (p .1 .0) _ _ _ _ _ _ _ _ _ _ (c .before .before .before .before .before .before .before .before .run-words .ensures)
+returns c = let p = c .before .before .before .before .before .before .before .before .before .before .before .before .before .before .before .before .before .before .before .pre in ran-as-defined _ (p .accepted) _ (p .tabled) _ _ _ _ _ _ _ _ _ _ (c .before .before .before .before .before .before .before .before .run-words .ensures)
 
 pub run-tabled-spec : {M : Type 1} → statement M
 run-tabled-spec =

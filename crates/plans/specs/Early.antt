@@ -1,0 +1,190 @@
+-- What stands in the plan before the links: where chains go on, and what arguments match.
+use Prim.Native.Nat.{ℕ, zero, suc, _+_, _-_, _≤_, _<_}
+use native.Mathlib.Omega.{arith}
+use native.Mathlib.Decide.{ℕ-discrete}
+use mathlib.Core.Bool.{Bool, true, false}
+use mathlib.Core.List.{List, [], _∷_}
+use mathlib.Core.Path.{_≡_, refl, ap, _∙_}
+use borrow.Author.Tests.{leb-true}
+use lib.ListN.{length, set, replicate, length-replicate}
+use Rattle.sets.specs.Tests.{and-true}
+use Rattle.sets.specs.Members.{inList, cons-here, cons-later}
+use Rattle.language.specs.Lists.{count, choose, all}
+use Rattle.language.specs.File.{word, recordCount}
+use Rattle.language.specs.Format.{maxRecords, callArguments, argumentVariable, callKind}
+use Rattle.language.specs.Program.{Functor, Variable, Parameter, Signature, parameterIn, parametersFrom, parametersOf}
+use Rattle.language.specs.Typing.{variableOk, signatureOk, typingOk}
+use Rattle.language.specs.Answers.{program}
+use Rattle.region_graph.specs.Typed.{variables-few, signature-typed}
+use Rattle.records.specs.Records.{recordAt}
+use Rattle.records.specs.declared.Record.{Record}
+use Rattle.records.specs.declared.Record.the-variants.{Header, «Type» as TypeOf, Functor as FunctorOf, Procedure, Variable as VariableOf, Region, Edge, Literal, Sum, Assign, Construct, Switch, Arm, If, Call, Argument, Print, Create, Remove, Other}
+use Rattle.chains.specs.Formed.{Formed, counted}
+use Rattle.chains.specs.Parts.{call-at}
+use Rattle.chains.specs.Records.{chainRecords}
+use Rattle.word_machine.specs.Tables.{onto}
+use Rattle.word_machine.specs.Filling.{referred, onwardWords, filled}
+use Rattle.word_machine.specs.FillingLaws.{filled-length}
+use Rattle.word_machine.specs.FormedTree.{formed-tree}
+use Rattle.word_machine.specs.Arguments.{given-small}
+use Rattle.plans.specs.Plan.{insFrom, outsFrom, sidesFrom, planWords, imageBytes}
+use Rattle.plans.specs.Passes.{slotsFrom, modesFrom, isKind, calleeOf, placed, placedAt, placing}
+use Rattle.plans.specs.Kept.{Every, set-keeps, zeros-every, Pairs, filled-keeps, each-keeps}
+use Rattle.plans.specs.Placing.{AllRecords, all-records, arguments-records, placing-length}
+use Rattle.plans.specs.Turns.{call-record}
+use Rattle.plans.specs.Links.{Joinable, small-ok}
+
+-- the word v at place p of the plan leads to a record, or to images
+pub record Reaches (p v : ℕ) : Type 0 where
+  pub goal : p < insFrom → v < maxRecords
+  pub side : sidesFrom ≤ p → v + 64 < imageBytes
+
+-- .. and what an argument matches is a number of a variable; if it matches anything, so is what it gives
+pub record Early (f : List ℕ) (p v : ℕ) : Type 0 where
+  pub reaches : Reaches p v
+  pub small : insFrom ≤ p → v ≤ 64
+  pub given : (a : ℕ) → p ≡ modesFrom + a → (v ≡ 0 → ⊥) → word f a argumentVariable ≤ 64
+
+module _ (f : List ℕ) where
+  early-zero : (p : ℕ) → Early f p 0
+  early-zero p = record { reaches = record { goal = λ l. omega arith; side = λ l. omega arith }; small = λ l. omega arith; given = λ a e n. absurd (n refl) }
+
+  early-goal : (p v : ℕ) → p < maxRecords → v < maxRecords → Early f p v
+  early-goal p v l h = record {
+    reaches = record { goal = λ k. h; side = λ k. absurd (omega arith) };
+    small = λ k. absurd (omega arith);
+    given = λ a e n. absurd (omega arith);
+  }
+
+  early-slot : (j v : ℕ) → j < maxRecords → v ≤ 64 → Early f (slotsFrom + j) v
+  early-slot j v l h = record {
+    reaches = record { goal = λ k. absurd (omega arith); side = λ k. absurd (omega arith) };
+    small = λ k. h;
+    given = λ a e n. absurd (omega arith);
+  }
+
+  early-mode : (j v : ℕ) → j < maxRecords → v ≤ 64 → word f j argumentVariable ≤ 64 → Early f (modesFrom + j) v
+  early-mode j v l h g = record {
+    reaches = record { goal = λ k. absurd (omega arith); side = λ k. absurd (omega arith) };
+    small = λ k. h;
+    given = λ a e n. (let z : j ≡ a = omega arith in rw z at g);
+  }
+
+-- ---- where chains go on
+pub onto-few : (n v : ℕ) → n < maxRecords → v < maxRecords → onto n v < maxRecords
+unfolding onto
+onto-few zero v k h = h
+onto-few (suc n) v k h = k
+
+words-few : (i : ℕ) (r : Record) (v : ℕ) → AllRecords (referred r) → v < maxRecords → AllRecords (onwardWords i r v)
+unfolding referred onwardWords
+words-few i (Procedure n vs rs g) v k h = (omega arith, (omega arith, tt))
+words-few i (Literal n x w) v k h = (h, tt)
+words-few i (Sum n x o y z) v k h = (h, tt)
+words-few i (Assign n x y) v k h = (h, tt)
+words-few i (Construct n x f a b c d) v k h = (h, tt)
+words-few i (Switch n x cs) v k h = (h, (onto-few n v (k .0) h, tt))
+words-few i (Arm n g f a b c d) v k h = (h, (h, tt))
+words-few i (If n y z a b) v k h = (h, (onto-few n v (k .0) h, (onto-few n v (k .0) h, tt)))
+words-few i (Call n q ys) v k h = (h, (h, tt))
+words-few i (Argument n y) v k h = (h, tt)
+words-few i (Print n y) v k h = (h, tt)
+words-few i (Create n r) v k h = (h, tt)
+words-few i (Remove n r) v k h = (h, tt)
+words-few i (Header a b c) v k h = tt
+words-few i (TypeOf n fs) v k h = tt
+words-few i (FunctorOf n a b c d e) v k h = tt
+words-few i (VariableOf n a b c) v k h = tt
+words-few i (Region n a b c) v k h = tt
+words-few i (Edge n a b c) v k h = tt
+words-few i Other v k h = tt
+
+goal-pairs : (f ps vs : List ℕ) → AllRecords ps → AllRecords vs → Pairs (Early f) ps vs
+goal-pairs f [] vs a b = tt
+goal-pairs f (p ∷ ps) [] a b = tt
+goal-pairs f (p ∷ ps) (v ∷ vs) a b = (early-goal f p v (a .0) (b .0), goal-pairs f ps vs (a .1) (b .1))
+
+-- ---- a procedure's in and out variables: numbers and modes
+abbrev Small : List Parameter → Type 0
+Small [] = Unit {0}
+Small (a ∷ ps) = (a .variable ≤ 64) × (a .mode ≤ 64) × Small ps
+
+small-in : (m k : ℕ) (ps : List Parameter) → m ≤ 64 → k ≤ 64 → Small ps → Small (parameterIn m k ps)
+unfolding parameterIn
+small-in zero k ps l h s = s
+small-in (suc m) k ps l h s = (h, l, s)
+
+small-from : (T : List (List Functor)) (S : Signature) (k : ℕ) (vs : List Variable) → k + length vs ≤ 65 → all (variableOk T S) vs ≡ true → Small (parametersFrom k vs)
+unfolding parametersFrom all variableOk
+small-from T S k [] l e = tt
+small-from T S k (v ∷ vs) l e =
+    let a = and-true e in
+    small-in (v .mode) k (parametersFrom (suc k) vs) (omega (arith, leb-true (v .mode) 2 (and-true (a .0) .0))) (omega arith)
+    (small-from T S (suc k) vs (omega arith) (a .1))
+
+small-all : (T : List (List Functor)) (S : Signature) → signatureOk T S ≡ true → Small (parametersOf S)
+unfolding parametersOf signatureOk
+small-all T S ok = small-from T S 1 (S .variables) (omega (arith, variables-few T S ok)) (and-true (and-true (and-true ok .1) .1) .0)
+
+-- ---- what arguments match
+module _ {f : List ℕ} (F : Formed f) (ok : typingOk (program f) ≡ true) where
+  placed-keeps : (ps : List Parameter) (js t : List ℕ) → Small ps → AllRecords js → ((a : ℕ) → inList a js ≡ true → word f a argumentVariable ≤ 64)
+      → Every (Early f) t → Every (Early f) (placed ps js t)
+  unfolding placed
+  placed-keeps [] js t s r g h = h
+  placed-keeps (a ∷ ps) [] t s r g h = h
+  placed-keeps (a ∷ ps) (j ∷ js) t s r g h =
+      placed-keeps ps js (set (set t (slotsFrom + j) (a .variable)) (modesFrom + j) (a .mode)) (s .2) (r .1) (λ b i. g b (cons-later b j js i))
+      (set-keeps (Early f) (set t (slotsFrom + j) (a .variable)) (modesFrom + j) (a .mode)
+      (early-mode f j (a .mode) (r .0) (s .1) (g j (cons-here j j js refl)))
+      (set-keeps (Early f) t (slotsFrom + j) (a .variable) (early-slot f j (a .variable) (r .0) (s .0)) h))
+
+  placed-here : (i : ℕ) (t : List ℕ) → Every (Early f) t → Every (Early f) (placedAt f i t)
+  unfolding placedAt choose
+  placed-here i t h = go (isKind f callKind i) refl
+    where
+      go : (b : Bool) → isKind f callKind i ≡ b → Every (Early f) (choose b (placed (parametersOf (calleeOf f i)) (chainRecords f (word f i callArguments)) t) t)
+      go true e =
+          placed-keeps (parametersOf (calleeOf f i)) (chainRecords f (word f i callArguments)) t
+          (small-all (program f .types) (calleeOf f i) (signature-typed (program f) ok _))
+          (arguments-records F _ (call-at F refl (call-record f i e) .to-arguments .stands))
+          (given-small F ok i _ _ _ (call-record f i e)) h
+      go false e = h
+
+-- ---- the first two passes over the plan, which has zeros before
+module _ {f : List ℕ} (F : Formed f) where
+  -- a record's references are records
+  pub references : (i : ℕ) → 1 ≤ i → i < 1 + (recordCount f - 1) → AllRecords (referred (recordAt f i))
+  references i a b = all-records (referred (recordAt f i)) (λ p h. go p h (ℕ-discrete p 0))
+    where
+      go : (p : ℕ) → 0 < count p (referred (recordAt f i)) → Dec (p ≡ 0) → p < maxRecords
+      go p h (yes e) = omega arith
+      go p h (no z) = let u = formed-tree f F .up i p a b z h in omega (arith, u .1, counted F .most)
+
+  module _ (ok : typingOk (program f) ≡ true) (t : List ℕ) (zeros : t ≡ replicate planWords 0) where
+    abbrev n : ℕ
+    n = recordCount f - 1
+
+    abbrev pub matchedPlan : List ℕ
+    matchedPlan = placing f n 1 (filled onwardWords f n 1 t)
+
+    early-filled : Every (Early f) (filled onwardWords f n 1 t)
+    early-filled =
+        filled-keeps (Early f) onwardWords f n 1
+        (λ i l u v q. goal-pairs f (referred (recordAt f i)) (onwardWords i (recordAt f i) v) (references i l u) (words-few i (recordAt f i) v (references i l u) (q .reaches .goal (omega (arith, counted F .most)))))
+        t (zeros-every (Early f) (early-zero f) planWords zeros)
+
+    pub early-matched : Every (Early f) matchedPlan
+    unfolding placing
+    early-matched = each-keeps (Early f) (placedAt f) n 1 (λ i l u v h. placed-here F ok i v h) (filled onwardWords f n 1 t) early-filled
+
+    pub matched-joinable : Joinable f (recordCount f) matchedPlan
+    matched-joinable = record {
+      long = placing-length f n 1 (filled onwardWords f n 1 t) ∙ filled-length onwardWords f n 1 t ∙ ap length zeros ∙ length-replicate {A = ℕ} planWords 0;
+      most = counted F .most;
+      slots = λ a l. early-matched (slotsFrom + a) .small (omega arith);
+      modes = λ a l. early-matched (modesFrom + a) .small (omega arith);
+      givens = λ a l z. early-matched (modesFrom + a) .given a refl z;
+      ins = λ a l h. small-ok _ (early-matched (insFrom + a) .small (omega arith));
+      outs = λ a l h. small-ok _ (early-matched (outsFrom + a) .small (omega arith));
+    }
