@@ -4,6 +4,11 @@ ghost use mathlib.Core.Bool.{false};
 ghost use Rattle.sets.specs.Sets.{member, emptySet, single, _∪_, _∩_, _∖_, sameSet, subset, stored, loaded};
 ghost use Rattle.sets.specs.Members.{nextMember};
 
+// The greatest number that may be a member, and the one that stands for none.
+const GREATEST: usize = 64;
+
+const NONE: usize = GREATEST + 1;
+
 pub struct Set {
     bits: u64,
 }
@@ -19,7 +24,7 @@ impl Set {
         if n < 1 {
             return Set::EMPTY;
         }
-        if 64 < n {
+        if GREATEST < n {
             return Set::EMPTY;
         }
         let place = n - 1;
@@ -61,7 +66,7 @@ impl Set {
         if n < 1 {
             return false;
         }
-        if 64 < n {
+        if GREATEST < n {
             return false;
         }
         (self.bits >> (n - 1)) & 1 == 1
@@ -85,13 +90,13 @@ impl Set {
     pub fn after(self, n: usize) -> usize
         ensures { λ r. ⌜ r ≡ nextMember self n ⌝ }
     {
-        if 63 < n {
-            return 65;
+        if GREATEST <= n {
+            return NONE;
         }
         let rest = self.bits >> n;
         let zeros = u64::trailing_zeros(rest) as usize;
         let found = n + 1 + zeros;
-        if found < 65 { found } else { 65 }
+        if found < NONE { found } else { NONE }
     }
 
     // Whether there is no member.
