@@ -1,7 +1,6 @@
 -- Demand 3 about the runner's code. `run` promises `RanAs`: from that promise and the theorem about the definitions, what holds of every accepted file's run in
 -- whatever memory and with whatever number of steps lent. With memory for all that it makes, nothing but its end or the steps lent stops it.
 use Prim.Native.Nat.{ℕ, _-_, _≤_}
-use native.Mathlib.Omega.{arith}
 use mathlib.Core.Bool.{false}
 use mathlib.Core.List.{List, [], map}
 use mathlib.Core.Path.{_≡_, sym, _∙_}

@@ -2,11 +2,12 @@
 use Prim.Native.Nat.{ℕ, _≤_}
 use native.Mathlib.Omega.{arith}
 use mathlib.Core.List.{List}
-use mathlib.Core.Path.{_≡_, refl, sym, ap, _∙_}
+use mathlib.Core.Path.{_≡_, sym, ap, _∙_}
 use lib.ListN.{length}
 use Rattle.language.specs.declared.Refusal.{Refusal}
 use Rattle.language.specs.Answers.{AnnotatorAnswer, refuses, writes, annotated, annotatorMemory, annotatorBytes}
 use Rattle.language.specs.Output.{refusalLine, annotatorOutput}
+use Rattle.lines.specs.Widths.{refusalBytes}
 use Rattle.lines.specs.Put.{Put, Front, put-front}
 use Rattle.lines.specs.Answers.{refusal-length}
 use Rattle.annotation.specs.declared.Annotated.{Annotated}
@@ -24,7 +25,7 @@ file-out (writes g) before {after} {r} {n} h e =
     record { memory = h .1; front = w .1; counted = k ∙ sym (ap length (w .1)); fits = w .0 }
 
 pub line-out : (a : AnnotatorAnswer) (before : List ℕ) {m after : List ℕ} {r : Annotated} {q : Refusal} {n : ℕ} → Annotates a before m r → r ≡ Refused q
-    → 10 ≤ length before → Put m 0 (refusalLine q) after n → Front (annotatorOutput a) before after n
+    → refusalBytes ≤ length before → Put m 0 (refusalLine q) after n → Front (annotatorOutput a) before after n
 unfolding annotatorOutput told annotatorMemory
 line-out (writes g) before h e l p = let z : _≡_ {A = ℕ} 0 1 = cc in absurd (omega arith)
 line-out (refuses r) before {m} {after} {q = q} {n} h e l p =

@@ -1,7 +1,7 @@
 -- What the runner program prints.
-use Prim.Native.Nat.{ℕ, _≤_}
+use Prim.Native.Nat.{ℕ, _+_, _*_, _≤_}
 use native.Mathlib.Omega.{arith}
-use mathlib.Core.Path.{_≡_, refl, sym, ap, subst, _∙_}
+use mathlib.Core.Path.{_≡_, sym, ap, subst, _∙_}
 use mathlib.Core.List.{List, _++_, map}
 use lib.ListN.{length, take}
 use lib.Seq.{length-take-le}
@@ -12,6 +12,7 @@ use Rattle.language.specs.declared.Verdict.the-variants.{Refused}
 use Rattle.language.specs.Machine.{runnerLent}
 use Rattle.language.specs.Answers.{checked, runFor, ran}
 use Rattle.language.specs.Output.{numberLines, refusalLine, endingLine, runnerOutput}
+use Rattle.lines.specs.Widths.{numberBytes, endingBytes}
 use Rattle.lines.specs.Put.{Put, Front, put-front}
 use Rattle.lines.specs.Answers.{refusal-length}
 use Rattle.word_machine.specs.Machine.{lentWords}
@@ -19,9 +20,9 @@ use Rattle.machine.specs.declared.Outcome.{Outcome}
 use Rattle.machine.specs.Joining.{RanAs}
 use Rattle.running.specs.Lent.{printWords, stepsLent}
 
--- bytes of the lines
+-- bytes for the lines of the numbers printed and of the ending
 abbrev pub outputBytes : ℕ
-outputBytes = 12320
+outputBytes = numberBytes * printWords + endingBytes
 
 -- ---- the lines
 pub prints-run : {f m rs fw ps px b e : List ℕ} {r : Outcome} {k : ℕ} → lentWords m rs fw ps stepsLent ≡ runnerLent → RanAs f m rs fw ps stepsLent r px

@@ -1,8 +1,8 @@
 // The annotator's answer on standard output.
+use crate::print;
 use annotation::Annotated;
 use annotation::annotate;
-use libc::STDERR_FILENO;
-use libc::STDOUT_FILENO;
+use language::format::MAX_BYTES;
 use lines::put_refusal;
 ghost use mathlib.Core.Path.{_≡_};
 ghost use lib.ListN.{length};
@@ -11,10 +11,10 @@ ghost use Rattle.language.specs.Output.{annotatorOutput};
 ghost use Rattle.lines.specs.Put.{Front};
 
 // The bytes that the annotator lends: as many as 4,096 records have.
-fn lent() -> [u8; 65536]
+fn lent() -> [u8; MAX_BYTES]
     ensures { λ r. ⌜ annotatorBytes ≡ length r ⌝ }
 {
-    [0; 65536]
+    [0; MAX_BYTES]
 }
 
 // What the annotator writes, at the front of `out`. Answers how many bytes that are.
@@ -28,11 +28,9 @@ fn annotator_answer(file: &[u8], out: &mut [u8]) -> usize
     }
 }
 
-// Writes that and nothing else; where it cannot be written, a message to standard error.
+// Writes that and nothing else.
 pub fn print_annotated(file: &[u8]) {
     let mut out = lent();
     let n = annotator_answer(file, &mut out);
-    if !io::write_all(STDOUT_FILENO, &out[..n]) {
-        io::write_all(STDERR_FILENO, b"the answer could not be written\n");
-    }
+    print(&out[..n]);
 }

@@ -6,6 +6,7 @@ pub use annotated::print_annotated;
 use checking::check;
 use libc::STDERR_FILENO;
 use libc::STDOUT_FILENO;
+use lines::REFUSAL_BYTES;
 use lines::checker_output;
 pub use ran::print_run;
 ghost use Rattle.language.specs.Answers.{checked};
@@ -13,17 +14,22 @@ ghost use Rattle.language.specs.Output.{checkerOutput};
 ghost use Rattle.lines.specs.Put.{Front};
 
 // What the checker prints, at the front of `out`. Answers how many bytes that are.
-fn answer(file: &[u8], out: &mut [u8; 10]) -> usize
+fn answer(file: &[u8], out: &mut [u8; REFUSAL_BYTES]) -> usize
     ensures { λ n. ⌜ Front (checkerOutput (checked (now (file .entry)))) (now (out .entry)) (now (out .exit)) n ⌝ }
 {
     checker_output(check(file), out)
 }
 
-// Writes that and nothing else; where it cannot be written, a message to standard error.
-pub fn print_checked(file: &[u8]) {
-    let mut line = [0; 10];
-    let n = answer(file, &mut line);
-    if !io::write_all(STDOUT_FILENO, &line[..n]) {
+// Writes bytes; where they cannot be written, a message to standard error.
+fn print(bytes: &[u8]) {
+    if !io::write_all(STDOUT_FILENO, bytes) {
         io::write_all(STDERR_FILENO, b"the answer could not be written\n");
     }
+}
+
+// Writes that and nothing else.
+pub fn print_checked(file: &[u8]) {
+    let mut line = [0; REFUSAL_BYTES];
+    let n = answer(file, &mut line);
+    print(&line[..n]);
 }

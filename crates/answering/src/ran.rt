@@ -1,11 +1,13 @@
 // The runner's answer on standard output.
+use crate::print;
 use checking::check;
 use language::Verdict;
 use language::format::MAX_BYTES;
-use libc::STDERR_FILENO;
-use libc::STDOUT_FILENO;
+use lines::ENDING_BYTES;
+use lines::NUMBER_BYTES;
 use lines::put_refusal;
 use lines::runner_output;
+use running::lent::PRINTS;
 use running::lent::STEPS;
 use running::lent::cell_words;
 use running::lent::frame_words;
@@ -21,11 +23,13 @@ ghost use Rattle.language.specs.Output.{runnerOutput};
 ghost use Rattle.lines.specs.Put.{Front};
 ghost use Rattle.answering.specs.Ran.{outputBytes};
 
-// Room for the lines: 12 bytes for each number printed, 32 for the ending.
-fn output() -> [u8; 12320]
+// Room for the lines of the numbers printed and of the ending.
+const OUTPUT_BYTES: usize = NUMBER_BYTES * PRINTS + ENDING_BYTES;
+
+fn output() -> [u8; OUTPUT_BYTES]
     ensures { λ r. ⌜ outputBytes ≡ length r ⌝ }
 {
-    [0; 12320]
+    [0; OUTPUT_BYTES]
 }
 
 // What the runner prints for an accepted file, at the front of `out`. Answers how many bytes that are. The memory is lent here, where the stack of
@@ -67,11 +71,9 @@ fn runner_answer(file: &[u8], out: &mut [u8]) -> usize
     accepted_answer(file, out)
 }
 
-// Writes that and nothing else; where it cannot be written, a message to standard error.
+// Writes that and nothing else.
 pub fn print_run(file: &[u8]) {
     let mut out = output();
     let n = runner_answer(file, &mut out);
-    if !io::write_all(STDOUT_FILENO, &out[..n]) {
-        io::write_all(STDERR_FILENO, b"the answer could not be written\n");
-    }
+    print(&out[..n]);
 }

@@ -12,6 +12,7 @@ use mir.Syntax.{Width, w32}
 use mir.Val.{SFits, bits, hbits, toZ, ofZ}
 use mir.Facts.{toZ-neg}
 use Rattle.language.specs.Lists.{choose}
+use Rattle.language.specs.Format.{maxVariables}
 use Rattle.word_machine.specs.Machine.{sumWord, cleared, blocks}
 use Rattle.word_machine.specs.WordLaws.{add-words, subtract-words}
 
@@ -43,7 +44,7 @@ pub some-cleared : (n p : ℕ) (t u : List ℕ) → 9 ≤ n → n < 17 → u ≡
 unfolding blocks choose
 some-cleared n p t u h l e = rw (le-ltb n 9 h, lt-ltb n 17 l) e
 
-pub all-cleared : (n p : ℕ) (t u : List ℕ) → 17 ≤ n → u ≡ cleared p 64 t → u ≡ cleared p (blocks n) t
+pub all-cleared : (n p : ℕ) (t u : List ℕ) → 17 ≤ n → u ≡ cleared p maxVariables t → u ≡ cleared p (blocks n) t
 unfolding blocks choose
 all-cleared n p t u h e = rw (le-ltb n 9 (omega arith), le-ltb n 17 h) e
 

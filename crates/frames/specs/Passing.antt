@@ -2,14 +2,13 @@
 use Prim.Native.Nat.{ℕ, zero, suc, _+_, _-_, _*_, _/_, _≤_, _<_}
 use native.Mathlib.Omega.{arith}
 use mathlib.Core.Path.{_≡_, refl, _∙_}
-use mathlib.Core.List.{List, [], _∷_}
+use mathlib.Core.List.{List}
 use borrow.Author.Tests.{lt-ltb, le-ltb}
 use lib.ListN.{length, getD, set}
 use Rattle.language.specs.Format.{maxRecords}
 use Rattle.language.specs.Lists.{choose}
-use Rattle.language.specs.Program.{inMode, outMode}
 use Rattle.plans.specs.Plan.{insFrom, outsFrom, linksFrom, linked, LinkOk, tablesIn}
-use Rattle.word_machine.specs.Tables.{slotOf, givenOf}
+use Rattle.word_machine.specs.Tables.{linkUnit, slotOf, givenOf}
 use Rattle.word_machine.specs.Copies.{copied-length}
 use Rattle.word_machine.specs.Machine.{frameWords, copied, valuesIn, valuesOut}
 
@@ -39,13 +38,13 @@ module _ (to from link : ℕ → ℕ) where
   pub along-first : (i : ℕ) (fw : List ℕ) → i < maxRecords → Along (copied to from (linked link (maxRecords - i) i) fw) i (link i) fw
   along-first i fw l = record { fuel = maxRecords - i; enough = omega arith; here = l; word = refl; rest = refl }
 
-  more : (fuel a n : ℕ) (fw fx : List ℕ) → n ≡ link a / 65536 → a < n → fx ≡ set fw (to (link n)) (getD fw (from (link n)) 0)
+  more : (fuel a n : ℕ) (fw fx : List ℕ) → n ≡ link a / linkUnit → a < n → fx ≡ set fw (to (link n)) (getD fw (from (link n)) 0)
       → copied to from (linked link fuel n) fx ≡ copied to from (linked link (suc fuel) a) fw
   unfolding linked copied choose
   more fuel a n fw fx en l ex = rw (← en, lt-ltb a n l, ex)
 
   -- the link leads on to record n
-  pub along-next : (all : List ℕ) (a w n v : ℕ) (fw fx : List ℕ) → Along all a w fw → n ≡ w / 65536 → a < n → n < maxRecords → v ≡ link n
+  pub along-next : (all : List ℕ) (a w n v : ℕ) (fw fx : List ℕ) → Along all a w fw → n ≡ w / linkUnit → a < n → n < maxRecords → v ≡ link n
       → fx ≡ set fw (to v) (getD fw (from v) 0) → Along all n v fx
   along-next all a w n v fw fx A en l q ev ex = go (A .fuel) (A .enough) (A .rest)
     where
@@ -59,13 +58,13 @@ module _ (to from link : ℕ → ℕ) where
         rest = more m a n fw fx (rw (← A .word) en) l (rw (← ev) ex) ∙ r;
       }
 
-  ended : (fuel a : ℕ) (fw : List ℕ) → link a / 65536 ≤ a → fw ≡ copied to from (linked link fuel a) fw
+  ended : (fuel a : ℕ) (fw : List ℕ) → link a / linkUnit ≤ a → fw ≡ copied to from (linked link fuel a) fw
   unfolding linked copied choose
   ended zero a fw l = refl
-  ended (suc fuel) a fw l = rw (le-ltb a (link a / 65536) l)
+  ended (suc fuel) a fw l = rw (le-ltb a (link a / linkUnit) l)
 
   -- it does not
-  pub along-last : (all : List ℕ) (a w : ℕ) (fw : List ℕ) → Along all a w fw → w / 65536 ≤ a → fw ≡ all
+  pub along-last : (all : List ℕ) (a w : ℕ) (fw : List ℕ) → Along all a w fw → w / linkUnit ≤ a → fw ≡ all
   along-last all a w fw A l = ended (A .fuel) a fw (rw (← A .word) l) ∙ A .rest
 
 -- ---- the machine's, for frame k at its place

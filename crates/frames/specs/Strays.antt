@@ -12,8 +12,8 @@ pub past-word : {f : List ℕ} → Formed f → (i k : ℕ) → recordCount f �
 unfolding word
 past-word {f} F i k l =
     let n = counted F .bytes in
-    let low : getD f (16 * i + 2 * k) 0 ≡ 0 = List·getD-eq-default f 0 (omega arith) in
-    let high : getD f (16 * i + 2 * k + 1) 0 ≡ 0 = List·getD-eq-default f 0 (omega arith) in
+    let low : getD f (recordBytes * i + 2 * k) 0 ≡ 0 = List·getD-eq-default f 0 (omega arith) in
+    let high : getD f (recordBytes * i + 2 * k + 1) 0 ≡ 0 = List·getD-eq-default f 0 (omega arith) in
     rw (low, high)
 
 -- a place from the file's length on is no record's

@@ -3,6 +3,7 @@ use crate::words::store;
 ghost use mathlib.Core.Path.{_≡_};
 ghost use Prim.Native.Nat.{_+_, _≤_};
 ghost use lib.ListN.{length};
+ghost use Rattle.language.specs.Format.{maxVariables};
 ghost use Rattle.word_machine.specs.Machine.{cleared, blocks};
 
 fn clear_two(frames: &mut [u32], at: usize)
@@ -46,8 +47,8 @@ fn clear_half(frames: &mut [u32], at: usize)
 }
 
 fn clear_all(frames: &mut [u32], at: usize)
-    requires { ⌜ at + 64 ≤ length (now frames) ⌝ }
-    ensures { λ _. ⌜ now (frames .exit) ≡ cleared at 64 (now (frames .entry)) ⌝ }
+    requires { ⌜ at + maxVariables ≤ length (now frames) ⌝ }
+    ensures { λ _. ⌜ now (frames .exit) ≡ cleared at maxVariables (now (frames .entry)) ⌝ }
 {
     clear_half(&mut frames[..], at);
     clear_half(&mut frames[..], at + 32);
@@ -55,7 +56,7 @@ fn clear_all(frames: &mut [u32], at: usize)
 
 // Zero in the words of n values from a place on: in 8, 16 or all 64.
 pub fn clear(frames: &mut [u32], first: usize, n: usize)
-    requires { ⌜ first + 64 ≤ length (now frames) ⌝ }
+    requires { ⌜ first + maxVariables ≤ length (now frames) ⌝ }
     ensures { λ _. ⌜ now (frames .exit) ≡ cleared first (blocks n) (now (frames .entry)) ⌝ }
 {
     if n < 9 {

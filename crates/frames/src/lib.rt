@@ -17,6 +17,7 @@ pub use passing::values_in;
 pub use passing::values_out;
 pub use words::CALL_FROM;
 pub use words::FRAME_WORDS;
+pub use words::REGIONS_FROM;
 pub use words::give;
 pub use words::name_region;
 pub use words::region;

@@ -7,7 +7,6 @@ ghost use mathlib.Core.Path.{_≡_};
 ghost use Prim.Native.Nat.{_+_, _*_, _≤_, _<_};
 ghost use lib.ListN.{length, getD};
 ghost use Rattle.sets.specs.Members.{members};
-ghost use Rattle.language.specs.Format.{maxRegions};
 ghost use Rattle.word_machine.specs.Machine.{frameWords};
 ghost use Rattle.frames.specs.Naming.{Pictured, namedIn, namedOut};
 

@@ -1,8 +1,8 @@
 // The values that a call's arguments pass, along the links of the plan: from the call's record to its arguments of a mode, each to the next.
 use crate::words::FRAME_WORDS;
-use plans::GIVEN;
+use plans::GIVEN_UNIT;
 use plans::INS;
-use plans::LINK;
+use plans::LINK_UNIT;
 use plans::OUTS;
 use plans::PLAN;
 ghost use mathlib.Core.Path.{_≡_};
@@ -22,12 +22,12 @@ pub fn values_in(plan: &[usize; PLAN], i: usize, at: usize, frames: &mut [u32])
     let mut a = i;
     let mut w = plan[INS + a];
     loop {
-        let n = w / LINK;
+        let n = w / LINK_UNIT;
         if n <= a {
             return;
         }
         w = plan[INS + n];
-        frames[at + FRAME_WORDS + w % GIVEN] = frames[at + (w / GIVEN) % GIVEN];
+        frames[at + FRAME_WORDS + w % GIVEN_UNIT] = frames[at + (w / GIVEN_UNIT) % GIVEN_UNIT];
         a = n;
     }
 }
@@ -41,12 +41,12 @@ pub fn values_out(plan: &[usize; PLAN], i: usize, at: usize, frames: &mut [u32])
     let mut a = i;
     let mut w = plan[OUTS + a];
     loop {
-        let n = w / LINK;
+        let n = w / LINK_UNIT;
         if n <= a {
             return;
         }
         w = plan[OUTS + n];
-        frames[at + (w / GIVEN) % GIVEN] = frames[at + FRAME_WORDS + w % GIVEN];
+        frames[at + (w / GIVEN_UNIT) % GIVEN_UNIT] = frames[at + FRAME_WORDS + w % GIVEN_UNIT];
         a = n;
     }
 }

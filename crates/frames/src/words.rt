@@ -1,4 +1,5 @@
 // Words of a frame, by the numbers of variables and regions. Every number that a file past number 3 has is that of a word of the frame.
+use language::format::MAX_VARIABLES;
 ghost use mathlib.Core.Path.{_≡_};
 ghost use Prim.Native.Nat.{_+_, _≤_, _<_};
 ghost use lib.ListN.{length, getD, set};
@@ -9,7 +10,7 @@ ghost use Rattle.word_machine.specs.Machine.{frameWords, regionsFrom};
 pub const FRAME_WORDS: usize = 136;
 
 // The words before the first region's, less one since regions count from 1.
-const REGIONS_FROM: usize = 64;
+pub const REGIONS_FROM: usize = MAX_VARIABLES;
 
 // The word that has the record of the call that made the frame.
 pub const CALL_FROM: usize = 129;

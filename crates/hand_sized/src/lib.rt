@@ -13,7 +13,13 @@ use files::removed_twice;
 use files::u;
 use files::unused_word;
 use language::Verdict;
+use language::format::MAX_BYTES;
 use machine::Outcome;
+use running::lent::CELLS;
+use running::lent::FRAMES;
+use running::lent::PRINTS;
+use running::lent::REGIONS;
+use running::lent::STEPS;
 use running::run;
 use wraps::wraps;
 ghost use mathlib.Core.Path.{_≡_};
@@ -30,20 +36,6 @@ ghost use Rattle.language.specs.Table.{A as fileA};
 ghost use Rattle.annotation.specs.declared.Annotated.the-variants.{Refused as NotAnnotated, Written};
 ghost use Rattle.hand_sized.specs.Joined.{quiet, refusedBy, Untouched, IfAllRefuse};
 ghost use Rattle.hand_sized.specs.Wraps.{ends};
-
-// What the annotator program has.
-const BYTES: usize = 65536;
-
-// What the runner program has: 1,024 cells, 1,024 regions, 100 frames, 1,024 prints, 1,000,000 steps.
-const CELLS: usize = 8 * 1024;
-
-const REGIONS: usize = 2 * 1024;
-
-const FRAMES: usize = 136 * 100;
-
-const PRINTS: usize = 1024;
-
-const STEPS: usize = 1000000;
 
 // What the annotator, the checker and the runner answer to one file.
 pub struct Answers {
@@ -70,7 +62,7 @@ pub fn annotate_u_in_143(out: &mut [u8; 143]) -> Annotated
 }
 
 // "A to the annotator: 6".
-pub fn annotate_a(out: &mut [u8; BYTES]) -> Annotated
+pub fn annotate_a(out: &mut [u8; MAX_BYTES]) -> Annotated
     ensures { λ r. ⌜ r ≡ NotAnnotated Marked ⌝ }
     ensures { λ _. ⌜ refusalNumber Marked ≡ 6 ⌝ }
     ensures { λ _. ⌜ now (out .exit) ≡ now (out .entry) ⌝ }
@@ -181,7 +173,7 @@ pub fn run_wraps(
 // One file put to all three.
 fn put_to_all(
     file: &[u8],
-    out: &mut [u8; BYTES],
+    out: &mut [u8; MAX_BYTES],
     cells: &mut [u32; CELLS],
     regions: &mut [u32; REGIONS],
     frames: &mut [u32; FRAMES],
@@ -199,7 +191,7 @@ fn put_to_all(
 
 // "Empty file: 1".
 pub fn empty_file(
-    out: &mut [u8; BYTES],
+    out: &mut [u8; MAX_BYTES],
     cells: &mut [u32; CELLS],
     regions: &mut [u32; REGIONS],
     frames: &mut [u32; FRAMES],
@@ -215,7 +207,7 @@ pub fn empty_file(
 
 // "U with w7 = 1 in record 5: 2".
 pub fn unused_word_not_0(
-    out: &mut [u8; BYTES],
+    out: &mut [u8; MAX_BYTES],
     cells: &mut [u32; CELLS],
     regions: &mut [u32; REGIONS],
     frames: &mut [u32; FRAMES],
@@ -231,7 +223,7 @@ pub fn unused_word_not_0(
 
 // ".. in record 6: 3".
 pub fn word_past_arity(
-    out: &mut [u8; BYTES],
+    out: &mut [u8; MAX_BYTES],
     cells: &mut [u32; CELLS],
     regions: &mut [u32; REGIONS],
     frames: &mut [u32; FRAMES],

@@ -1,12 +1,11 @@
 -- A construct: the answer is the definition's, and the words stand for the memory with one cell more.
 use Prim.Native.Nat.{ℕ, suc, _<_}
 use mathlib.Core.Path.{_≡_, refl, sym, ap, _∙_}
-use mathlib.Core.Bool.{true, false}
+use mathlib.Core.Bool.{true}
 use mathlib.Core.List.{List, [], _∷_, _++_}
 use mathlib.Core.Logic.{_≢_}
 use native.Mathlib.Omega.{arith}
 use native.Mathlib.Decide.{ℕ-discrete}
-use lib.Dec.{ltb}
 use lib.ListN.{length}
 use borrow.Author.Tests.{lt-ltb, le-ltb, le-leb}
 use Rattle.sets.specs.Tests.{true-and}
@@ -20,7 +19,7 @@ use Rattle.memory.specs.declared.Contents.{Contents}
 use Rattle.memory.specs.declared.Heap.{Heap}
 use Rattle.memory.specs.declared.Made.{Made}
 use Rattle.memory.specs.declared.Made.the-variants.{At, NoRoom}
-use Rattle.memory.specs.Memory.{cellWord, first, built, builtCells, builtRegions}
+use Rattle.memory.specs.Memory.{cellWords, cellNext, cellWord, first, built, builtCells, builtRegions}
 use Rattle.heap.specs.Labels.{Labels, busy, having, Vacant, vacant-busy}
 use Rattle.heap.specs.Words.{argumentWords, wordsOf, arguments-same, Filled}
 use Rattle.heap.specs.Counts.{cellsIn, within, held-built, in-built, in-other}
@@ -55,7 +54,7 @@ module _ {k : Room} {h : Heap} {m rs : List ℕ} {M : Memory} {ρ χ : ℕ → �
 
   module _ (x : ℕ) (h′ : Heap) (m′ rs′ : List ℕ) (vacant : Vacant (R .own x)) (ec : h′ .cells .limit ≡ h .cells .limit)
       (es : h′ .regions .limit ≡ h .regions .limit) (full : Filled m′ x c (first rs (ρ r)))
-      (others : (y i : ℕ) → i < 8 → y ≢ x → cellWord m′ y i ≡ cellWord m y i)
+      (others : (y i : ℕ) → i < cellWords → y ≢ x → cellWord m′ y i ≡ cellWord m y i)
       (L : Labelled h′ m′ rs′ (put (R .own) x (busy (ρ r) size)) (put (R .reg) (ρ r) (having (suc size))) (suc (cellsHeld (M .alive) (M .cells))) (regionsHeld M)) where
     abbrev own1 : Labels
     own1 = put (R .own) x (busy (ρ r) size)
@@ -81,7 +80,7 @@ module _ {k : Room} {h : Heap} {m rs : List ℕ} {M : Memory} {ρ χ : ℕ → �
     moved : {y p : ℕ} {e : Cell} → Spot (R .own) m χ n y p e → Spot own1 m′ χ1 (length cells1) y p e
     moved {y} {e = e} s =
         let ne : x ≢ y = λ z. vacant-busy vacant (ap (R .own) z ∙ s .label) in
-        let o : (i : ℕ) → i < 5 → cellWord m′ y i ≡ cellWord m y i = λ i l. others y i (omega arith) (λ z. ne (sym z)) in
+        let o : (i : ℕ) → i < cellNext → cellWord m′ y i ≡ cellWord m y i = λ i l. others y i (omega arith) (λ z. ne (sym z)) in
         record {
           height = s .height;
           label = put-other (R .own) x (busy (ρ r) size) y ne ∙ s .label;

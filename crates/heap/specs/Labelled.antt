@@ -5,7 +5,7 @@ use mathlib.Core.List.{List}
 use native.Mathlib.Omega.{arith}
 use lib.ListN.{length}
 use Rattle.memory.specs.declared.Heap.{Heap}
-use Rattle.memory.specs.Memory.{link, first, last, unused, emptyHeap}
+use Rattle.memory.specs.Memory.{cellWords, regionWords, link, first, last, unused, emptyHeap}
 use Rattle.heap.specs.Labels.{fresh, busy, having, Labels, fresh-busy}
 use Rattle.heap.specs.Pools.{PoolOk, below, start-pool}
 
@@ -18,8 +18,8 @@ Ends own n a b r (suc k) = (own a ≡ busy r k) × (own b ≡ busy r 0)
 pub record Labelled (h : Heap) (m rs : List ℕ) (own reg : Labels) (cells regions : ℕ) : Type 0 where
   pub freeCells : ℕ
   pub freeRegions : ℕ
-  pub cellsFit : 8 * h .cells .limit ≤ length m
-  pub regionsFit : 2 * h .regions .limit ≤ length rs
+  pub cellsFit : cellWords * h .cells .limit ≤ length m
+  pub regionsFit : regionWords * h .regions .limit ≤ length rs
   pub cellPool : PoolOk own (link m) (h .cells) freeCells
   pub regionPool : PoolOk reg (first rs) (h .regions) freeRegions
   pub cellCount : freeCells + cells ≡ h .cells .top
@@ -30,7 +30,7 @@ pub record Labelled (h : Heap) (m rs : List ℕ) (own reg : Labels) (cells regio
   pub ends : (r s : ℕ) → reg r ≡ having s → Ends own (h .cells .limit) (first rs r) (last rs r) r s
 
 -- whatever stands in the words at the start
-pub start-labelled : (n k : ℕ) (m rs : List ℕ) → 8 * n ≤ length m → 2 * k ≤ length rs
+pub start-labelled : (n k : ℕ) (m rs : List ℕ) → cellWords * n ≤ length m → regionWords * k ≤ length rs
     → Labelled (emptyHeap n k) m rs (λ x. fresh) (λ x. fresh) 0 0
 unfolding emptyHeap unused
 start-labelled n k m rs hm hr = record {

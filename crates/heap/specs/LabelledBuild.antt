@@ -15,7 +15,7 @@ use Rattle.memory.specs.declared.Taken.the-variants.{Place, Full}
 use Rattle.memory.specs.declared.Heap.{Heap}
 use Rattle.memory.specs.declared.Made.{Made}
 use Rattle.memory.specs.declared.Made.the-variants.{At, NoRoom}
-use Rattle.memory.specs.Memory.{cellWord, link, first, last, cellTaken, filled, hung, built, builtOf, builtCells, builtCellsOf, builtRegions, builtRegionsOf}
+use Rattle.memory.specs.Memory.{cellWords, regionWords, cellNext, cellWord, link, first, last, cellTaken, filled, hung, built, builtOf, builtCells, builtCellsOf, builtRegions, builtRegionsOf}
 use Rattle.heap.specs.Labels.{busy, having, Labels, Vacant, vacant-busy, busy-region, busy-height}
 use Rattle.heap.specs.Pools.{Used, Gave, Takes, full, gave, take-ok, stays-ok}
 use Rattle.heap.specs.Words.{Filled, filled-length, filled-here, filled-other, Hung, hung-ok}
@@ -31,7 +31,7 @@ module _ {h : Heap} {m rs : List ℕ} {own reg : Labels} {cells regions : ℕ} (
     no-place : cells ≡ h .cells .limit → Builds NoRoom m rs
     new-cell : {x : ℕ} {h′ : Heap} {m′ rs′ : List ℕ} → cells < h .cells .limit → Vacant (own x) → h′ .cells .limit ≡ h .cells .limit
         → h′ .regions .limit ≡ h .regions .limit → Filled m′ x c (first rs r)
-        → ((y k : ℕ) → k < 8 → y ≢ x → cellWord m′ y k ≡ cellWord m y k)
+        → ((y k : ℕ) → k < cellWords → y ≢ x → cellWord m′ y k ≡ cellWord m y k)
         → Labelled h′ m′ rs′ (put own x (busy r s)) reg1 (suc cells) regions → Builds (At x h′) m′ rs′
 
   module _ (x : ℕ) (p : Pool) (G : Gave own (link m) (h .cells) (H .freeCells) x p) where
@@ -50,10 +50,10 @@ module _ {h : Heap} {m rs : List ℕ} {own reg : Labels} {cells regions : ℕ} (
     new : Filled m1 x c (first rs r)
     new = filled-here m x c (first rs r) (omega (arith, H .cellsFit, G .low))
 
-    others : (y k : ℕ) → k < 8 → y ≢ x → cellWord m1 y k ≡ cellWord m y k
+    others : (y k : ℕ) → k < cellWords → y ≢ x → cellWord m1 y k ≡ cellWord m y k
     others = filled-other m x c (first rs r)
 
-    fits : 2 * r + 2 ≤ length rs
+    fits : regionWords * r + regionWords ≤ length rs
     fits = omega (arith, H .regionsFit, region-low H r s er)
 
     -- busy cells stay what they were, and region r alone grows
@@ -95,7 +95,7 @@ module _ {h : Heap} {m rs : List ℕ} {own reg : Labels} {cells regions : ℕ} (
     built-step : (y q k : ℕ) → own1 y ≡ busy q (suc k) → own1 (link m1 y) ≡ busy q k
     built-step y q k e = elim (ℕ-discrete x y) [
       | yes z ↦ ap (λ n. own1 (link m1 n)) (sym z) ∙ step-new q k (label z e)
-      | no ne ↦ ap own1 (others y 5 (omega arith) (λ z. ne (sym z))) ∙ old (link m y) q k (H .step y q k (was ne e))
+      | no ne ↦ ap own1 (others y cellNext (omega arith) (λ z. ne (sym z))) ∙ old (link m y) q k (H .step y q k (was ne e))
     ]
 
     -- no cell had the new one's height
@@ -132,7 +132,7 @@ module _ {h : Heap} {m rs : List ℕ} {own reg : Labels} {cells regions : ℕ} (
       b = s;
       here = put-same own x (busy r s);
       labels = λ y ne. put-other own x (busy r s) y (λ z. ne (sym z));
-      links = λ y ne. others y 5 (omega arith) ne;
+      links = λ y ne. others y cellNext (omega arith) ne;
     }
 
     used-region : Used reg reg1 (first rs) (first rs1) r

@@ -13,7 +13,7 @@ use Rattle.memory.specs.declared.Taken.the-variants.{Place, Full}
 use Rattle.memory.specs.declared.Heap.{Heap}
 use Rattle.memory.specs.declared.Made.{Made}
 use Rattle.memory.specs.declared.Made.the-variants.{At, NoRoom}
-use Rattle.memory.specs.Memory.{first, last, regionTaken, created, createdOf, createdRegions, createdRegionsOf}
+use Rattle.memory.specs.Memory.{regionWords, regionLast, first, last, regionTaken, created, createdOf, createdRegions, createdRegionsOf}
 use Rattle.heap.specs.Labels.{having, Labels, Vacant, vacant-busy}
 use Rattle.heap.specs.Pools.{Gave, Takes, full, gave, take-ok}
 use Rattle.heap.specs.Words.{first-last, last-here, last-other}
@@ -27,7 +27,7 @@ module _ {h : Heap} {m rs : List ℕ} {own reg : Labels} {cells regions : ℕ} (
 
   module _ (r : ℕ) (p : Pool) (G : Gave reg (first rs) (h .regions) (H .freeRegions) r p) where
     abbrev rs1 : List ℕ
-    rs1 = set rs (2 * r + 1) (h .cells .limit)
+    rs1 = set rs (regionWords * r + regionLast) (h .cells .limit)
 
     abbrev reg1 : Labels
     reg1 = put reg r (having 0)

@@ -11,7 +11,7 @@ use Rattle.language.specs.Lists.{put}
 use Rattle.laws.specs.Choices.{put-same, put-other}
 use Rattle.memory.specs.declared.Pool.{Pool}
 use Rattle.memory.specs.declared.Heap.{Heap}
-use Rattle.memory.specs.Memory.{cellWord, withWord, link, first, last, headed, removed, removedCells, removedRegions}
+use Rattle.memory.specs.Memory.{cellWords, regionWords, cellNext, cellWord, withWord, link, first, last, headed, removed, removedCells, removedRegions}
 use Rattle.memory.specs.Laws.{remove-empty, remove-some}
 use Rattle.heap.specs.Labels.{Label, free, busy, having, Labels, Vacant, was-fresh, was-free, free-busy, vacant-busy, free-height, busy-region, busy-height, joined, joined-fresh, joined-free, joined-in, joined-out, joined-same, Came, was, came, from-free, from-busy}
 use Rattle.heap.specs.Pools.{PoolOk}
@@ -29,7 +29,7 @@ module _ {h : Heap} {m rs : List ℕ} {own reg : Labels} {cells regions : ℕ} (
   regionsLeft = put reg r (free (H .freeRegions))
 
   abbrev rs1 : List ℕ
-  rs1 = set rs (2 * r) (h .regions .head)
+  rs1 = set rs (regionWords * r) (h .regions .head)
 
   kept-busy : (y q k : ℕ) → own y ≡ busy q k → q ≢ r → cellsLeft y ≡ busy q k
   kept-busy y q k e ne = ap (joined r (H .freeCells)) e ∙ joined-out r (H .freeCells) k ne
@@ -120,16 +120,16 @@ module _ {h : Heap} {m rs : List ℕ} {own reg : Labels} {cells regions : ℕ} (
   -- ---- a region with suc k cells gives them back: the last is linked to the first of the free ones
   module _ (k : ℕ) (e : reg r ≡ having (suc k)) (ef : own (first rs r) ≡ busy r k) (el : own (last rs r) ≡ busy r 0) where
     abbrev m1 : List ℕ
-    m1 = withWord m (last rs r) 5 (h .cells .head)
+    m1 = withWord m (last rs r) cellNext (h .cells .head)
 
     apart : {y a b : ℕ} → own y ≡ busy a b → (a ≡ r → b ≡ 0 → ⊥) → y ≢ last rs r
     apart d no-r z = no-r (busy-region (sym d ∙ ap own z ∙ el)) (busy-height (sym d ∙ ap own z ∙ el))
 
     links-kept : (y : ℕ) → y ≢ last rs r → link m1 y ≡ link m y
-    links-kept y ne = word-other m (last rs r) 5 (h .cells .head) y 5 ne (omega arith) (omega arith)
+    links-kept y ne = word-other m (last rs r) cellNext (h .cells .head) y cellNext ne (omega arith) (omega arith)
 
     last-linked : link m1 (last rs r) ≡ h .cells .head
-    last-linked = word-here m (last rs r) 5 (h .cells .head) (omega (arith, H .cellsFit, cell-low H (last rs r) r 0 el))
+    last-linked = word-here m (last rs r) cellNext (h .cells .head) (omega (arith, H .cellsFit, cell-low H (last rs r) r 0 el))
 
     cell-whence : (y i : ℕ) → Came r (H .freeCells) (own y) i → Source own (H .freeCells) (λ y j. own y ≡ busy r j) y i
     cell-whence y i (was q) = inl q
@@ -152,7 +152,7 @@ module _ {h : Heap} {m rs : List ℕ} {own reg : Labels} {cells regions : ℕ} (
     left-some : cells ≡ suc k + cells′
         → Labelled (record { cells = headed (h .cells) (first rs r); regions = headed (h .regions) r }) m1 rs1 cellsLeft regionsLeft cells′ regions′
     left-some u =
-        left-labelled (headed (h .cells) (first rs r)) m1 (suc (k + H .freeCells)) (length-set m (8 * last rs r + 5) (h .cells .head)) refl
+        left-labelled (headed (h .cells) (first rs r)) m1 (suc (k + H .freeCells)) (length-set m (cellWords * last rs r + cellNext) (h .cells .head)) refl
         (give-ok (H .cellPool) gives-cells)
         (omega (arith, H .cellCount))
         (λ y q j d ne. links-kept y (apart d (λ z b. ne z)))
@@ -172,10 +172,10 @@ module _ {h : Heap} {m rs : List ℕ} {own reg : Labels} {cells regions : ℕ} (
   removes = remove-by s er ec (H .ends r s er)
 
 -- a remove changes no functor and no argument
-pub remove-words : (h : Heap) (m rs : List ℕ) (r y k : ℕ) → k < 5 → cellWord (removedCells h m rs r) y k ≡ cellWord m y k
+pub remove-words : (h : Heap) (m rs : List ℕ) (r y k : ℕ) → k < cellNext → cellWord (removedCells h m rs r) y k ≡ cellWord m y k
 remove-words h m rs r y k hk = elim (decLe (h .cells .limit) (last rs r)) [
-  | yes l ↦ ap (λ l. cellWord l y k) (sym (remove-empty h m rs r (first rs r) (last rs r) refl refl (set rs (2 * r) (h .regions .head)) refl l .1))
+  | yes l ↦ ap (λ l. cellWord l y k) (sym (remove-empty h m rs r (first rs r) (last rs r) refl refl (set rs (regionWords * r) (h .regions .head)) refl l .1))
   | no l ↦
-      let q = remove-some h m rs r (first rs r) (last rs r) refl refl (set rs (2 * r) (h .regions .head)) refl (omega arith) (withWord m (last rs r) 5 (h .cells .head)) refl in
-      ap (λ l. cellWord l y k) (sym (q .1)) ∙ word-beside m (last rs r) 5 (h .cells .head) y k (λ e. omega arith) (omega arith) (omega arith)
+      let q = remove-some h m rs r (first rs r) (last rs r) refl refl (set rs (regionWords * r) (h .regions .head)) refl (omega arith) (withWord m (last rs r) cellNext (h .cells .head)) refl in
+      ap (λ l. cellWord l y k) (sym (q .1)) ∙ word-beside m (last rs r) cellNext (h .cells .head) y k (λ e. omega arith) (omega arith) (omega arith)
 ]

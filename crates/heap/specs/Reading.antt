@@ -9,12 +9,12 @@ use lib.IntN.{ℤ}
 use lib.ListN.{length}
 use Rattle.language.specs.Lists.{all, upFrom}
 use Rattle.language.specs.Program.{Program}
-use Rattle.language.specs.Frames.{Value, numeral, cellAt, Cell, noCell, cellIn}
+use Rattle.language.specs.Frames.{Value, numeral, cellAt, noCell, cellIn}
 use Rattle.language.specs.AcceptedRun.{RegionCell, cellOf, Memory, liesIn, withPrinted, state, start}
 use Rattle.language.specs.Machine.{Lent, Room, holds, roomIn, cellsHeld, countAlive, regionsHeld}
 use Rattle.laws.specs.Lists.{nth-past, nth-map}
 use Rattle.memory.specs.declared.Heap.{Heap}
-use Rattle.memory.specs.Memory.{unused, emptyHeap}
+use Rattle.memory.specs.Memory.{cellWords, regionWords, unused, emptyHeap}
 use Rattle.heap.specs.Labels.{fresh}
 use Rattle.heap.specs.Labelled.{start-labelled}
 use Rattle.heap.specs.Standing.{Stands}
@@ -22,14 +22,14 @@ use Rattle.heap.specs.Represents.{numbered, Represents, Reads}
 
 -- ---- whatever stands in the lent words, an empty heap in them stands for the memory of a run's start
 module _ (P : Program) (l : Lent) (m rs : List ℕ) (ec : l .cellWords ≡ length m) (er : l .regionWords ≡ length rs) where
-  pub starts : Represents (roomIn l) (emptyHeap (holds (length m) 8) (holds (length rs) 2)) m rs (start P .memory) (λ r. 0) (λ j. 0)
+  pub starts : Represents (roomIn l) (emptyHeap (holds (length m) cellWords) (holds (length rs) regionWords)) m rs (start P .memory) (λ r. 0) (λ j. 0)
   unfolding start state roomIn emptyHeap unused holds cellsHeld regionsHeld countAlive upFrom all
   starts = record {
     own = λ x. fresh;
     reg = λ x. fresh;
     cellRoom = rw ec;
     regionRoom = rw er;
-    labelled = start-labelled (holds (length m) 8) (holds (length rs) 2) m rs (omega arith) (omega arith);
+    labelled = start-labelled (holds (length m) cellWords) (holds (length rs) regionWords) m rs (omega arith) (omega arith);
     low = λ r e. absurd (false≢true e);
     made = refl;
     lives = λ r e. absurd (false≢true e);

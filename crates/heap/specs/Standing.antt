@@ -48,10 +48,6 @@ module _ (M : Memory) (c : RegionCell) (place : ℕ → ℕ) (x : ℕ) where
   built-place : (j : ℕ) → j < length (M .cells) → put place (length (M .cells)) x j ≡ place j
   built-place j l = put-other place (length (M .cells)) x j (λ z. omega arith)
 
-  pub stands-built : (w : ℕ) (v : Value) → Stands place (length (M .cells)) w v
-      → Stands (put place (length (M .cells)) x) (length (withCell M c .cells)) w v
-  stands-built = stands-more place (put place (length (M .cells)) x) (length (M .cells)) (length (withCell M c .cells)) built-place (omega (arith, built-length M c))
-
   pub each-built : (ws : List ℕ) (vs : List Value) → StandEach place (length (M .cells)) ws vs
       → StandEach (put place (length (M .cells)) x) (length (withCell M c .cells)) ws vs
   each-built = each-more place (put place (length (M .cells)) x) (length (M .cells)) (length (withCell M c .cells)) built-place (omega (arith, built-length M c))

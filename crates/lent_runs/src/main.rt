@@ -3,10 +3,14 @@
 // The pack comes on standard input, as pack-runs of rust/compare writes it: jobs one behind the other, each the length of its name in one byte, the name,
 // the length of the file in three bytes, the file, how many runs in one byte, and for each run the words lent for cells, regions, frames and printed
 // numbers, and the steps, in three bytes each; low bytes first.
+use language::format::RECORD_BYTES;
 use libc::STDIN_FILENO;
 use libc::STDOUT_FILENO;
+use lines::ENDING_BYTES;
+use lines::NUMBER_BYTES;
 use lines::runner_output;
 use machine::Outcome;
+use packs::PACK_END;
 use packs::next_byte;
 use packs::next_bytes;
 use packs::next_number;
@@ -15,6 +19,7 @@ use running::run;
 ghost use Prim.Native.Nat.{_≤_};
 ghost use mathlib.Core.Path.{_≡_};
 ghost use lib.ListN.{length};
+ghost use Rattle.lent_runs.specs.Lent.{cellsLent, regionsLent, framesLent, printsLent, fileBytes};
 
 // As many words as a run of the pack is lent at most.
 const CELLS: usize = 160;
@@ -25,38 +30,46 @@ const FRAMES: usize = 1000;
 
 const PRINTS: usize = 16;
 
+// A file of up to 64 records.
+const FILE_BYTES: usize = 64 * RECORD_BYTES;
+
+// Room for the lines of a run.
+const OUTPUT_BYTES: usize = NUMBER_BYTES * PRINTS + ENDING_BYTES;
+
+// More jobs than a pack has.
+const JOBS: usize = 1000;
+
 // What stands in lent memory before a run: no zeros that it might rely on.
 const MARK: u32 = 3735928559;
 
 fn cell_words() -> [u32; CELLS]
-    ensures { λ r. ⌜ 160 ≡ length r ⌝ }
+    ensures { λ r. ⌜ cellsLent ≡ length r ⌝ }
 {
     [MARK; CELLS]
 }
 
 fn region_words() -> [u32; REGIONS]
-    ensures { λ r. ⌜ 16 ≡ length r ⌝ }
+    ensures { λ r. ⌜ regionsLent ≡ length r ⌝ }
 {
     [MARK; REGIONS]
 }
 
 fn frame_words() -> [u32; FRAMES]
-    ensures { λ r. ⌜ 1000 ≡ length r ⌝ }
+    ensures { λ r. ⌜ framesLent ≡ length r ⌝ }
 {
     [MARK; FRAMES]
 }
 
 fn print_words() -> [u32; PRINTS]
-    ensures { λ r. ⌜ 16 ≡ length r ⌝ }
+    ensures { λ r. ⌜ printsLent ≡ length r ⌝ }
 {
     [MARK; PRINTS]
 }
 
-// A file of up to 64 records.
-fn file_memory() -> [u8; 1024]
-    ensures { λ r. ⌜ 1024 ≡ length r ⌝ }
+fn file_memory() -> [u8; FILE_BYTES]
+    ensures { λ r. ⌜ fileBytes ≡ length r ⌝ }
 {
-    [0; 1024]
+    [0; FILE_BYTES]
 }
 
 // How many words to lend; a line that no run has where there are not so many.
@@ -80,7 +93,7 @@ fn run_in(
     prints: &mut [u32],
     steps: usize,
 ) -> Outcome
-    requires { ⌜ (cells ≤ 160) × (regions ≤ 16) × (frames ≤ 1000) ⌝ }
+    requires { ⌜ (cells ≤ cellsLent) × (regions ≤ regionsLent) × (frames ≤ framesLent) ⌝ }
     ensures { λ r. ⌜ r .printed ≤ length (now (prints .exit)) ⌝ }
 {
     let mut c = cell_words();
@@ -109,11 +122,11 @@ fn marked(words: &[u32], at: usize) -> bool {
 }
 
 fn print_lines(prints: &[u32], r: Outcome)
-    requires { ⌜ (r .printed ≤ length (now prints)) × (length (now prints) ≤ 16) ⌝ }
+    requires { ⌜ (r .printed ≤ length (now prints)) × (length (now prints) ≤ printsLent) ⌝ }
 {
     let n = r.printed;
     let ending = r.ending;
-    let mut out = [0; 256];
+    let mut out = [0; OUTPUT_BYTES];
     let k = runner_output(&prints[..n], ending, r.steps as u64, &mut out);
     io::write_all(STDOUT_FILENO, &out[..k]);
     if !marked(prints, n) {
@@ -133,8 +146,8 @@ fn try_in(
     prints: &mut [u32],
     steps: usize,
 )
-    requires { ⌜ (cells ≤ 160) × (regions ≤ 16) × (frames ≤ 1000) ⌝ }
-    requires { ⌜ length (now prints) ≤ 16 ⌝ }
+    requires { ⌜ (cells ≤ cellsLent) × (regions ≤ regionsLent) × (frames ≤ framesLent) ⌝ }
+    requires { ⌜ length (now prints) ≤ printsLent ⌝ }
 {
     let r = run_in(file, cells, regions, frames, &mut *prints, steps);
     print_lines(&*prints, r);
@@ -161,7 +174,7 @@ fn try_runs(file: &[u8], n: usize) {
 // Whether there was a job.
 fn try_job() -> bool {
     let n = next_byte(STDIN_FILENO);
-    if n == 256 {
+    if n == PACK_END {
         return false;
     }
     print_name(STDIN_FILENO, n);
@@ -175,7 +188,7 @@ fn try_job() -> bool {
 }
 
 fn main() {
-    let mut left: usize = 1000;
+    let mut left = JOBS;
     while left > 0 {
         left -= 1;
         if !try_job() {

@@ -14,6 +14,7 @@ use Rattle.language.specs.declared.Ending.{Ending}
 use Rattle.language.specs.declared.Ending.the-variants.{Refused as RunRefused, Finished, Stopped}
 use Rattle.language.specs.Answers.{refusalNumber, stopNumber}
 use Rattle.language.specs.Output.{decimal, refusedWord, acceptedWord, finishedWord, stoppedWord, line, refusalLine, checkerOutput, endingLine}
+use Rattle.lines.specs.Widths.{refusalBytes, decimalBytes, endingBytes}
 use Rattle.lines.specs.Put.{Put, put-then, Front, put-front}
 use Rattle.lines.specs.Digits.{decimal-most}
 
@@ -38,8 +39,8 @@ stop-digits Frames = decimal-most 2 13 (omega arith) (omega arith)
 stop-digits Prints = decimal-most 2 14 (omega arith) (omega arith)
 
 -- a number of 64 bits
-pub word-digits : (n : ℕ) → n < 2 ^ 64 → length (decimal n) ≤ 20
-word-digits n l = decimal-most 20 n (omega arith) (omega arith)
+pub word-digits : (n : ℕ) → n < 2 ^ 64 → length (decimal n) ≤ decimalBytes
+word-digits n l = decimal-most decimalBytes n (omega arith) (omega arith)
 
 -- a word, a number and a line feed
 pub put-line : {b m e z w : List ℕ} {at k j r : ℕ} (n : ℕ) → Put b at w m k → Put m k (decimal n) e j → Put e j (10 ∷ []) z r
@@ -61,17 +62,17 @@ pub put-refusal : {b m : List ℕ} {at k : ℕ} (r : Refusal) (d : ℕ) → d �
 unfolding refusalLine
 put-refusal {b} {m} {at} {k} r d e p = subst (λ n. Put b at (line (refusedWord ++ decimal n)) m k) e p
 
-pub refusal-length : (r : Refusal) → length (refusalLine r) ≤ 10
+pub refusal-length : (r : Refusal) → length (refusalLine r) ≤ refusalBytes
 unfolding refusalLine line
 refusal-length r = omega (arith, refusal-digits r, length-append (decimal (refusalNumber r)) (10 ∷ []))
 
 -- the checker's two answers
-pub front-refused : {b m : List ℕ} {k : ℕ} (a : Verdict) (r : Refusal) → a ≡ Refused r → 10 ≤ length b → Put b 0 (refusalLine r) m k
+pub front-refused : {b m : List ℕ} {k : ℕ} (a : Verdict) (r : Refusal) → a ≡ Refused r → refusalBytes ≤ length b → Put b 0 (refusalLine r) m k
     → Front (checkerOutput a) b m k
 unfolding checkerOutput
 front-refused a r e l p = rw e (put-front p (omega (arith, refusal-length r)))
 
-pub front-accepted : {b m : List ℕ} {k : ℕ} (a : Verdict) → a ≡ Accepted → 10 ≤ length b → Put b 0 (acceptedWord ++ (10 ∷ [])) m k
+pub front-accepted : {b m : List ℕ} {k : ℕ} (a : Verdict) → a ≡ Accepted → refusalBytes ≤ length b → Put b 0 (acceptedWord ++ (10 ∷ [])) m k
     → Front (checkerOutput a) b m k
 unfolding checkerOutput line
 front-accepted a e l p = rw e (put-front p (omega arith))
@@ -91,8 +92,7 @@ pub end-stopped : {b m : List ℕ} {at k : ℕ} (a : Ending) (c : Stop) (n : ℕ
     → Put b at (endingLine a n) m k
 end-stopped a c n e p = rw e p
 
--- at most 32 bytes
-pub ending-length : (a : Ending) (n : ℕ) → n < 2 ^ 64 → length (endingLine a n) ≤ 32
+pub ending-length : (a : Ending) (n : ℕ) → n < 2 ^ 64 → length (endingLine a n) ≤ endingBytes
 unfolding endingLine line
 ending-length (RunRefused r) n l = omega (arith, refusal-length r)
 ending-length Finished n l = omega (arith, word-digits n l, length-append (decimal n) (10 ∷ []))
@@ -106,7 +106,7 @@ ending-length (Stopped c) n l =
     )
 
 -- numbers, then the ending
-pub front-run : {b m e s : List ℕ} {k r : ℕ} (a : Ending) (n w : ℕ) → n < 2 ^ 64 → w + 32 ≤ length b → k ≤ w → Put b 0 s m k → Put m k (endingLine a n) e r
+pub front-run : {b m e s : List ℕ} {k r : ℕ} (a : Ending) (n w : ℕ) → n < 2 ^ 64 → w + endingBytes ≤ length b → k ≤ w → Put b 0 s m k → Put m k (endingLine a n) e r
     → Front (s ++ endingLine a n) b e r
 front-run {s = s} a n w l h t p q =
     put-front (put-then p q) (omega (arith, length-append s (endingLine a n), ending-length a n l, p .behind))

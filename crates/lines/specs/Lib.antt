@@ -1,3 +1,4 @@
+pub mod Widths
 pub mod Put
 pub mod Digits
 pub mod Signed

@@ -11,40 +11,41 @@ use mir.Syntax.{w32}
 use mir.Val.{toZ}
 use mir.Facts.{toZ-pos, toZ-neg}
 use Rattle.language.specs.Output.{decimal, signedDecimal, line, numberLines}
+use Rattle.lines.specs.Widths.{negativeFrom, wordsEnd}
 use Rattle.lines.specs.Put.{Put, put-one, put-then}
 use Rattle.lines.specs.Digits.{decimal-most}
 
-pub signed-low : (w : ℕ) → w < 2147483648 → signedDecimal (toZ w32 w) ≡ decimal w
+pub signed-low : (w : ℕ) → w < negativeFrom → signedDecimal (toZ w32 w) ≡ decimal w
 unfolding signedDecimal
 signed-low w l = ap signedDecimal (toZ-pos w32 l)
 
 -- the minus sign and the distance below 0
-pub signed-high : (w : ℕ) → 2147483648 ≤ w → w < 4294967296 → signedDecimal (toZ w32 w) ≡ 45 ∷ decimal (4294967296 - w)
+pub signed-high : (w : ℕ) → negativeFrom ≤ w → w < wordsEnd → signedDecimal (toZ w32 w) ≡ 45 ∷ decimal (wordsEnd - w)
 unfolding signedDecimal
 signed-high w l h =
-    let k = 4294967295 - w in
+    let k = wordsEnd - suc w in
     let e : w ≡ 2 ^ 32 - suc k = omega arith in
-    let d : suc k ≡ 4294967296 - w = omega arith in
+    let d : suc k ≡ wordsEnd - w = omega arith in
     ap (λ n. signedDecimal (toZ w32 n)) e ∙ ap signedDecimal (toZ-neg w32 k (omega arith)) ∙ ap (λ n. 45 ∷ decimal n) d
 
-pub put-low : {b m : List ℕ} {at k : ℕ} (w : ℕ) → w < 2147483648 → Put b at (decimal w) m k → Put b at (signedDecimal (toZ w32 w)) m k
+pub put-low : {b m : List ℕ} {at k : ℕ} (w : ℕ) → w < negativeFrom → Put b at (decimal w) m k → Put b at (signedDecimal (toZ w32 w)) m k
 put-low {b} {m} {at} {k} w l p = subst (λ s. Put b at s m k) (sym (signed-low w l)) p
 
-pub put-high : (b : List ℕ) {m : List ℕ} (at : ℕ) {k : ℕ} (w : ℕ) → 2147483648 ≤ w → w < 4294967296
-    → Put (set b at 45) (at + 1) (decimal (4294967296 - w)) m k → Put b at (signedDecimal (toZ w32 w)) m k
+pub put-high : (b : List ℕ) {m : List ℕ} (at : ℕ) {k : ℕ} (w : ℕ) → negativeFrom ≤ w → w < wordsEnd
+    → Put (set b at 45) (at + 1) (decimal (wordsEnd - w)) m k → Put b at (signedDecimal (toZ w32 w)) m k
 put-high b {m} at {k} w l h p =
-    let q : Put (set b at 45) (suc at) (decimal (4294967296 - w)) m k = rw (add-one at) at p in
+    let q : Put (set b at 45) (suc at) (decimal (wordsEnd - w)) m k = rw (add-one at) at p in
     subst (λ s. Put b at s m k) (sym (signed-high w l h)) (put-then (put-one b at 45) q)
 
 -- at most 11 bytes
-pub signed-most : (w : ℕ) → w < 4294967296 → length (signedDecimal (toZ w32 w)) ≤ 11
-signed-most w h = go (decLt w 2147483648)
+pub signed-most : (w : ℕ) → w < wordsEnd → length (signedDecimal (toZ w32 w)) ≤ 11
+signed-most w h = go (decLt w negativeFrom)
   where
-    go : Dec (w < 2147483648) → length (signedDecimal (toZ w32 w)) ≤ 11
+    go : Dec (w < negativeFrom) → length (signedDecimal (toZ w32 w)) ≤ 11
     go (yes l) = omega (arith, ap length (signed-low w l), decimal-most 10 w (omega arith) (omega arith))
     go (no n) =
-        let l : 2147483648 ≤ w = omega arith in
-        omega (arith, ap length (signed-high w l h), decimal-most 10 (4294967296 - w) (omega arith) (omega arith))
+        let l : negativeFrom ≤ w = omega arith in
+        omega (arith, ap length (signed-high w l h), decimal-most 10 (wordsEnd - w) (omega arith) (omega arith))
 
 -- a line for each word
 unfoldable pub numbers : List ℕ → List ℕ

@@ -12,7 +12,9 @@ ghost use mir.Val.{toZ};
 ghost use Rattle.language.specs.declared.Ending.the-variants.{Stopped};
 ghost use Rattle.language.specs.Answers.{refusalNumber, stopNumber};
 ghost use Rattle.language.specs.Output.{decimal, signedDecimal, line, numberLines, refusalLine, checkerOutput, endingLine};
+ghost use Rattle.lines.specs.Widths.{refusalBytes, numberBytes, endingBytes};
 ghost use Rattle.lines.specs.Put.{Put, Front};
+use crate::REFUSAL_BYTES;
 use crate::numbers::put_decimal;
 use crate::numbers::put_signed;
 use crate::text::put_text;
@@ -56,16 +58,16 @@ fn put_line(out: &mut [u8], at: usize, word: &[u8], n: u64) -> usize
     put_text(out, end, b"\n")
 }
 
-// The line of a refusal takes 10 bytes.
+// The line of a refusal.
 pub fn put_refusal(out: &mut [u8], at: usize, r: Refusal) -> usize
-    requires { ⌜ at + 10 ≤ length (now out) ⌝ }
+    requires { ⌜ at + refusalBytes ≤ length (now out) ⌝ }
     ensures { λ k. ⌜ Put (now (out .entry)) at (refusalLine r) (now (out .exit)) k ⌝ }
 {
     put_line(out, at, b"refused ", refusal_number(r))
 }
 
 // All that the checker prints, at the front of `out`. Answers how many bytes that are.
-pub fn checker_output(answer: Verdict, out: &mut [u8; 10]) -> usize
+pub fn checker_output(answer: Verdict, out: &mut [u8; REFUSAL_BYTES]) -> usize
     ensures { λ n. ⌜ Front (checkerOutput answer) (now (out .entry)) (now (out .exit)) n ⌝ }
 {
     let Verdict::Refused(r) = answer else {
@@ -74,9 +76,9 @@ pub fn checker_output(answer: Verdict, out: &mut [u8; 10]) -> usize
     put_refusal(out, 0, r)
 }
 
-// The last line of the runner takes at most 32 bytes.
+// The last line of the runner.
 pub fn put_ending(out: &mut [u8], at: usize, ending: Ending, steps: u64) -> usize
-    requires { ⌜ at + 32 ≤ length (now out) ⌝ }
+    requires { ⌜ at + endingBytes ≤ length (now out) ⌝ }
     ensures { λ k. ⌜ Put (now (out .entry)) at (endingLine ending steps) (now (out .exit)) k ⌝ }
 {
     match ending {
@@ -87,7 +89,7 @@ pub fn put_ending(out: &mut [u8], at: usize, ending: Ending, steps: u64) -> usiz
 }
 
 fn put_stop(out: &mut [u8], at: usize, c: Stop, steps: u64) -> usize
-    requires { ⌜ at + 32 ≤ length (now out) ⌝ }
+    requires { ⌜ at + endingBytes ≤ length (now out) ⌝ }
     ensures { λ k. ⌜ Put (now (out .entry)) at (endingLine (Stopped c) steps) (now (out .exit)) k ⌝ }
 {
     let number = put_text(out, at, b"stopped ");
@@ -97,9 +99,9 @@ fn put_stop(out: &mut [u8], at: usize, c: Stop, steps: u64) -> usize
 
 // The numbers that a run printed, a line each.
 pub fn put_numbers(out: &mut [u8], at: usize, words: &[u32]) -> usize
-    requires { ⌜ at + 12 * length (now words) ≤ length (now out) ⌝ }
+    requires { ⌜ at + numberBytes * length (now words) ≤ length (now out) ⌝ }
     ensures { λ k. ⌜ Put (now (out .entry)) at (numberLines (map (toZ w32) (now (words .entry)))) (now (out .exit)) k ⌝ }
-    ensures { λ k. ⌜ k ≤ at + 12 * length (now (words .entry)) ⌝ }
+    ensures { λ k. ⌜ k ≤ at + numberBytes * length (now (words .entry)) ⌝ }
 {
     let mut end = at;
     let mut i = 0;
@@ -111,9 +113,9 @@ pub fn put_numbers(out: &mut [u8], at: usize, words: &[u32]) -> usize
 }
 
 fn put_number(out: &mut [u8], at: usize, word: u32) -> usize
-    requires { ⌜ at + 12 ≤ length (now out) ⌝ }
+    requires { ⌜ at + numberBytes ≤ length (now out) ⌝ }
     ensures { λ k. ⌜ Put (now (out .entry)) at (line (signedDecimal (toZ w32 word))) (now (out .exit)) k ⌝ }
-    ensures { λ k. ⌜ k ≤ at + 12 ⌝ }
+    ensures { λ k. ⌜ k ≤ at + numberBytes ⌝ }
 {
     let end = put_signed(out, at, word);
     put_text(out, end, b"\n")
@@ -121,7 +123,7 @@ fn put_number(out: &mut [u8], at: usize, word: u32) -> usize
 
 // All that the runner prints, at the front of `out`: the numbers printed, then how the run ended. Answers how many bytes that are.
 pub fn runner_output(words: &[u32], ending: Ending, steps: u64, out: &mut [u8]) -> usize
-    requires { ⌜ 12 * length (now words) + 32 ≤ length (now out) ⌝ }
+    requires { ⌜ numberBytes * length (now words) + endingBytes ≤ length (now out) ⌝ }
     ensures { λ n. ⌜ Front (numberLines (map (toZ w32) (now (words .entry))) ++ endingLine ending steps) (now (out .entry)) (now (out .exit)) n ⌝ }
 {
     let end = put_numbers(out, 0, words);

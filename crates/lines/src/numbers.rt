@@ -1,4 +1,6 @@
 // Numbers in decimal.
+use crate::NEGATIVE_FROM;
+use crate::WORDS_END;
 ghost use Prim.Native.Nat.{_+_, _<_, _≤_};
 ghost use mathlib.Core.Path.{_≡_};
 ghost use lib.ListN.{length};
@@ -24,11 +26,11 @@ pub fn put_signed(out: &mut [u8], at: usize, word: u32) -> usize
     requires { ⌜ at + length (signedDecimal (toZ w32 word)) ≤ length (now out) ⌝ }
     ensures { λ r. ⌜ Put (now (out .entry)) at (signedDecimal (toZ w32 word)) (now (out .exit)) r ⌝ }
 {
-    if word < 2147483648 {
+    if word < NEGATIVE_FROM {
         return put_decimal(out, at, word as u64);
     }
     out[at] = b'-';
-    put_decimal(out, at + 1, 4294967296 - word as u64)
+    put_decimal(out, at + 1, WORDS_END - word as u64)
 }
 
 // The digits of n, none for 0.

@@ -20,7 +20,6 @@ use Rattle.frames.specs.Naming.{Pictured, namedIn, namedOut, named-in, named-ou
 use Rattle.word_machine.specs.Tables.{Tables}
 use Rattle.word_machine.specs.Copies.{copied-length}
 use Rattle.word_machine.specs.Machine.{Words, frameWords, callFrom, callPlace, cleared, blocks, calleeWords, regionsIn, valuesOut, regionsOut, returnWords, returned, settledFrom, settled}
-use Rattle.machine.specs.declared.State.{State}
 use Rattle.machine.specs.Words.{wordsOf}
 
 -- P is the place of the caller's first word: the two words that a call keeps
@@ -127,6 +126,6 @@ pub return-length : (f : List ℕ) (T : Tables) (k i : ℕ) (fw : List ℕ) → 
 unfolding returnWords regionsOut valuesOut choose
 return-length f T k i fw = go (ltb i (recordCount f))
   where
-    go : (b : Bool) → length (choose b (regionsOut f T k i (members (T .bears (word f i 2))) (valuesOut f T k i fw)) fw) ≡ length fw
+    go : (b : Bool) → length (choose b (regionsOut f T k i (members (T .bears (word f i callProcedure))) (valuesOut f T k i fw)) fw) ≡ length fw
     go true = copied-length _ _ _ _ ∙ copied-length _ _ _ fw
     go false = refl

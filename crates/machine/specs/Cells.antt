@@ -4,48 +4,47 @@ use Prim.Native.Nat.{ℕ, zero, suc, _+_, _*_, _<_}
 use native.Mathlib.Omega.{arith}
 use mathlib.Core.Path.{_≡_, refl, sym, ap, _∙_}
 use mathlib.Core.List.{List, [], _∷_}
-use mathlib.Core.Logic.{_≢_}
 use lib.ListN.{getD, set}
 use lib.Seq.{getD-set-other}
 use Rattle.language.specs.File.{word}
-use Rattle.language.specs.Format.{goalX, switchArms, termFunctor, termArguments}
+use Rattle.language.specs.Format.{goalX, switchArms, termFunctor}
 use Rattle.chains.specs.Records.{chainRecords}
 use Rattle.memory.specs.declared.Heap.{Heap}
 use Rattle.memory.specs.declared.Made.{Made}
 use Rattle.memory.specs.declared.Made.the-variants.{At, NoRoom}
-use Rattle.memory.specs.Memory.{cellWord, withWord, withLink, first, filled, hung, built, builtCells, builtRegions}
+use Rattle.memory.specs.Memory.{cellWords, cellWord, withWord, withLink, first, filled, hung, built, builtCells, builtRegions}
 use Rattle.memory.specs.Building.{built-none, built-made, built-place, still}
 use Rattle.plans.specs.Plan.{sidesFrom}
 use Rattle.word_machine.specs.Machine.{regionsFrom, termOf, armOf}
-use Rattle.machine.specs.Places.{cellWords, valueIn, termIn, poursEach, argumentsFrom, poured, homeFor, placed, armFor, armValues}
+use Rattle.machine.specs.Places.{valueIn, termIn, poursEach, argumentsFrom, poured, homeFor, placed, armFor, armValues}
 
 -- ---- words put up to the first 0, and the link, are the whole cell: the others are filled with what stands there
 module _ (value : ℕ → ℕ) (m : List ℕ) (x : ℕ) where
   -- word j of the cell is as it was, in m and after a store to another of its words
-  same : (t : List ℕ) (i j v : ℕ) → (i ≡ j → ⊥) → getD t (8 * x + j) 0 ≡ getD m (8 * x + j) 0 → getD (withWord t x i v) (8 * x + j) 0 ≡ getD m (8 * x + j) 0
-  same t i j v n e = getD-set-other t (8 * x + i) (8 * x + j) v 0 (λ z. n (omega arith)) ∙ e
+  same : (t : List ℕ) (i j v : ℕ) → (i ≡ j → ⊥) → getD t (cellWords * x + j) 0 ≡ getD m (cellWords * x + j) 0 → getD (withWord t x i v) (cellWords * x + j) 0 ≡ getD m (cellWords * x + j) 0
+  same t i j v n e = getD-set-other t (cellWords * x + i) (cellWords * x + j) v 0 (λ z. n (omega arith)) ∙ e
 
-  kept : (t : List ℕ) (j : ℕ) → getD t (8 * x + j) 0 ≡ getD m (8 * x + j) 0 → withWord t x j (cellWord m x j) ≡ t
-  kept t j e = still t m (8 * x + j) e
+  kept : (t : List ℕ) (j : ℕ) → getD t (cellWords * x + j) 0 ≡ getD m (cellWords * x + j) 0 → withWord t x j (cellWord m x j) ≡ t
+  kept t j e = still t m (cellWords * x + j) e
 
   pour-filled : (k a b c d n : ℕ) → withLink (poursEach value x 1 (a ∷ b ∷ c ∷ d ∷ []) (withWord m x 0 k)) x n ≡ filled m x (termOf value (λ j. cellWord m x j) k a b c d) n
   unfolding poursEach termOf filled
   pour-filled k zero b c d n =
       let t = withWord m x 0 k in
-      let s : (j : ℕ) → (0 ≡ j → ⊥) → getD t (8 * x + j) 0 ≡ getD m (8 * x + j) 0 = λ j z. same m 0 j k z refl in
+      let s : (j : ℕ) → (0 ≡ j → ⊥) → getD t (cellWords * x + j) 0 ≡ getD m (cellWords * x + j) 0 = λ j z. same m 0 j k z refl in
       rw (kept t 1 (s 1 (λ z. omega arith)), kept t 2 (s 2 (λ z. omega arith)), kept t 3 (s 3 (λ z. omega arith)), kept t 4 (s 4 (λ z. omega arith)))
   pour-filled k (suc a) zero c d n =
       let t = withWord (withWord m x 0 k) x 1 (value (suc a)) in
-      let s : (j : ℕ) → 1 < j → getD t (8 * x + j) 0 ≡ getD m (8 * x + j) 0 = λ j l. same (withWord m x 0 k) 1 j (value (suc a)) (λ z. omega arith) (same m 0 j k (λ z. omega arith) refl) in
+      let s : (j : ℕ) → 1 < j → getD t (cellWords * x + j) 0 ≡ getD m (cellWords * x + j) 0 = λ j l. same (withWord m x 0 k) 1 j (value (suc a)) (λ z. omega arith) (same m 0 j k (λ z. omega arith) refl) in
       rw (kept t 2 (s 2 (omega arith)), kept t 3 (s 3 (omega arith)), kept t 4 (s 4 (omega arith)))
   pour-filled k (suc a) (suc b) zero d n =
       let t = withWord (withWord (withWord m x 0 k) x 1 (value (suc a))) x 2 (value (suc b)) in
-      let s : (j : ℕ) → 2 < j → getD t (8 * x + j) 0 ≡ getD m (8 * x + j) 0
+      let s : (j : ℕ) → 2 < j → getD t (cellWords * x + j) 0 ≡ getD m (cellWords * x + j) 0
       = λ j l. same (withWord (withWord m x 0 k) x 1 (value (suc a))) 2 j (value (suc b)) (λ z. omega arith) (same (withWord m x 0 k) 1 j (value (suc a)) (λ z. omega arith) (same m 0 j k (λ z. omega arith) refl)) in
       rw (kept t 3 (s 3 (omega arith)), kept t 4 (s 4 (omega arith)))
   pour-filled k (suc a) (suc b) (suc c) zero n =
       let t = withWord (withWord (withWord (withWord m x 0 k) x 1 (value (suc a))) x 2 (value (suc b))) x 3 (value (suc c)) in
-      let s : getD t (8 * x + 4) 0 ≡ getD m (8 * x + 4) 0
+      let s : getD t (cellWords * x + 4) 0 ≡ getD m (cellWords * x + 4) 0
       = same (withWord (withWord (withWord m x 0 k) x 1 (value (suc a))) x 2 (value (suc b))) 3 4 (value (suc c)) (λ z. omega arith)
       (same (withWord (withWord m x 0 k) x 1 (value (suc a))) 2 4 (value (suc b)) (λ z. omega arith)
       (same (withWord m x 0 k) 1 4 (value (suc a)) (λ z. omega arith) (same m 0 4 k (λ z. omega arith) refl))) in
@@ -92,7 +91,7 @@ pub arm-as : (f : List ℕ) (i k x p n start j : ℕ) (m fw : List ℕ) → p �
     → j ≡ armOf f n (chainRecords f start) → j ≡ armFor f i k m fw
 unfolding armFor
 arm-as f i k x p n start j m fw ep ex es en ej =
-    let z : cellWords * p ≡ 8 * p + 0 = omega arith in
+    let z : cellWords * p ≡ cellWords * p + 0 = omega arith in
     let e : n ≡ cellWord m p 0 = en ∙ ap (λ q. getD m q 0) z in
     rw (ej, e, ep, ex, es)
 

@@ -1,5 +1,5 @@
 -- What the functions come to on each way through them, from what the functions that they call promise. P and k are the place of a frame's first word.
-use Prim.Native.Nat.{ℕ, zero, suc, _+_}
+use Prim.Native.Nat.{ℕ, _+_}
 use mathlib.Core.Path.{_≡_, refl}
 use mathlib.Core.Bool.{Bool, true, false}
 use mathlib.Core.List.{List}
@@ -14,22 +14,8 @@ use Rattle.memory.specs.declared.Heap.{Heap}
 use Rattle.memory.specs.declared.Made.{Made}
 use Rattle.memory.specs.declared.Made.the-variants.{At, NoRoom}
 use Rattle.memory.specs.Memory.{created, createdRegions, removed, removedCells, removedRegions}
-use Rattle.word_machine.specs.Tables.{onto}
 use Rattle.word_machine.specs.Machine.{regionsFrom, sumWord}
 use Rattle.machine.specs.Places.{regionFor, placed}
-
--- ---- the next goal
-pub onto-end : (a c : ℕ) → a ≡ 0 → c ≡ onto a c
-unfolding onto
-onto-end a c z = rw z
-
-pub onto-first : (a c : ℕ) → (a ≡ 0 → ⊥) → a ≡ onto a c
-unfolding onto
-onto-first zero c n = absurd (n refl)
-onto-first (suc a) c n = refl
-
-pub onto-as : (g a b c d : ℕ) → g ≡ onto a c → a ≡ b → c ≡ d → g ≡ onto b d
-onto-as g a b c d e z w = rw (e, z, w)
 
 -- ---- values
 pub value-as : (P a b v : ℕ) (fw : List ℕ) → v ≡ getD fw (P + a) 0 → a ≡ b → v ≡ getD fw (P + b) 0

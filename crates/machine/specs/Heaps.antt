@@ -4,10 +4,9 @@ use native.Mathlib.Omega.{arith}
 use mathlib.Core.Path.{_≡_, refl, sym, ap, _∙_, subst}
 use mathlib.Core.Bool.{Bool, true, false}
 use mathlib.Core.List.{List}
-use mathlib.Core.Logic.{_⊎_, inl, inr}
-use lib.ListN.{set}
+use mathlib.Core.Logic.{inl, inr}
 use Rattle.language.specs.File.{word}
-use Rattle.language.specs.Format.{constructKind, createKind, removeKind, lifetimeRegion}
+use Rattle.language.specs.Format.{kindWord, constructKind, createKind, removeKind, lifetimeRegion}
 use Rattle.language.specs.Machine.{Room}
 use Rattle.language.specs.declared.Stop.{Stop}
 use Rattle.language.specs.declared.Stop.the-variants.{Cells, Places}
@@ -17,7 +16,7 @@ use Rattle.memory.specs.declared.Made.{Made}
 use Rattle.memory.specs.declared.Made.the-variants.{At, NoRoom}
 use Rattle.memory.specs.declared.Taken.{Taken}
 use Rattle.memory.specs.declared.Taken.the-variants.{Place, Full}
-use Rattle.memory.specs.Memory.{created, createdOf, createdRegions, createdRegionsOf, built, builtCells, builtRegions, removed, removedCells, removedRegions}
+use Rattle.memory.specs.Memory.{created, createdOf, createdRegions, createdRegionsOf, removed, removedCells, removedRegions}
 use Rattle.memory.specs.Building.{built-none}
 use Rattle.plans.specs.Plan.{tablesIn}
 use Rattle.word_machine.specs.Tables.{Tables}
@@ -58,7 +57,7 @@ remaining w (inl e) n m = absurd (n e)
 remaining w (inr (inl e)) n m = absurd (m e)
 remaining w (inr (inr e)) n m = e
 
-module _ (f plan images callees : List ℕ) (s : State) (h : Heap) (m rs fw : List ℕ) (D : s .at ≡ frameWords * s .top) (w : ℕ) (ew : w ≡ word f (s .goal) 0) where
+module _ (f plan images callees : List ℕ) (s : State) (h : Heap) (m rs fw : List ℕ) (D : s .at ≡ frameWords * s .top) (w : ℕ) (ew : w ≡ word f (s .goal) kindWord) where
   abbrev T : Tables
   T = tablesIn plan images callees
 

@@ -1,14 +1,14 @@
 -- The numbers of variables and regions that a file's goals have are those of words of a frame, by the kind that the code has read.
-use Prim.Native.Nat.{ℕ, zero, suc, _+_, _≤_, _<_}
+use Prim.Native.Nat.{ℕ, zero, suc, _+_, _≤_}
 use native.Mathlib.Omega.{arith}
-use mathlib.Core.Path.{_≡_, refl, sym, ap, _∙_}
+use mathlib.Core.Path.{_≡_, refl}
 use mathlib.Core.Bool.{Bool, true, false}
 use mathlib.Core.List.{List}
 use lib.Dec.{eqb}
 use lib.ListN.{getD}
 use Rattle.language.specs.Lists.{choose}
-use Rattle.language.specs.File.{arms, word, recordCount}
-use Rattle.language.specs.Format.{maxVariables, maxRegions, kindWord, literalKind, sumKind, assignKind, constructKind, switchKind, ifKind, printKind, createKind, removeKind, goalX, sumY, sumZ, assignY, ifY, ifZ, printY, lifetimeRegion, termArguments}
+use Rattle.language.specs.File.{arms, word}
+use Rattle.language.specs.Format.{nextWord, termFunctor, maxVariables, maxRegions, kindWord, literalKind, sumKind, assignKind, constructKind, switchKind, ifKind, printKind, createKind, removeKind, goalX, sumY, sumZ, assignY, ifY, ifZ, printY, lifetimeRegion, termArguments}
 use Rattle.chains.specs.Formed.{Formed, Stands, stands-none}
 use Rattle.chains.specs.Is.{arm-is, chain-next}
 use Rattle.chains.specs.Records.{chainRecords, climb, records-none, records-step}
@@ -68,12 +68,12 @@ pub arm-stands : {f : List ℕ} → Formed f → (k i : ℕ) → Stands f arms i
 unfolding armOf choose
 arm-stands {f} F k i s =
     climb F (λ j. Stands f arms j → Stands f arms (armOf f k (chainRecords f j))) (λ t. start)
-    (λ j z q h t. rw (records-step {w = word f j 1} F z q refl) (go j t (h (chain-next {w = word f j 1} F t z refl .stands)) (eqb (word f j 3) k))) i (s .below) s
+    (λ j z q h t. rw (records-step {w = word f j nextWord} F z q refl) (go j t (h (chain-next {w = word f j nextWord} F t z refl .stands)) (eqb (word f j termFunctor) k))) i (s .below) s
   where
     start : Stands f arms (armOf f k (chainRecords f 0))
     start = rw (records-none f {i = 0} refl) (stands-none F refl)
 
-    go : (i : ℕ) → Stands f arms i → Stands f arms (armOf f k (chainRecords f (word f i 1))) → (b : Bool)
-        → Stands f arms (choose b i (armOf f k (chainRecords f (word f i 1))))
+    go : (i : ℕ) → Stands f arms i → Stands f arms (armOf f k (chainRecords f (word f i nextWord))) → (b : Bool)
+        → Stands f arms (choose b i (armOf f k (chainRecords f (word f i nextWord))))
     go i s h true = s
     go i s h false = h

@@ -13,13 +13,6 @@ use Rattle.memory.specs.Memory.{cellWord, withWord}
 use Rattle.plans.specs.Plan.{sidesFrom}
 use Rattle.word_machine.specs.Machine.{regionsFrom, armOf, givesEach, termOf}
 
--- "8 a cell, 2 a region"
-abbrev pub cellWords : ℕ
-cellWords = 8
-
-abbrev pub regionWords : ℕ
-regionWords = 2
-
 -- the arguments of the construct or arm at record i are numbers of a frame's words
 abbrev pub Low : List ℕ → ℕ → Type 0
 Low f i = (n : ℕ) → n < maxArity → word f i (termArguments + n) ≤ maxVariables

@@ -1,11 +1,11 @@
 -- A whole run: the steps that are done and those still to come make the whole.
-use Prim.Native.Nat.{ℕ, zero, suc, _+_, _-_, _*_, _≤_, _<_}
+use Prim.Native.Nat.{ℕ, zero, suc, _-_, _≤_, _<_}
 use native.Mathlib.Omega.{arith}
 use mathlib.Core.Path.{_≡_, refl, sym, ap, _∙_, subst}
 use mathlib.Core.List.{List}
 use borrow.Author.Tests.{lt-ltb, le-ltb}
-use lib.ListN.{length, getD}
-use Rattle.language.specs.File.{word, recordCount, kinds, kindOf}
+use lib.ListN.{length}
+use Rattle.language.specs.File.{recordCount, kinds, kindOf}
 use Rattle.language.specs.Lists.{nth}
 use Rattle.language.specs.Machine.{Room, holds, roomIn}
 use Rattle.language.specs.declared.Stop.{Stop}
@@ -15,11 +15,11 @@ use Rattle.language.specs.declared.Ending.the-variants.{Finished, Stopped}
 use Rattle.records.specs.Records.{recordAt, record-as}
 use Rattle.chains.specs.Formed.{Formed}
 use Rattle.memory.specs.declared.Heap.{Heap}
-use Rattle.memory.specs.Memory.{emptyHeap}
+use Rattle.memory.specs.Memory.{cellWords, regionWords, emptyHeap}
 use Rattle.frames.specs.Strays.{past-word}
 use Rattle.plans.specs.Plan.{calleeWord, calleeBody}
 use Rattle.word_machine.specs.Tables.{Tables}
-use Rattle.word_machine.specs.Machine.{Words, Went, went, stops, frameWords, Outcome, endedWith, afterStep, cleared, blocks, steps, settledFrom, settled, settledIf, stepped, runOn, runFrom, startWords, noFrame, lentWords, wordRun}
+use Rattle.word_machine.specs.Machine.{Words, went, stops, frameWords, Outcome, endedWith, afterStep, cleared, blocks, steps, settledFrom, settled, settledIf, stepped, runOn, runFrom, startWords, noFrame, lentWords, wordRun}
 use Rattle.machine.specs.declared.State.{State}
 use Rattle.machine.specs.declared.Kept.{Kept}
 use Rattle.machine.specs.declared.Kept.the-variants.{Left, Lacks}
@@ -144,14 +144,14 @@ module _ (f : List ℕ) (T : Tables) (l : ℕ) (m rs fw ps : List ℕ) where
   first-as h g s u r m₁ rs₁ fw₁ ps₁ eh es R = rw (← eh, ← es) R
 
   -- the words of the entry's frame are cleared; there is room for it
-  started : (size goal : ℕ) (h : Heap) (fx : List ℕ) → goal ≡ T .body 0 → size ≡ T .size 0 → fx ≡ cleared 1 (blocks size) fw → h ≡ emptyHeap (holds (length m) 8) (holds (length rs) 2)
+  started : (size goal : ℕ) (h : Heap) (fx : List ℕ) → goal ≡ T .body 0 → size ≡ T .size 0 → fx ≡ cleared 1 (blocks size) fw → h ≡ emptyHeap (holds (length m) cellWords) (holds (length rs) regionWords)
       → length fx ≡ length fw → 0 < holds (length fw) frameWords → runFirst f T l h m rs fx ps (entryState goal) ≡ wordRun f T m rs fw ps l
   unfolding runFirst wordRun runFrom startWords roomIn lentWords wordsOf
   started size goal h fx eg es ef eh e q = rw (lt-ltb 0 (holds (length fw) frameWords) q, e, ef, es, eh, eg)
 
   pub from-start : (callees : List ℕ) (size : ℕ) (fx m₁ rs₁ fw₁ ps₁ : List ℕ) (r : Answer) → frameWords ≤ length fw
       → calleeWord callees 0 calleeBody ≡ T .body 0 → size ≡ T .size 0 → fx ≡ cleared 1 (blocks size) fw → length fx ≡ length fw
-      → Ran (runFirst f T l (emptyHeap (holds (length m) 8) (holds (length rs) 2)) m rs fx ps (firstState callees)) r m₁ rs₁ fw₁ ps₁ → Ran (wordRun f T m rs fw ps l) r m₁ rs₁ fw₁ ps₁
+      → Ran (runFirst f T l (emptyHeap (holds (length m) cellWords) (holds (length rs) regionWords)) m rs fx ps (firstState callees)) r m₁ rs₁ fw₁ ps₁ → Ran (wordRun f T m rs fw ps l) r m₁ rs₁ fw₁ ps₁
   unfolding firstState
   from-start callees size fx m₁ rs₁ fw₁ ps₁ r q eg es ef e R = rw (← started size (calleeWord callees 0 calleeBody) _ fx eg es ef refl e (some-frame (length fw) q)) R
 

@@ -2,29 +2,24 @@
 use Prim.Native.Nat.{ℕ, suc, _+_, _*_, _≤_, _<_}
 use native.Mathlib.Omega.{arith}
 use mathlib.Core.Path.{_≡_, refl, sym, ap, _∙_}
-use mathlib.Core.Bool.{Bool, true, false}
 use mathlib.Core.List.{List}
 use borrow.Author.Tests.{lt-ltb, le-ltb}
-use lib.Dec.{ltb}
-use lib.ListN.{length, getD, set}
+use lib.ListN.{length, set}
 use mir.Syntax.{w32}
 use mir.Val.{toZ}
 use Rattle.language.specs.Lists.{nth, choose}
-use Rattle.language.specs.File.{Kind, kNone, kHeader, kType, kFunctor, kProcedure, kVariable, kRegion, kEdge, kArm, kArgument, kGoal, GoalKind, kLiteral, kSum, kAssign, kConstruct, kSwitch, kIf, kCall, kPrint, kCreate, kRemove, kinds, kindOf, row, rowIn, word}
-use Rattle.language.specs.Format.{literalKind, sumKind, assignKind, constructKind, switchKind, ifKind, callKind, printKind, createKind, removeKind}
+use Rattle.language.specs.File.{Kind, kNone, kHeader, kType, kFunctor, kProcedure, kVariable, kRegion, kEdge, kArm, kArgument, kGoal, kLiteral, kSum, kAssign, kConstruct, kSwitch, kIf, kCall, kPrint, kCreate, kRemove, kinds, kindOf, row, rowIn, word}
+use Rattle.language.specs.Format.{kindWord, nextWord, goalX, literalValue, sumOperation, sumY, sumZ, assignY, termFunctor, termArguments, switchArms, ifY, ifZ, ifThen, ifElse, callProcedure, callArguments, printY, lifetimeRegion, literalKind, sumKind, assignKind, constructKind, switchKind, ifKind, callKind, printKind, createKind, removeKind}
 use Rattle.language.specs.Numbers.{less}
 use Rattle.language.specs.Machine.{Room, holds}
 use Rattle.language.specs.declared.Stop.{Stop}
-use Rattle.language.specs.declared.Stop.the-variants.{Cells, Places, Frames, Prints}
+use Rattle.language.specs.declared.Stop.the-variants.{Frames, Prints}
 use Rattle.records.specs.Records.{recordAt, recordAs, record-as}
-use Rattle.records.specs.declared.Record.the-variants.{Literal, Sum, Assign, Construct, Switch, If, Call, Print, Create, Remove, Other}
+use Rattle.records.specs.declared.Record.the-variants.{Literal, Sum, Assign, Construct, Switch, If, Call, Print, Create, Remove}
 use Rattle.chains.specs.Shapes.{goal-number}
 use Rattle.memory.specs.declared.Heap.{Heap}
-use Rattle.memory.specs.declared.Made.{Made}
-use Rattle.memory.specs.declared.Made.the-variants.{At, NoRoom}
-use Rattle.memory.specs.Memory.{created, createdRegions, built, builtCells, builtRegions, removed, removedCells, removedRegions}
 use Rattle.word_machine.specs.Tables.{Tables, onto}
-use Rattle.word_machine.specs.Machine.{Words, Went, went, stops, frameWords, literalWord, sumWord, given, withFrames, valueOf, contentsOf, constructed, constructedBy, makesRegion, createdBy, dropsRegion, printsWord, ifRoom, switches, entersArm, armWords, calls, calleeWords, steps}
+use Rattle.word_machine.specs.Machine.{Went, went, stops, frameWords, literalWord, sumWord, given, withFrames, valueOf, printsWord, ifRoom, switches, entersArm, armWords, calls, calleeWords, steps}
 use Rattle.word_machine.specs.Machine
 use Rattle.machine.specs.declared.State.{State}
 use Rattle.machine.specs.declared.Step.{Step}
@@ -33,47 +28,48 @@ use Rattle.machine.specs.Words.{Placed, wordsOf, cameTo, onwardTo, onwar
 use Rattle.machine.specs.Places.{valueIn, argumentsFrom, wordsFrom, armFor, armValues}
 
 -- ---- the record by the number of its kind, w
-module _ (f : List ℕ) (i w : ℕ) (ew : w ≡ word f i 0) where
+module _ (f : List ℕ) (i w : ℕ) (ew : w ≡ word f i kindWord) where
   pub of-kind : (n : ℕ) (k : Kind) → kindOf n ≡ k → w ≡ n → recordAt f i ≡ recordAs k (word f i)
   of-kind n k e z = record-as f i (ap kindOf (sym ew ∙ z) ∙ e)
 
-  pub literal-record : w ≡ literalKind → recordAt f i ≡ Literal (word f i 1) (word f i 2) (word f i 3)
+  pub literal-record : w ≡ literalKind → recordAt f i ≡ Literal (word f i nextWord) (word f i goalX) (word f i literalValue)
   unfolding kindOf kinds nth
   literal-record z = of-kind literalKind (kGoal kLiteral) refl z
 
-  pub sum-record : w ≡ sumKind → recordAt f i ≡ Sum (word f i 1) (word f i 2) (word f i 3) (word f i 4) (word f i 5)
+  pub sum-record : w ≡ sumKind → recordAt f i ≡ Sum (word f i nextWord) (word f i goalX) (word f i sumOperation) (word f i sumY) (word f i sumZ)
   unfolding kindOf kinds nth
   sum-record z = of-kind sumKind (kGoal kSum) refl z
 
-  pub assign-record : w ≡ assignKind → recordAt f i ≡ Assign (word f i 1) (word f i 2) (word f i 3)
+  pub assign-record : w ≡ assignKind → recordAt f i ≡ Assign (word f i nextWord) (word f i goalX) (word f i assignY)
   unfolding kindOf kinds nth
   assign-record z = of-kind assignKind (kGoal kAssign) refl z
 
-  pub construct-record : w ≡ constructKind → recordAt f i ≡ Construct (word f i 1) (word f i 2) (word f i 3) (word f i 4) (word f i 5) (word f i 6) (word f i 7)
+  pub construct-record : w ≡ constructKind → recordAt f i
+      ≡ Construct (word f i nextWord) (word f i goalX) (word f i termFunctor) (word f i termArguments) (word f i (termArguments + 1)) (word f i (termArguments + 2)) (word f i (termArguments + 3))
   unfolding kindOf kinds nth
   construct-record z = of-kind constructKind (kGoal kConstruct) refl z
 
-  pub switch-record : w ≡ switchKind → recordAt f i ≡ Switch (word f i 1) (word f i 2) (word f i 3)
+  pub switch-record : w ≡ switchKind → recordAt f i ≡ Switch (word f i nextWord) (word f i goalX) (word f i switchArms)
   unfolding kindOf kinds nth
   switch-record z = of-kind switchKind (kGoal kSwitch) refl z
 
-  pub if-record : w ≡ ifKind → recordAt f i ≡ If (word f i 1) (word f i 2) (word f i 3) (word f i 4) (word f i 5)
+  pub if-record : w ≡ ifKind → recordAt f i ≡ If (word f i nextWord) (word f i ifY) (word f i ifZ) (word f i ifThen) (word f i ifElse)
   unfolding kindOf kinds nth
   if-record z = of-kind ifKind (kGoal kIf) refl z
 
-  pub call-record : w ≡ callKind → recordAt f i ≡ Call (word f i 1) (word f i 2) (word f i 3)
+  pub call-record : w ≡ callKind → recordAt f i ≡ Call (word f i nextWord) (word f i callProcedure) (word f i callArguments)
   unfolding kindOf kinds nth
   call-record z = of-kind callKind (kGoal kCall) refl z
 
-  pub print-record : w ≡ printKind → recordAt f i ≡ Print (word f i 1) (word f i 2)
+  pub print-record : w ≡ printKind → recordAt f i ≡ Print (word f i nextWord) (word f i printY)
   unfolding kindOf kinds nth
   print-record z = of-kind printKind (kGoal kPrint) refl z
 
-  pub create-record : w ≡ createKind → recordAt f i ≡ Create (word f i 1) (word f i 2)
+  pub create-record : w ≡ createKind → recordAt f i ≡ Create (word f i nextWord) (word f i lifetimeRegion)
   unfolding kindOf kinds nth
   create-record z = of-kind createKind (kGoal kCreate) refl z
 
-  pub remove-record : w ≡ removeKind → recordAt f i ≡ Remove (word f i 1) (word f i 2)
+  pub remove-record : w ≡ removeKind → recordAt f i ≡ Remove (word f i nextWord) (word f i lifetimeRegion)
   unfolding kindOf kinds nth
   remove-record z = of-kind removeKind (kGoal kRemove) refl z
 
@@ -116,55 +112,55 @@ module _ (f : List ℕ) (T : Tables) (s : State) (m fw ps : List ℕ) (D : Place
   unfolding cameTo
   goes-on v fx px e d = record { comes = λ k h rs a b. e k h rs; kept = λ c z. absurd (stopped-not v c z); stays = λ t z. rw (← went-same v t z) d }
 
-  module _ (w next : ℕ) (ew : w ≡ word f (s .goal) 0) (en : next ≡ T .successor (s .goal)) where
-    literal-step : (k : Room) (h : Heap) (rs fx : List ℕ) → w ≡ literalKind → fx ≡ set fw (s .at + word f (s .goal) 2) (literalWord (word f (s .goal) 3))
+  module _ (w next : ℕ) (ew : w ≡ word f (s .goal) kindWord) (en : next ≡ T .successor (s .goal)) where
+    literal-step : (k : Room) (h : Heap) (rs fx : List ℕ) → w ≡ literalKind → fx ≡ set fw (s .at + word f (s .goal) goalX) (literalWord (word f (s .goal) literalValue))
         → went (wordsOf h m rs fx ps (onwardTo s next)) ≡ Steps k h rs
     unfolding steps given withFrames wordsOf
     literal-step k h rs fx z ex = rw (literal-record f (s .goal) w ew z, ex, en, D .place)
 
-    pub literal-goes : (fx : List ℕ) → w ≡ literalKind → fx ≡ set fw (s .at + word f (s .goal) 2) (literalWord (word f (s .goal) 3))
+    pub literal-goes : (fx : List ℕ) → w ≡ literalKind → fx ≡ set fw (s .at + word f (s .goal) goalX) (literalWord (word f (s .goal) literalValue))
         → Goes f T s m fw ps (WentTo (onwardTo s next)) fx ps
     literal-goes fx z ex = goes-on _ fx ps (λ k h rs. literal-step k h rs fx z ex) (onward-placed _ D)
 
     sum-step : (k : Room) (h : Heap) (rs fx : List ℕ) → w ≡ sumKind
-        → fx ≡ set fw (s .at + word f (s .goal) 2) (sumWord (word f (s .goal) 3) (valueIn (s .at) fw (word f (s .goal) 4)) (valueIn (s .at) fw (word f (s .goal) 5)))
+        → fx ≡ set fw (s .at + word f (s .goal) goalX) (sumWord (word f (s .goal) sumOperation) (valueIn (s .at) fw (word f (s .goal) sumY)) (valueIn (s .at) fw (word f (s .goal) sumZ)))
         → went (wordsOf h m rs fx ps (onwardTo s next)) ≡ Steps k h rs
     unfolding steps given withFrames wordsOf valueOf
     sum-step k h rs fx z ex = rw (sum-record f (s .goal) w ew z, ex, en, D .place)
 
     pub sum-goes : (fx : List ℕ) → w ≡ sumKind
-        → fx ≡ set fw (s .at + word f (s .goal) 2) (sumWord (word f (s .goal) 3) (valueIn (s .at) fw (word f (s .goal) 4)) (valueIn (s .at) fw (word f (s .goal) 5)))
+        → fx ≡ set fw (s .at + word f (s .goal) goalX) (sumWord (word f (s .goal) sumOperation) (valueIn (s .at) fw (word f (s .goal) sumY)) (valueIn (s .at) fw (word f (s .goal) sumZ)))
         → Goes f T s m fw ps (WentTo (onwardTo s next)) fx ps
     sum-goes fx z ex = goes-on _ fx ps (λ k h rs. sum-step k h rs fx z ex) (onward-placed _ D)
 
-    assign-step : (k : Room) (h : Heap) (rs fx : List ℕ) → w ≡ assignKind → fx ≡ set fw (s .at + word f (s .goal) 2) (valueIn (s .at) fw (word f (s .goal) 3))
+    assign-step : (k : Room) (h : Heap) (rs fx : List ℕ) → w ≡ assignKind → fx ≡ set fw (s .at + word f (s .goal) goalX) (valueIn (s .at) fw (word f (s .goal) assignY))
         → went (wordsOf h m rs fx ps (onwardTo s next)) ≡ Steps k h rs
     unfolding steps given withFrames wordsOf valueOf
     assign-step k h rs fx z ex = rw (assign-record f (s .goal) w ew z, ex, en, D .place)
 
-    pub assign-goes : (fx : List ℕ) → w ≡ assignKind → fx ≡ set fw (s .at + word f (s .goal) 2) (valueIn (s .at) fw (word f (s .goal) 3))
+    pub assign-goes : (fx : List ℕ) → w ≡ assignKind → fx ≡ set fw (s .at + word f (s .goal) goalX) (valueIn (s .at) fw (word f (s .goal) assignY))
         → Goes f T s m fw ps (WentTo (onwardTo s next)) fx ps
     assign-goes fx z ex = goes-on _ fx ps (λ k h rs. assign-step k h rs fx z ex) (onward-placed _ D)
 
     if-step : (k : Room) (h : Heap) (rs : List ℕ) (a g : ℕ) → w ≡ ifKind
-        → a ≡ choose (less (toZ w32 (valueIn (s .at) fw (word f (s .goal) 2))) (toZ w32 (valueIn (s .at) fw (word f (s .goal) 3)))) (word f (s .goal) 4) (word f (s .goal) 5)
+        → a ≡ choose (less (toZ w32 (valueIn (s .at) fw (word f (s .goal) ifY))) (toZ w32 (valueIn (s .at) fw (word f (s .goal) ifZ)))) (word f (s .goal) ifThen) (word f (s .goal) ifElse)
         → g ≡ onto a next → went (wordsOf h m rs fw ps (onwardTo s g)) ≡ Steps k h rs
     unfolding steps withFrames wordsOf valueOf
     if-step k h rs a g z ea eg = rw (if-record f (s .goal) w ew z, eg, ea, en, D .place)
 
     pub if-goes : (a g : ℕ) → w ≡ ifKind
-        → a ≡ choose (less (toZ w32 (valueIn (s .at) fw (word f (s .goal) 2))) (toZ w32 (valueIn (s .at) fw (word f (s .goal) 3)))) (word f (s .goal) 4) (word f (s .goal) 5)
+        → a ≡ choose (less (toZ w32 (valueIn (s .at) fw (word f (s .goal) ifY))) (toZ w32 (valueIn (s .at) fw (word f (s .goal) ifZ)))) (word f (s .goal) ifThen) (word f (s .goal) ifElse)
         → g ≡ onto a next → Goes f T s m fw ps (WentTo (onwardTo s g)) fw ps
     if-goes a g z ea eg = goes-on _ fw ps (λ k h rs. if-step k h rs a g z ea eg) (onward-placed _ D)
 
     -- ---- a print
-    print-step : (k : Room) (h : Heap) (rs px : List ℕ) (v : ℕ) → w ≡ printKind → v ≡ valueIn (s .at) fw (word f (s .goal) 2) → px ≡ set ps (s .printed) v
+    print-step : (k : Room) (h : Heap) (rs px : List ℕ) (v : ℕ) → w ≡ printKind → v ≡ valueIn (s .at) fw (word f (s .goal) printY) → px ≡ set ps (s .printed) v
         → s .printed < k .prints → went (wordsOf h m rs fw px (record { top = s .top; at = s .at; goal = next; printed = s .printed + 1 })) ≡ Steps k h rs
     unfolding steps ifRoom printsWord wordsOf valueOf
     print-step k h rs px v z ev ex l =
         let o : s .printed + 1 ≡ suc (s .printed) = omega arith in rw (print-record f (s .goal) w ew z, lt-ltb (s .printed) (k .prints) l, ex, ev, en, o, D .place)
 
-    pub print-goes : (px : List ℕ) (v limit : ℕ) → w ≡ printKind → v ≡ valueIn (s .at) fw (word f (s .goal) 2) → px ≡ set ps (s .printed) v → limit ≡ holds (length ps) 1
+    pub print-goes : (px : List ℕ) (v limit : ℕ) → w ≡ printKind → v ≡ valueIn (s .at) fw (word f (s .goal) printY) → px ≡ set ps (s .printed) v → limit ≡ holds (length ps) 1
         → s .printed < limit → Goes f T s m fw ps (WentTo (record { top = s .top; at = s .at; goal = next; printed = s .printed + 1 })) fw px
     unfolding cameTo
     print-goes px v limit z ev ex el l =
@@ -174,15 +170,15 @@ module _ (f : List ℕ) (T : Tables) (s : State) (m fw ps : List ℕ) (D : Place
           stays = λ t e. rw (← went-same _ t e) (record { place = D .place; fits = D .fits });
         }
 
-  module _ (w : ℕ) (ew : w ≡ word f (s .goal) 0) where
+  module _ (w : ℕ) (ew : w ≡ word f (s .goal) kindWord) where
     switch-step : (k : Room) (h : Heap) (rs fx : List ℕ) (j g : ℕ) → w ≡ switchKind → j ≡ armFor f (s .goal) (s .at) m fw
-        → fx ≡ armValues f j (valueIn (s .at) fw (word f (s .goal) 2)) (s .at) m fw → g ≡ T .entry j
+        → fx ≡ armValues f j (valueIn (s .at) fw (word f (s .goal) goalX)) (s .at) m fw → g ≡ T .entry j
         → went (wordsOf h m rs fx ps (onwardTo s g)) ≡ Steps k h rs
     unfolding steps switches entersArm armWords withFrames wordsOf valueOf armFor armValues argumentsFrom wordsFrom
     switch-step k h rs fx j g z ej ex eg = rw (switch-record f (s .goal) w ew z, eg, ex, ej, D .place)
 
     pub switch-goes : (fx : List ℕ) (j g : ℕ) → w ≡ switchKind → j ≡ armFor f (s .goal) (s .at) m fw
-        → fx ≡ armValues f j (valueIn (s .at) fw (word f (s .goal) 2)) (s .at) m fw → g ≡ T .entry j
+        → fx ≡ armValues f j (valueIn (s .at) fw (word f (s .goal) goalX)) (s .at) m fw → g ≡ T .entry j
         → Goes f T s m fw ps (WentTo (onwardTo s g)) fx ps
     switch-goes fx j g z ej ex eg = goes-on _ fx ps (λ k h rs. switch-step k h rs fx j g z ej ex eg) (onward-placed _ D)
 
@@ -195,14 +191,14 @@ module _ (f : List ℕ) (T : Tables) (s : State) (m fw ps : List ℕ) (D : Place
     print-stops limit z el l = record { comes = λ k h rs a b. print-stop k h rs z (rw (b ∙ sym el) l); kept = λ c e. (refl, refl); stays = λ t e. absurd (stopped-not t _ (sym e)) }
 
     -- ---- a call
-    call-step : (k : Room) (h : Heap) (rs fx : List ℕ) (g t p : ℕ) → w ≡ callKind → g ≡ T .body (word f (s .goal) 2)
-        → fx ≡ calleeWords f T (s .top) (s .goal) (word f (s .goal) 2) fw → t ≡ suc (s .top) → suc (s .top) < k .frames
+    call-step : (k : Room) (h : Heap) (rs fx : List ℕ) (g t p : ℕ) → w ≡ callKind → g ≡ T .body (word f (s .goal) callProcedure)
+        → fx ≡ calleeWords f T (s .top) (s .goal) (word f (s .goal) callProcedure) fw → t ≡ suc (s .top) → suc (s .top) < k .frames
         → went (wordsOf h m rs fx ps (record { top = t; at = p; goal = g; printed = s .printed })) ≡ Steps k h rs
     unfolding steps ifRoom calls wordsOf
     call-step k h rs fx g t p z eg ex et l = rw (call-record f (s .goal) w ew z, lt-ltb (suc (s .top)) (k .frames) l, ex, eg, et)
 
-    pub call-goes : (fx : List ℕ) (g t p limit : ℕ) → w ≡ callKind → g ≡ T .body (word f (s .goal) 2)
-        → fx ≡ calleeWords f T (s .top) (s .goal) (word f (s .goal) 2) fw → t ≡ suc (s .top) → p ≡ s .at + frameWords → limit ≡ holds (length fw) frameWords → suc (s .top) < limit
+    pub call-goes : (fx : List ℕ) (g t p limit : ℕ) → w ≡ callKind → g ≡ T .body (word f (s .goal) callProcedure)
+        → fx ≡ calleeWords f T (s .top) (s .goal) (word f (s .goal) callProcedure) fw → t ≡ suc (s .top) → p ≡ s .at + frameWords → limit ≡ holds (length fw) frameWords → suc (s .top) < limit
         → Goes f T s m fw ps (WentTo (record { top = t; at = p; goal = g; printed = s .printed })) fx ps
     unfolding cameTo
     call-goes fx g t p limit z eg ex et ep el l =
@@ -220,31 +216,31 @@ module _ (f : List ℕ) (T : Tables) (s : State) (m fw ps : List ℕ) (D : Place
     unfolding cameTo
     call-stops limit z el l = record { comes = λ k h rs a b. call-stop k h rs z (rw (a ∙ sym el) l); kept = λ c e. (refl, refl); stays = λ t e. absurd (stopped-not t _ (sym e)) }
 
-    -- ---- what is no goal: nothing changes
-    else-step : (k : Room) (h : Heap) (rs : List ℕ) (K : Kind) → kindOf (word f (s .goal) 0) ≡ K → (w ≡ literalKind → ⊥) → (w ≡ sumKind → ⊥) → (w ≡ assignKind → ⊥) → (w ≡ constructKind → ⊥) → (w ≡ switchKind → ⊥)
+    -- ---- what is no goal: nothing changes. nl, ns, na, nb, nw, ni, nc, np, nm and nr: no literal, sum, assign, construct, switch, if, call, print, create, remove
+    else-step : (k : Room) (h : Heap) (rs : List ℕ) (K : Kind) → kindOf (word f (s .goal) kindWord) ≡ K → (w ≡ literalKind → ⊥) → (w ≡ sumKind → ⊥) → (w ≡ assignKind → ⊥) → (w ≡ constructKind → ⊥) → (w ≡ switchKind → ⊥)
         → (w ≡ ifKind → ⊥) → (w ≡ callKind → ⊥) → (w ≡ printKind → ⊥) → (w ≡ createKind → ⊥) → (w ≡ removeKind → ⊥) → went (wordsOf h m rs fw ps s) ≡ Steps k h rs
     unfolding steps row rowIn
-    else-step k h rs kNone e n8 n9 n10 n11 n12 n14 n15 n17 n18 n19 = rw (record-as f (s .goal) e)
-    else-step k h rs kHeader e n8 n9 n10 n11 n12 n14 n15 n17 n18 n19 = rw (record-as f (s .goal) e)
-    else-step k h rs kType e n8 n9 n10 n11 n12 n14 n15 n17 n18 n19 = rw (record-as f (s .goal) e)
-    else-step k h rs kFunctor e n8 n9 n10 n11 n12 n14 n15 n17 n18 n19 = rw (record-as f (s .goal) e)
-    else-step k h rs kProcedure e n8 n9 n10 n11 n12 n14 n15 n17 n18 n19 = rw (record-as f (s .goal) e)
-    else-step k h rs kVariable e n8 n9 n10 n11 n12 n14 n15 n17 n18 n19 = rw (record-as f (s .goal) e)
-    else-step k h rs kRegion e n8 n9 n10 n11 n12 n14 n15 n17 n18 n19 = rw (record-as f (s .goal) e)
-    else-step k h rs kEdge e n8 n9 n10 n11 n12 n14 n15 n17 n18 n19 = rw (record-as f (s .goal) e)
-    else-step k h rs kArm e n8 n9 n10 n11 n12 n14 n15 n17 n18 n19 = rw (record-as f (s .goal) e)
-    else-step k h rs kArgument e n8 n9 n10 n11 n12 n14 n15 n17 n18 n19 = rw (record-as f (s .goal) e)
-    else-step k h rs (kGoal kLiteral) e n8 n9 n10 n11 n12 n14 n15 n17 n18 n19 = absurd (n8 (ew ∙ goal-number _ kLiteral e))
-    else-step k h rs (kGoal kSum) e n8 n9 n10 n11 n12 n14 n15 n17 n18 n19 = absurd (n9 (ew ∙ goal-number _ kSum e))
-    else-step k h rs (kGoal kAssign) e n8 n9 n10 n11 n12 n14 n15 n17 n18 n19 = absurd (n10 (ew ∙ goal-number _ kAssign e))
-    else-step k h rs (kGoal kConstruct) e n8 n9 n10 n11 n12 n14 n15 n17 n18 n19 = absurd (n11 (ew ∙ goal-number _ kConstruct e))
-    else-step k h rs (kGoal kSwitch) e n8 n9 n10 n11 n12 n14 n15 n17 n18 n19 = absurd (n12 (ew ∙ goal-number _ kSwitch e))
-    else-step k h rs (kGoal kIf) e n8 n9 n10 n11 n12 n14 n15 n17 n18 n19 = absurd (n14 (ew ∙ goal-number _ kIf e))
-    else-step k h rs (kGoal kCall) e n8 n9 n10 n11 n12 n14 n15 n17 n18 n19 = absurd (n15 (ew ∙ goal-number _ kCall e))
-    else-step k h rs (kGoal kPrint) e n8 n9 n10 n11 n12 n14 n15 n17 n18 n19 = absurd (n17 (ew ∙ goal-number _ kPrint e))
-    else-step k h rs (kGoal kCreate) e n8 n9 n10 n11 n12 n14 n15 n17 n18 n19 = absurd (n18 (ew ∙ goal-number _ kCreate e))
-    else-step k h rs (kGoal kRemove) e n8 n9 n10 n11 n12 n14 n15 n17 n18 n19 = absurd (n19 (ew ∙ goal-number _ kRemove e))
+    else-step k h rs kNone e nl ns na nb nw ni nc np nm nr = rw (record-as f (s .goal) e)
+    else-step k h rs kHeader e nl ns na nb nw ni nc np nm nr = rw (record-as f (s .goal) e)
+    else-step k h rs kType e nl ns na nb nw ni nc np nm nr = rw (record-as f (s .goal) e)
+    else-step k h rs kFunctor e nl ns na nb nw ni nc np nm nr = rw (record-as f (s .goal) e)
+    else-step k h rs kProcedure e nl ns na nb nw ni nc np nm nr = rw (record-as f (s .goal) e)
+    else-step k h rs kVariable e nl ns na nb nw ni nc np nm nr = rw (record-as f (s .goal) e)
+    else-step k h rs kRegion e nl ns na nb nw ni nc np nm nr = rw (record-as f (s .goal) e)
+    else-step k h rs kEdge e nl ns na nb nw ni nc np nm nr = rw (record-as f (s .goal) e)
+    else-step k h rs kArm e nl ns na nb nw ni nc np nm nr = rw (record-as f (s .goal) e)
+    else-step k h rs kArgument e nl ns na nb nw ni nc np nm nr = rw (record-as f (s .goal) e)
+    else-step k h rs (kGoal kLiteral) e nl ns na nb nw ni nc np nm nr = absurd (nl (ew ∙ goal-number _ kLiteral e))
+    else-step k h rs (kGoal kSum) e nl ns na nb nw ni nc np nm nr = absurd (ns (ew ∙ goal-number _ kSum e))
+    else-step k h rs (kGoal kAssign) e nl ns na nb nw ni nc np nm nr = absurd (na (ew ∙ goal-number _ kAssign e))
+    else-step k h rs (kGoal kConstruct) e nl ns na nb nw ni nc np nm nr = absurd (nb (ew ∙ goal-number _ kConstruct e))
+    else-step k h rs (kGoal kSwitch) e nl ns na nb nw ni nc np nm nr = absurd (nw (ew ∙ goal-number _ kSwitch e))
+    else-step k h rs (kGoal kIf) e nl ns na nb nw ni nc np nm nr = absurd (ni (ew ∙ goal-number _ kIf e))
+    else-step k h rs (kGoal kCall) e nl ns na nb nw ni nc np nm nr = absurd (nc (ew ∙ goal-number _ kCall e))
+    else-step k h rs (kGoal kPrint) e nl ns na nb nw ni nc np nm nr = absurd (np (ew ∙ goal-number _ kPrint e))
+    else-step k h rs (kGoal kCreate) e nl ns na nb nw ni nc np nm nr = absurd (nm (ew ∙ goal-number _ kCreate e))
+    else-step k h rs (kGoal kRemove) e nl ns na nb nw ni nc np nm nr = absurd (nr (ew ∙ goal-number _ kRemove e))
 
     pub else-goes : (w ≡ literalKind → ⊥) → (w ≡ sumKind → ⊥) → (w ≡ assignKind → ⊥) → (w ≡ constructKind → ⊥) → (w ≡ switchKind → ⊥) → (w ≡ ifKind → ⊥) → (w ≡ callKind → ⊥) → (w ≡ printKind → ⊥) → (w ≡ createKind → ⊥) → (w ≡ removeKind → ⊥)
         → Goes f T s m fw ps (WentTo s) fw ps
-    else-goes n8 n9 n10 n11 n12 n14 n15 n17 n18 n19 = goes-on s fw ps (λ k h rs. else-step k h rs _ refl n8 n9 n10 n11 n12 n14 n15 n17 n18 n19) D
+    else-goes nl ns na nb nw ni nc np nm nr = goes-on s fw ps (λ k h rs. else-step k h rs _ refl nl ns na nb nw ni nc np nm nr) D

@@ -2,13 +2,13 @@
 use Prim.Native.Nat.{ℕ, zero, suc, _+_, _-_, _*_, _≤_, _<_}
 use native.Mathlib.Omega.{arith}
 use mathlib.Core.Path.{_≡_, refl, ap, _∙_}
-use mathlib.Core.List.{List, [], _∷_}
-use lib.ListN.{length, getD, set}
+use mathlib.Core.List.{List, _∷_}
+use lib.ListN.{getD, set}
 use Rattle.language.specs.File.{word}
 use Rattle.language.specs.Format.{maxArity, termFunctor, termArguments}
-use Rattle.memory.specs.Memory.{cellWord, withWord}
+use Rattle.memory.specs.Memory.{cellWords, cellWord, withWord}
 use Rattle.word_machine.specs.Machine.{givesEach}
-use Rattle.machine.specs.Places.{cellWords, valueIn, poursEach, argumentsFrom, wordsFrom, poured, armValues}
+use Rattle.machine.specs.Places.{valueIn, poursEach, argumentsFrom, wordsFrom, poured, armValues}
 
 -- some are left, or none
 left : (n : ℕ) → n < maxArity → maxArity - n ≡ suc (maxArity - suc n)
@@ -25,7 +25,7 @@ module _ (f : List ℕ) (i k : ℕ) (fw : List ℕ) (x : ℕ) where
   pub pour-first : (t : ℕ) (m m₁ : List ℕ) → t ≡ word f i termFunctor → m₁ ≡ set m (cellWords * x) t → pouredFrom 0 m₁ ≡ poured f i k fw x m
   unfolding pouredFrom poured
   pour-first t m m₁ e em =
-      let p : cellWords * x ≡ 8 * x + 0 = omega arith in
+      let p : cellWords * x ≡ cellWords * x + 0 = omega arith in
       ap (λ v. poursEach (valueIn k fw) x 1 (argumentsFrom f i maxArity 0) v) (em ∙ ap (λ j. set m j t) p ∙ ap (λ v. withWord m x 0 v) e)
 
   pub pour-end : (n : ℕ) (m : List ℕ) → maxArity ≤ n → m ≡ pouredFrom n m
@@ -46,7 +46,7 @@ module _ (f : List ℕ) (i k : ℕ) (fw : List ℕ) (x : ℕ) where
     unfolding pouredFrom argumentsFrom
     pour-on v m m₁ z ev em =
         let o : n + 1 ≡ suc n = omega arith in
-        let p : cellWords * x + 1 + n ≡ 8 * x + suc n = omega arith in
+        let p : cellWords * x + 1 + n ≡ cellWords * x + suc n = omega arith in
         rw (left n l, ← e, em, ev, o, p) (more a (argumentsFrom f i (maxArity - suc n) (suc n)) m z)
 
 -- ---- an arm's: to variables of the frame at place k, from cell p
@@ -76,7 +76,7 @@ module _ (f : List ℕ) (j p k : ℕ) (m : List ℕ) where
     unfolding givenFrom argumentsFrom wordsFrom
     give-on v fw fx z ev ex =
         let o : n + 1 ≡ suc n = omega arith in
-        let q : cellWords * p + 1 + n ≡ 8 * p + suc n = omega arith in
+        let q : cellWords * p + 1 + n ≡ cellWords * p + suc n = omega arith in
         rw (left n l, ← e, ex, ev, o, q) (more-given a (cellWord m p (suc n)) (argumentsFrom f j (maxArity - suc n) (suc n)) (wordsFrom m p (maxArity - suc n) (suc n)) fw z)
 
 -- an argument that is not numbered 0 is the first, or the first was not

@@ -14,10 +14,11 @@ ghost use Prim.Native.Nat.{ℕ, _+_, _*_, _≤_, _<_};
 ghost use lib.ListN.{length, getD};
 ghost use Rattle.language.specs.File.{arms, word, recordCount};
 ghost use Rattle.language.specs.Format.{recordBytes, maxVariables, goalX};
+ghost use Rattle.memory.specs.Memory.{cellWords};
 ghost use Rattle.chains.specs.Formed.{Formed, Stands};
 ghost use Rattle.chains.specs.Shapes.{IsSwitch};
 ghost use Rattle.word_machine.specs.Machine.{frameWords};
-ghost use Rattle.machine.specs.Places.{cellWords, LowIfAny, armFor, armValues};
+ghost use Rattle.machine.specs.Places.{LowIfAny, armFor, armValues};
 
 // ".. and the arm's arguments get the cell's values", up to the first that is numbered 0: the arm at record j, a cell that is there whole.
 fn arm_values(file: &[u8], j: usize, cell: u32, at: usize, cells: &[u32], frames: &mut [u32])

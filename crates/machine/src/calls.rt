@@ -15,8 +15,8 @@ use language::format::RECORD_BYTES;
 use plans::CALLEE_BODY;
 use plans::CALLEE_BORN;
 use plans::CALLEE_HELD;
+use plans::CALLEE_ROW;
 use plans::CALLEE_SIZE;
-use plans::CALLEE_WORDS;
 use plans::CALLEES;
 use plans::PLAN;
 use plans::SIDES;
@@ -40,7 +40,7 @@ fn callee_word(callees: &[u64; CALLEES], q: usize, k: usize) -> u64
     requires { ⌜ k ≤ calleeBorn ⌝ }
     ensures { λ r. ⌜ r ≡ calleeWord (now (callees .entry)) q k ⌝ }
 {
-    callees[CALLEE_WORDS * (q % MAX_PROCEDURES) + k]
+    callees[CALLEE_ROW * (q % MAX_PROCEDURES) + k]
 }
 
 fn number(x: u64) -> usize

@@ -21,9 +21,10 @@ ghost use Prim.Native.Nat.{_+_, _*_, _≤_, _<_};
 ghost use lib.ListN.{length, getD};
 ghost use Rattle.language.specs.File.{word};
 ghost use Rattle.language.specs.Format.{recordBytes, maxRecords, maxVariables, maxRegions, goalX};
+ghost use Rattle.memory.specs.Memory.{cellWords};
 ghost use Rattle.plans.specs.Plan.{sidesFrom};
 ghost use Rattle.word_machine.specs.Machine.{frameWords};
-ghost use Rattle.machine.specs.Places.{cellWords, Low, poured};
+ghost use Rattle.machine.specs.Places.{Low, poured};
 ghost use Rattle.machine.specs.Cells.{Constructs};
 
 // A cell that is there whole gets the functor of the construct at record i and the values of its arguments, up to the first that is numbered 0.

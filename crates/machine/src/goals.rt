@@ -25,15 +25,7 @@ ghost use Rattle.language.specs.Lists.{choose};
 ghost use Rattle.language.specs.Numbers.{less};
 ghost use Rattle.language.specs.File.{word};
 ghost use Rattle.language.specs.Format.{recordBytes, maxRecords, maxVariables, goalX, literalValue, sumOperation, sumY, sumZ, assignY, ifY, ifZ, ifThen, ifElse};
-ghost use Rattle.word_machine.specs.Tables.{onto as ontoOf};
 ghost use Rattle.word_machine.specs.Machine.{frameWords, literalWord, sumWord};
-
-// The first record of a chain, or where to go on if the chain is empty.
-pub fn onto(first: usize, onward: usize) -> usize
-    ensures { λ r. ⌜ r ≡ ontoOf first onward ⌝ }
-{
-    if first == 0 { onward } else { first }
-}
 
 // "After a goal chain ends, the next goal is the enclosing goal's next": the goal after the one at record i.
 pub fn successor(plan: &[usize; PLAN], i: usize) -> usize

@@ -13,7 +13,6 @@ use memory::Heap;
 use memory::Made;
 use plans::PLAN;
 use records::word_in;
-ghost use mathlib.Core.Path.{_≡_};
 ghost use mathlib.Core.Bool.{true};
 ghost use mathlib.Core.List.{List};
 ghost use Prim.Native.Nat.{ℕ, _<_};

@@ -26,10 +26,9 @@ ghost use Prim.Native.Nat.{_≤_};
 ghost use lib.ListN.{length};
 ghost use Rattle.language.specs.Machine.{holds};
 ghost use Rattle.chains.specs.Formed.{Formed};
-ghost use Rattle.memory.specs.Memory.{emptyHeap};
+ghost use Rattle.memory.specs.Memory.{cellWords, regionWords, emptyHeap};
 ghost use Rattle.plans.specs.Plan.{Narrow, Numbered, tablesIn};
 ghost use Rattle.word_machine.specs.Machine.{frameWords, wordRun};
-ghost use Rattle.machine.specs.Places.{cellWords, regionWords};
 ghost use Rattle.machine.specs.Runs.{endedAt, firstState, runFirst, Ran};
 
 // A run that ends at a state, after so many steps.
@@ -103,16 +102,7 @@ fn run_on(
                 Kept::Lacks(stop) => return ended(Ending::Stopped(stop), steps - left, here),
             }
         }
-        let went = go(
-            file,
-            plan,
-            images,
-            callees,
-            here,
-            &cells[..],
-            frames,
-            prints,
-        );
+        let went = go(file, plan, images, callees, here, &*cells, frames, prints);
         match went {
             Step::Went(next) => {
                 state = next;

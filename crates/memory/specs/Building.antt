@@ -1,5 +1,5 @@
 -- A cell that is taken, filled and hung into a region is built there. A word that a cell's filling leaves alone is one that it fills with what stands there.
-use Prim.Native.Nat.{ℕ, _+_, _*_}
+use Prim.Native.Nat.{ℕ}
 use native.Mathlib.Omega.{arith}
 use mathlib.Core.Path.{_≡_, refl, sym}
 use mathlib.Core.Bool.{Bool, true, false}
@@ -12,7 +12,6 @@ use Rattle.memory.specs.declared.Pool.{Pool}
 use Rattle.memory.specs.declared.Taken.{Taken}
 use Rattle.memory.specs.declared.Taken.the-variants.{Place, Full}
 use Rattle.memory.specs.declared.Heap.{Heap}
-use Rattle.memory.specs.declared.Made.{Made}
 use Rattle.memory.specs.declared.Made.the-variants.{At, NoRoom}
 use Rattle.memory.specs.Memory.{first, raised, taken, filled, hung, built, builtOf, builtCells, builtCellsOf, builtRegions, builtRegionsOf}
 

@@ -13,7 +13,7 @@ use Rattle.memory.specs.declared.Taken.{Taken}
 use Rattle.memory.specs.declared.Taken.the-variants.{Place, Full}
 use Rattle.memory.specs.declared.Heap.{Heap}
 use Rattle.memory.specs.declared.Made.the-variants.{At, NoRoom}
-use Rattle.memory.specs.Memory.{link, first, last, headed, raised, taken, created, createdOf, createdRegions, createdRegionsOf, hung, built, builtOf, removed, removedCells, removedRegions}
+use Rattle.memory.specs.Memory.{cellWords, regionWords, cellNext, regionLast, most, link, first, last, headed, raised, taken, created, createdOf, createdRegions, createdRegionsOf, hung, built, builtOf, removed, removedCells, removedRegions}
 
 module _ (p : Pool) (l : ℕ) where
   pub take-full : p .limit ≤ p .head → taken p l ≡ Full
@@ -33,7 +33,7 @@ module _ (h : Heap) (rs : List ℕ) (l : ℕ) (e : l ≡ first rs (h .regions .h
   unfolding created createdRegions createdOf createdRegionsOf
   create-full f = rw (← e, ← d, f) (refl, refl)
 
-  pub create-made : (r : ℕ) (p : Pool) → t ≡ Place r p → (rs₁ : List ℕ) → rs₁ ≡ set rs (2 * r + 1) (h .cells .limit)
+  pub create-made : (r : ℕ) (p : Pool) → t ≡ Place r p → (rs₁ : List ℕ) → rs₁ ≡ set rs (regionWords * r + regionLast) (h .cells .limit)
       → (At r (record { cells = h .cells; regions = p }) ≡ created h rs) × (rs₁ ≡ createdRegions h rs)
   unfolding created createdRegions createdOf createdRegionsOf
   create-made r p f rs₁ g = rw (g, ← e, ← d, f) (refl, refl)
@@ -47,8 +47,8 @@ module _ (h : Heap) (m : List ℕ) (l : ℕ) (e : l ≡ link m (h .cells .head))
   unfolding built builtOf
   cell-made x p g = rw (← e, ← dt, g)
 
-module _ (rs : List ℕ) (r x n l : ℕ) (e : l ≡ last rs r) (rs₁ : List ℕ) (e₁ : rs₁ ≡ set rs (2 * r) x) where
-  pub hang-first : n ≤ l → (rs₂ : List ℕ) → rs₂ ≡ set rs₁ (2 * r + 1) x → rs₂ ≡ hung rs r x n
+module _ (rs : List ℕ) (r x n l : ℕ) (e : l ≡ last rs r) (rs₁ : List ℕ) (e₁ : rs₁ ≡ set rs (regionWords * r) x) where
+  pub hang-first : n ≤ l → (rs₂ : List ℕ) → rs₂ ≡ set rs₁ (regionWords * r + regionLast) x → rs₂ ≡ hung rs r x n
   unfolding hung choose
   hang-first h rs₂ e₂ = rw (e₂, e₁, ← e, le-leb _ _ h)
 
@@ -56,13 +56,13 @@ module _ (rs : List ℕ) (r x n l : ℕ) (e : l ≡ last rs r) (rs₁ : List ℕ
   unfolding hung choose
   hang-more h = rw (e₁, ← e, lt-leb _ _ h)
 
-module _ (h : Heap) (m rs : List ℕ) (r x l : ℕ) (ex : x ≡ first rs r) (e : l ≡ last rs r) (rs₁ : List ℕ) (e₁ : rs₁ ≡ set rs (2 * r) (h .regions .head)) where
+module _ (h : Heap) (m rs : List ℕ) (r x l : ℕ) (ex : x ≡ first rs r) (e : l ≡ last rs r) (rs₁ : List ℕ) (e₁ : rs₁ ≡ set rs (regionWords * r) (h .regions .head)) where
   pub remove-empty : h .cells .limit ≤ l
       → (record { cells = h .cells; regions = headed (h .regions) r } ≡ removed h rs r) × (m ≡ removedCells h m rs r) × (rs₁ ≡ removedRegions h rs r)
   unfolding removed removedCells removedRegions choose
   remove-empty g = rw (e₁, ← e, le-leb _ _ g) (refl, refl, refl)
 
-  pub remove-some : l < h .cells .limit → (m₁ : List ℕ) → m₁ ≡ set m (8 * l + 5) (h .cells .head)
+  pub remove-some : l < h .cells .limit → (m₁ : List ℕ) → m₁ ≡ set m (cellWords * l + cellNext) (h .cells .head)
       → (record { cells = headed (h .cells) x; regions = headed (h .regions) r } ≡ removed h rs r) × (m₁ ≡ removedCells h m rs r) × (rs₁ ≡ removedRegions h rs r)
   unfolding removed removedCells removedRegions choose
   remove-some g m₁ em = rw (e₁, em, ex, ← e, lt-leb _ _ g) (refl, refl, refl)
@@ -72,10 +72,10 @@ pub room-none : (n k : ℕ) → k ≡ 0 → 0 ≡ holds n k
 unfolding holds
 room-none n k e = rw e (omega (arith, div-zero n))
 
-pub room-all : (n k : ℕ) → n / k < 65535 → n / k ≡ holds n k
+pub room-all : (n k : ℕ) → n / k < most → n / k ≡ holds n k
 unfolding holds
 room-all n k l = omega arith
 
-pub room-most : (n k : ℕ) → 65535 ≤ n / k → 65535 ≡ holds n k
+pub room-most : (n k : ℕ) → most ≤ n / k → most ≡ holds n k
 unfolding holds
 room-most n k l = omega arith

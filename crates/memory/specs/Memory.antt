@@ -13,25 +13,44 @@ use Rattle.memory.specs.declared.Heap.{Heap}
 use Rattle.memory.specs.declared.Made.{Made}
 use Rattle.memory.specs.declared.Made.the-variants.{At, NoRoom}
 
--- word k of a cell: 0 the functor, 1 to 4 the arguments, 5 the link to the next of its region or of the free ones
+-- "Lent 32-bit words hold: 8 a cell, 2 a region"; the code has these numbers under the same names (src/lib.rt)
+abbrev pub cellWords : ℕ
+cellWords = 8
+
+abbrev pub regionWords : ℕ
+regionWords = 2
+
+-- the word of a cell that is the link to the next of its region or of the free ones; before it stand the functor and four arguments
+abbrev pub cellNext : ℕ
+cellNext = 5
+
+-- the word of a region that names its last cell
+abbrev pub regionLast : ℕ
+regionLast = 1
+
+-- "more than 65,535 of a sort count as 65,535"
+abbrev pub most : ℕ
+most = 65535
+
+-- word k of a cell
 abbrev pub cellWord : List ℕ → ℕ → ℕ → ℕ
-cellWord m x k = getD m (8 * x + k) 0
+cellWord m x k = getD m (cellWords * x + k) 0
 
 abbrev pub withWord : List ℕ → ℕ → ℕ → ℕ → List ℕ
-withWord m x k v = set m (8 * x + k) v
+withWord m x k v = set m (cellWords * x + k) v
 
 abbrev pub link : List ℕ → ℕ → ℕ
-link m x = cellWord m x 5
+link m x = cellWord m x cellNext
 
 abbrev pub withLink : List ℕ → ℕ → ℕ → List ℕ
-withLink m x v = withWord m x 5 v
+withLink m x v = withWord m x cellNext v
 
 -- a region's first and last cell; a free region's first word is the link to the next free one
 abbrev pub first : List ℕ → ℕ → ℕ
-first m r = getD m (2 * r) 0
+first m r = getD m (regionWords * r) 0
 
 abbrev pub last : List ℕ → ℕ → ℕ
-last m r = getD m (2 * r + 1) 0
+last m r = getD m (regionWords * r + regionLast) 0
 
 -- ---- the free places of a sort
 unfoldable pub unused : ℕ → Pool
@@ -59,7 +78,7 @@ createdOf h (Place r p) = At r (record { cells = h .cells; regions = p })
 createdOf h Full = NoRoom
 
 unfoldable pub createdRegionsOf : Heap → List ℕ → Taken → List ℕ
-createdRegionsOf h rs (Place r p) = set rs (2 * r + 1) (h .cells .limit)
+createdRegionsOf h rs (Place r p) = set rs (regionWords * r + regionLast) (h .cells .limit)
 createdRegionsOf h rs Full = rs
 
 unfoldable pub created : Heap → List ℕ → Made
@@ -74,10 +93,10 @@ cellTaken h m = taken (h .cells) (link m (h .cells .head))
 
 unfoldable pub filled : List ℕ → ℕ → Contents → ℕ → List ℕ
 filled m x c n =
-    withWord (withWord (withWord (withWord (withWord (withWord m x 0 (c .functor)) x 1 (c .a)) x 2 (c .b)) x 3 (c .c)) x 4 (c .d)) x 5 n
+    withWord (withWord (withWord (withWord (withWord (withWord m x 0 (c .functor)) x 1 (c .a)) x 2 (c .b)) x 3 (c .c)) x 4 (c .d)) x cellNext n
 
 unfoldable pub hung : List ℕ → ℕ → ℕ → ℕ → List ℕ
-hung rs r x n = choose (leb n (last rs r)) (set (set rs (2 * r) x) (2 * r + 1) x) (set rs (2 * r) x)
+hung rs r x n = choose (leb n (last rs r)) (set (set rs (regionWords * r) x) (regionWords * r + regionLast) x) (set rs (regionWords * r) x)
 
 unfoldable pub builtOf : Heap → Taken → Made
 builtOf h (Place x p) = At x (record { cells = p; regions = h .regions })
@@ -108,7 +127,7 @@ unfoldable pub removed : Heap → List ℕ → ℕ → Heap
 removed h rs r = record { cells = choose (isEmpty h rs r) (h .cells) (headed (h .cells) (first rs r)); regions = headed (h .regions) r }
 
 unfoldable pub removedCells : Heap → List ℕ → List ℕ → ℕ → List ℕ
-removedCells h m rs r = choose (isEmpty h rs r) m (withWord m (last rs r) 5 (h .cells .head))
+removedCells h m rs r = choose (isEmpty h rs r) m (withWord m (last rs r) cellNext (h .cells .head))
 
 unfoldable pub removedRegions : Heap → List ℕ → ℕ → List ℕ
-removedRegions h rs r = set rs (2 * r) (h .regions .head)
+removedRegions h rs r = set rs (regionWords * r) (h .regions .head)

@@ -17,13 +17,16 @@ pub use words::word;
 // "Lent 32-bit words hold: 8 a cell, 2 a region".
 pub const CELL_WORDS: usize = 8;
 
-const REGION_WORDS: usize = 2;
+pub const REGION_WORDS: usize = 2;
 
 // The word of a cell that leads on, to the next cell of its region or to the next free one; before it stand the functor and four arguments.
-const CELL_NEXT: usize = 5;
+pub const CELL_NEXT: usize = 5;
 
 // The word of a region that names its last cell; word 0 leads to its first one, or to the next free region.
-const REGION_LAST: usize = 1;
+pub const REGION_LAST: usize = 1;
+
+// "More than 65,535 of a sort count as 65,535".
+const MOST: u32 = 65535;
 
 // The free places of a sort: a chain from `head` that ends at `top`, and the places from `top` on, never used yet. There are `limit` places.
 pub struct Pool {

@@ -15,11 +15,11 @@ use crate::words::word;
 ghost use mathlib.Core.Path.{_≡_};
 ghost use lib.ListN.{length};
 ghost use Rattle.language.specs.Machine.{holds};
-ghost use Rattle.memory.specs.Memory.{emptyHeap, created, createdRegions, built, removed, removedCells, removedRegions};
+ghost use Rattle.memory.specs.Memory.{cellWords, regionWords, emptyHeap, created, createdRegions, built, removed, removedCells, removedRegions};
 
 // Before the first step. The words keep what stands there.
 pub fn empty(cells: &[u32], regions: &[u32]) -> Heap
-    ensures { λ r. ⌜ r ≡ emptyHeap (holds (length (now (cells .entry))) 8) (holds (length (now (regions .entry))) 2) ⌝ }
+    ensures { λ r. ⌜ r ≡ emptyHeap (holds (length (now (cells .entry))) cellWords) (holds (length (now (regions .entry))) regionWords) ⌝ }
 {
     Heap {
         cells: fresh(room(cells.len(), CELL_WORDS)),

@@ -1,11 +1,12 @@
 // The free places of one sort.
+use crate::MOST;
 use crate::Pool;
 use crate::Taken;
 ghost use mathlib.Core.Path.{_≡_};
 ghost use Rattle.language.specs.Machine.{holds};
 ghost use Rattle.memory.specs.Memory.{unused, taken};
 
-// How many of a sort the lent words hold: "a remainder too small for one is not used, and more than 65,535 of a sort count as 65,535".
+// How many of a sort the lent words hold: "a remainder too small for one is not used".
 pub fn room(words: usize, each: usize) -> u32
     ensures { λ r. ⌜ r ≡ holds words each ⌝ }
 {
@@ -13,7 +14,7 @@ pub fn room(words: usize, each: usize) -> u32
         return 0;
     }
     let n = words / each;
-    if n < 65535 { n as u32 } else { 65535 }
+    if n < (MOST as usize) { n as u32 } else { MOST }
 }
 
 // No place is used yet: there is nothing to write.

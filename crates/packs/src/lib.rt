@@ -1,21 +1,28 @@
 // Packs of job files, as tools/pack-jobs and pack-runs of rust/compare write them: names and files behind their lengths, numbers low byte first.
 use libc::STDOUT_FILENO;
-ghost use Prim.Native.Nat.{_≤_};
+ghost use Prim.Native.Nat.{_≤_, _<_};
 ghost use Rattle.io.specs.Counts.{Counts};
+ghost use Rattle.packs.specs.Bytes.{byteEnd};
+
+// What bytes are below.
+const BYTE_END: usize = 256;
+
+// What is read in place of a byte at the end of a pack.
+pub const PACK_END: usize = BYTE_END;
 
 fn wide(x: u8) -> usize
-    ensures { λ r. ⌜ r ≤ 255 ⌝ }
+    ensures { λ r. ⌜ r < byteEnd ⌝ }
 {
     x as usize
 }
 
-// The next byte; 256 at the end of the pack.
+// The next byte, or the end of the pack.
 pub fn next_byte(fd: i32) -> usize
-    ensures { λ r. ⌜ r ≤ 256 ⌝ }
+    ensures { λ r. ⌜ r ≤ byteEnd ⌝ }
 {
     let mut byte = [0u8; 1];
     if io::read_full(fd, &mut byte) == 0 {
-        return 256;
+        return PACK_END;
     }
     wide(byte[0])
 }
@@ -25,7 +32,7 @@ pub fn next_number(fd: i32) -> usize {
     let low = next_byte(fd);
     let middle = next_byte(fd);
     let high = next_byte(fd);
-    low + 256 * middle + 65536 * high
+    low + BYTE_END * (middle + BYTE_END * high)
 }
 
 // The next n bytes, as far as they fit.

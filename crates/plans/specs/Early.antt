@@ -11,7 +11,7 @@ use Rattle.sets.specs.Tests.{and-true}
 use Rattle.sets.specs.Members.{inList, cons-here, cons-later}
 use Rattle.language.specs.Lists.{count, choose, all}
 use Rattle.language.specs.File.{word, recordCount}
-use Rattle.language.specs.Format.{maxRecords, callArguments, argumentVariable, callKind}
+use Rattle.language.specs.Format.{maxVariables, maxRegions, places, maxRecords, callArguments, argumentVariable, callKind}
 use Rattle.language.specs.Program.{Functor, Variable, Parameter, Signature, parameterIn, parametersFrom, parametersOf}
 use Rattle.language.specs.Typing.{variableOk, signatureOk, typingOk}
 use Rattle.language.specs.Answers.{program}
@@ -37,13 +37,13 @@ use Rattle.plans.specs.Links.{Joinable, small-ok}
 -- the word v at place p of the plan leads to a record, or to images
 pub record Reaches (p v : ℕ) : Type 0 where
   pub goal : p < insFrom → v < maxRecords
-  pub side : sidesFrom ≤ p → v + 64 < imageBytes
+  pub side : sidesFrom ≤ p → v + maxRegions < imageBytes
 
 -- .. and what an argument matches is a number of a variable; if it matches anything, so is what it gives
 pub record Early (f : List ℕ) (p v : ℕ) : Type 0 where
   pub reaches : Reaches p v
-  pub small : insFrom ≤ p → v ≤ 64
-  pub given : (a : ℕ) → p ≡ modesFrom + a → (v ≡ 0 → ⊥) → word f a argumentVariable ≤ 64
+  pub small : insFrom ≤ p → v ≤ maxVariables
+  pub given : (a : ℕ) → p ≡ modesFrom + a → (v ≡ 0 → ⊥) → word f a argumentVariable ≤ maxVariables
 
 module _ (f : List ℕ) where
   early-zero : (p : ℕ) → Early f p 0
@@ -56,14 +56,14 @@ module _ (f : List ℕ) where
     given = λ a e n. absurd (omega arith);
   }
 
-  early-slot : (j v : ℕ) → j < maxRecords → v ≤ 64 → Early f (slotsFrom + j) v
+  early-slot : (j v : ℕ) → j < maxRecords → v ≤ maxVariables → Early f (slotsFrom + j) v
   early-slot j v l h = record {
     reaches = record { goal = λ k. absurd (omega arith); side = λ k. absurd (omega arith) };
     small = λ k. h;
     given = λ a e n. absurd (omega arith);
   }
 
-  early-mode : (j v : ℕ) → j < maxRecords → v ≤ 64 → word f j argumentVariable ≤ 64 → Early f (modesFrom + j) v
+  early-mode : (j v : ℕ) → j < maxRecords → v ≤ maxVariables → word f j argumentVariable ≤ maxVariables → Early f (modesFrom + j) v
   early-mode j v l h g = record {
     reaches = record { goal = λ k. absurd (omega arith); side = λ k. absurd (omega arith) };
     small = λ k. h;
@@ -107,14 +107,14 @@ goal-pairs f (p ∷ ps) (v ∷ vs) a b = (early-goal f p v (a .0) (b .0), goal-p
 -- ---- a procedure's in and out variables: numbers and modes
 abbrev Small : List Parameter → Type 0
 Small [] = Unit {0}
-Small (a ∷ ps) = (a .variable ≤ 64) × (a .mode ≤ 64) × Small ps
+Small (a ∷ ps) = (a .variable ≤ maxVariables) × (a .mode ≤ maxVariables) × Small ps
 
-small-in : (m k : ℕ) (ps : List Parameter) → m ≤ 64 → k ≤ 64 → Small ps → Small (parameterIn m k ps)
+small-in : (m k : ℕ) (ps : List Parameter) → m ≤ maxVariables → k ≤ maxVariables → Small ps → Small (parameterIn m k ps)
 unfolding parameterIn
 small-in zero k ps l h s = s
 small-in (suc m) k ps l h s = (h, l, s)
 
-small-from : (T : List (List Functor)) (S : Signature) (k : ℕ) (vs : List Variable) → k + length vs ≤ 65 → all (variableOk T S) vs ≡ true → Small (parametersFrom k vs)
+small-from : (T : List (List Functor)) (S : Signature) (k : ℕ) (vs : List Variable) → k + length vs ≤ places → all (variableOk T S) vs ≡ true → Small (parametersFrom k vs)
 unfolding parametersFrom all variableOk
 small-from T S k [] l e = tt
 small-from T S k (v ∷ vs) l e =
@@ -128,7 +128,7 @@ small-all T S ok = small-from T S 1 (S .variables) (omega (arith, variables-few 
 
 -- ---- what arguments match
 module _ {f : List ℕ} (F : Formed f) (ok : typingOk (program f) ≡ true) where
-  placed-keeps : (ps : List Parameter) (js t : List ℕ) → Small ps → AllRecords js → ((a : ℕ) → inList a js ≡ true → word f a argumentVariable ≤ 64)
+  placed-keeps : (ps : List Parameter) (js t : List ℕ) → Small ps → AllRecords js → ((a : ℕ) → inList a js ≡ true → word f a argumentVariable ≤ maxVariables)
       → Every (Early f) t → Every (Early f) (placed ps js t)
   unfolding placed
   placed-keeps [] js t s r g h = h

@@ -10,14 +10,14 @@ use Rattle.language.specs.Lists.{choose}
 use Rattle.language.specs.File.{word, recordCount}
 use Rattle.language.specs.Format.{maxRecords, nextWord, armGoals, callArguments, argumentKind, armKind, callKind}
 use Rattle.chains.specs.Formed.{Formed, counted}
-use Rattle.word_machine.specs.Tables.{Passed, onto}
+use Rattle.word_machine.specs.Tables.{linkUnit, Passed, onto}
 use Rattle.word_machine.specs.Passing.{packed}
 use Rattle.plans.specs.Plan.{linksFrom, planWords}
 use Rattle.plans.specs.Passes.{slotsFrom, modesFrom, isKind, firstIn, goalOf, argumentLink, linkOf, joinedAt, joining}
 use Rattle.plans.specs.Down.{Found, found}
 use Rattle.plans.specs.Links.{Joinable, by-mode, firstBy, first-by, call-at-test, argument-at-test, joined-length, joined-own, joined-goal, joined-ins, joined-outs, joinable-down}
 
-first-none : (m : ℕ) (t : List ℕ) → getD t (linksFrom m + 0) 0 / 65536 ≡ 0 → firstIn m 0 t ≡ 0
+first-none : (m : ℕ) (t : List ℕ) → getD t (linksFrom m + 0) 0 / linkUnit ≡ 0 → firstIn m 0 t ≡ 0
 unfolding firstIn
 first-none m t e = first-by (λ n. n ≡ 0) 0 (getD t (linksFrom m + 0) 0) e refl
 
@@ -78,18 +78,18 @@ module _ {f : List ℕ} (F : Formed f) (t : List ℕ) (J : Joinable f (recordCou
     first-end = first-none m (joining f t) (let z = zero-link in omega arith)
 
     module _ (i : ℕ) (l : i < recordCount f) where
-      low-link : getD t (linksFrom m + 0) 0 / 65536 ≡ 0
+      low-link : getD t (linksFrom m + 0) 0 / linkUnit ≡ 0
       low-link =
           let a = J .slots 0 (counted F .some) in
           let b = J .modes 0 (counted F .some) in
-          by-mode (λ s. getD t (s + 0) 0 / 65536 ≡ 0) m (omega arith) (omega arith)
+          by-mode (λ s. getD t (s + 0) 0 / linkUnit ≡ 0) m (omega arith) (omega arith)
 
       -- the first argument from a later one on is the same at the end as in the table that the step finds
       firsts : (a : ℕ) → (a ≡ 0) ⊎ (i < a) → a < recordCount f → firstIn m a (here i l .0) ≡ firstIn m a (joining f t)
       unfolding joining
       firsts a (inl z) h =
           let e = here i l .1 .low (linksFrom m + 0) (let w = links-whose m 0 (omega arith) in omega arith) in
-          rw z (first-none m (here i l .0) (ap (λ w. w / 65536) e ∙ low-link) ∙ sym first-end)
+          rw z (first-none m (here i l .0) (ap (λ w. w / linkUnit) e ∙ low-link) ∙ sym first-end)
       firsts a (inr o) h = first-same m a (here i l .0) (joining f t) (here i l .1 .high (linksFrom m + a) (let w = links-whose m a (omega (arith, few)) in omega arith))
 
       same : linkOf f m i (here i l .0) (here i l .0) ≡ linkOf f m i t (joining f t)

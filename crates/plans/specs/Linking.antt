@@ -11,7 +11,7 @@ use lib.ListN.{getD}
 use Rattle.sets.specs.Members.{consIf}
 use Rattle.language.specs.Lists.{choose}
 use Rattle.language.specs.File.{kArgument, arguments, word, recordCount}
-use Rattle.language.specs.Format.{maxRecords, kindWord, nextWord, argumentKind, callKind, argumentVariable}
+use Rattle.language.specs.Format.{maxVariables, maxRecords, kindWord, nextWord, argumentKind, callKind, argumentVariable}
 use Rattle.laws.specs.Choices.{choose-true, choose-false}
 use Rattle.records.specs.Records.{recordAt}
 use Rattle.records.specs.declared.Record.the-variants.{Call}
@@ -22,7 +22,7 @@ use Rattle.chains.specs.Kinds.{kindIn, kind-read}
 use Rattle.chains.specs.Parts.{call-at}
 use Rattle.chains.specs.Records.{chainRecords, records-none, records-step, along}
 use Rattle.chains.specs.Shapes.{kind-number}
-use Rattle.word_machine.specs.Tables.{Passed, slotOf}
+use Rattle.word_machine.specs.Tables.{linkUnit, Passed, slotOf}
 use Rattle.word_machine.specs.Passing.{packed, packed-slot, ofMode}
 use Rattle.plans.specs.Plan.{linksFrom, linked}
 use Rattle.plans.specs.Passes.{slotsFrom, modesFrom, isKind, firstIn, argumentLink, linkOf, joining}
@@ -32,12 +32,12 @@ use Rattle.plans.specs.Links.{Joinable, packed-next}
 use Rattle.plans.specs.Joined.{link-read, first-end}
 
 -- ---- one link
-linked-none : (link : ℕ → ℕ) (n x : ℕ) → link x / 65536 ≡ 0 → linked link n x ≡ []
+linked-none : (link : ℕ → ℕ) (n x : ℕ) → link x / linkUnit ≡ 0 → linked link n x ≡ []
 unfolding linked choose
 linked-none link zero x e = refl
 linked-none link (suc n) x e = rw (e, le-ltb x 0 (omega arith)) refl
 
-linked-more : (link : ℕ → ℕ) (n x a : ℕ) → x < a → link x / 65536 ≡ a → linked link (suc n) x ≡ link a ∷ linked link n a
+linked-more : (link : ℕ → ℕ) (n x a : ℕ) → x < a → link x / linkUnit ≡ a → linked link (suc n) x ≡ link a ∷ linked link n a
 unfolding linked choose
 linked-more link n x a l e = rw (e, lt-ltb x a l) refl
 
@@ -54,7 +54,7 @@ module _ {f : List ℕ} (F : Formed f) (t : List ℕ) (J : Joinable f (recordCou
   -- slots and variables of these arguments are numbers of variables
   abbrev pub Numbers : List ℕ → Type 0
   Numbers [] = Unit {0}
-  Numbers (a ∷ as′) = ((1 ≤ slot a) × (slot a ≤ 64) × (word f a argumentVariable ≤ 64)) × Numbers as′
+  Numbers (a ∷ as′) = ((1 ≤ slot a) × (slot a ≤ maxVariables) × (word f a argumentVariable ≤ maxVariables)) × Numbers as′
 
   -- ---- an argument's link
   module _ (a : ℕ) (s : Stands f arguments a) (z : a ≡ 0 → ⊥) where
@@ -73,7 +73,7 @@ module _ {f : List ℕ} (F : Formed f) (t : List ℕ) (J : Joinable f (recordCou
     word-here = link-read F t J m p a (s .below) ∙ rw (no-call, is-argument, slot-is a (s .below), mode-is a (s .below)) refl
 
     -- it has the mode, or the first from here on is the first behind it
-    module _ (k : (1 ≤ slot a) × (slot a ≤ 64) × (word f a argumentVariable ≤ 64)) (e : eqb (mode a) m ≡ true) where
+    module _ (k : (1 ≤ slot a) × (slot a ≤ maxVariables) × (word f a argumentVariable ≤ maxVariables)) (e : eqb (mode a) m ≡ true) where
       own-word : getD (joining f t) (linksFrom m + a) 0 ≡ says a
       own-word = word-here ∙ choose-true _ (says a) (packed 0 0 (more a)) e
 
@@ -82,22 +82,22 @@ module _ {f : List ℕ} (F : Formed f) (t : List ℕ) (J : Joinable f (recordCou
       own-first =
           let w = getD (joining f t) (linksFrom m + a) 0 in
           let z : slotOf w ≡ slot a = ap slotOf own-word ∙ packed-slot (slot a) (word f a argumentVariable) (more a) (k .1) (k .2) in
-          choose-false _ (w / 65536) a (ne-eqb (slotOf w) 0 (λ q. omega (arith, k .0)))
+          choose-false _ (w / linkUnit) a (ne-eqb (slotOf w) 0 (λ q. omega (arith, k .0)))
 
-      own-next : link a / 65536 ≡ more a
-      own-next = ap (λ w. w / 65536) (link-is a (s .below) ∙ own-word) ∙ packed-next (slot a) (word f a argumentVariable) (more a) (k .1) (k .2)
+      own-next : link a / linkUnit ≡ more a
+      own-next = ap (λ w. w / linkUnit) (link-is a (s .below) ∙ own-word) ∙ packed-next (slot a) (word f a argumentVariable) (more a) (k .1) (k .2)
 
     other-first : eqb (mode a) m ≡ false → firstIn m a (joining f t) ≡ more a
     unfolding firstIn
     other-first e =
         let w = getD (joining f t) (linksFrom m + a) 0 in
         let d : w ≡ packed 0 0 (more a) = word-here ∙ choose-false _ (says a) (packed 0 0 (more a)) e in
-        choose-true _ (w / 65536) a (eq-eqb (slotOf w) 0 (ap slotOf d ∙ packed-slot 0 0 (more a) (omega arith) (omega arith)))
-        ∙ ap (λ v. v / 65536) d ∙ packed-next 0 0 (more a) (omega arith) (omega arith)
+        choose-true _ (w / linkUnit) a (eq-eqb (slotOf w) 0 (ap slotOf d ∙ packed-slot 0 0 (more a) (omega arith) (omega arith)))
+        ∙ ap (λ v. v / linkUnit) d ∙ packed-next 0 0 (more a) (omega arith) (omega arith)
 
   -- ---- all along the chain: x is before it, and n links are enough to its end
   abbrev Goes : ℕ → Type 0
-  Goes a = Numbers (chainRecords f a) → (n x : ℕ) → (a ≡ 0) ⊎ (x < a) → recordCount f ≤ x + n → link x / 65536 ≡ firstIn m a (joining f t)
+  Goes a = Numbers (chainRecords f a) → (n x : ℕ) → (a ≡ 0) ⊎ (x < a) → recordCount f ≤ x + n → link x / linkUnit ≡ firstIn m a (joining f t)
       → linked link n x ≡ map says (ofMode mode m (chainRecords f a))
 
   goes-end : Goes 0
@@ -105,8 +105,8 @@ module _ {f : List ℕ} (F : Formed f) (t : List ℕ) (J : Joinable f (recordCou
   goes-end k n x o h e = linked-none link n x (e ∙ first-end F t J m p) ∙ (rw (records-none f {i = 0} refl) refl)
 
   module _ (a : ℕ) (s : Stands f arguments a) (z : a ≡ 0 → ⊥) (ih : Goes (word f a nextWord)) where
-    goes-own : ((1 ≤ slot a) × (slot a ≤ 64) × (word f a argumentVariable ≤ 64)) × Numbers (chainRecords f (word f a nextWord)) → eqb (mode a) m ≡ true
-        → (n x : ℕ) → x < a → recordCount f ≤ x + n → link x / 65536 ≡ firstIn m a (joining f t)
+    goes-own : ((1 ≤ slot a) × (slot a ≤ maxVariables) × (word f a argumentVariable ≤ maxVariables)) × Numbers (chainRecords f (word f a nextWord)) → eqb (mode a) m ≡ true
+        → (n x : ℕ) → x < a → recordCount f ≤ x + n → link x / linkUnit ≡ firstIn m a (joining f t)
         → linked link n x ≡ says a ∷ map says (ofMode mode m (chainRecords f (word f a nextWord)))
     goes-own k c zero x o h e = absurd (omega (arith, s .below))
     goes-own k c (suc n) x o h e =
@@ -142,7 +142,7 @@ module _ {f : List ℕ} (F : Formed f) (t : List ℕ) (J : Joinable f (recordCou
   call-links i n q ys e k =
       let c = call-at F refl e in
       let l = c .below in
-      let r : link i / 65536 ≡ firstIn m ys (joining f t) =
-      ap (λ w. w / 65536) (link-is i l ∙ link-read F t J m p i l ∙ (rw (call-is F i e) refl)) ∙ packed-next 0 0 _ (omega arith) (omega arith)
+      let r : link i / linkUnit ≡ firstIn m ys (joining f t) =
+      ap (λ w. w / linkUnit) (link-is i l ∙ link-read F t J m p i l ∙ (rw (call-is F i e) refl)) ∙ packed-next 0 0 _ (omega arith) (omega arith)
       ∙ ap (λ a. firstIn m a (joining f t)) (sym (c .w3)) in
       goes ys (c .to-arguments .stands) k (maxRecords - i) i (c .to-arguments .order) (omega (arith, counted F .most)) r

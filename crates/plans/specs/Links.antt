@@ -11,13 +11,13 @@ use lib.ListN.{length, getD, set, length-set}
 use lib.Seq.{getD-set-same, getD-set-other}
 use Rattle.language.specs.Lists.{choose}
 use Rattle.language.specs.File.{kArgument, word, recordCount}
-use Rattle.language.specs.Format.{maxRecords, nextWord, callArguments, argumentVariable, argumentKind, callKind}
+use Rattle.language.specs.Format.{maxVariables, callProcedure, maxRecords, nextWord, callArguments, argumentVariable, argumentKind, callKind}
 use Rattle.language.specs.Program.{inMode, outMode}
 use Rattle.chains.specs.Layout.{all-rows}
 use Rattle.chains.specs.Formed.{Formed, counted}
 use Rattle.chains.specs.Parts.{CallAt, ArgumentAt, argument-at}
 use Rattle.chains.specs.Shapes.{by-number, call-here}
-use Rattle.word_machine.specs.Tables.{slotOf, givenOf}
+use Rattle.word_machine.specs.Tables.{linkUnit, slotOf, givenOf}
 use Rattle.word_machine.specs.Passing.{packed, packed-slot, packed-given}
 use Rattle.plans.specs.Plan.{insFrom, outsFrom, linksFrom, planWords, LinkOk}
 use Rattle.plans.specs.Passes.{slotsFrom, modesFrom, isKind, eachDown, firstIn, goalOf, argumentLink, linkOf, joinedAt}
@@ -27,22 +27,22 @@ use Rattle.plans.specs.Tests.{kind-is}
 pub record Joinable (f : List ℕ) (i : ℕ) (t : List ℕ) : Type 0 where
   pub long : length t ≡ planWords
   pub most : i ≤ maxRecords
-  pub slots : (a : ℕ) → a < i → getD t (slotsFrom + a) 0 ≤ 64
-  pub modes : (a : ℕ) → a < i → getD t (modesFrom + a) 0 ≤ 64
-  pub givens : (a : ℕ) → a < i → (getD t (modesFrom + a) 0 ≡ 0 → ⊥) → word f a argumentVariable ≤ 64
+  pub slots : (a : ℕ) → a < i → getD t (slotsFrom + a) 0 ≤ maxVariables
+  pub modes : (a : ℕ) → a < i → getD t (modesFrom + a) 0 ≤ maxVariables
+  pub givens : (a : ℕ) → a < i → (getD t (modesFrom + a) 0 ≡ 0 → ⊥) → word f a argumentVariable ≤ maxVariables
   pub ins : (a : ℕ) → i ≤ a → a < maxRecords → LinkOk (getD t (insFrom + a) 0)
   pub outs : (a : ℕ) → i ≤ a → a < maxRecords → LinkOk (getD t (outsFrom + a) 0)
 
 -- ---- links that can be followed
-pub small-ok : (w : ℕ) → w ≤ 64 → LinkOk w
+pub small-ok : (w : ℕ) → w ≤ maxVariables → LinkOk w
 unfolding slotOf givenOf
 small-ok w l = record { slot = omega arith; given = omega arith; next = omega arith }
 
-pub packed-next : (s g n : ℕ) → s ≤ 64 → g ≤ 64 → packed s g n / 65536 ≡ n
+pub packed-next : (s g n : ℕ) → s ≤ maxVariables → g ≤ maxVariables → packed s g n / linkUnit ≡ n
 unfolding packed
 packed-next s g n a b = omega arith
 
-packed-ok : (s g n : ℕ) → s ≤ 64 → g ≤ 64 → n < maxRecords → LinkOk (packed s g n)
+packed-ok : (s g n : ℕ) → s ≤ maxVariables → g ≤ maxVariables → n < maxRecords → LinkOk (packed s g n)
 packed-ok s g n a b c =
     record { slot = rw (packed-slot s g n a b) a; given = rw (packed-given s g n a b) b; next = rw (packed-next s g n a b) c }
 
@@ -57,25 +57,25 @@ by-mode P m a b = go (eqb m inMode)
 
 -- the first argument by a link w of argument a
 abbrev pub firstBy : ℕ → ℕ → ℕ
-firstBy a w = choose (eqb (slotOf w) 0) (w / 65536) a
+firstBy a w = choose (eqb (slotOf w) 0) (w / linkUnit) a
 
-pub first-by : (P : ℕ → Type 0) (a w : ℕ) → P (w / 65536) → P a → P (firstBy a w)
+pub first-by : (P : ℕ → Type 0) (a w : ℕ) → P (w / linkUnit) → P a → P (firstBy a w)
 unfolding choose
 first-by P a w x y = go (eqb (slotOf w) 0)
   where
-    go : (c : Bool) → P (choose c (w / 65536) a)
+    go : (c : Bool) → P (choose c (w / linkUnit) a)
     go true = x
     go false = y
 
 module _ {f : List ℕ} {j : ℕ} {t : List ℕ} (J : Joinable f j t) where
-  leads : (m a : ℕ) → a < maxRecords → getD t (linksFrom m + a) 0 / 65536 < maxRecords
-  leads m a l = by-mode (λ s. getD t (s + a) 0 / 65536 < maxRecords) m (go-ins (decLt a j)) (go-outs (decLt a j))
+  leads : (m a : ℕ) → a < maxRecords → getD t (linksFrom m + a) 0 / linkUnit < maxRecords
+  leads m a l = by-mode (λ s. getD t (s + a) 0 / linkUnit < maxRecords) m (go-ins (decLt a j)) (go-outs (decLt a j))
     where
-      go-ins : Dec (a < j) → getD t (insFrom + a) 0 / 65536 < maxRecords
+      go-ins : Dec (a < j) → getD t (insFrom + a) 0 / linkUnit < maxRecords
       go-ins (yes h) = let s = J .slots a h in omega arith
       go-ins (no h) = J .ins a (omega (arith, h)) l .next
 
-      go-outs : Dec (a < j) → getD t (outsFrom + a) 0 / 65536 < maxRecords
+      go-outs : Dec (a < j) → getD t (outsFrom + a) 0 / linkUnit < maxRecords
       go-outs (yes h) = let s = J .modes a h in omega arith
       go-outs (no h) = J .outs a (omega (arith, h)) l .next
 
@@ -85,10 +85,10 @@ module _ {f : List ℕ} {j : ℕ} {t : List ℕ} (J : Joinable f j t) where
 
 -- ---- calls and arguments
 module _ {f : List ℕ} (F : Formed f) (i : ℕ) where
-  pub call-at-test : isKind f callKind i ≡ true → CallAt f i (word f i 1) (word f i 2) (word f i 3)
+  pub call-at-test : isKind f callKind i ≡ true → CallAt f i (word f i nextWord) (word f i callProcedure) (word f i callArguments)
   call-at-test e = call-here F refl (kind-is f i callKind e)
 
-  pub argument-at-test : isKind f argumentKind i ≡ true → ArgumentAt f i (word f i 1) (word f i 2)
+  pub argument-at-test : isKind f argumentKind i ≡ true → ArgumentAt f i (word f i nextWord) (word f i argumentVariable)
   unfolding all-rows
   argument-at-test e = argument-at F refl (by-number f i kArgument refl (kind-is f i argumentKind e))
 

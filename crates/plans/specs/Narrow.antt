@@ -8,7 +8,7 @@ use mathlib.Core.Path.{_≡_, refl}
 use lib.ListN.{length, getD, set, replicate}
 use Rattle.language.specs.Lists.{choose}
 use Rattle.language.specs.File.{kArm, word, recordCount}
-use Rattle.language.specs.Format.{places, nextWord, armGoals, goalX, armKind, callKind, constructKind}
+use Rattle.language.specs.Format.{maxRegions, places, nextWord, armGoals, goalX, armKind, callKind, constructKind}
 use Rattle.language.specs.Program.{Functor, Signature, inMode, outMode, regionOf}
 use Rattle.language.specs.Typing.{signatureOk, typingOk}
 use Rattle.language.specs.Answers.{program}
@@ -27,7 +27,7 @@ use Rattle.plans.specs.Joined.{joining-ok}
 use Rattle.plans.specs.Early.{Reaches, onto-few, matchedPlan, early-matched, matched-joinable}
 
 -- the region of a variable, 0 or one of the procedure's
-pub home-few : (T : List (List Functor)) (S : Signature) → signatureOk T S ≡ true → (x : ℕ) → regionOf S x ≤ 64
+pub home-few : (T : List (List Functor)) (S : Signature) → signatureOk T S ≡ true → (x : ℕ) → regionOf S x ≤ maxRegions
 home-few T S ok x = elim (declared T S ok .own x) [ inl z ↦ omega arith | inr r ↦ region-small S (regions-few T S ok) (regionOf S x) r .1 ]
 
 module _ {f : List ℕ} (F : Formed f) where
@@ -49,14 +49,14 @@ module _ {f : List ℕ} (F : Formed f) where
 
   module _ (ok : typingOk (program f) ≡ true) where
     -- ---- sides
-    side-few : (i : ℕ) → i < recordCount f → sideAt f (imagesBefore f i) i + 64 < imageBytes
+    side-few : (i : ℕ) → i < recordCount f → sideAt f (imagesBefore f i) i + maxRegions < imageBytes
     unfolding sideAt choose
     side-few i l = go (isKind f callKind i) (isKind f constructKind i)
       where
-        r : regionOf (callerOf f i) (word f i goalX) ≤ 64
+        r : regionOf (callerOf f i) (word f i goalX) ≤ maxRegions
         r = home-few (program f .types) (callerOf f i) (signature-typed (program f) ok _) (word f i goalX)
 
-        go : (b c : Bool) → choose b (imagesBefore f i) (choose c (regionOf (callerOf f i) (word f i goalX)) 0) + 64 < imageBytes
+        go : (b c : Bool) → choose b (imagesBefore f i) (choose c (regionOf (callerOf f i) (word f i goalX)) 0) + maxRegions < imageBytes
         go true c = omega (arith, before-few f ok i, counted F .most)
         go false true = omega (arith, r)
         go false false = omega arith

@@ -12,6 +12,7 @@ use Rattle.language.specs.File.{kLiteral, kSum, kAssign, kConstruct, kSwitch, k
 use Rattle.language.specs.Program.{four, fourWords, trimOnto, trimmed, argumentsOf, Functor, Signature, signatureOf}
 use Rattle.language.specs.Typing.{isVariable, isRegion, hasType, argumentsOk, typesIn, signatureOk, goalOk, stepOk, typingOk}
 use Rattle.language.specs.Answers.{program}
+use Rattle.language.specs.Format.{maxVariables, maxRegions, termArguments}
 use Rattle.laws.specs.Typed.{typed-arm}
 use Rattle.region_graph.specs.Typed.{variable-small, region-small, variables-few, regions-few, signature-typed}
 use Rattle.safety.specs.Variables.{types-variables}
@@ -33,7 +34,7 @@ trim-later zero [] y i = i
 trim-later zero (z ∷ zs) y i = cons-later y zero (z ∷ zs) i
 trim-later (suc x) zs y i = cons-later y (suc x) zs i
 
-trim-first : (x : ℕ) (zs : List ℕ) → ((y : ℕ) → inList y (trimOnto x zs) ≡ true → y ≤ 64) → x ≤ 64
+trim-first : (x : ℕ) (zs : List ℕ) → ((y : ℕ) → inList y (trimOnto x zs) ≡ true → y ≤ maxVariables) → x ≤ maxVariables
 unfolding trimOnto
 trim-first zero zs h = omega arith
 trim-first (suc x) zs h = h (suc x) (cons-here (suc x) (suc x) zs refl)
@@ -41,25 +42,25 @@ trim-first (suc x) zs h = h (suc x) (cons-here (suc x) (suc x) zs refl)
 -- zeros at the end are small too
 abbrev Few : List ℕ → Type 0
 Few [] = Unit {0}
-Few (x ∷ xs) = (x ≤ 64) × Few xs
+Few (x ∷ xs) = (x ≤ maxVariables) × Few xs
 
-trimmed-few : (xs : List ℕ) → ((y : ℕ) → inList y (trimmed xs) ≡ true → y ≤ 64) → Few xs
+trimmed-few : (xs : List ℕ) → ((y : ℕ) → inList y (trimmed xs) ≡ true → y ≤ maxVariables) → Few xs
 unfolding trimmed
 trimmed-few [] h = tt
 trimmed-few (x ∷ xs) h = (trim-first x (trimmed xs) h, trimmed-few xs (λ y i. h y (trim-later x (trimmed xs) y i)))
 
 module _ (T : List (List Functor)) (S : Signature) (ok : signatureOk T S ≡ true) where
-  variable-few : (x : ℕ) → isVariable S x ≡ true → x ≤ 64
+  variable-few : (x : ℕ) → isVariable S x ≡ true → x ≤ maxVariables
   variable-few x h = variable-small S (variables-few T S ok) x h .1
 
-  type-few : (t x : ℕ) → hasType S t x ≡ true → x ≤ 64
+  type-few : (t x : ℕ) → hasType S t x ≡ true → x ≤ maxVariables
   unfolding hasType
   type-few t x h = variable-few x (and-true h .0)
 
-  region-few : (r : ℕ) → isRegion S r ≡ true → r ≤ 64
+  region-few : (r : ℕ) → isRegion S r ≡ true → r ≤ maxRegions
   region-few r h = region-small S (regions-few T S ok) r h .1
 
-  arguments-few : (g : Functor) (a b c d : ℕ) → argumentsOk S g (four a b c d) ≡ true → (a ≤ 64) × (b ≤ 64) × (c ≤ 64) × (d ≤ 64)
+  arguments-few : (g : Functor) (a b c d : ℕ) → argumentsOk S g (four a b c d) ≡ true → (a ≤ maxVariables) × (b ≤ maxVariables) × (c ≤ maxVariables) × (d ≤ maxVariables)
   unfolding argumentsOk argumentsOf fourWords
   arguments-few g a b c d h =
       let k = trimmed-few (a ∷ b ∷ c ∷ d ∷ []) (λ y i. variable-few y (types-variables S (typesIn g) (trimmed (a ∷ b ∷ c ∷ d ∷ [])) h y i)) in
@@ -69,7 +70,7 @@ module _ {f : List ℕ} (F : Formed f) (ok : typingOk (program f) ≡ true) wher
   typed : (i : ℕ) → signatureOk (program f .types) (signatureOf (program f) (ownerOf f i)) ≡ true
   typed i = signature-typed (program f) ok (ownerOf f i)
 
-  arm-numbers : (i n g k a b c d : ℕ) → recordAt f i ≡ Arm n g k a b c d → (a ≤ 64) × (b ≤ 64) × (c ≤ 64) × (d ≤ 64)
+  arm-numbers : (i n g k a b c d : ℕ) → recordAt f i ≡ Arm n g k a b c d → (a ≤ maxVariables) × (b ≤ maxVariables) × (c ≤ maxVariables) × (d ≤ maxVariables)
   unfolding all-rows
   arm-numbers i n g k a b c d e =
       let h = arm-at F refl e in
@@ -78,11 +79,11 @@ module _ {f : List ℕ} (F : Formed f) (ok : typingOk (program f) ≡ true) wher
       let t = typed-arm (program f) (owning F ok i) (h .view) s in
       arguments-few (program f .types) (owning F ok i) (typed i) (t .functor) a b c d (t .arguments)
 
-  no-argument : word f 0 4 ≡ 0
+  no-argument : word f 0 termArguments ≡ 0
   unfolding all-rows
   no-argument = (rw (header-kind f (F .header) (F .form)) at (record-used (word f) (recordCount f) (F .form) 0 (counted F .some))) .1 .0
 
-  pub all-numbered : {plan : List ℕ} → ((i n x k a b c d : ℕ) → recordAt f i ≡ Construct n x k a b c d → getD plan (sidesFrom + i) 0 ≤ 64) → Numbered f plan
+  pub all-numbered : {plan : List ℕ} → ((i n x k a b c d : ℕ) → recordAt f i ≡ Construct n x k a b c d → getD plan (sidesFrom + i) 0 ≤ maxRegions) → Numbered f plan
   unfolding goalOk stepOk
   all-numbered home = record {
     literal = λ i n x v e. (let h = literal-at F refl e in type-few _ _ (typed i) 0 x (rw (h .goal) at (typed-record F ok i (h .some) (h .below) kLiteral (ap kindIn e))));

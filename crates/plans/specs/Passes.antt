@@ -1,7 +1,7 @@
 -- What the passes put into the plan, the images and the callees. On the way the plan has other words, which the links replace:
---   i           where the chain of record i goes on after its end
---   4096 + i    of a call's argument: the callee's variable that it matches
---   8192 + i    .. and that variable's mode
+--   i               where the chain of record i goes on after its end
+--   slotsFrom + i   of a call's argument: the callee's variable that it matches
+--   modesFrom + i   .. and that variable's mode
 use Prim.Native.Nat.{ℕ, zero, suc, _+_, _-_, _*_, _/_, _<_}
 use mathlib.Core.Bool.{Bool, true}
 use mathlib.Core.List.{List, [], _∷_}
@@ -21,16 +21,16 @@ use Rattle.chains.specs.Records.{chainRecords}
 use Rattle.owners.specs.Owner.{ownerOf}
 use Rattle.tables.specs.Window.{FileTable, variablesPlace, bodyPlace, bornPlace, deadPlace, keptPlace, setIn}
 use Rattle.tables.specs.Starts.{windowIn}
-use Rattle.word_machine.specs.Tables.{slotOf, onto}
+use Rattle.word_machine.specs.Tables.{linkUnit, slotOf, onto}
 use Rattle.word_machine.specs.Filling.{onwardWords, filled}
 use Rattle.word_machine.specs.Passing.{packed}
-use Rattle.plans.specs.Plan.{insFrom, outsFrom, sidesFrom, linksFrom, calleeBody, calleeSize, calleeHeld, calleeBorn}
+use Rattle.plans.specs.Plan.{calleeRow, insFrom, outsFrom, sidesFrom, linksFrom, calleeBody, calleeSize, calleeHeld, calleeBorn}
 
 abbrev pub slotsFrom : ℕ
-slotsFrom = 4096
+slotsFrom = insFrom
 
 abbrev pub modesFrom : ℕ
-modesFrom = 8192
+modesFrom = outsFrom
 
 -- the file passes numbers 1 to 3, and its table is filled
 pub record Ready (f table : List ℕ) : Type 0 where
@@ -56,7 +56,7 @@ placed (a ∷ ps) (j ∷ js) t = placed ps js (set (set t (slotsFrom + j) (a .va
 
 -- the first argument of mode m from argument a on: a itself, if its link says what it passes
 unfoldable pub firstIn : ℕ → ℕ → List ℕ → ℕ
-firstIn m a t = choose (eqb (slotOf (getD t (linksFrom m + a) 0)) 0) (getD t (linksFrom m + a) 0 / 65536) a
+firstIn m a t = choose (eqb (slotOf (getD t (linksFrom m + a) 0)) 0) (getD t (linksFrom m + a) 0 / linkUnit) a
 
 module _ (f : List ℕ) where
   -- record i is of this kind
@@ -144,8 +144,8 @@ module _ (f : List ℕ) where
 -- ---- what calls read of their callees: the words of procedure q, whose window is own
 unfoldable pub putCallee : List ℕ → ℕ → List ℕ → List ℕ
 putCallee own q t =
-    set (set (set (set t (4 * q + calleeBody) (getD own bodyPlace 0)) (4 * q + calleeSize) (getD own variablesPlace 0))
-    (4 * q + calleeHeld) (stored (setIn own deadPlace ∪ setIn own keptPlace))) (4 * q + calleeBorn) (stored (setIn own bornPlace))
+    set (set (set (set t (calleeRow * q + calleeBody) (getD own bodyPlace 0)) (calleeRow * q + calleeSize) (getD own variablesPlace 0))
+    (calleeRow * q + calleeHeld) (stored (setIn own deadPlace ∪ setIn own keptPlace))) (calleeRow * q + calleeBorn) (stored (setIn own bornPlace))
 
 unfoldable pub calleesOf : List ℕ → List ℕ → List ℕ
 calleesOf table t = eachDown (λ q. putCallee (windowIn table q) q) maxProcedures t

@@ -9,7 +9,7 @@ use lib.ListN.{length, getD, length-set}
 use lib.Seq.{getD-set-same, getD-set-other}
 use Rattle.language.specs.Lists.{choose}
 use Rattle.language.specs.File.{recordCount}
-use Rattle.language.specs.Format.{places, callKind}
+use Rattle.language.specs.Format.{maxRegions, places, callKind}
 use Rattle.language.specs.Typing.{typingOk}
 use Rattle.language.specs.Answers.{program}
 use Rattle.region_graph.specs.Typed.{regions-few, signature-typed}
@@ -73,17 +73,17 @@ module _ (f : List ℕ) where
   unfolding imagesBefore
   before-next i = refl
 
-  count-by : (i : ℕ) (b : Bool) → length (calleeOf f i .regions) ≤ 64 → choose b (length (calleeOf f i .regions)) 0 ≤ 64
+  count-by : (i : ℕ) (b : Bool) → length (calleeOf f i .regions) ≤ maxRegions → choose b (length (calleeOf f i .regions)) 0 ≤ maxRegions
   unfolding choose
   count-by i true l = l
   count-by i false l = omega arith
 
   module _ (ok : typingOk (program f) ≡ true) where
-    pub count-few : (i : ℕ) → imageCount f i ≤ 64
+    pub count-few : (i : ℕ) → imageCount f i ≤ maxRegions
     unfolding imageCount
     count-few i = count-by i (isKind f callKind i) (regions-few (program f .types) (calleeOf f i) (signature-typed (program f) ok _))
 
-    pub before-few : (i : ℕ) → imagesBefore f i ≤ 64 * i
+    pub before-few : (i : ℕ) → imagesBefore f i ≤ maxRegions * i
     unfolding imagesBefore
     before-few zero = omega arith
     before-few (suc i) = omega (arith, before-few i, count-few i)

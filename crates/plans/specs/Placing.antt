@@ -8,7 +8,7 @@ use borrow.Author.Tests.{eqb-true, eqb-false}
 use lib.ListN.{length, getD, set, length-set}
 use Rattle.language.specs.Lists.{count, choose}
 use Rattle.language.specs.File.{arguments, kLiteral, kSum, kAssign, kConstruct, kSwitch, kIf, kCall, kPrint, kCreate, kRemove, Kind, kNone, kHeader, kType, kFunctor, kProcedure, kVariable, kRegion, kEdge, kArm, kArgument, kGoal, kindOf, word}
-use Rattle.language.specs.Format.{maxRecords, kindWord, callArguments, callKind}
+use Rattle.language.specs.Format.{nextWord, maxRecords, kindWord, callArguments, callKind}
 use Rattle.language.specs.Program.{Parameter, parametersOf}
 use Rattle.laws.specs.Counts.{hit-same, count-cons}
 use Rattle.records.specs.Records.{recordAs, recordAt}
@@ -133,7 +133,7 @@ module _ {f : List ℕ} (F : Formed f) where
   unfolding real
   arguments-records =
       along F arguments refl (λ a. AllRecords (chainRecords f a)) (rw (records-none f {i = 0} refl) tt)
-      (λ i s z h. let c = counted F in rw (records-step {w = word f i 1} F z (s .below) refl) (omega (arith, s .below), h))
+      (λ i s z h. let c = counted F in rw (records-step {w = word f i nextWord} F z (s .below) refl) (omega (arith, s .below), h))
 
   module _ (s : ℕ) (g : Parameter → ℕ) (one : (ps : List Parameter) (js t : List ℕ) → AllRecords js → part s (placed ps js t) ≡ matched g ps js (part s t)) where
     by-test : (i : ℕ) (t : List ℕ) (b : Bool) → isKind f callKind i ≡ b

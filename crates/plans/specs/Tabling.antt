@@ -10,7 +10,7 @@ use Rattle.sets.specs.Sets.{member, _∪_, union-in, loaded, loaded-stored}
 use Rattle.sets.specs.Members.{inList, cons-here, cons-later}
 use Rattle.language.specs.Lists.{choose}
 use Rattle.language.specs.File.{GoalKind, kConstruct, kSwitch, kIf, kGoal, arms, kindOf, word, recordCount}
-use Rattle.language.specs.Format.{callKind, kindWord, constructKind, procedureGoals, argumentVariable}
+use Rattle.language.specs.Format.{maxVariables, maxProcedures, callKind, kindWord, constructKind, procedureGoals, argumentVariable}
 use Rattle.language.specs.Program.{Functor, Signature, regionOf, signatureOf, parametersOf, argumentsIn, variablesIn}
 use Rattle.language.specs.Typing.{signatureOk, typingOk}
 use Rattle.language.specs.Regions.{mapping, imageIn}
@@ -126,7 +126,7 @@ module _ {f table : List ℕ} (R : Ready f table) (plan₀ : List ℕ) (zeros : 
     abbrev Small : List ℕ → Type 0
     Small = Numbers F (early F ok plan₀ zeros) (J F ok plan₀ zeros) k p slot mode link (slot-read F ok plan₀ zeros) (mode-read F ok plan₀ zeros) link-is
 
-    all-small : (as′ : List ℕ) → ((a : ℕ) → inList a as′ ≡ true → (1 ≤ slot a) × (slot a ≤ 64) × (word f a argumentVariable ≤ 64)) → Small as′
+    all-small : (as′ : List ℕ) → ((a : ℕ) → inList a as′ ≡ true → (1 ≤ slot a) × (slot a ≤ maxVariables) × (word f a argumentVariable ≤ maxVariables)) → Small as′
     all-small [] h = tt
     all-small (a ∷ as′) h = (h a (cons-here a a as′ refl), all-small as′ (λ b i. h b (cons-later b a as′ i)))
 
@@ -170,7 +170,7 @@ module _ {f table : List ℕ} (R : Ready f table) (plan₀ : List ℕ) (zeros : 
 
   -- ---- procedures
   module _ (p : ℕ) (l : p < length (program f .procedures)) where
-    few : p < 256
+    few : p < maxProcedures
     few = omega (arith, procedures-count (program f) ok .1)
 
     body-window : T .body p ≡ word f (procedureRecord f p) procedureGoals

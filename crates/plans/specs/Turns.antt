@@ -9,7 +9,7 @@ use mathlib.Core.Path.{_≡_, refl, sym, ap, _∙_, fun-ext}
 use lib.ListN.{length, getD, set, replicate, length-replicate}
 use Rattle.language.specs.Lists.{choose, nth}
 use Rattle.language.specs.File.{kConstruct, kCall, kGoal, kinds, kindOf, word, recordCount}
-use Rattle.language.specs.Format.{maxRecords, kindWord, callKind, constructKind, goalX, callProcedure, callArguments}
+use Rattle.language.specs.Format.{nextWord, maxRecords, kindWord, callKind, constructKind, goalX, callProcedure, callArguments}
 use Rattle.language.specs.Program.{parametersFrom, parametersOf}
 use Rattle.records.specs.Records.{recordAt}
 use Rattle.records.specs.declared.Record.the-variants.{Call}
@@ -89,7 +89,7 @@ pub call-is : {f : List ℕ} → (F : Formed f) (i : ℕ) {m q ys : ℕ} → rec
 unfolding all-rows
 call-is {f} F i e = kind-yes f i callKind refl (goal-number (word f i kindWord) kCall (sym (kind-read f i refl) ∙ ap kindIn e))
 
-pub call-record : (f : List ℕ) (i : ℕ) → isKind f callKind i ≡ true → recordAt f i ≡ Call (word f i 1) (word f i 2) (word f i 3)
+pub call-record : (f : List ℕ) (i : ℕ) → isKind f callKind i ≡ true → recordAt f i ≡ Call (word f i nextWord) (word f i callProcedure) (word f i callArguments)
 unfolding all-rows
 call-record f i e = by-number f i (kGoal kCall) refl (kind-is f i callKind e)
 

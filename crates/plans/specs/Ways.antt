@@ -10,7 +10,7 @@ use Rattle.language.specs.File.{word}
 use Rattle.language.specs.Format.{maxRecords, kindWord, nextWord, armKind, callKind, argumentKind, armGoals, callArguments, argumentVariable}
 use Rattle.language.specs.Program.{inMode}
 use Rattle.chains.specs.Formed.{Formed, counted}
-use Rattle.word_machine.specs.Tables.{slotOf, onto}
+use Rattle.word_machine.specs.Tables.{givenUnit, linkUnit, slotOf, onto}
 use Rattle.word_machine.specs.Passing.{packed}
 use Rattle.plans.specs.Plan.{insFrom, outsFrom, sidesFrom, linksFrom}
 use Rattle.plans.specs.Passes.{slotsFrom, modesFrom, firstIn, goalOf, argumentLink, linkOf}
@@ -34,13 +34,13 @@ module _ (m : ℕ) where
     same : getD t (linksFrom m + a) 0 ≡ w
     same = ap (λ k. getD t (k + a) 0) (sym d) ∙ sym e
 
-    pub first-behind : w % 256 ≡ 0 → w / 65536 ≡ firstIn m a t
+    pub first-behind : w % givenUnit ≡ 0 → w / linkUnit ≡ firstIn m a t
     unfolding firstIn slotOf choose
-    first-behind z = rw (same, eq-eqb (w % 256) 0 z) refl
+    first-behind z = rw (same, eq-eqb (w % givenUnit) 0 z) refl
 
-    pub first-here : (w % 256 ≡ 0 → ⊥) → a ≡ firstIn m a t
+    pub first-here : (w % givenUnit ≡ 0 → ⊥) → a ≡ firstIn m a t
     unfolding firstIn slotOf choose
-    first-here z = rw (same, ne-eqb (w % 256) 0 z) refl
+    first-here z = rw (same, ne-eqb (w % givenUnit) 0 z) refl
 
 -- ---- record i, whose kind is w
 module _ (f : List ℕ) (i : ℕ) (t : List ℕ) {w : ℕ} (e : w ≡ word f i kindWord) where
@@ -59,16 +59,16 @@ module _ (f : List ℕ) (i : ℕ) (t : List ℕ) {w : ℕ} (e : w ≡ word f i k
     unfolding linkOf choose
     link-none n k = rw (kind-no f i callKind e n, kind-no f i argumentKind e k) refl
 
-    pub link-call : w ≡ callKind → {a n : ℕ} → a ≡ word f i callArguments → n ≡ firstIn m a t → 65536 * n ≡ linkOf f m i t t
+    pub link-call : w ≡ callKind → {a n : ℕ} → a ≡ word f i callArguments → n ≡ firstIn m a t → linkUnit * n ≡ linkOf f m i t t
     unfolding linkOf choose packed
     link-call k {a} {n} ea en = rw (kind-yes f i callKind e k, ← ea, ← en) (omega arith)
 
     module _ (c : w ≡ callKind → ⊥) (k : w ≡ argumentKind) {a n : ℕ} (ea : a ≡ word f i nextWord) (en : n ≡ firstIn m a t) where
-      pub link-other : (getD t (modesFrom + i) 0 ≡ m → ⊥) → 65536 * n ≡ linkOf f m i t t
+      pub link-other : (getD t (modesFrom + i) 0 ≡ m → ⊥) → linkUnit * n ≡ linkOf f m i t t
       unfolding linkOf argumentLink choose packed
       link-other z = rw (kind-no f i callKind e c, kind-yes f i argumentKind e k, ne-eqb (getD t (modesFrom + i) 0) m z, ← ea, ← en) (omega arith)
 
-      pub link-own : getD t (modesFrom + i) 0 ≡ m → {v : ℕ} → v ≡ word f i argumentVariable → getD t (slotsFrom + i) 0 + 256 * v + 65536 * n ≡ linkOf f m i t t
+      pub link-own : getD t (modesFrom + i) 0 ≡ m → {v : ℕ} → v ≡ word f i argumentVariable → getD t (slotsFrom + i) 0 + givenUnit * v + linkUnit * n ≡ linkOf f m i t t
       unfolding linkOf argumentLink choose packed
       link-own z ev = rw (kind-no f i callKind e c, kind-yes f i argumentKind e k, eq-eqb (getD t (modesFrom + i) 0) m z, ← ea, ← en, ← ev) refl
 

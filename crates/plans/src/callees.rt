@@ -2,8 +2,8 @@
 use crate::CALLEE_BODY;
 use crate::CALLEE_BORN;
 use crate::CALLEE_HELD;
+use crate::CALLEE_ROW;
 use crate::CALLEE_SIZE;
-use crate::CALLEE_WORDS;
 use crate::CALLEES;
 use language::format::MAX_PROCEDURES;
 use tables::BODY;
@@ -26,7 +26,7 @@ fn put_callee(own: &[u64], q: usize, callees: &mut [u64; CALLEES])
 {
     let held = set_at(own, DEAD).union(set_at(own, KEPT));
     let born = set_at(own, BORN);
-    let at = CALLEE_WORDS * q;
+    let at = CALLEE_ROW * q;
     callees[at + CALLEE_BODY] = word_at(own, BODY) as u64;
     callees[at + CALLEE_SIZE] = word_at(own, VARIABLES) as u64;
     callees[at + CALLEE_HELD] = held.stored();

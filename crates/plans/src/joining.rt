@@ -1,8 +1,8 @@
 // Where each record goes on, and the links from each call to its arguments and from each argument to the next, one for each mode. They are put where
 // the ends of chains and the matches stood, from the last record down to the first: a link leads to a later record, which has its own already.
-use crate::GIVEN;
+use crate::GIVEN_UNIT;
 use crate::INS;
-use crate::LINK;
+use crate::LINK_UNIT;
 use crate::OUTS;
 use crate::PLAN;
 use crate::arguments::MODES;
@@ -43,7 +43,11 @@ fn first_in(plan: &[usize; PLAN], mode: usize, a: usize) -> usize
     ensures { λ r. ⌜ r ≡ firstIn mode a (now (plan .entry)) ⌝ }
 {
     let link = plan[links_from(mode) + a];
-    if link % GIVEN == 0 { link / LINK } else { a }
+    if link % GIVEN_UNIT == 0 {
+        link / LINK_UNIT
+    } else {
+        a
+    }
 }
 
 // The link of record i for the mode.
@@ -54,16 +58,16 @@ fn link_of(file: &[u8], plan: &[usize; PLAN], mode: usize, i: usize) -> usize
 {
     let kind = word(file, i, format::KIND);
     if kind == format::CALL {
-        return LINK * first_in(plan, mode, word(file, i, format::CALL_ARGUMENTS));
+        return LINK_UNIT * first_in(plan, mode, word(file, i, format::CALL_ARGUMENTS));
     }
     if kind != format::ARGUMENT {
         return 0;
     }
-    let link = LINK * first_in(plan, mode, word(file, i, format::NEXT));
+    let link = LINK_UNIT * first_in(plan, mode, word(file, i, format::NEXT));
     if plan[MODES + i] != mode {
         return link;
     }
-    plan[SLOTS + i] + GIVEN * word(file, i, format::ARGUMENT_VARIABLE) + link
+    plan[SLOTS + i] + GIVEN_UNIT * word(file, i, format::ARGUMENT_VARIABLE) + link
 }
 
 // The three words of record i.

@@ -1,6 +1,7 @@
 // The table of successors: where the chain of each record goes on after its end.
 use crate::steps::onward_step;
 use chains::entry;
+use language::format::HEADER_COUNT;
 use records::record_at;
 use records::word;
 ghost use mathlib.Core.Path.{_≡_};
@@ -12,7 +13,7 @@ ghost use Rattle.word_machine.specs.Filling.{onwardWords, filled};
 pub fn fill_onward(file: &[u8], table: &mut [usize])
     ensures { λ _. ⌜ now (table .exit) ≡ filled onwardWords (now (file .entry)) (recordCount (now (file .entry)) - 1) 1 (now (table .entry)) ⌝ }
 {
-    let count = word(file, 0, 3);
+    let count = word(file, 0, HEADER_COUNT);
     let mut i = 1;
     while i < count {
         let found = record_at(file, i);

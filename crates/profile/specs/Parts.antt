@@ -1,5 +1,5 @@
 -- What the program's loop knows: where the run stands, and that the lent memory keeps its sizes.
-use Prim.Native.Nat.{ℕ, _≤_, _<_, _^_}
+use Prim.Native.Nat.{ℕ, _*_, _≤_, _<_, _^_}
 use native.Mathlib.Omega.{arith}
 use mathlib.Core.Path.{_≡_, refl, _∙_}
 use mathlib.Core.List.{List}
@@ -7,15 +7,22 @@ use lib.ListN.{length}
 use Rattle.language.specs.declared.Ending.{Ending}
 use Rattle.language.specs.Machine.{holds}
 use Rattle.language.specs.Output.{endingLine}
+use Rattle.lines.specs.Widths.{endingBytes}
 use Rattle.lines.specs.Put.{Put, put-length}
 use Rattle.lines.specs.Answers.{ending-length}
 use Rattle.word_machine.specs.Tables.{Tables}
-use Rattle.running.specs.Lent.{frameWords}
+use Rattle.word_machine.specs.Machine.{frameWords}
+use Rattle.running.specs.Lent.{frameWords as framesLent}
 use Rattle.profiling.specs.declared.Point.{Point}
 use Rattle.profiling.specs.declared.Part.{Part}
 use Rattle.profiling.specs.declared.Part.the-variants.{More, Last}
+use Rattle.profiling.specs.Text.{lineBytes}
 use Rattle.profiling.specs.Moving.{Stands}
 use Rattle.profiling.specs.Advancing.{Advances, a-part, last-part}
+
+-- room for 80 lines
+abbrev pub outputBytes : ℕ
+outputBytes = 80 * lineBytes
 
 -- a part that is not the last: where the run stands behind it
 pub record Onward (f : List ℕ) (T : Tables) (l : ℕ) (p : Point) (m rs fw ps out : List ℕ) (at : ℕ) (q : Point) : Type 0 where
@@ -55,10 +62,10 @@ pub going-on : {f : List ℕ} {T : Tables} {l : ℕ} {m₀ rs₀ fw₀ ps₀ out
 going-on G a b c d e s = record { stands = s; cells = a ∙ G .cells; regions = b ∙ G .regions; frames = c ∙ G .frames; prints = d ∙ G .prints; size = e ∙ G .size }
 
 -- ---- the last line
-pub ending-fits : {b m : List ℕ} {k : ℕ} (a : Ending) (n : ℕ) → n < 2 ^ 64 → 32 ≤ length b → Put b 0 (endingLine a n) m k → k ≤ length m
+pub ending-fits : {b m : List ℕ} {k : ℕ} (a : Ending) (n : ℕ) → n < 2 ^ 64 → endingBytes ≤ length b → Put b 0 (endingLine a n) m k → k ≤ length m
 ending-fits a n h l P = omega (arith, P .behind, ending-length a n h, put-length P, l)
 
 -- ---- the entry has a frame
-pub frame-room : (n : ℕ) → frameWords ≡ n → 0 < holds n 136
+pub frame-room : (n : ℕ) → framesLent ≡ n → 0 < holds n frameWords
 unfolding holds
 frame-room n e = rw (← e) (omega arith)

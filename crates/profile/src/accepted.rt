@@ -7,6 +7,7 @@ use plans::PLAN;
 use plans::blank_callees;
 use plans::blank_images;
 use plans::blank_plan;
+use profiling::LINE_BYTES;
 use profiling::begin;
 use profiling::put_entry;
 use running::fill_tables;
@@ -19,12 +20,15 @@ ghost use lib.ListN.{length};
 ghost use Rattle.language.specs.declared.Verdict.the-variants.{Accepted};
 ghost use Rattle.language.specs.Answers.{checked};
 ghost use Rattle.running.specs.Planned.{Planned};
+ghost use Rattle.profile.specs.Parts.{outputBytes};
 
-// Room for some hundred lines.
-fn output() -> [u8; 8192]
-    ensures { λ r. ⌜ 8192 ≡ length r ⌝ }
+// Room for 80 lines.
+const OUTPUT_BYTES: usize = 80 * LINE_BYTES;
+
+fn output() -> [u8; OUTPUT_BYTES]
+    ensures { λ r. ⌜ outputBytes ≡ length r ⌝ }
 {
-    [0; 8192]
+    [0; OUTPUT_BYTES]
 }
 
 // By tables that are filled.

@@ -6,27 +6,18 @@ mod parts;
 use accepted::print_accepted;
 use checking::check;
 use input::Input;
-use input::read_input;
+use input::read_standard;
 use language::Verdict;
-use libc::STDERR_FILENO;
-use libc::STDIN_FILENO;
+use lines::REFUSAL_BYTES;
 use lines::checker_output;
 use parts::print;
-ghost use mathlib.Core.Path.{_≡_};
-ghost use lib.ListN.{length};
-
-// One byte more than the longest file has, so that a longer one is seen to be too long.
-fn memory() -> [u8; 65537]
-    ensures { λ r. ⌜ 65537 ≡ length r ⌝ }
-{
-    [0; 65537]
-}
+use records::blank::blank_input;
 
 // A refused file has its number alone.
 fn print_profile(file: &[u8]) {
     let answer = check(file);
     if let Verdict::Refused(r) = answer {
-        let mut line = [0; 10];
+        let mut line = [0; REFUSAL_BYTES];
         let n = checker_output(answer, &mut line);
         print(&line[..n]);
         return;
@@ -35,9 +26,8 @@ fn print_profile(file: &[u8]) {
 }
 
 fn main() {
-    let mut file = memory();
-    let Input::Bytes(n) = read_input(STDIN_FILENO, &mut file) else {
-        io::write_all(STDERR_FILENO, b"standard input could not be read\n");
+    let mut file = blank_input();
+    let Input::Bytes(n) = read_standard(&mut file) else {
         return;
     };
     print_profile(&file[..n]);

@@ -13,6 +13,7 @@ ghost use Prim.Native.Nat.{_≤_};
 ghost use lib.ListN.{length};
 ghost use Rattle.plans.specs.Plan.{tablesIn, Narrow, Numbered};
 ghost use Rattle.running.specs.Lent.{stepsLent};
+ghost use Rattle.profiling.specs.Text.{lineBytes};
 ghost use Rattle.profiling.specs.Moving.{Stands};
 
 // Writes bytes; where they cannot be written, a message to standard error.
@@ -24,7 +25,7 @@ pub fn print(bytes: &[u8]) {
 
 // The last line.
 fn print_ending(out: &mut [u8], ending: Ending, steps: usize)
-    requires { ⌜ 105 ≤ length (now out) ⌝ }
+    requires { ⌜ lineBytes ≤ length (now out) ⌝ }
 {
     let n = put_ending(&mut out[..], 0, ending, steps as u64);
     print(&out[..n]);
@@ -44,7 +45,7 @@ pub fn print_parts(
     out: &mut [u8],
 )
     requires { ⌜ Narrow (now plan) (now images) × Numbered (now file) (now plan) ⌝ }
-    requires { ⌜ 105 ≤ length (now out) ⌝ }
+    requires { ⌜ lineBytes ≤ length (now out) ⌝ }
     requires { ⌜ Stands (now file) (tablesIn (now plan) (now images) (now callees)) stepsLent (now cells) (now regions) (now frames) (now prints) first ⌝ }
 {
     let mut point = first;

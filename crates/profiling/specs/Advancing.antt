@@ -1,20 +1,19 @@
 -- The profile, part by part: the steps that are done and the lines that are put.
-use Prim.Native.Nat.{ℕ, suc, _+_, _-_, _≤_, _<_}
+use Prim.Native.Nat.{ℕ, suc, _-_, _≤_, _<_}
 use native.Mathlib.Omega.{arith}
 use native.Mathlib.Decide.{decLt}
 use mathlib.Core.Path.{_≡_, refl, sym, ap, subst, _∙_}
 use mathlib.Core.List.{List}
 use lib.ListN.{length}
 use Rattle.language.specs.declared.Ending.{Ending}
-use Rattle.lines.specs.Put.{Put}
 use Rattle.word_machine.specs.Tables.{Tables}
 use Rattle.word_machine.specs.Machine.{lentWords}
 use Rattle.machine.specs.Words.{wordsOf}
+use Rattle.profiling.specs.Text.{lineBytes}
 use Rattle.profiling.specs.declared.Point.{Point}
 use Rattle.profiling.specs.declared.Part.{Part}
 use Rattle.profiling.specs.declared.Part.the-variants.{More, Last}
-use Rattle.profiling.specs.Statement.{lineText, entryLine, heldAfter}
-use Rattle.profiling.specs.Standing.{At, at-as, heldBy, held-here}
+use Rattle.profiling.specs.Standing.{At, at-as, heldBy}
 use Rattle.profiling.specs.Parts.{Written, written-none, written-same, written-more}
 use Rattle.profiling.specs.Moving.{Stands, EndsAfter, Onward, lent-same}
 use Rattle.profiling.specs.Noting.{heldAt, Notes, no-line, a-line, lineTo}
@@ -104,7 +103,7 @@ module _ {f : List ℕ} {T : Tables} {l : ℕ} {m₀ rs₀ fw₀ ps₀ : List �
       last-part {n = p .done} (subst (λ x. EndsAfter f x e (p .done)) (sym (lent-same m₀ m rs₀ rs fw₀ fw ps₀ ps l (U .cells) (U .regions) (U .frames) (U .prints))) M)
       (U .written) (U .fits)
 
-  pub under-more : 105 ≤ length out₀ → length out - at < 105 → Advances f T l m₀ rs₀ fw₀ ps₀ p₀ out₀ m rs fw ps out (More at p)
+  pub under-more : lineBytes ≤ length out₀ → length out - at < lineBytes → Advances f T l m₀ rs₀ fw₀ ps₀ p₀ out₀ m rs fw ps out (More at p)
   under-more h t = let z = still-on in a-part (U .stands) z (U .moved z) (U .written) (U .fits)
     where
       still-on : p₀ .done < p .done

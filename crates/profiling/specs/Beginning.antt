@@ -1,19 +1,20 @@
 -- The run stands at its start; and few cells and regions are held wherever it stands.
-use Prim.Native.Nat.{ℕ, suc, _-_, _≤_, _<_}
+use Prim.Native.Nat.{ℕ, _-_, _≤_, _<_}
 use native.Mathlib.Omega.{arith}
 use mathlib.Core.Path.{_≡_, refl}
-use mathlib.Core.List.{List, []}
+use mathlib.Core.List.{List}
 use borrow.Author.Tests.{lt-ltb}
 use lib.ListN.{length}
 use Rattle.language.specs.declared.Verdict.the-variants.{Accepted}
 use Rattle.language.specs.Lists.{upFrom}
 use Rattle.language.specs.AcceptedRun.{start, state}
 use Rattle.language.specs.AcceptedRun as Run
-use Rattle.language.specs.Machine.{Lent, Room, holds, roomIn, cellsHeld, countAlive, regionsHeld, outlook}
+use Rattle.language.specs.Machine.{Lent, holds, roomIn, cellsHeld, countAlive, regionsHeld, outlook}
 use Rattle.language.specs.Machine as D
 use Rattle.language.specs.Answers.{program, checked}
+use Rattle.memory.specs.Memory.{most}
 use Rattle.word_machine.specs.Tables.{Tables, Tabled}
-use Rattle.word_machine.specs.Machine.{Words, startWords, lentWords}
+use Rattle.word_machine.specs.Machine.{frameWords, Words, startWords, lentWords}
 use Rattle.word_machine.specs.Theorem.{accepted-program, accepted-formed}
 use Rattle.word_machine.specs.Returns as R
 use Rattle.word_machine.specs.WholeRun.{Agrees, agrees, start-agrees}
@@ -22,13 +23,13 @@ use Rattle.profiling.specs.Counting.{countsIn}
 use Rattle.profiling.specs.Standing.{At}
 
 -- ---- the entry's frame alone
-module _ {f : List ℕ} (e : checked f ≡ Accepted) {T : Tables} (B : Tabled f T) (m rs fw ps : List ℕ) (l : ℕ) (some : 0 < holds (length fw) 136) where
+module _ {f : List ℕ} (e : checked f ≡ Accepted) {T : Tables} (B : Tabled f T) (m rs fw ps : List ℕ) (l : ℕ) (some : 0 < holds (length fw) frameWords) where
   abbrev lent : Lent
   lent = lentWords m rs fw ps l
 
   whole-run : D.run (program f) lent ≡ D.runOn (program f) (roomIn lent) (lent .steps - 0) (outlook (roomIn lent) (Run.steps (program f) 0)) 0 (Run.steps (program f) 0)
   unfolding D.run D.runFrom Run.steps roomIn lentWords
-  whole-run = let z : l - 0 ≡ l = omega arith in rw (lt-ltb 0 (holds (length fw) 136) some, z)
+  whole-run = let z : l - 0 ≡ l = omega arith in rw (lt-ltb 0 (holds (length fw) frameWords) some, z)
 
   none-held : record { cells = 0; regions = 0 } ≡ countsIn (Run.steps (program f) 0 .memory)
   unfolding countsIn Run.steps start state cellsHeld regionsHeld countAlive upFrom
@@ -51,12 +52,12 @@ module _ {f : List ℕ} (e : checked f ≡ Accepted) {T : Tables} (B : Tabled f 
 
 -- ---- few of each are held
 module _ {f : List ℕ} {T : Tables} {lent : Lent} {n : ℕ} {w : Words} {c : Counts} (H : At f T lent n w c) where
-  pub few-held : (c .cells ≤ 65535) × (c .regions ≤ 65535)
+  pub few-held : (c .cells ≤ most) × (c .regions ≤ most)
   unfolding roomIn holds countsIn
   few-held = rw (H .counts) (few (H .words))
     where
       few : Agrees (H .tabled) (H .accepted) (H .formed) (roomIn lent) (H .prints) n w
-          → (countsIn (Run.steps (program f) n .memory) .cells ≤ 65535) × (countsIn (Run.steps (program f) n .memory) .regions ≤ 65535)
+          → (countsIn (Run.steps (program f) n .memory) .cells ≤ most) × (countsIn (Run.steps (program f) n .memory) .regions ≤ most)
       few (agrees r s) =
           let R = s .represents in
           let L = R .labelled in

@@ -3,12 +3,11 @@ use Prim.Native.Nat.{ℕ, suc, _-_}
 use native.Mathlib.Omega.{arith}
 use mathlib.Core.Path.{_≡_, refl, ap, _∙_}
 use mathlib.Core.Bool.{true}
-use mathlib.Core.List.{List, _∷_}
+use mathlib.Core.List.{List}
 use Rattle.language.specs.File.{GoalKind, kLiteral, kSum, kAssign, kConstruct, kSwitch, kIf, kCall, kPrint, kCreate, kRemove, kGoal, word}
-use Rattle.language.specs.Lists.{put}
-use Rattle.language.specs.Program.{argumentsOf, four, Goals, _then_, Goal, step, construct}
+use Rattle.language.specs.Program.{Goals, _then_, Goal}
 use Rattle.language.specs.Typing.{goalOk, stepOk}
-use Rattle.language.specs.Frames.{cellFor, withGoals}
+use Rattle.language.specs.Frames.{withGoals}
 use Rattle.language.specs.AcceptedRun.{RegionFrame, RegionCell, Memory, withCell, withPrinted, withRegion, withoutRegion, withFrame, state, regionFor, allowed}
 use Rattle.language.specs.AcceptedRun as Run
 use Rattle.language.specs.Machine.{Room, cellsHeld, regionsHeld}
@@ -22,7 +21,7 @@ use Rattle.chains.specs.Parts.{switch-at, if-at, call-at}
 use Rattle.safety.specs.Premises.{Accepted}
 use Rattle.safety.specs.Invariant.{Inv}
 use Rattle.memory.specs.declared.Heap.{Heap}
-use Rattle.heap.specs.Counts.{cellsIn, held-built}
+use Rattle.heap.specs.Counts.{held-built}
 use Rattle.heap.specs.Represents.{Represents}
 use Rattle.heap.specs.Creating as Creating
 use Rattle.heap.specs.Removing as Removing
@@ -32,7 +31,7 @@ use Rattle.word_machine.specs.Machine as M
 use Rattle.word_machine.specs.GoalKinds.{goal-is}
 use Rattle.word_machine.specs.Premises.{next-typed, next-allowed}
 use Rattle.word_machine.specs.Successors.{Onward, todo-next}
-use Rattle.word_machine.specs.Relation.{whereIn, sig, FrameOk, Waiting, Stored}
+use Rattle.word_machine.specs.Relation.{whereIn, FrameOk, Waiting, Stored}
 use Rattle.word_machine.specs.Stepping.{frame-goals}
 use Rattle.word_machine.specs.MemorySteps.{region-word}
 use Rattle.profiling.specs.declared.Counts.{Counts}

@@ -3,15 +3,15 @@ use Prim.Native.Nat.{ℕ, _<_}
 use native.Mathlib.Omega.{arith}
 use mathlib.Core.Path.{_≡_, refl, sym, ap, subst, _∙_}
 use mathlib.Core.List.{List}
-use lib.ListN.{length, getD}
+use lib.ListN.{length}
 use Rattle.language.specs.declared.Verdict.the-variants.{Accepted}
 use Rattle.language.specs.Machine.{holds}
 use Rattle.language.specs.Answers.{checked}
 use Rattle.lines.specs.Put.{Put}
 use Rattle.memory.specs.declared.Heap.{Heap}
-use Rattle.memory.specs.Memory.{emptyHeap}
+use Rattle.memory.specs.Memory.{cellWords, regionWords, emptyHeap}
 use Rattle.word_machine.specs.Tables.{Tables, Tabled}
-use Rattle.word_machine.specs.Machine.{blocks, cleared, startWords, lentWords}
+use Rattle.word_machine.specs.Machine.{frameWords, blocks, cleared, startWords}
 use Rattle.plans.specs.Plan.{tablesIn, calleeWord, calleeSize}
 use Rattle.machine.specs.declared.State.{State}
 use Rattle.machine.specs.Words.{Placed, wordsOf}
@@ -30,16 +30,16 @@ module _ (f plan images callees : List ℕ) (m rs fw fx ps : List ℕ) (l : ℕ)
   T = tablesIn plan images callees
 
   entered : (size : ℕ) (s : State) (h : Heap) → size ≡ calleeWord callees 0 calleeSize → fx ≡ cleared 1 (blocks size) fw → s ≡ firstState callees
-      → h ≡ emptyHeap (holds (length m) 8) (holds (length rs) 2) → startWords f T m rs fw ps ≡ wordsOf h m rs fx ps s
+      → h ≡ emptyHeap (holds (length m) cellWords) (holds (length rs) regionWords) → startWords f T m rs fw ps ≡ wordsOf h m rs fx ps s
   unfolding startWords wordsOf firstState tablesIn
   entered size s h ez ex es eh = rw (es, eh, ex, ez)
 
-  placed-first : (s : State) → s ≡ firstState callees → length fx ≡ length fw → 0 < holds (length fw) 136 → Placed s (length fx)
+  placed-first : (s : State) → s ≡ firstState callees → length fx ≡ length fw → 0 < holds (length fw) frameWords → Placed s (length fx)
   unfolding firstState holds
   placed-first s es lx some = rw es (record { place = omega arith; fits = omega (arith, lx) })
 
   pub begin-stands : (size : ℕ) (s : State) (h : Heap) → size ≡ calleeWord callees 0 calleeSize → fx ≡ cleared 1 (blocks size) fw → s ≡ firstState callees
-      → h ≡ emptyHeap (holds (length m) 8) (holds (length rs) 2) → length fx ≡ length fw → checked f ≡ Accepted → Tabled f T → 0 < holds (length fw) 136
+      → h ≡ emptyHeap (holds (length m) cellWords) (holds (length rs) regionWords) → length fx ≡ length fw → checked f ≡ Accepted → Tabled f T → 0 < holds (length fw) frameWords
       → Stands f T l m rs fx ps (record { state = s; heap = h; counts = record { cells = 0; regions = 0 }; done = 0 })
   begin-stands size s h ez ex es eh lx e B some = record {
     here = at-as (lent-same m m rs rs fw fx ps ps l refl refl lx refl) refl (entered size s h ez ex es eh) refl (stands-first e B m rs fw ps l some);

@@ -11,7 +11,7 @@ use Rattle.language.specs.declared.Ending.{Ending}
 use Rattle.language.specs.declared.Ending.the-variants.{Finished, Stopped}
 use Rattle.language.specs.File.{recordCount}
 use Rattle.language.specs.AcceptedRun as Run
-use Rattle.language.specs.Machine.{Lent, Room, holds, roomIn}
+use Rattle.language.specs.Machine.{Lent, Room, roomIn}
 use Rattle.language.specs.Machine as D
 use Rattle.language.specs.Answers.{program}
 use Rattle.records.specs.Records.{recordAt}

@@ -4,15 +4,12 @@ use native.Mathlib.Omega.{arith}
 use mathlib.Core.Path.{_≡_, refl, sym, ap, subst, _∙_}
 use mathlib.Core.Bool.{Bool, true, false}
 use mathlib.Core.List.{List}
-use Rattle.language.specs.Machine.{Lent}
 use Rattle.lines.specs.Put.{Put}
-use Rattle.word_machine.specs.Tables.{Tables}
-use Rattle.machine.specs.Words.{wordsOf}
 use Rattle.profiling.specs.declared.Held.{Held}
 use Rattle.profiling.specs.declared.Line.{Line}
 use Rattle.profiling.specs.declared.Point.{Point}
 use Rattle.profiling.specs.Statement.{lineText}
-use Rattle.profiling.specs.Standing.{framesIn, heldBy}
+use Rattle.profiling.specs.Standing.{framesIn}
 
 unfoldable pub heldAt : Point → Held
 heldAt p = record { cells = p .counts .cells; regions = p .counts .regions; frames = framesIn (p .state .goal) (p .state .top) }

@@ -7,7 +7,6 @@ use Rattle.language.specs.Machine.{Lent}
 use Rattle.word_machine.specs.Tables.{Tables}
 use Rattle.word_machine.specs.Machine.{Words}
 use Rattle.profiling.specs.declared.Counts.{Counts}
-use Rattle.profiling.specs.declared.Held.{Held}
 use Rattle.profiling.specs.declared.Line.{Line}
 use Rattle.profiling.specs.Statement.{heldAfter, Carries, Lines, none, same, more, lineText, textOf}
 use Rattle.profiling.specs.Standing.{At, heldBy, held-here, carries-here}

@@ -2,7 +2,7 @@
 use Prim.Native.Nat.{ℕ, zero, suc, _-_, _≤_, _<_}
 use native.Mathlib.Omega.{arith}
 use mathlib.Core.Path.{_≡_, refl, sym, ap, _∙_}
-use mathlib.Core.List.{List, [], _∷_}
+use mathlib.Core.List.{List, _∷_}
 use lib.ListN.{length}
 use Rattle.language.specs.declared.Stop.{Stop}
 use Rattle.language.specs.declared.Stop.the-variants.{Steps}
@@ -16,7 +16,7 @@ use Rattle.language.specs.Machine.{Lent, Room, roomIn, Outlook, ended, goes, la
 use Rattle.language.specs.Machine as D
 use Rattle.language.specs.Answers.{program}
 use Rattle.records.specs.Records.{recordAt}
-use Rattle.chains.specs.Formed.{Formed, goalAt}
+use Rattle.chains.specs.Formed.{Formed}
 use Rattle.safety.specs.Premises.{Accepted}
 use Rattle.safety.specs.Safety.{steps-fine, taken, busy}
 use Rattle.word_machine.specs.Tables.{Tables, Tabled}

@@ -1,6 +1,6 @@
 -- What a job held, to be read without a proof: a line for the entry's frame, then one for each step that changes how many cells, regions or frames are
 -- held, with how many of each are held then and the record of the goal that the step carried out; at last how the run ended.
-use Prim.Native.Nat.{ℕ, zero, suc}
+use Prim.Native.Nat.{ℕ, suc}
 use mathlib.Core.Path.{_≡_}
 use mathlib.Core.List.{List, [], _∷_, _++_}
 use lib.ListN.{length}

@@ -1,10 +1,18 @@
 -- A line of the profile, put number by number.
-use Prim.Native.Nat.{ℕ}
+use Prim.Native.Nat.{ℕ, _+_, _*_}
 use mathlib.Core.List.{List, [], _∷_}
 use Rattle.language.specs.Output.{decimal, line}
+use Rattle.lines.specs.Widths.{decimalBytes}
 use Rattle.lines.specs.Put.{Put, put-then}
 use Rattle.profiling.specs.declared.Line.{Line}
 use Rattle.profiling.specs.Statement.{spaced, lineText}
+
+-- the most bytes that a number takes with a byte behind it, and a line
+abbrev pub numberBytes : ℕ
+numberBytes = decimalBytes + 1
+
+abbrev pub lineBytes : ℕ
+lineBytes = 5 * numberBytes
 
 pub spaced-put : (n : ℕ) {a b c : List ℕ} {i j k : ℕ} → Put a i (decimal n) b j → Put b j (32 ∷ []) c k → Put a i (spaced n) c k
 unfolding spaced

@@ -1,17 +1,17 @@
 -- How many cells a region has, found by walking its chain once: as many as the definition says lie in it.
 use Prim.Native.Nat.{ℕ, zero, suc, _+_, _-_, _≤_, _<_}
 use native.Mathlib.Omega.{arith}
-use mathlib.Core.Path.{_≡_, refl, sym, ap, _∙_}
+use mathlib.Core.Path.{_≡_, sym, ap, _∙_}
 use mathlib.Core.Bool.{true}
 use mathlib.Core.List.{List}
 use lib.Dec.{eqb, leb}
 use borrow.Author.Tests.{eq-eqb, ne-eqb, le-leb, lt-leb}
-use Rattle.language.specs.Lists.{choose, put}
+use Rattle.language.specs.Lists.{choose}
 use Rattle.language.specs.AcceptedRun.{Memory}
-use Rattle.language.specs.Machine.{Room, cellsHeld}
+use Rattle.language.specs.Machine.{Room}
 use Rattle.memory.specs.declared.Heap.{Heap}
 use Rattle.memory.specs.Memory.{link, first, last}
-use Rattle.heap.specs.Labels.{Labels, busy, having, busy-height}
+use Rattle.heap.specs.Labels.{Labels, busy, busy-height}
 use Rattle.heap.specs.Labelled.{Labelled, Ends, cell-low}
 use Rattle.heap.specs.Counts.{cellsIn, held-removed}
 use Rattle.heap.specs.Represents.{Represents}

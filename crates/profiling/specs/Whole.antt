@@ -2,7 +2,7 @@
 use Prim.Native.Nat.{ℕ, _≤_}
 use native.Mathlib.Omega.{arith}
 use mathlib.Core.Path.{_≡_, refl, sym, ap, subst, _∙_}
-use mathlib.Core.List.{List, [], _++_, append-assoc}
+use mathlib.Core.List.{List, [], _++_}
 use lib.ListN.{length, take}
 use Rattle.language.specs.declared.Verdict.the-variants.{Accepted}
 use Rattle.language.specs.declared.Ending.{Ending}
@@ -11,7 +11,7 @@ use Rattle.language.specs.Machine.{Lent}
 use Rattle.language.specs.Machine as D
 use Rattle.language.specs.Answers.{program, checked, runFor, ran}
 use Rattle.language.specs.Output.{endingLine}
-use Rattle.lines.specs.Put.{Front, put-front, put-length}
+use Rattle.lines.specs.Put.{put-front, put-length}
 use Rattle.profiling.specs.declared.Line.{Line}
 use Rattle.profiling.specs.Statement.{Lines, none, lineText, textOf, entryLine, Profile}
 use Rattle.profiling.specs.Parts.{Written, lines-join, text-join}

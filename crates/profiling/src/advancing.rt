@@ -10,6 +10,7 @@ use plans::PLAN;
 ghost use Prim.Native.Nat.{_≤_};
 ghost use lib.ListN.{length};
 ghost use Rattle.plans.specs.Plan.{tablesIn, Narrow, Numbered};
+ghost use Rattle.profiling.specs.Text.{lineBytes};
 ghost use Rattle.profiling.specs.Moving.{Stands};
 ghost use Rattle.profiling.specs.Advancing.{Advances};
 
@@ -29,7 +30,7 @@ pub fn advance(
     out: &mut [u8],
 ) -> Part
     requires { ⌜ Narrow (now plan) (now images) × Numbered (now file) (now plan) ⌝ }
-    requires { ⌜ 105 ≤ length (now out) ⌝ }
+    requires { ⌜ lineBytes ≤ length (now out) ⌝ }
     requires { ⌜ Stands (now file) (tablesIn (now plan) (now images) (now callees)) steps (now cells) (now regions) (now frames) (now prints) point ⌝ }
     ensures { λ r. ⌜ Advances (now (file .entry)) (tablesIn (now (plan .entry)) (now (images .entry)) (now (callees .entry))) steps
         (now (cells .entry)) (now (regions .entry)) (now (frames .entry)) (now (prints .entry)) point (now (out .entry))

@@ -1,6 +1,8 @@
 // The counts of cells and regions held, goal by goal.
 use crate::Counts;
 use crate::walking::region_size;
+use frames::FRAME_WORDS;
+use frames::REGIONS_FROM;
 use language::format::CONSTRUCT;
 use language::format::CREATE;
 use language::format::KIND;
@@ -10,10 +12,12 @@ use machine::State;
 use records::word;
 ghost use mathlib.Core.Path.{_≡_};
 ghost use mathlib.Core.List.{List};
-ghost use Prim.Native.Nat.{ℕ, _+_, _-_, _*_, _<_};
+ghost use Prim.Native.Nat.{ℕ, _-_, _≤_, _<_};
 ghost use lib.ListN.{getD};
+ghost use Rattle.records.specs.Sizes.{wordEnd};
 ghost use Rattle.records.specs.Records.{recordAt};
 ghost use Rattle.memory.specs.declared.Heap.{Heap};
+ghost use Rattle.memory.specs.Memory.{most};
 ghost use Rattle.word_machine.specs.Machine.{regionPlace};
 ghost use Rattle.machine.specs.Words.{wordsOf};
 ghost use Rattle.profiling.specs.Counting.{counted};
@@ -25,17 +29,12 @@ fn less(a: u32, b: u32) -> u32
     if b <= a { a - b } else { 0 }
 }
 
-// The words of a frame, and the one before the places of what its region numbers stand for.
-const FRAME_WORDS: usize = 136;
-
-const REGION_WORD: usize = 64;
-
 // The place of what region number r of a frame stands for.
 fn region_place(frames: &[u32], frame: u32, r: usize) -> u32
-    requires { ⌜ r < 65536 ⌝ }
+    requires { ⌜ r < wordEnd ⌝ }
     ensures { λ p. ⌜ p ≡ getD (now (frames .entry)) (regionPlace frame r) 0 ⌝ }
 {
-    memory::word(frames, FRAME_WORDS * (frame as usize) + REGION_WORD + r)
+    memory::word(frames, FRAME_WORDS * (frame as usize) + REGIONS_FROM + r)
 }
 
 // The counts after the next goal, from those before it and the words before it: a construct has one cell more, a create one region more, a remove
@@ -49,7 +48,7 @@ pub fn count(
     regions: &[u32],
     frames: &[u32],
 ) -> Counts
-    requires { ⌜ (counts .cells < 65536) × (counts .regions < 65536) ⌝ }
+    requires { ⌜ (counts .cells ≤ most) × (counts .regions ≤ most) ⌝ }
     ensures { λ r. ⌜ ((h : Heap) (ps : List ℕ) → h .cells .limit ≡ limit
         → r ≡ counted (wordsOf h (now (cells .entry)) (now (regions .entry)) (now (frames .entry)) ps state) (recordAt (now (file .entry)) (state .goal)) counts) ⌝ }
 {

@@ -15,6 +15,7 @@ use language::Ending;
 use language::Stop;
 use machine::State;
 use memory::Heap;
+pub use text::LINE_BYTES;
 
 // How many cells and regions are held.
 pub struct Counts {

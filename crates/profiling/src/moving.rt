@@ -41,15 +41,7 @@ pub fn forward(
     }
     let limit = heap.cells.limit;
     let was = point.counts;
-    let counts = count(
-        file,
-        state,
-        limit,
-        was,
-        &cells[..],
-        &regions[..],
-        &frames[..],
-    );
+    let counts = count(file, state, limit, was, &*cells, &*regions, &*frames);
     let turn = step(
         file,
         plan,

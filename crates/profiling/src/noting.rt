@@ -7,6 +7,7 @@ use machine::State;
 ghost use Prim.Native.Nat.{_+_, _≤_};
 ghost use mathlib.Core.Path.{_≡_};
 ghost use lib.ListN.{length};
+ghost use Rattle.profiling.specs.Text.{lineBytes};
 ghost use Rattle.profiling.specs.Standing.{framesIn};
 ghost use Rattle.profiling.specs.Noting.{heldAt, Tells, Notes};
 
@@ -50,7 +51,7 @@ fn same_held(a: Held, b: Held) -> bool
 
 // The line of the step from one point to the next, if it changed what is held.
 pub fn note(out: &mut [u8], at: usize, from: Point, to: Point) -> usize
-    requires { ⌜ at + 105 ≤ length (now out) ⌝ }
+    requires { ⌜ at + lineBytes ≤ length (now out) ⌝ }
     ensures { λ r. ⌜ Notes from to (now (out .entry)) at (now (out .exit)) r ⌝ }
     ensures { λ r. ⌜ r ≤ length (now (out .exit)) ⌝ }
 {

@@ -1,15 +1,11 @@
 // How many cells a region has.
+use memory::CELL_NEXT;
+use memory::REGION_LAST;
+use memory::REGION_WORDS;
 use memory::cell_word;
 use memory::word;
 ghost use mathlib.Core.Path.{_≡_};
 ghost use Rattle.profiling.specs.Walking.{sizeAt};
-
-// The words of a region, the one that names its last cell, and the word of a cell that leads to the next of its region.
-const REGION_WORDS: usize = 2;
-
-const REGION_LAST: usize = 1;
-
-const CELL_NEXT: u32 = 5;
 
 // The cells of the region at a place, found by walking its chain to its last cell. There are `limit` places for cells; an empty region's last word is none.
 pub fn region_size(cells: &[u32], regions: &[u32], limit: u32, region: u32) -> u32
@@ -27,7 +23,7 @@ pub fn region_size(cells: &[u32], regions: &[u32], limit: u32, region: u32) -> u
         if cell == last {
             return n;
         }
-        cell = cell_word(cells, cell, CELL_NEXT);
+        cell = cell_word(cells, cell, CELL_NEXT as u32);
     }
     n
 }

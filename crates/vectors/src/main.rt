@@ -6,22 +6,18 @@
 use answering::print_annotated;
 use answering::print_checked;
 use libc::STDOUT_FILENO;
+use packs::PACK_END;
 use packs::next_byte;
 use packs::next_bytes;
 use packs::next_number;
 use packs::print_name;
-ghost use mathlib.Core.Path.{_≡_};
-ghost use lib.ListN.{length};
+use records::blank::blank_input;
 
-// One byte more than the longest file has, so that a longer one is seen to be too long.
-fn memory() -> [u8; 65537]
-    ensures { λ r. ⌜ 65537 ≡ length r ⌝ }
-{
-    [0; 65537]
-}
+// More jobs than a pack has.
+const JOBS: usize = 1000;
 
 fn try_file(fd: i32, n: usize) {
-    let mut file = memory();
+    let mut file = blank_input();
     let k = next_bytes(fd, &mut file, n);
     print_checked(&file[..k]);
     print_annotated(&file[..k]);
@@ -30,7 +26,7 @@ fn try_file(fd: i32, n: usize) {
 // Whether there was a job.
 fn try_job(fd: i32) -> bool {
     let n = next_byte(fd);
-    if n == 256 {
+    if n == PACK_END {
         return false;
     }
     print_name(fd, n);
@@ -46,7 +42,7 @@ fn try_pack(path: &[u8]) {
         os::fail(path);
         return;
     }
-    let mut left: usize = 1000;
+    let mut left = JOBS;
     while left > 0 {
         left -= 1;
         if !try_job(fd) {

@@ -13,6 +13,7 @@ use Rattle.language.specs.File.{kCall, word}
 use Rattle.language.specs.Program.{Parameter, Signature, call, signatureOf, parametersOf, parameterVariables, argumentsIn, variablesIn}
 use Rattle.language.specs.Typing.{typesOf, parameterTypes, stepOk, goalOk, typingOk}
 use Rattle.language.specs.Answers.{program}
+use Rattle.language.specs.Format.{argumentVariable, maxVariables}
 use Rattle.laws.specs.Lists.{image-listed}
 use Rattle.region_graph.specs.Typed.{variable-small, variables-few, signature-typed}
 use Rattle.region_graph.specs.Parameters.{parameter-variable}
@@ -64,38 +65,38 @@ module _ {f : List ℕ} (F : Formed f) (ok : typingOk (program f) ≡ true) (i n
   call-typed = let c = call-at F refl e in rw (c .goal) at (typed-record F ok i (c .some) (c .below) kCall (ap kindIn e))
 
   -- the caller's variables, by the records
-  given-words : argumentsAt f ys ≡ map (λ a. word f a 2) (chainRecords f ys)
+  given-words : argumentsAt f ys ≡ map (λ a. word f a argumentVariable) (chainRecords f ys)
   given-words = arguments-map F ys (call-at F refl e .to-arguments .stands) ∙ fields-words f 2 (chainRecords f ys) (records-some f ys)
 
   as-many : length (chainRecords f ys) ≡ length (parametersOf callee)
   unfolding stepOk parameterTypes
   as-many =
-      sym (length-map (chainRecords f ys) (λ a. word f a 2)) ∙ ap length (sym given-words)
+      sym (length-map (chainRecords f ys) (λ a. word f a argumentVariable)) ∙ ap length (sym given-words)
       ∙ types-length caller (parameterTypes callee) (argumentsAt f ys) (and-true call-typed .1) ∙ parameter-count callee (parametersOf callee)
 
-  pub given-small : (a : ℕ) → inList a (chainRecords f ys) ≡ true → word f a 2 ≤ 64
+  pub given-small : (a : ℕ) → inList a (chainRecords f ys) ≡ true → word f a argumentVariable ≤ maxVariables
   unfolding stepOk
   given-small a h =
-      variable-small caller (variables-few (program f .types) caller (signature-typed (program f) ok (ownerOf f i))) (word f a 2)
-      (types-variables caller (parameterTypes callee) (argumentsAt f ys) (and-true call-typed .1) (word f a 2)
-      (rw given-words (image-listed (λ b. word f b 2) (chainRecords f ys) a h))) .1
+      variable-small caller (variables-few (program f .types) caller (signature-typed (program f) ok (ownerOf f i))) (word f a argumentVariable)
+      (types-variables caller (parameterTypes callee) (argumentsAt f ys) (and-true call-typed .1) (word f a argumentVariable)
+      (rw given-words (image-listed (λ b. word f b argumentVariable) (chainRecords f ys) a h))) .1
 
   module _ (slot mode : ℕ → ℕ) (M : Matches slot mode (parametersOf callee) (chainRecords f ys)) where
-    pub slot-small : (a : ℕ) → inList a (chainRecords f ys) ≡ true → (1 ≤ slot a) × (slot a ≤ 64)
+    pub slot-small : (a : ℕ) → inList a (chainRecords f ys) ≡ true → (1 ≤ slot a) × (slot a ≤ maxVariables)
     slot-small a h =
         variable-small callee (variables-few (program f .types) callee (signature-typed (program f) ok q)) (slot a)
         (parameter-variable callee (slot a) (slots-in slot mode (parametersOf callee) (chainRecords f ys) as-many M a h))
 
     -- THE LAW: the words of the arguments of one mode
-    module _ (link more : ℕ → ℕ) (says : (a : ℕ) → inList a (chainRecords f ys) ≡ true → link a ≡ packed (slot a) (word f a 2) (more a)) (m : ℕ) where
+    module _ (link more : ℕ → ℕ) (says : (a : ℕ) → inList a (chainRecords f ys) ≡ true → link a ≡ packed (slot a) (word f a argumentVariable) (more a)) (m : ℕ) where
       pub slots-passed : map slotOf (map link (ofMode mode m (chainRecords f ys))) ≡ variablesIn m callee
       unfolding variablesIn
       slots-passed =
           passed-slots slot mode link m (parametersOf callee) (chainRecords f ys) as-many M
-          (λ a h. ap slotOf (says a h) ∙ packed-slot (slot a) (word f a 2) (more a) (slot-small a h .1) (given-small a h))
+          (λ a h. ap slotOf (says a h) ∙ packed-slot (slot a) (word f a argumentVariable) (more a) (slot-small a h .1) (given-small a h))
 
       pub givens-passed : map givenOf (map link (ofMode mode m (chainRecords f ys))) ≡ argumentsIn m (parametersOf callee) (argumentsAt f ys)
       givens-passed =
           rw given-words
-          (passed-givens slot mode link m (λ a. word f a 2) (parametersOf callee) (chainRecords f ys) as-many M
-          (λ a h. ap givenOf (says a h) ∙ packed-given (slot a) (word f a 2) (more a) (slot-small a h .1) (given-small a h)))
+          (passed-givens slot mode link m (λ a. word f a argumentVariable) (parametersOf callee) (chainRecords f ys) as-many M
+          (λ a h. ap givenOf (says a h) ∙ packed-given (slot a) (word f a argumentVariable) (more a) (slot-small a h .1) (given-small a h)))

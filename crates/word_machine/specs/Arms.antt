@@ -9,13 +9,14 @@ use lib.Dec.{eqb}
 use Rattle.sets.specs.Tests.{truth}
 use Rattle.language.specs.Lists.{choose}
 use Rattle.language.specs.File.{arms, goals, word}
-use Rattle.language.specs.Program.{four, argumentsOf, Goals}
+use Rattle.language.specs.Program.{argumentsOf, Goals}
 use Rattle.language.specs.Frames.{noArm, picked, pick}
+use Rattle.language.specs.Format.{nextWord, armGoals, termFunctor}
 use Rattle.laws.specs.Choices.{choose-true, choose-false}
 use Rattle.chains.specs.Layout.{real}
 use Rattle.chains.specs.Formed.{Formed, Stands, goalsAt, armsAt, arms-none}
 use Rattle.chains.specs.Is.{arm-is}
-use Rattle.chains.specs.Parts.{arm-at}
+use Rattle.chains.specs.Parts.{fourAt, arm-at}
 use Rattle.chains.specs.Records.{chainRecords, records-step, along}
 use Rattle.word_machine.specs.Tables.{Tables, Tabled, onto, Starts}
 use Rattle.word_machine.specs.Machine.{armOf}
@@ -23,11 +24,11 @@ use Rattle.word_machine.specs.Machine.{armOf}
 module _ {f : List ℕ} {T : Tables} (B : Tabled f T) (F : Formed f) where
   -- record j is the arm with arguments ys and goals gs, in a chain that goes on at c and is procedure p's
   pub record ArmFound (c p : ℕ) (ys : List ℕ) (gs : Goals) (j : ℕ) : Type 0 where
-    pub arguments : ys ≡ argumentsOf (four (word f j 4) (word f j 5) (word f j 6) (word f j 7))
-    pub goals-are : gs ≡ goalsAt f (word f j 2)
-    pub stands : Stands f goals (word f j 2)
-    pub starts : Starts (B .onward) (B .owner) (word f j 2) c p
-    pub entered : T .entry j ≡ onto (word f j 2) c
+    pub arguments : ys ≡ argumentsOf (fourAt f j)
+    pub goals-are : gs ≡ goalsAt f (word f j armGoals)
+    pub stands : Stands f goals (word f j armGoals)
+    pub starts : Starts (B .onward) (B .owner) (word f j armGoals) c p
+    pub entered : T .entry j ≡ onto (word f j armGoals) c
 
   picked-arguments : {ys zs : List ℕ} {gs hs : Goals} → picked ys gs ≡ picked zs hs → zs ≡ ys
   picked-arguments e = cc
@@ -37,28 +38,28 @@ module _ {f : List ℕ} {T : Tables} (B : Tabled f T) (F : Formed f) where
 
   module _ (c p k : ℕ) (ys : List ℕ) (gs : Goals) where
     here : (j : ℕ) → Stands f arms j → (j ≡ 0 → ⊥) → B .onward j ≡ c → B .owner j ≡ p
-        → picked (argumentsOf (four (word f j 4) (word f j 5) (word f j 6) (word f j 7))) (goalsAt f (word f j 2)) ≡ picked ys gs → ArmFound c p ys gs j
+        → picked (argumentsOf (fourAt f j)) (goalsAt f (word f j armGoals)) ≡ picked ys gs → ArmFound c p ys gs j
     here j s z o w e = record {
       arguments = picked-arguments e;
       goals-are = picked-goals e;
       stands = arm-at F refl (arm-is s z) .to-goals .stands;
       starts = λ y. let b = B .arm-goals j s z y in (b .0 ∙ o, b .1 ∙ w);
-      entered = B .arm-entry j s z ∙ ap (onto (word f j 2)) o;
+      entered = B .arm-entry j s z ∙ ap (onto (word f j armGoals)) o;
     }
 
     one-arm : (j : ℕ) (s : Stands f arms j) (z : j ≡ 0 → ⊥) → B .onward j ≡ c → B .owner j ≡ p
-        → (pick (armsAt f (word f j 1)) k ≡ picked ys gs → ArmFound c p ys gs (armOf f k (chainRecords f (word f j 1))))
+        → (pick (armsAt f (word f j nextWord)) k ≡ picked ys gs → ArmFound c p ys gs (armOf f k (chainRecords f (word f j nextWord))))
         → pick (armsAt f j) k ≡ picked ys gs → ArmFound c p ys gs (armOf f k (chainRecords f j))
     unfolding pick armOf
     one-arm j s z o w ih e =
         let v = arm-at F refl (arm-is s z) in
-        rw (records-step {w = word f j 1} F z (s .below) refl) (by (truth (eqb (word f j 3) k)) (rw (v .view) at e))
+        rw (records-step {w = word f j nextWord} F z (s .below) refl) (by (truth (eqb (word f j termFunctor) k)) (rw (v .view) at e))
       where
-        by : (eqb (word f j 3) k ≡ true) ⊎ (eqb (word f j 3) k ≡ false)
-            → choose (eqb (word f j 3) k) (picked (argumentsOf (four (word f j 4) (word f j 5) (word f j 6) (word f j 7))) (goalsAt f (word f j 2))) (pick (armsAt f (word f j 1)) k) ≡ picked ys gs
-            → ArmFound c p ys gs (choose (eqb (word f j 3) k) j (armOf f k (chainRecords f (word f j 1))))
-        by (inl t) e = rw (choose-true _ j (armOf f k (chainRecords f (word f j 1))) t) (here j s z o w (sym (choose-true _ _ _ t) ∙ e))
-        by (inr t) e = rw (choose-false _ j (armOf f k (chainRecords f (word f j 1))) t) (ih (sym (choose-false _ _ _ t) ∙ e))
+        by : (eqb (word f j termFunctor) k ≡ true) ⊎ (eqb (word f j termFunctor) k ≡ false)
+            → choose (eqb (word f j termFunctor) k) (picked (argumentsOf (fourAt f j)) (goalsAt f (word f j armGoals))) (pick (armsAt f (word f j nextWord)) k) ≡ picked ys gs
+            → ArmFound c p ys gs (choose (eqb (word f j termFunctor) k) j (armOf f k (chainRecords f (word f j nextWord))))
+        by (inl t) e = rw (choose-true _ j (armOf f k (chainRecords f (word f j nextWord))) t) (here j s z o w (sym (choose-true _ _ _ t) ∙ e))
+        by (inr t) e = rw (choose-false _ j (armOf f k (chainRecords f (word f j nextWord))) t) (ih (sym (choose-false _ _ _ t) ∙ e))
 
     pub arm-found : (a : ℕ) → Stands f arms a → Starts (B .onward) (B .owner) a c p → pick (armsAt f a) k ≡ picked ys gs
         → ArmFound c p ys gs (armOf f k (chainRecords f a))

@@ -16,13 +16,14 @@ use Rattle.language.specs.Lifetimes.{startHeld}
 use Rattle.language.specs.Frames.{numeral, calleeFrame}
 use Rattle.language.specs.AcceptedRun.{RegionFrame, calleeStands, mappingFrom, calleeRegions}
 use Rattle.language.specs.Answers.{program}
+use Rattle.language.specs.Format.{maxVariables, maxRegions}
 use Rattle.laws.specs.Numbers.{among-in}
 use Rattle.region_graph.specs.Shared.{region-top}
 use Rattle.chains.specs.Formed.{Formed}
 use Rattle.safety.specs.Premises.{Accepted, laws}
 use Rattle.heap.specs.Standing.{Stands}
 use Rattle.word_machine.specs.Tables.{Tables, slotOf, givenOf, Tabled}
-use Rattle.word_machine.specs.Machine.{frameWords, goalPlace, valuePlace, regionPlace, callPlace, copied, cleared, blocks, valuesIn, regionsIn, calleeWords}
+use Rattle.word_machine.specs.Machine.{regionsFrom, regionsEnd, frameWords, goalPlace, valuePlace, regionPlace, callPlace, copied, cleared, blocks, valuesIn, regionsIn, calleeWords}
 use Rattle.word_machine.specs.Copies.{copied-length, copied-other, copied-related, cleared-length, cleared-before, cleared-after, cleared-in, blocks-most, blocks-least, puts-give, puts-stand}
 use Rattle.word_machine.specs.Relation.{Where, Means, Names, not-later, sig, FrameOk, Linked, Waiting, more, frame-later, waiting-later}
 use Rattle.word_machine.specs.Returns.{members-range, passing, caller-range, caller-variable, callee-range}
@@ -66,7 +67,7 @@ module _ {f : List ℕ} {T : Tables} (B : Tabled f T) (A : Accepted (program f))
   unfolding calleeWords regionsIn valuesIn
   callee-is = rw (B .held q (N .some), B .size q (N .some))
 
-  few : count ≤ 64
+  few : count ≤ maxVariables
   few = blocks-most (length (sig f q .variables))
 
   enough : length (sig f q .variables) ≤ count
@@ -86,17 +87,17 @@ module _ {f : List ℕ} {T : Tables} (B : Tabled f T) (A : Accepted (program f))
   keptb j ne l =
       getD-set-other fa (callPlace (suc k)) j i 0 (λ z. omega arith) ∙ getD-set-other fw (goalPlace k) j (T .successor i) 0 ne
 
-  keptd : (j : ℕ) → (j ≤ goalPlace (suc k)) ⊎ (goalPlace (suc k) + 64 < j) → getD fd j 0 ≡ getD fc j 0
+  keptd : (j : ℕ) → (j ≤ goalPlace (suc k)) ⊎ (goalPlace (suc k) + maxVariables < j) → getD fd j 0 ≡ getD fc j 0
   keptd j o = copied-other (λ a. valuePlace (suc k) (slotOf a)) (λ a. valuePlace k (givenOf a)) ins fc j (λ a h z. differ a h z o)
     where
-      differ : (a : ℕ) → inList a ins ≡ true → j ≡ valuePlace (suc k) (slotOf a) → (j ≤ goalPlace (suc k)) ⊎ (goalPlace (suc k) + 64 < j) → ⊥
+      differ : (a : ℕ) → inList a ins ≡ true → j ≡ valuePlace (suc k) (slotOf a) → (j ≤ goalPlace (suc k)) ⊎ (goalPlace (suc k) + maxVariables < j) → ⊥
       differ a h z (inl o) = let r = callee-range B A N inMode (inl refl) a h in omega (arith, r .0)
       differ a h z (inr o) = let r = callee-range B A N inMode (inl refl) a h in omega (arith, r .1)
 
-  kepte : (j : ℕ) → (j ≤ goalPlace (suc k) + 64) ⊎ (goalPlace (suc k) + 128 < j) → getD fe j 0 ≡ getD fd j 0
+  kepte : (j : ℕ) → (j ≤ goalPlace (suc k) + regionsFrom) ⊎ (goalPlace (suc k) + regionsEnd < j) → getD fe j 0 ≡ getD fd j 0
   kepte j o = copied-other (λ r. regionPlace (suc k) r) (λ r. regionPlace k (T .image i r)) helds fd j (λ r h z. differ r h z o)
     where
-      differ : (r : ℕ) → inList r helds ≡ true → j ≡ regionPlace (suc k) r → (j ≤ goalPlace (suc k) + 64) ⊎ (goalPlace (suc k) + 128 < j) → ⊥
+      differ : (r : ℕ) → inList r helds ≡ true → j ≡ regionPlace (suc k) r → (j ≤ goalPlace (suc k) + regionsFrom) ⊎ (goalPlace (suc k) + regionsEnd < j) → ⊥
       differ r h z (inl o) = let b = members-range _ r h in omega (arith, b .1)
       differ r h z (inr o) = let b = members-range _ r h in omega (arith, b .2)
 
@@ -122,7 +123,7 @@ module _ {f : List ℕ} {T : Tables} (B : Tabled f T) (A : Accepted (program f))
       ∙ getD-set-same fa (callPlace (suc k)) i 0 (omega (arith, length-set fw (goalPlace k) (T .successor i)))
 
   -- ---- the callee's values and regions
-  in-values : (x : ℕ) → 1 ≤ x → x ≤ 64 → isVariable (sig f q) x ≡ true
+  in-values : (x : ℕ) → 1 ≤ x → x ≤ maxVariables → isVariable (sig f q) x ≡ true
       → Means L (getD fe (valuePlace (suc k) x) 0) (calleeFrame (program f) (e .frame) q zs .values x)
   unfolding calleeFrame Stands
   in-values x l h v =
@@ -144,22 +145,22 @@ module _ {f : List ℕ} {T : Tables} (B : Tabled f T) (A : Accepted (program f))
       (rw (cleared-in count (suc (goalPlace (suc k))) fb (valuePlace (suc k) x) (omega arith) (omega (arith, variable-count (sig f q) x v, enough))
       (omega (arith, few, longc, cleared-length count (suc (goalPlace (suc k))) fb))) refl))
 
-  held-image : (r : ℕ) → inList r helds ≡ true → (1 ≤ T .image i r) × (T .image i r ≤ 64)
+  held-image : (r : ℕ) → inList r helds ≡ true → (1 ≤ T .image i r) × (T .image i r ≤ maxRegions)
   held-image r h = region-top _ _ (laws A (e .frame .procedure)) (T .image i r) (N .images r (inl (members-range _ r h .0)) .1)
 
-  in-regions : (r : ℕ) → 1 ≤ r → r ≤ 64 → Names L (getD fe (regionPlace (suc k) r) 0)
+  in-regions : (r : ℕ) → 1 ≤ r → r ≤ maxRegions → Names L (getD fe (regionPlace (suc k) r) 0)
       (calleeStands (mapping (sig f (e .frame .procedure)) (sig f q) zs) (sig f q) (e .stands) r)
   unfolding calleeStands
   in-regions r l h =
       rw (← puts-stand (λ u. u) (λ u. e .stands (imageIn (mapping (sig f (e .frame .procedure)) (sig f q) zs) u)) helds (λ u. 0))
-      (copied-related (Names L) (frameWords * suc k + 64) (λ u. regionPlace (suc k) u) (λ u. regionPlace k (T .image i u)) (λ u. u)
+      (copied-related (Names L) (frameWords * suc k + regionsFrom) (λ u. regionPlace (suc k) u) (λ u. regionPlace k (T .image i u)) (λ u. u)
       (λ u. e .stands (imageIn (mapping (sig f (e .frame .procedure)) (sig f q) zs) u)) helds fd (λ u. 0) r
       (λ u m. let b = held-image u m in let s = members-range _ u m in
       (refl, omega (arith, s .2, longd), source u (N .images u (inl (s .0)) .0) (b .0) (b .1)))
       (λ a b m n z. let r = members-range _ a m in let s = held-image b n in omega (arith, s .1))
       (λ z. absurd (z refl)))
     where
-      source : (u : ℕ) → T .image i u ≡ imageIn (mapping (sig f (e .frame .procedure)) (sig f q) zs) u → 1 ≤ T .image i u → T .image i u ≤ 64
+      source : (u : ℕ) → T .image i u ≡ imageIn (mapping (sig f (e .frame .procedure)) (sig f q) zs) u → 1 ≤ T .image i u → T .image i u ≤ maxRegions
           → Names L (getD fd (regionPlace k (T .image i u)) 0) (e .stands (imageIn (mapping (sig f (e .frame .procedure)) (sig f q) zs) u))
       source u z a b =
           rw (

@@ -14,18 +14,19 @@ use Rattle.language.specs.declared.Stop.the-variants.{Frames}
 use Rattle.language.specs.Lists.{choose}
 use Rattle.language.specs.File.{goals, word}
 use Rattle.language.specs.Numbers.{less}
-use Rattle.language.specs.Program.{four, fourWords, trimmed, argumentsOf, call, Goals, step, switch, ifLess, Arms, _before_}
+use Rattle.language.specs.Program.{fourWords, trimmed, argumentsOf, call, Goals, step, switch, ifLess, Arms, _before_}
 use Rattle.language.specs.Typing.{isVariable}
 use Rattle.language.specs.Frames.{Value, Cell, Frame, numberIn, withGoals, giveEach, branchIn, picked, pick, enterArm, cellIn, openCell, calleeFrame}
 use Rattle.language.specs.AcceptedRun.{RegionFrame, Memory, liesIn, cellOf, withFrame, calleeRegions, state}
 use Rattle.language.specs.AcceptedRun as Run
 use Rattle.language.specs.Machine.{Room, goes, roomOr}
 use Rattle.language.specs.Answers.{program}
+use Rattle.language.specs.Format.{armGoals, maxVariables}
 use Rattle.records.specs.Records.{recordAt}
 use Rattle.records.specs.declared.Record.the-variants.{Switch, If}
 use Rattle.chains.specs.Formed.{Formed, Stands, goalsAt, armsAt, argumentsAt}
 use Rattle.chains.specs.Records.{chainRecords}
-use Rattle.chains.specs.Parts.{if-at, switch-at}
+use Rattle.chains.specs.Parts.{fourAt, if-at, switch-at}
 use Rattle.safety.specs.Premises.{Accepted, laws}
 use Rattle.region_graph.specs.Shared.{variable-top}
 use Rattle.heap.specs.Words.{argumentWords, arguments-are}
@@ -115,7 +116,7 @@ module _ {f : List ℕ} {T : Tables} (B : Tabled f T) (A : Accepted (program f))
     inArm = withFrame u (record { procedure = u .frame .procedure; arguments = u .frame .arguments; goals = gs before u .frame .goals; values = giveEach ys vs (u .frame .values) })
 
     abbrev four′ : List ℕ
-    four′ = fourWords (four (word f j 4) (word f j 5) (word f j 6) (word f j 7))
+    four′ = fourWords (fourAt f j)
 
     abbrev fw : List ℕ
     fw = givesEach (frameWords * w .top) four′ (argumentWords (w .cells) p) (w .frames)
@@ -127,14 +128,14 @@ module _ {f : List ℕ} {T : Tables} (B : Tabled f T) (A : Accepted (program f))
     unfolding argumentsOf
     trimmed-are = found .arguments
 
-    arm-values : (x : ℕ) → 1 ≤ x → x ≤ 64 → isVariable (sig f (u .frame .procedure)) x ≡ true → Means L (getD fw (valuePlace (w .top) x) 0) (giveEach ys vs (u .frame .values) x)
+    arm-values : (x : ℕ) → 1 ≤ x → x ≤ maxVariables → isVariable (sig f (u .frame .procedure)) x ≡ true → Means L (getD fw (valuePlace (w .top) x) 0) (giveEach ys vs (u .frame .values) x)
     unfolding fourWords
     arm-values x l h v =
         rw trimmed-are
         (each-means (frameWords * w .top) L x four′ (argumentWords (w .cells) p) vs (w .frames) (u .frame .values) (rw (arguments-are (w .cells) p) (omega arith))
         (omega (arith, G .fits)) words (count ∙ ap length trimmed-are) (rw trimmed-are at range) (G .values x l h v))
 
-    other : (k : ℕ) → (k < frameWords * w .top) ⊎ (frameWords * w .top + 64 < k) → getD fw k 0 ≡ getD (w .frames) k 0
+    other : (k : ℕ) → (k < frameWords * w .top) ⊎ (frameWords * w .top + maxVariables < k) → getD fw k 0 ≡ getD (w .frames) k 0
     other k = each-other (frameWords * w .top) four′ (argumentWords (w .cells) p) (w .frames) k (rw trimmed-are at range)
 
     arm-frame : FrameOk B fw (w .top) L (T .entry j) inArm
@@ -143,7 +144,7 @@ module _ {f : List ℕ} {T : Tables} (B : Tabled f T) (A : Accepted (program f))
       fits = omega (arith, G .fits, long);
       values = arm-values;
       regions = λ r l h. rw (other (regionPlace (w .top) r) (inr (omega arith))) (G .regions r l h);
-      todo = rw (found .goals-are, found .entered) (todo-before B F _ _ _ (G .todo) (word f j 2) (found .stands) (found .starts));
+      todo = rw (found .goals-are, found .entered) (todo-before B F _ _ _ (G .todo) (word f j armGoals) (found .stands) (found .starts));
     }
 
     arm-waiting : Waiting B fw L (u .frame .procedure) (u .frame .arguments) (w .top) fs

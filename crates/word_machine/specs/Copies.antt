@@ -14,6 +14,7 @@ use Rattle.sets.specs.Members.{inList, cons-here, cons-later}
 use Rattle.language.specs.Lists.{choose, put}
 use Rattle.language.specs.Frames.{Value, giveEach}
 use Rattle.language.specs.AcceptedRun.{standEach}
+use Rattle.language.specs.Format.{maxVariables}
 use Rattle.laws.specs.Choices.{put-same, put-other}
 use Rattle.word_machine.specs.Machine.{copied, cleared, blocks}
 
@@ -55,20 +56,20 @@ cleared-in (suc n) p fw j h l q = elim (ℕ-discrete p j) [
 ]
 
 -- ---- words are cleared in blocks
-pub blocks-most : (n : ℕ) → blocks n ≤ 64
+pub blocks-most : (n : ℕ) → blocks n ≤ maxVariables
 unfolding blocks choose
 blocks-most n = by (ltb n 9) (ltb n 17)
   where
-    by : (a b : Bool) → choose a 8 (choose b 16 64) ≤ 64
+    by : (a b : Bool) → choose a 8 (choose b 16 maxVariables) ≤ maxVariables
     by true b = omega arith
     by false true = omega arith
     by false false = omega arith
 
-pub blocks-least : (n : ℕ) → n ≤ 64 → n ≤ blocks n
+pub blocks-least : (n : ℕ) → n ≤ maxVariables → n ≤ blocks n
 unfolding blocks choose
 blocks-least n l = by (ltb n 9) (ltb n 17) refl refl
   where
-    by : (a b : Bool) → ltb n 9 ≡ a → ltb n 17 ≡ b → n ≤ choose a 8 (choose b 16 64)
+    by : (a b : Bool) → ltb n 9 ≡ a → ltb n 17 ≡ b → n ≤ choose a 8 (choose b 16 maxVariables)
     by true b ea eb = omega (arith, ltb-true n 9 ea)
     by false true ea eb = omega (arith, ltb-true n 17 eb)
     by false false ea eb = l

@@ -8,6 +8,7 @@ use Rattle.language.specs.Program.{Parameter, regionOf, signatureOf, parameters
 use Rattle.language.specs.Regions.{mapping, imageIn}
 use Rattle.language.specs.Lifetimes.{born, startHeld}
 use Rattle.language.specs.Answers.{program}
+use Rattle.language.specs.Format.{nextWord, armGoals, goalX, callProcedure, callArguments, argumentVariable, maxRecords}
 use Rattle.records.specs.Records.{recordAt}
 use Rattle.records.specs.declared.Record.{Record}
 use Rattle.records.specs.declared.Record.the-variants.{Header, «Type» as TypeOf, Functor, Procedure, Variable, Region, Edge, Literal, Sum, Assign, Construct, Switch, Arm, If, Call, Argument, Print, Create, Remove, Other}
@@ -132,24 +133,24 @@ module _ (f : List ℕ) where
 
   -- ---- the tables, each of 4,096 words
   unfoldable pub onwards : List ℕ
-  onwards = filled onwardWords f (recordCount f - 1) 1 (replicate 4096 0)
+  onwards = filled onwardWords f (recordCount f - 1) 1 (replicate maxRecords 0)
 
   unfoldable pub owners : List ℕ
-  owners = filled ownerWords f (recordCount f - 1) 1 (replicate 4096 0)
+  owners = filled ownerWords f (recordCount f - 1) 1 (replicate maxRecords 0)
 
   unfoldable pub slots : List ℕ
-  slots = matches (λ a. a .variable) (recordCount f - 1) 1 (replicate 4096 0)
+  slots = matches (λ a. a .variable) (recordCount f - 1) 1 (replicate maxRecords 0)
 
   unfoldable pub modes : List ℕ
-  modes = matches (λ a. a .mode) (recordCount f - 1) 1 (replicate 4096 0)
+  modes = matches (λ a. a .mode) (recordCount f - 1) 1 (replicate maxRecords 0)
 
   unfoldable pub tablesOf : Tables
   tablesOf = record {
-    successor = λ i. onto (word f i 1) (getD onwards i 0);
-    entry = λ j. onto (word f j 2) (getD onwards j 0);
-    region = λ i. regionOf (signatureOf (program f) (getD owners i 0)) (word f i 2);
-    passes = λ m i. map (λ a. packed (getD slots a 0) (word f a 2) 0) (ofMode (λ a. getD modes a 0) m (chainRecords f (word f i 3)));
-    image = λ i r. imageIn (mapping (signatureOf (program f) (getD owners i 0)) (signatureOf (program f) (word f i 2)) (argumentsAt f (word f i 3))) r;
+    successor = λ i. onto (word f i nextWord) (getD onwards i 0);
+    entry = λ j. onto (word f j armGoals) (getD onwards j 0);
+    region = λ i. regionOf (signatureOf (program f) (getD owners i 0)) (word f i goalX);
+    passes = λ m i. map (λ a. packed (getD slots a 0) (word f a argumentVariable) 0) (ofMode (λ a. getD modes a 0) m (chainRecords f (word f i callArguments)));
+    image = λ i r. imageIn (mapping (signatureOf (program f) (getD owners i 0)) (signatureOf (program f) (word f i callProcedure)) (argumentsAt f (word f i callArguments))) r;
     body = λ p. bodyRecord f p;
     size = λ p. length (signatureOf (program f) p .variables);
     held = λ p. startHeld (signatureOf (program f) p);

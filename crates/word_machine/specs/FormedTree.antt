@@ -7,6 +7,7 @@ use mathlib.Core.List.{List, [], _∷_}
 use mathlib.Core.Logic.{_≢_, inl, inr}
 use Rattle.language.specs.Lists.{count}
 use Rattle.language.specs.File.{Use, number, unused, first, Chain, Kind, kNone, kHeader, kType, kFunctor, kProcedure, kVariable, kRegion, kEdge, kArm, kArgument, kGoal, kLiteral, kSum, kAssign, kConstruct, kSwitch, kIf, kCall, kPrint, kCreate, kRemove, row, kindOf, kindAt, leading, references, word, recordCount}
+use Rattle.language.specs.Format.{kindWord, nextWord, headerProcedures, procedureGoals, procedureVariables, procedureRegions}
 use Rattle.laws.specs.Counts.{hit, hit-same, hit-other, count-cons, count-none}
 use Rattle.chains.specs.Layout.{all-rows}
 use Rattle.chains.specs.Layout.{hits, hits-suc}
@@ -18,7 +19,7 @@ use Rattle.word_machine.specs.FillingLaws.{refers, Tree}
 
 module _ (f : List ℕ) where
   -- what a run comes to is among a record's references
-  some-of : (k : Kind) (n i p : ℕ) → count p (referred (recordAs k (word f i))) ≤ count p (word f i 1 ∷ leading (word f) n i 2 (row k .words))
+  some-of : (k : Kind) (n i p : ℕ) → count p (referred (recordAs k (word f i))) ≤ count p (word f i nextWord ∷ leading (word f) n i 2 (row k .words))
   unfolding referred leading all-rows
   some-of kNone n i p = omega (arith, count-none p)
   some-of kHeader n i p = omega (arith, count-none p)
@@ -27,10 +28,10 @@ module _ (f : List ℕ) where
   some-of kProcedure n i p =
       omega (
         arith,
-        count-cons p (word f i 1) (word f i 2 ∷ word f i 3 ∷ word f i 4 ∷ []),
-        count-cons p (word f i 2) (word f i 3 ∷ word f i 4 ∷ []),
-        count-cons p (word f i 3) (word f i 4 ∷ []),
-        count-cons p (word f i 1) (word f i 4 ∷ []),
+        count-cons p (word f i nextWord) (word f i procedureVariables ∷ word f i procedureRegions ∷ word f i procedureGoals ∷ []),
+        count-cons p (word f i procedureVariables) (word f i procedureRegions ∷ word f i procedureGoals ∷ []),
+        count-cons p (word f i procedureRegions) (word f i procedureGoals ∷ []),
+        count-cons p (word f i nextWord) (word f i procedureGoals ∷ []),
       )
   some-of kVariable n i p = omega (arith, count-none p)
   some-of kRegion n i p = omega (arith, count-none p)
@@ -50,7 +51,7 @@ module _ (f : List ℕ) where
 
   referred-few : (n i p : ℕ) → count p (referred (recordAt f i)) ≤ count p (references (word f) n i)
   unfolding references kindAt recordAt
-  referred-few n i p = some-of (kindOf (word f i 0)) n i p
+  referred-few n i p = some-of (kindOf (word f i kindWord)) n i p
 
   -- ---- references go up
   leads-up : (n i : ℕ) (c : Chain) (p : ℕ) → Leads (word f) n i c p → p ≢ 0 → (i < p) × (p < n)
@@ -80,8 +81,8 @@ module _ (f : List ℕ) where
     references-up : (i p : ℕ) → i < recordCount f → p ≢ 0 → 0 < count p (references (word f) (recordCount f) i) → (i < p) × (p < recordCount f)
     unfolding references kindAt
     references-up i p l ne h =
-        cons-up (recordCount f) i (word f i 1) p _ (leading (word f) (recordCount f) i 2 (row (kindOf (word f i 0)) .words)) (next-leads (word f) (recordCount f) (F .form) i l) ne
-        (leading-up (recordCount f) i 2 p (row (kindOf (word f i 0)) .words) (record-used (word f) (recordCount f) (F .form) i l) ne) h
+        cons-up (recordCount f) i (word f i nextWord) p _ (leading (word f) (recordCount f) i 2 (row (kindOf (word f i kindWord)) .words)) (next-leads (word f) (recordCount f) (F .form) i l) ne
+        (leading-up (recordCount f) i 2 p (row (kindOf (word f i kindWord)) .words) (record-used (word f) (recordCount f) (F .form) i l) ne) h
 
     refers-hits : (m b p : ℕ) → refers f m b p ≤ hits (word f) (recordCount f) b m p
     unfolding refers
@@ -103,13 +104,13 @@ module _ (f : List ℕ) where
     }
 
     -- the first procedure is the header's
-    pub first-free : word f 0 1 ≢ 0 → word f 0 1 < recordCount f → refers f (recordCount f - 1) 1 (word f 0 1) ≡ 0
+    pub first-free : word f 0 headerProcedures ≢ 0 → word f 0 headerProcedures < recordCount f → refers f (recordCount f - 1) 1 (word f 0 headerProcedures) ≡ 0
     unfolding references
     first-free ne l =
         omega (
           arith,
-          others (word f 0 1) ne l,
-          refers-hits (recordCount f - 1) 1 (word f 0 1),
-          count-cons (word f 0 1) (word f 0 1) (leading (word f) (recordCount f) 0 2 (row (kindAt (word f) (recordCount f) 0) .words)),
-          hit-same (word f 0 1),
+          others (word f 0 headerProcedures) ne l,
+          refers-hits (recordCount f - 1) 1 (word f 0 headerProcedures),
+          count-cons (word f 0 headerProcedures) (word f 0 headerProcedures) (leading (word f) (recordCount f) 0 2 (row (kindAt (word f) (recordCount f) 0) .words)),
+          hit-same (word f 0 headerProcedures),
         )

@@ -14,6 +14,7 @@ use Rattle.language.specs.Typing.{isRegion, parameterTypes, stepOk}
 use Rattle.language.specs.Regions.{mapping, imageIn, stepRegions}
 use Rattle.language.specs.Lifetimes.{born, startHeld}
 use Rattle.language.specs.Answers.{program}
+use Rattle.language.specs.Format.{headerProcedures}
 use Rattle.laws.specs.Goals.{before-done}
 use Rattle.chains.specs.Layout.{real}
 use Rattle.records.specs.Records.{recordAt}
@@ -69,6 +70,6 @@ module _ {f : List ℕ} {T : Tables} (B : Tabled f T) (A : Accepted (program f))
   pub body-todo : (q : ℕ) → q < length (program f .procedures) → Todo B q (T .body q) (procedureAt (program f) q .body)
   unfolding real
   body-todo q l =
-      let s : Stands f goals (T .body q) = rw (B .body q l) (procedure-goals F _ (stands-nth F procedures refl (word f 0 1) (procedures-stand F) q)) in
+      let s : Stands f goals (T .body q) = rw (B .body q l) (procedure-goals F _ (stands-nth F procedures refl (word f 0 headerProcedures) (procedures-stand F) q)) in
       let d = todo-before B F q 0 done (todo-none refl refl) (T .body q) s (B .bodies q l) in
       rw (body-goals q l) (rw (onto-none (T .body q), before-done (goalsAt f (T .body q))) at d)

@@ -20,6 +20,7 @@ use Rattle.language.specs.File.{word, recordCount}
 use Rattle.language.specs.Program.{inMode, outMode}
 use Rattle.language.specs.Numbers.{literalNumber, residue, less}
 use Rattle.language.specs.Machine.{Lent, Room, holds, roomIn}
+use Rattle.language.specs.Format.{termFunctor, termArguments, callProcedure, maxVariables}
 use Rattle.records.specs.Records.{recordAt}
 use Rattle.records.specs.declared.Record.{Record}
 use Rattle.records.specs.declared.Record.the-variants.{Header, «Type» as TypeOf, Functor, Procedure, Variable, Region, Edge, Literal, Sum, Assign, Construct, Switch, Arm, If, Call, Argument, Print, Create, Remove, Other}
@@ -28,7 +29,7 @@ use Rattle.memory.specs.declared.Contents.{Contents}
 use Rattle.memory.specs.declared.Heap.{Heap}
 use Rattle.memory.specs.declared.Made.{Made}
 use Rattle.memory.specs.declared.Made.the-variants.{At, NoRoom}
-use Rattle.memory.specs.Memory.{cellWord, emptyHeap, created, createdRegions, built, builtCells, builtRegions, removed, removedCells, removedRegions}
+use Rattle.memory.specs.Memory.{cellWords, regionWords, cellWord, emptyHeap, created, createdRegions, built, builtCells, builtRegions, removed, removedCells, removedRegions}
 use Rattle.word_machine.specs.Tables.{Tables, onto, slotOf, givenOf}
 
 -- the lent words and what a run keeps beside them: the newest frame's number, its next goal's record, and how many numbers are printed
@@ -46,9 +47,12 @@ pub record Words : Type 0 where
 abbrev pub frameWords : ℕ
 frameWords = 136
 
--- the word before that of region 1, and the call's
+-- the word before that of region 1, the last region's, and the call's
 abbrev pub regionsFrom : ℕ
-regionsFrom = 64
+regionsFrom = maxVariables
+
+abbrev pub regionsEnd : ℕ
+regionsEnd = 128
 
 abbrev pub callFrom : ℕ
 callFrom = 129
@@ -86,12 +90,12 @@ cleared p (suc n) fw = cleared (suc p) n (set fw p 0)
 
 -- how many words are cleared where n values stand: 8, 16 or all 64
 unfoldable pub blocks : ℕ → ℕ
-blocks n = choose (ltb n 9) 8 (choose (ltb n 17) 16 64)
+blocks n = choose (ltb n 9) 8 (choose (ltb n 17) 16 maxVariables)
 
--- the first record of a list whose word 3 is k
+-- the first record of a list, arms all, whose functor is k
 unfoldable pub armOf : List ℕ → ℕ → List ℕ → ℕ
 armOf f k [] = 0
-armOf f k (j ∷ js) = choose (eqb (word f j 3) k) j (armOf f k js)
+armOf f k (j ∷ js) = choose (eqb (word f j termFunctor) k) j (armOf f k js)
 
 -- variables of the frame at `base` get words in turn, up to the first that is numbered 0 and stands for none
 unfoldable pub givesEach : ℕ → List ℕ → List ℕ → List ℕ → List ℕ
@@ -190,7 +194,7 @@ module _ (f : List ℕ) (T : Tables) where
   -- ---- a switch: the arm of X's cell at record j; the cell at place p
   unfoldable pub armWords : Words → ℕ → ℕ → List ℕ
   armWords w p j =
-      givesEach (goalPlace (w .top)) (word f j 4 ∷ word f j 5 ∷ word f j 6 ∷ word f j 7 ∷ [])
+      givesEach (goalPlace (w .top)) (word f j termArguments ∷ word f j (termArguments + 1) ∷ word f j (termArguments + 2) ∷ word f j (termArguments + 3) ∷ [])
       (cellWord (w .cells) p 1 ∷ cellWord (w .cells) p 2 ∷ cellWord (w .cells) p 3 ∷ cellWord (w .cells) p 4 ∷ []) (w .frames)
 
   unfoldable pub entersArm : Words → ℕ → ℕ → Words
@@ -232,7 +236,7 @@ module _ (f : List ℕ) (T : Tables) where
 
   -- the call at record i made frame suc k; nothing passes where the file has no such record
   unfoldable pub returnWords : ℕ → ℕ → List ℕ → List ℕ
-  returnWords k i fw = choose (ltb i (recordCount f)) (regionsOut k i (members (T .bears (word f i 2))) (valuesOut k i fw)) fw
+  returnWords k i fw = choose (ltb i (recordCount f)) (regionsOut k i (members (T .bears (word f i callProcedure))) (valuesOut k i fw)) fw
 
   unfoldable pub returned : ℕ → Words → Words
   returned k w =
@@ -298,7 +302,7 @@ module _ (f : List ℕ) (T : Tables) where
   unfoldable pub startWords : List ℕ → List ℕ → List ℕ → List ℕ → Words
   startWords m rs fw ps =
       record {
-        heap = emptyHeap (holds (length m) 8) (holds (length rs) 2);
+        heap = emptyHeap (holds (length m) cellWords) (holds (length rs) regionWords);
         cells = m;
         regions = rs;
         frames = cleared 1 (blocks (T .size 0)) fw;
@@ -311,7 +315,7 @@ module _ (f : List ℕ) (T : Tables) where
   -- nothing made and no frame
   unfoldable pub noFrame : List ℕ → List ℕ → List ℕ → List ℕ → Words
   noFrame m rs fw ps =
-      record { heap = emptyHeap (holds (length m) 8) (holds (length rs) 2); cells = m; regions = rs; frames = fw; prints = ps; top = 0; goal = 0; printed = 0 }
+      record { heap = emptyHeap (holds (length m) cellWords) (holds (length rs) regionWords); cells = m; regions = rs; frames = fw; prints = ps; top = 0; goal = 0; printed = 0 }
 
   unfoldable pub runFrom : Bool → Room → ℕ → List ℕ → List ℕ → List ℕ → List ℕ → Outcome
   runFrom true k l m rs fw ps = runOn k l (startWords m rs fw ps .goal) 0 (startWords m rs fw ps)

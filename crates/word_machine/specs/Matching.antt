@@ -11,6 +11,7 @@ use Rattle.language.specs.Lists.{count}
 use Rattle.language.specs.File.{arguments, word, recordCount}
 use Rattle.language.specs.Program.{Parameter, signatureOf, parametersOf}
 use Rattle.language.specs.Answers.{program}
+use Rattle.language.specs.Format.{nextWord, argumentVariable, maxRecords}
 use Rattle.laws.specs.Counts.{hit, hit-same, hit-other, count-cons, count-none}
 use Rattle.chains.specs.Layout.{real}
 use Rattle.records.specs.Records.{recordAt}
@@ -121,12 +122,12 @@ first-or p j js h = elim (ℕ-discrete j p) [ yes e ↦ inl e | no ne ↦ inr (o
 
 module _ {f : List ℕ} (F : Formed f) where
   abbrev calls : List ℕ
-  calls = filled callWords f (recordCount f - 1) 1 (replicate 4096 0)
+  calls = filled callWords f (recordCount f - 1) 1 (replicate maxRecords 0)
 
   calls-hold : (i : ℕ) → 0 < i → i < recordCount f → Holds (referred (recordAt f i)) (callWords i (recordAt f i) (getD calls i 0)) calls
   calls-hold i a b =
       let c = counted F in
-      filled-holds callWords f (recordCount f - 1) 1 (replicate 4096 0) (formed-tree f F) (omega arith) (omega (arith, length-replicate {A = ℕ} 4096 0)) i a (omega arith)
+      filled-holds callWords f (recordCount f - 1) 1 (replicate maxRecords 0) (formed-tree f F) (omega arith) (omega (arith, length-replicate {A = ℕ} maxRecords 0)) i a (omega arith)
 
   first-call : (i n q ys : ℕ) → recordAt f i ≡ Call n q ys → ys ≢ 0 → getD calls ys 0 ≡ i
   unfolding referred callWords
@@ -142,16 +143,16 @@ module _ {f : List ℕ} (F : Formed f) where
   chain-call i =
       along F arguments refl (λ j. (j ≢ 0 → getD calls j 0 ≡ i) → (p : ℕ) → 0 < count p (chainRecords f j) → getD calls p 0 ≡ i)
       (λ e p h. absurd (empty p h))
-      (λ j s z ih e p h. go j s z ih e p (first-or p j (chainRecords f (word f j 1)) (rw (records-step {w = word f j 1} F z (s .below) refl) at h)))
+      (λ j s z ih e p h. go j s z ih e p (first-or p j (chainRecords f (word f j nextWord)) (rw (records-step {w = word f j nextWord} F z (s .below) refl) at h)))
     where
       empty : (p : ℕ) → 0 < count p (chainRecords f 0) → ⊥
       empty p h = let k : 0 < count p [] = rw (records-none f {i = 0} refl) at h in omega (arith, count-none p)
 
       go : (j : ℕ) → Stands f arguments j → (z : j ≢ 0)
-          → ((word f j 1 ≢ 0 → getD calls (word f j 1) 0 ≡ i) → (p : ℕ) → 0 < count p (chainRecords f (word f j 1)) → getD calls p 0 ≡ i)
-          → (j ≢ 0 → getD calls j 0 ≡ i) → (p : ℕ) → (j ≡ p) ⊎ (0 < count p (chainRecords f (word f j 1))) → getD calls p 0 ≡ i
+          → ((word f j nextWord ≢ 0 → getD calls (word f j nextWord) 0 ≡ i) → (p : ℕ) → 0 < count p (chainRecords f (word f j nextWord)) → getD calls p 0 ≡ i)
+          → (j ≢ 0 → getD calls j 0 ≡ i) → (p : ℕ) → (j ≡ p) ⊎ (0 < count p (chainRecords f (word f j nextWord))) → getD calls p 0 ≡ i
       go j s z ih e p (inl y) = ap (λ k. getD calls k 0) (sym y) ∙ e z
-      go j s z ih e p (inr h) = ih (λ y. next-call j (word f j 1) (word f j 2) (argument-is s z) y ∙ e z) p h
+      go j s z ih e p (inr h) = ih (λ y. next-call j (word f j nextWord) (word f j argumentVariable) (argument-is s z) y ∙ e z) p h
 
   of-call : (i n q ys : ℕ) → recordAt f i ≡ Call n q ys → (p : ℕ) → 0 < count p (chainRecords f ys) → getD calls p 0 ≡ i
   of-call i n q ys e = chain-call i ys (call-at F refl e .to-arguments .stands) (first-call i n q ys e)
@@ -162,18 +163,18 @@ module _ {f : List ℕ} (F : Formed f) where
   chain-low =
       along F arguments refl (λ j. (p : ℕ) → 0 < count p (chainRecords f j) → (j ≤ p) × (0 < p) × (p < recordCount f))
       (λ p h. absurd (empty p h))
-      (λ j s z ih p h. go j s z ih p (first-or p j (chainRecords f (word f j 1)) (rw (records-step {w = word f j 1} F z (s .below) refl) at h)))
+      (λ j s z ih p h. go j s z ih p (first-or p j (chainRecords f (word f j nextWord)) (rw (records-step {w = word f j nextWord} F z (s .below) refl) at h)))
     where
       empty : (p : ℕ) → 0 < count p (chainRecords f 0) → ⊥
       empty p h = let k : 0 < count p [] = rw (records-none f {i = 0} refl) at h in omega (arith, count-none p)
 
-      onward : (j p : ℕ) → 0 < count p (chainRecords f (word f j 1)) → (word f j 1 ≡ 0) ⊎ (j < word f j 1) → j < word f j 1
+      onward : (j p : ℕ) → 0 < count p (chainRecords f (word f j nextWord)) → (word f j nextWord ≡ 0) ⊎ (j < word f j nextWord) → j < word f j nextWord
       onward j p h (inl z) = absurd (let k : 0 < count p (chainRecords f 0) = rw z at h in empty p k)
       onward j p h (inr l) = l
 
       go : (j : ℕ) (s : Stands f arguments j) → (z : j ≢ 0)
-          → ((p : ℕ) → 0 < count p (chainRecords f (word f j 1)) → (word f j 1 ≤ p) × (0 < p) × (p < recordCount f))
-          → (p : ℕ) → (j ≡ p) ⊎ (0 < count p (chainRecords f (word f j 1))) → (j ≤ p) × (0 < p) × (p < recordCount f)
+          → ((p : ℕ) → 0 < count p (chainRecords f (word f j nextWord)) → (word f j nextWord ≤ p) × (0 < p) × (p < recordCount f))
+          → (p : ℕ) → (j ≡ p) ⊎ (0 < count p (chainRecords f (word f j nextWord))) → (j ≤ p) × (0 < p) × (p < recordCount f)
       go j s z ih p (inl y) = (omega arith, omega (arith, z), omega (arith, s .below))
       go j s z ih p (inr h) =
           let a = ih p h in
@@ -184,26 +185,26 @@ module _ {f : List ℕ} (F : Formed f) where
   unfolding real
   chain-once =
       along F arguments refl (λ j. (p : ℕ) → count p (chainRecords f j) ≤ 1) (λ p. rw (records-none f {i = 0} refl) (omega (arith, count-none p)))
-      (λ j s z ih p. rw (records-step {w = word f j 1} F z (s .below) refl) (go j s z p (ih p) (ℕ-discrete j p)))
+      (λ j s z ih p. rw (records-step {w = word f j nextWord} F z (s .below) refl) (go j s z p (ih p) (ℕ-discrete j p)))
     where
-      none : (j p : ℕ) (s : Stands f arguments j) → (z : j ≢ 0) → j ≡ p → (k : ℕ) → count p (chainRecords f (word f j 1)) ≡ k → k ≡ 0
+      none : (j p : ℕ) (s : Stands f arguments j) → (z : j ≢ 0) → j ≡ p → (k : ℕ) → count p (chainRecords f (word f j nextWord)) ≡ k → k ≡ 0
       none j p s z e zero q = refl
       none j p s z e (suc k) q =
           let n = argument-at F refl (argument-is s z) .to-next in
-          let a = chain-low (word f j 1) (n .stands) p (omega arith) in
+          let a = chain-low (word f j nextWord) (n .stands) p (omega arith) in
           absurd (above (n .order) (a .0) (a .1))
         where
-          above : (word f j 1 ≡ 0) ⊎ (j < word f j 1) → word f j 1 ≤ p → 0 < p → ⊥
-          above (inl y) l h = let b : 0 < count p (chainRecords f 0) = rw y at (let g : 0 < count p (chainRecords f (word f j 1)) = omega arith in g) in
+          above : (word f j nextWord ≡ 0) ⊎ (j < word f j nextWord) → word f j nextWord ≤ p → 0 < p → ⊥
+          above (inl y) l h = let b : 0 < count p (chainRecords f 0) = rw y at (let g : 0 < count p (chainRecords f (word f j nextWord)) = omega arith in g) in
               let c : 0 < count p [] = rw (records-none f {i = 0} refl) at b in omega (arith, count-none p)
           above (inr y) l h = omega arith
 
-      go : (j : ℕ) (s : Stands f arguments j) → (z : j ≢ 0) → (p : ℕ) → count p (chainRecords f (word f j 1)) ≤ 1 → Dec (j ≡ p)
-          → count p (j ∷ chainRecords f (word f j 1)) ≤ 1
+      go : (j : ℕ) (s : Stands f arguments j) → (z : j ≢ 0) → (p : ℕ) → count p (chainRecords f (word f j nextWord)) ≤ 1 → Dec (j ≡ p)
+          → count p (j ∷ chainRecords f (word f j nextWord)) ≤ 1
       go j s z p h (yes e) =
           let o : hit j p ≡ 1 = rw (← e) (hit-same j) in
-          omega (arith, count-cons p j (chainRecords f (word f j 1)), none j p s z e _ refl)
-      go j s z p h (no ne) = omega (arith, count-cons p j (chainRecords f (word f j 1)), hit-other j p ne)
+          omega (arith, count-cons p j (chainRecords f (word f j nextWord)), none j p s z e _ refl)
+      go j s z p h (no ne) = omega (arith, count-cons p j (chainRecords f (word f j nextWord)), hit-other j p ne)
 
   -- ---- the pass
   module _ (g : Parameter → ℕ) where

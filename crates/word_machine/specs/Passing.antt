@@ -9,17 +9,18 @@ use lib.Dec.{eqb}
 use lib.ListN.{length}
 use Rattle.sets.specs.Members.{consIf, inList, cons-here, cons-later}
 use Rattle.language.specs.Program.{Parameter, parameterVariables, argumentsIn}
-use Rattle.word_machine.specs.Tables.{slotOf, givenOf}
+use Rattle.language.specs.Format.{maxVariables}
+use Rattle.word_machine.specs.Tables.{givenUnit, linkUnit, slotOf, givenOf}
 
 -- the word of an argument: the callee's variable, the caller's, and what else it says
 unfoldable pub packed : ℕ → ℕ → ℕ → ℕ
-packed slot given more = slot + 256 * given + 65536 * more
+packed slot given more = slot + givenUnit * given + linkUnit * more
 
-pub packed-slot : (s g n : ℕ) → s ≤ 64 → g ≤ 64 → slotOf (packed s g n) ≡ s
+pub packed-slot : (s g n : ℕ) → s ≤ maxVariables → g ≤ maxVariables → slotOf (packed s g n) ≡ s
 unfolding slotOf packed
 packed-slot s g n a b = omega arith
 
-pub packed-given : (s g n : ℕ) → s ≤ 64 → g ≤ 64 → givenOf (packed s g n) ≡ g
+pub packed-given : (s g n : ℕ) → s ≤ maxVariables → g ≤ maxVariables → givenOf (packed s g n) ≡ g
 unfolding givenOf packed
 packed-given s g n a b = omega arith
 

@@ -17,10 +17,11 @@ use Rattle.language.specs.Frames.{Value}
 use Rattle.language.specs.AcceptedRun.{RegionFrame, Memory}
 use Rattle.language.specs.Machine.{Room}
 use Rattle.language.specs.Answers.{program}
+use Rattle.language.specs.Format.{callProcedure, maxVariables, maxRegions}
 use Rattle.heap.specs.Standing.{Stands, stands-more}
 use Rattle.heap.specs.Represents.{Represents}
 use Rattle.word_machine.specs.Tables.{Tables, slotOf, givenOf, Passed, Tabled}
-use Rattle.word_machine.specs.Machine.{frameWords, Words, goalPlace, valuePlace, regionPlace, callPlace}
+use Rattle.word_machine.specs.Machine.{regionsFrom, regionsEnd, frameWords, Words, goalPlace, valuePlace, regionPlace, callPlace}
 use Rattle.word_machine.specs.Statement.{Printed}
 use Rattle.word_machine.specs.Successors.{Todo}
 
@@ -64,15 +65,15 @@ module _ {f : List ℕ} {T : Tables} (B : Tabled f T) where
   -- frame k of the words fw, whose next goal is at record i, stands for the frame e
   pub record FrameOk (fw : List ℕ) (k : ℕ) (L : Where) (i : ℕ) (e : RegionFrame) : Type 0 where
     pub fits : frameWords * suc k ≤ length fw
-    pub values : (x : ℕ) → 1 ≤ x → x ≤ 64 → isVariable (sig f (e .frame .procedure)) x ≡ true → Means L (getD fw (valuePlace k x) 0) (e .frame .values x)
-    pub regions : (r : ℕ) → 1 ≤ r → r ≤ 64 → Names L (getD fw (regionPlace k r) 0) (e .stands r)
+    pub values : (x : ℕ) → 1 ≤ x → x ≤ maxVariables → isVariable (sig f (e .frame .procedure)) x ≡ true → Means L (getD fw (valuePlace k x) 0) (e .frame .values x)
+    pub regions : (r : ℕ) → 1 ≤ r → r ≤ maxRegions → Names L (getD fw (regionPlace k r) 0) (e .stands r)
     pub todo : Todo B (e .frame .procedure) i (e .frame .goals)
 
   -- record i is a call of q with arguments zs, from procedure p
   pub record Linked (i p q : ℕ) (zs : List ℕ) : Type 0 where
     pub there : i < recordCount f
     pub some : q < length (program f .procedures)
-    pub callee : word f i 2 ≡ q
+    pub callee : word f i callProcedure ≡ q
     pub slots : (m : ℕ) → Passed m → map slotOf (T .passes m i) ≡ variablesIn m (sig f q)
     pub places : (m : ℕ) → Passed m → map givenOf (T .passes m i) ≡ argumentsIn m (parametersOf (sig f q)) zs
     pub variables : (y : ℕ) → inList y zs ≡ true → isVariable (sig f p) y ≡ true
@@ -88,7 +89,7 @@ module _ {f : List ℕ} {T : Tables} (B : Tabled f T) where
 
   -- ---- words of a frame that stay as they are
   module _ {L L′ : Where} (t : Later L L′) {fw fw′ : List ℕ} (long : length fw′ ≡ length fw) where
-    pub frame-later : {k i : ℕ} {e : RegionFrame} → ((j : ℕ) → 1 ≤ j → j ≤ 128 → getD fw′ (frameWords * k + j) 0 ≡ getD fw (frameWords * k + j) 0)
+    pub frame-later : {k i : ℕ} {e : RegionFrame} → ((j : ℕ) → 1 ≤ j → j ≤ regionsEnd → getD fw′ (frameWords * k + j) 0 ≡ getD fw (frameWords * k + j) 0)
         → FrameOk fw k L i e → FrameOk fw′ k L′ i e
     frame-later {k} {i} {e} same F = record {
       fits = omega (arith, F .fits);
@@ -97,8 +98,8 @@ module _ {f : List ℕ} {T : Tables} (B : Tabled f T) where
       todo = F .todo;
     }
       where
-        place : (r : ℕ) → 1 ≤ r → r ≤ 64 → getD fw′ (regionPlace k r) 0 ≡ getD fw (regionPlace k r) 0
-        place r l h = let z : frameWords * k + (64 + r) ≡ frameWords * k + 64 + r = omega arith in rw (← z) (same (64 + r) (omega arith) (omega arith))
+        place : (r : ℕ) → 1 ≤ r → r ≤ maxRegions → getD fw′ (regionPlace k r) 0 ≡ getD fw (regionPlace k r) 0
+        place r l h = let z : frameWords * k + (regionsFrom + r) ≡ frameWords * k + regionsFrom + r = omega arith in rw (← z) (same (regionsFrom + r) (omega arith) (omega arith))
 
     pub waiting-later : {q k : ℕ} {zs : List ℕ} {fs : List RegionFrame} → ((j : ℕ) → j < frameWords * k → getD fw′ j 0 ≡ getD fw j 0)
         → getD fw′ (callPlace k) 0 ≡ getD fw (callPlace k) 0 → Waiting fw L q zs k fs → Waiting fw′ L′ q zs k fs

@@ -18,21 +18,22 @@ use Rattle.language.specs.Lifetimes.{born}
 use Rattle.language.specs.Frames.{returning, settle}
 use Rattle.language.specs.AcceptedRun.{RegionFrame, standEach, mappingFrom, returnStands, returningRegions}
 use Rattle.language.specs.Answers.{program}
+use Rattle.language.specs.Format.{maxVariables, maxRegions}
 use Rattle.laws.specs.Choices.{choose-true}
 use Rattle.laws.specs.Lists.{image-listed}
 use Rattle.region_graph.specs.Parameters.{arguments-in, parameter-variable, mode-parameter}
 use Rattle.region_graph.specs.Shared.{variable-top, region-top}
 use Rattle.safety.specs.Premises.{Accepted, laws}
 use Rattle.word_machine.specs.Tables.{Tables, slotOf, givenOf, Passed, Tabled}
-use Rattle.word_machine.specs.Machine.{frameWords, Words, valuePlace, regionPlace, callPlace, copied, valuesOut, regionsOut, returnWords, returned, settledFrom}
+use Rattle.word_machine.specs.Machine.{regionsFrom, regionsEnd, frameWords, Words, valuePlace, regionPlace, callPlace, copied, valuesOut, regionsOut, returnWords, returned, settledFrom}
 use Rattle.word_machine.specs.Successors.{todo-end, todo-next}
 use Rattle.word_machine.specs.Copies.{copied-length, copied-other, copied-related, puts-give, puts-stand}
 use Rattle.word_machine.specs.Relation.{Where, Means, Names, not-later, sig, FrameOk, Linked, Waiting, none, more, waiting-later, Running}
 
 -- members are numbers from 1 to 64
-pub members-range : (s : _) (r : ℕ) → inList r (members s) ≡ true → (member s r ≡ true) × (1 ≤ r) × (r ≤ 64)
+pub members-range : (s : _) (r : ℕ) → inList r (members s) ≡ true → (member s r ≡ true) × (1 ≤ r) × (r ≤ maxRegions)
 unfolding members
-members-range s r i = let m = membersFrom-in s 64 1 r i in (m .0, m .1, omega (arith, m .2))
+members-range s r i = let m = membersFrom-in s maxRegions 1 r i in (m .0, m .1, omega (arith, m .2))
 
 -- equal names stand for the same
 pub stand-named : (name name′ meant : ℕ → ℕ) (rs : List ℕ) (t : ℕ → ℕ) → ((r : ℕ) → inList r rs ≡ true → name r ≡ name′ r)
@@ -57,10 +58,10 @@ module _ {f : List ℕ} {T : Tables} (B : Tabled f T) (A : Accepted (program f))
     callee-variable a h =
         parameter-variable (sig f q) (slotOf a) (mode-parameter (sig f q) m (slotOf a) (rw (N .slots m d) at (image-listed slotOf passing a h)))
 
-    pub caller-range : (a : ℕ) → inList a passing ≡ true → (1 ≤ givenOf a) × (givenOf a ≤ 64)
+    pub caller-range : (a : ℕ) → inList a passing ≡ true → (1 ≤ givenOf a) × (givenOf a ≤ maxVariables)
     caller-range a h = variable-top _ _ (laws A p) (givenOf a) (caller-variable a h)
 
-    pub callee-range : (a : ℕ) → inList a passing ≡ true → (1 ≤ slotOf a) × (slotOf a ≤ 64)
+    pub callee-range : (a : ℕ) → inList a passing ≡ true → (1 ≤ slotOf a) × (slotOf a ≤ maxVariables)
     callee-range a h = variable-top _ _ (laws A q) (slotOf a) (callee-variable a h)
 
   -- ---- frame suc k, which stands for e, returns to frame k, which stands for u
@@ -89,24 +90,24 @@ module _ {f : List ℕ} {T : Tables} (B : Tabled f T) (A : Accepted (program f))
     long2 = copied-length (λ r. regionPlace k (T .image c r)) (λ r. regionPlace (suc k) r) borns fw1 ∙ long1
 
     -- words that are no value of frame k stay, then those that are no region's of it
-    kept1 : (j : ℕ) → (j ≤ frameWords * k) ⊎ (frameWords * k + 64 < j) → getD fw1 j 0 ≡ getD fw j 0
+    kept1 : (j : ℕ) → (j ≤ frameWords * k) ⊎ (frameWords * k + maxVariables < j) → getD fw1 j 0 ≡ getD fw j 0
     kept1 j o = copied-other (λ a. valuePlace k (givenOf a)) (λ a. valuePlace (suc k) (slotOf a)) outs fw j (λ a h z. differ a h z o)
       where
-        differ : (a : ℕ) → inList a outs ≡ true → j ≡ valuePlace k (givenOf a) → (j ≤ frameWords * k) ⊎ (frameWords * k + 64 < j) → ⊥
+        differ : (a : ℕ) → inList a outs ≡ true → j ≡ valuePlace k (givenOf a) → (j ≤ frameWords * k) ⊎ (frameWords * k + maxVariables < j) → ⊥
         differ a h z (inl o) = let r = caller-range N outMode (inr refl) a h in omega (arith, r .0)
         differ a h z (inr o) = let r = caller-range N outMode (inr refl) a h in omega (arith, r .1)
 
-    born-image : (r : ℕ) → inList r borns ≡ true → (1 ≤ T .image c r) × (T .image c r ≤ 64)
+    born-image : (r : ℕ) → inList r borns ≡ true → (1 ≤ T .image c r) × (T .image c r ≤ maxRegions)
     born-image r h = region-top _ _ (laws A (u .frame .procedure)) (T .image c r) (N .images r (inr (members-range _ r h .0)) .1)
 
-    kept2 : (j : ℕ) → (j ≤ frameWords * k + 64) ⊎ (frameWords * k + 128 < j) → getD fw2 j 0 ≡ getD fw1 j 0
+    kept2 : (j : ℕ) → (j ≤ frameWords * k + regionsFrom) ⊎ (frameWords * k + regionsEnd < j) → getD fw2 j 0 ≡ getD fw1 j 0
     kept2 j o = copied-other (λ r. regionPlace k (T .image c r)) (λ r. regionPlace (suc k) r) borns fw1 j (λ r h z. differ r h z o)
       where
-        differ : (r : ℕ) → inList r borns ≡ true → j ≡ regionPlace k (T .image c r) → (j ≤ frameWords * k + 64) ⊎ (frameWords * k + 128 < j) → ⊥
+        differ : (r : ℕ) → inList r borns ≡ true → j ≡ regionPlace k (T .image c r) → (j ≤ frameWords * k + regionsFrom) ⊎ (frameWords * k + regionsEnd < j) → ⊥
         differ r h z (inl o) = let b = born-image r h in omega (arith, b .0)
         differ r h z (inr o) = let b = born-image r h in omega (arith, b .1)
 
-    out-values : (x : ℕ) → 1 ≤ x → x ≤ 64 → isVariable (sig f (u .frame .procedure)) x ≡ true
+    out-values : (x : ℕ) → 1 ≤ x → x ≤ maxVariables → isVariable (sig f (u .frame .procedure)) x ≡ true
         → Means L (getD fw2 (valuePlace k x) 0) (returning (program f) (e .frame) (u .frame) .values x)
     unfolding returning
     out-values x l h v =
@@ -123,7 +124,7 @@ module _ {f : List ℕ} {T : Tables} (B : Tabled f T) (A : Accepted (program f))
         (λ a b m n z. let r = caller-range N outMode (inr refl) a m in let s = callee-range N outMode (inr refl) b n in omega (arith, r .1, s .0))
         (G .values x l h v))
 
-    out-regions : (r : ℕ) → 1 ≤ r → r ≤ 64 → Names L (getD fw2 (regionPlace k r) 0)
+    out-regions : (r : ℕ) → 1 ≤ r → r ≤ maxRegions → Names L (getD fw2 (regionPlace k r) 0)
         (returnStands (mapping (sig f (u .frame .procedure)) (sig f (e .frame .procedure)) (e .frame .arguments)) (sig f (e .frame .procedure)) (e .stands) (u .stands) r)
     unfolding returnStands
     out-regions r l h =
@@ -132,7 +133,7 @@ module _ {f : List ℕ} {T : Tables} (B : Tabled f T) (A : Accepted (program f))
               (λ q m. N .images q (inr (members-range _ q m .0)) .0),
           ← puts-stand (T .image c) (e .stands) borns (u .stands),
         )
-        (copied-related (Names L) (frameWords * k + 64) (λ q. regionPlace k (T .image c q)) (λ q. regionPlace (suc k) q) (T .image c) (e .stands) borns fw1 (u .stands) r
+        (copied-related (Names L) (frameWords * k + regionsFrom) (λ q. regionPlace k (T .image c q)) (λ q. regionPlace (suc k) q) (T .image c) (e .stands) borns fw1 (u .stands) r
         (λ q m. let b = born-image q m in let s = members-range _ q m in
         (refl, omega (arith, b .1, G .fits, long1), rw (kept1 (regionPlace (suc k) q) (inr (omega arith))) (F .regions q (s .1) (s .2))))
         (λ a b m n z. let r = born-image a m in let s = members-range _ b n in omega (arith, r .1))

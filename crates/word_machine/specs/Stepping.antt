@@ -13,10 +13,11 @@ use Rattle.language.specs.Typing.{isVariable, isRegion}
 use Rattle.language.specs.Frames.{Value, withGoals, giving}
 use Rattle.language.specs.AcceptedRun.{RegionFrame, withFrame}
 use Rattle.language.specs.Answers.{program}
+use Rattle.language.specs.Format.{maxVariables, maxRegions}
 use Rattle.region_graph.specs.Shared.{variable-top, region-top}
 use Rattle.safety.specs.Premises.{Accepted, laws}
 use Rattle.word_machine.specs.Tables.{Tables, Tabled}
-use Rattle.word_machine.specs.Machine.{frameWords, valuePlace, regionPlace, callPlace}
+use Rattle.word_machine.specs.Machine.{regionsFrom, frameWords, valuePlace, regionPlace, callPlace}
 use Rattle.word_machine.specs.Successors.{Todo}
 use Rattle.word_machine.specs.Copies.{set-related}
 use Rattle.word_machine.specs.Relation.{Where, Later, Means, Names, not-later, sig, FrameOk, Waiting, frame-later, waiting-later}
@@ -42,7 +43,7 @@ module _ {f : List ℕ} {T : Tables} (B : Tabled f T) (A : Accepted (program f))
       low : 1 ≤ x
       low = variable-top _ _ (laws A (e .frame .procedure)) x v .0
 
-      high : x ≤ 64
+      high : x ≤ maxVariables
       high = variable-top _ _ (laws A (e .frame .procedure)) x v .1
 
       long : length (set fw (valuePlace k x) w) ≡ length fw
@@ -69,7 +70,7 @@ module _ {f : List ℕ} {T : Tables} (B : Tabled f T) (A : Accepted (program f))
       low′ : 1 ≤ r
       low′ = region-top _ _ (laws A (e .frame .procedure)) r v .0
 
-      high′ : r ≤ 64
+      high′ : r ≤ maxRegions
       high′ = region-top _ _ (laws A (e .frame .procedure)) r v .1
 
       long′ : length (set fw (regionPlace k r) w) ≡ length fw
@@ -82,7 +83,7 @@ module _ {f : List ℕ} {T : Tables} (B : Tabled f T) (A : Accepted (program f))
       name-frame s n = record {
         fits = omega (arith, G .fits, long′);
         values = λ y l h u. rw (other′ (valuePlace k y) (λ z. omega (arith, low′))) (G .values y l h u);
-        regions = λ q l h. set-related (Names L) (frameWords * k + 64) fw r w s (e .stands) q (omega (arith, G .fits, high′)) n (G .regions q l h);
+        regions = λ q l h. set-related (Names L) (frameWords * k + regionsFrom) fw r w s (e .stands) q (omega (arith, G .fits, high′)) n (G .regions q l h);
         todo = G .todo;
       }
 

@@ -21,7 +21,6 @@ use Rattle.region_graph.specs.Shared.{variable-top}
 use Rattle.heap.specs.Standing as Standing
 use Rattle.word_machine.specs.Tables.{Tables, Tabled}
 use Rattle.word_machine.specs.Machine.{Words, valuePlace, literalWord, sumWord, withFrames, given, valueOf, Went, went, stops}
-use Rattle.word_machine.specs.Machine as M
 use Rattle.word_machine.specs.Numbers.{literal-word, sum-word, number-word}
 use Rattle.word_machine.specs.Premises.{Number}
 use Rattle.word_machine.specs.Relation.{whereIn, Means, sig, FrameOk, Waiting, Running, Stored}

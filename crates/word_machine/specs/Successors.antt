@@ -5,6 +5,7 @@ use mathlib.Core.Path.{_≡_, refl, _∙_}
 use mathlib.Core.List.{List}
 use Rattle.language.specs.File.{goals, word}
 use Rattle.language.specs.Program.{Goals, done, _then_, Goal, _before_}
+use Rattle.language.specs.Format.{nextWord}
 use Rattle.chains.specs.Layout.{real}
 use Rattle.chains.specs.Formed.{Formed, Stands, goalsAt, goalAt, goals-none}
 use Rattle.chains.specs.Is.{goals-step}
@@ -31,11 +32,11 @@ module _ {f : List ℕ} {T : Tables} (B : Tabled f T) where
       onto-some zero z = absurd (z refl)
       onto-some (suc i) z = refl
 
-      first : (i : ℕ) → Stands f goals i → (i ≡ 0 → ⊥) → B .onward i ≡ c → B .owner i ≡ p → Todo p (onto (word f i 1) c) (goalsAt f (word f i 1) before rest)
+      first : (i : ℕ) → Stands f goals i → (i ≡ 0 → ⊥) → B .onward i ≡ c → B .owner i ≡ p → Todo p (onto (word f i nextWord) c) (goalsAt f (word f i nextWord) before rest)
           → Todo p (onto i c) (goalsAt f i before rest)
       first i s z o q d =
-          rw (onto-some i z, goals-step {w = word f i 1} F s z refl)
-          (todo-goal {rest = goalsAt f (word f i 1) before rest} s z q refl (rw (B .next i s z, o) d))
+          rw (onto-some i z, goals-step {w = word f i nextWord} F s z refl)
+          (todo-goal {rest = goalsAt f (word f i nextWord) before rest} s z q refl (rw (B .next i s z, o) d))
 
   -- what is next
   pub todo-end : {p i : ℕ} {gs : Goals} → Todo p i gs → gs ≡ done → i ≡ 0

@@ -8,11 +8,12 @@ use lib.ListN.{length, getD, set, length-set}
 use lib.Seq.{getD-set-other}
 use Rattle.sets.specs.Members.{cons-here}
 use Rattle.language.specs.Lists.{put}
-use Rattle.language.specs.File.{word}
-use Rattle.language.specs.Program.{four, fourWords, trimOnto, trimmed}
+use Rattle.language.specs.Program.{fourWords, trimOnto, trimmed}
 use Rattle.language.specs.Frames.{Value, giveEach}
+use Rattle.language.specs.Format.{maxVariables}
 use Rattle.heap.specs.Words.{argumentWords, arguments-are}
 use Rattle.heap.specs.Standing.{StandEach}
+use Rattle.chains.specs.Parts.{fourAt}
 use Rattle.word_machine.specs.Tables.{Tables}
 use Rattle.word_machine.specs.Machine.{frameWords, Words, givesEach, armWords}
 use Rattle.word_machine.specs.Copies.{set-related}
@@ -20,7 +21,7 @@ use Rattle.word_machine.specs.Trimmed.{Ranged, ranged-rest, none-behind}
 use Rattle.word_machine.specs.Relation.{Where, Means}
 
 pub arm-each : (f : List ℕ) (T : Tables) (w : Words) (p j : ℕ)
-    → armWords f T w p j ≡ givesEach (frameWords * w .top) (fourWords (four (word f j 4) (word f j 5) (word f j 6) (word f j 7))) (argumentWords (w .cells) p) (w .frames)
+    → armWords f T w p j ≡ givesEach (frameWords * w .top) (fourWords (fourAt f j)) (argumentWords (w .cells) p) (w .frames)
 unfolding armWords fourWords
 arm-each f T w p j = rw (arguments-are (w .cells) p)
 
@@ -33,7 +34,7 @@ each-length base (suc y ∷ ys) (w ∷ ws) fw = each-length base ys ws (set fw (
 
 module _ (base : ℕ) where
   -- ---- words that are no variable's stay
-  pub each-other : (ys ws fw : List ℕ) (j : ℕ) → Ranged (trimmed ys) → (j < base) ⊎ (base + 64 < j) → getD (givesEach base ys ws fw) j 0 ≡ getD fw j 0
+  pub each-other : (ys ws fw : List ℕ) (j : ℕ) → Ranged (trimmed ys) → (j < base) ⊎ (base + maxVariables < j) → getD (givesEach base ys ws fw) j 0 ≡ getD fw j 0
   unfolding givesEach trimmed trimOnto
   each-other [] ws fw j r o = refl
   each-other (y ∷ ys) [] fw j r o = refl
@@ -42,13 +43,13 @@ module _ (base : ℕ) where
       each-other ys ws (set fw (base + suc y) w) j (ranged-rest y (trimmed ys) r) o
       ∙ getD-set-other fw (base + suc y) j w 0 (λ z. differ z (r (suc y) (cons-here (suc y) (suc y) (trimmed ys) refl) .1) o)
     where
-      differ : j ≡ base + suc y → suc y ≤ 64 → (j < base) ⊎ (base + 64 < j) → ⊥
+      differ : j ≡ base + suc y → suc y ≤ maxVariables → (j < base) ⊎ (base + maxVariables < j) → ⊥
       differ z l (inl o) = omega arith
       differ z l (inr o) = omega arith
 
   -- ---- the words of the variables stand for what they are given
   module _ (L : Where) (x : ℕ) where
-    pub each-means : (ys ws : List ℕ) (vs : List Value) (fw : List ℕ) (t : ℕ → Value) → length ys ≤ length ws → base + 64 < length fw
+    pub each-means : (ys ws : List ℕ) (vs : List Value) (fw : List ℕ) (t : ℕ → Value) → length ys ≤ length ws → base + maxVariables < length fw
         → StandEach (L .cellAt) (L .cells) ws vs → length vs ≡ length (trimmed ys) → Ranged (trimmed ys) → Means L (getD fw (base + x) 0) (t x)
         → Means L (getD (givesEach base ys ws fw) (base + x) 0) (giveEach (trimmed ys) vs t x)
     unfolding trimmed trimOnto givesEach giveEach StandEach

@@ -13,6 +13,7 @@ use Rattle.language.specs.Program.{inMode, outMode, regionOf, signatureOf, para
 use Rattle.language.specs.Regions.{mapping, imageIn}
 use Rattle.language.specs.Lifetimes.{born, startHeld}
 use Rattle.language.specs.Answers.{program}
+use Rattle.language.specs.Format.{nextWord, headerProcedures, procedureGoals, armGoals}
 use Rattle.records.specs.Records.{recordAt}
 use Rattle.records.specs.declared.Record.the-variants.{Construct, Switch, If, Call}
 use Rattle.chains.specs.Formed.{Stands, argumentsAt}
@@ -30,12 +31,18 @@ pub record Tables : Type 0 where
   pub held : ℕ → Set  -- .. its dead and kept regions
   pub bears : ℕ → Set  -- .. its born regions
 
--- what an argument passes, as one word: the callee's variable, the caller's, and more that means nothing here
+-- what an argument passes, as one word: the callee's variable, the caller's so many times, and so many times more that means nothing here
+abbrev pub givenUnit : ℕ
+givenUnit = 256
+
+abbrev pub linkUnit : ℕ
+linkUnit = 65536
+
 unfoldable pub slotOf : ℕ → ℕ
-slotOf w = w % 256
+slotOf w = w % givenUnit
 
 unfoldable pub givenOf : ℕ → ℕ
-givenOf w = w / 256 % 256
+givenOf w = w / givenUnit % givenUnit
 
 -- the modes that pass values: in and out
 abbrev pub Passed : ℕ → Type 0
@@ -52,7 +59,7 @@ Starts onward owner w c p = (w ≡ 0 → ⊥) → (onward w ≡ c) × (owner w �
 
 -- the record of a procedure's first goal
 abbrev pub bodyRecord : List ℕ → ℕ → ℕ
-bodyRecord f p = fieldOf f (nth 0 (chainRecords f (word f 0 1)) p) 4
+bodyRecord f p = fieldOf f (nth 0 (chainRecords f (word f 0 headerProcedures)) p) procedureGoals
 
 -- The tables of an accepted file. "After a goal chain ends, the next goal is the enclosing goal's next" is an equation for each reference of
 -- each record, so that one pass over the records in rising order can fill the table: `onward` is where the chain of a record goes on after its
@@ -60,16 +67,16 @@ bodyRecord f p = fieldOf f (nth 0 (chainRecords f (word f 0 1)) p) 4
 pub record Tabled (f : List ℕ) (T : Tables) : Type 0 where
   pub onward : ℕ → ℕ
   pub owner : ℕ → ℕ
-  pub next : (i : ℕ) → Stands f goals i → (i ≡ 0 → ⊥) → T .successor i ≡ onto (word f i 1) (onward i)
-  pub goal-next : (i : ℕ) → Stands f goals i → (i ≡ 0 → ⊥) → Starts onward owner (word f i 1) (onward i) (owner i)
-  pub arm-next : (i : ℕ) → Stands f arms i → (i ≡ 0 → ⊥) → Starts onward owner (word f i 1) (onward i) (owner i)
-  pub arm-goals : (i : ℕ) → Stands f arms i → (i ≡ 0 → ⊥) → Starts onward owner (word f i 2) (onward i) (owner i)
+  pub next : (i : ℕ) → Stands f goals i → (i ≡ 0 → ⊥) → T .successor i ≡ onto (word f i nextWord) (onward i)
+  pub goal-next : (i : ℕ) → Stands f goals i → (i ≡ 0 → ⊥) → Starts onward owner (word f i nextWord) (onward i) (owner i)
+  pub arm-next : (i : ℕ) → Stands f arms i → (i ≡ 0 → ⊥) → Starts onward owner (word f i nextWord) (onward i) (owner i)
+  pub arm-goals : (i : ℕ) → Stands f arms i → (i ≡ 0 → ⊥) → Starts onward owner (word f i armGoals) (onward i) (owner i)
   pub switch-arms : (i n x cs : ℕ) → recordAt f i ≡ Switch n x cs → Starts onward owner cs (T .successor i) (owner i)
   pub if-then : (i n y z a b : ℕ) → recordAt f i ≡ If n y z a b → Starts onward owner a (T .successor i) (owner i)
   pub if-else : (i n y z a b : ℕ) → recordAt f i ≡ If n y z a b → Starts onward owner b (T .successor i) (owner i)
   pub bodies : (p : ℕ) → p < length (program f .procedures) → Starts onward owner (T .body p) 0 p
   pub region : (i n x k a b c d : ℕ) → recordAt f i ≡ Construct n x k a b c d → T .region i ≡ regionOf (signatureOf (program f) (owner i)) x
-  pub arm-entry : (i : ℕ) → Stands f arms i → (i ≡ 0 → ⊥) → T .entry i ≡ onto (word f i 2) (onward i)
+  pub arm-entry : (i : ℕ) → Stands f arms i → (i ≡ 0 → ⊥) → T .entry i ≡ onto (word f i armGoals) (onward i)
   pub slots : (i n q ys m : ℕ) → recordAt f i ≡ Call n q ys → Passed m → map slotOf (T .passes m i) ≡ variablesIn m (signatureOf (program f) q)
   pub givens : (i n q ys m : ℕ) → recordAt f i ≡ Call n q ys → Passed m
       → map givenOf (T .passes m i) ≡ argumentsIn m (parametersOf (signatureOf (program f) q)) (argumentsAt f ys)

@@ -11,6 +11,7 @@ use Rattle.language.specs.File.{GoalKind, kLiteral, kSum, kAssign, kConstruct, 
 use Rattle.language.specs.Program.{Parameter, signatureOf, parametersOf, argumentsIn, variablesIn}
 use Rattle.language.specs.Typing.{typingOk}
 use Rattle.language.specs.Answers.{program}
+use Rattle.language.specs.Format.{nextWord, headerProcedures, procedureGoals, armGoals, argumentVariable, maxRecords}
 use Rattle.records.specs.Records.{recordAs, recordAt}
 use Rattle.records.specs.declared.Record.the-variants.{Switch, If, Call}
 use Rattle.chains.specs.Formed.{Formed, Stands, argumentsAt, counted, procedures-stand, program-procedures}
@@ -32,7 +33,7 @@ use Rattle.word_machine.specs.Matching.{Says, matches-say}
 
 -- ---- a goal's word is its next goal's
 goal-onward : (k : GoalKind) (w : ℕ → ℕ) (i v : ℕ) (t : List ℕ) → Holds (referred (recordAs (kGoal k) w)) (onwardWords i (recordAs (kGoal k) w) v) t
-    → w 1 ≢ 0 → getD t (w 1) 0 ≡ v
+    → w nextWord ≢ 0 → getD t (w nextWord) 0 ≡ v
 unfolding referred onwardWords
 goal-onward kLiteral w i v t h = h .0
 goal-onward kSum w i v t h = h .0
@@ -46,7 +47,7 @@ goal-onward kCreate w i v t h = h .0
 goal-onward kRemove w i v t h = h .0
 
 goal-owner : (k : GoalKind) (w : ℕ → ℕ) (i v : ℕ) (t : List ℕ) → Holds (referred (recordAs (kGoal k) w)) (ownerWords i (recordAs (kGoal k) w) v) t
-    → w 1 ≢ 0 → getD t (w 1) 0 ≡ v
+    → w nextWord ≢ 0 → getD t (w nextWord) 0 ≡ v
 unfolding referred ownerWords
 goal-owner kLiteral w i v t h = h .0
 goal-owner kSum w i v t h = h .0
@@ -60,8 +61,8 @@ goal-owner kCreate w i v t h = h .0
 goal-owner kRemove w i v t h = h .0
 
 module _ {f : List ℕ} (F : Formed f) where
-  few : recordCount f ≤ length (replicate {A = ℕ} 4096 0)
-  few = let c = counted F in omega (arith, length-replicate {A = ℕ} 4096 0)
+  few : recordCount f ≤ length (replicate {A = ℕ} maxRecords 0)
+  few = let c = counted F in omega (arith, length-replicate {A = ℕ} maxRecords 0)
 
   abbrev Onward : ℕ → ℕ
   Onward i = getD (onwards f) i 0
@@ -71,13 +72,13 @@ module _ {f : List ℕ} (F : Formed f) where
 
   onward-holds : (i : ℕ) → i ≢ 0 → i < recordCount f → Holds (referred (recordAt f i)) (onwardWords i (recordAt f i) (Onward i)) (onwards f)
   unfolding onwards
-  onward-holds i a b = filled-holds onwardWords f (recordCount f - 1) 1 (replicate 4096 0) (formed-tree f F) (omega arith) few i (omega (arith, a)) (omega (arith, a))
+  onward-holds i a b = filled-holds onwardWords f (recordCount f - 1) 1 (replicate maxRecords 0) (formed-tree f F) (omega arith) few i (omega (arith, a)) (omega (arith, a))
 
   owner-holds : (i : ℕ) → i ≢ 0 → i < recordCount f → Holds (referred (recordAt f i)) (ownerWords i (recordAt f i) (Owner i)) (owners f)
   unfolding owners
-  owner-holds i a b = filled-holds ownerWords f (recordCount f - 1) 1 (replicate 4096 0) (formed-tree f F) (omega arith) few i (omega (arith, a)) (omega (arith, a))
+  owner-holds i a b = filled-holds ownerWords f (recordCount f - 1) 1 (replicate maxRecords 0) (formed-tree f F) (omega arith) few i (omega (arith, a)) (omega (arith, a))
 
-  goal-next : (i : ℕ) → Stands f goals i → (z : i ≢ 0) → Starts Onward Owner (word f i 1) (Onward i) (Owner i)
+  goal-next : (i : ℕ) → Stands f goals i → (z : i ≢ 0) → Starts Onward Owner (word f i nextWord) (Onward i) (Owner i)
   goal-next i s z y =
       let k = goal-is s z in (
         goal-onward (k .0) (word f i) i (Onward i) (onwards f) (rw (k .1) at (onward-holds i z (s .below))) y,
@@ -85,14 +86,14 @@ module _ {f : List ℕ} (F : Formed f) where
       )
 
   arm-parts : (i : ℕ) → Stands f arms i → (z : i ≢ 0)
-      → Starts Onward Owner (word f i 1) (Onward i) (Owner i) × Starts Onward Owner (word f i 2) (Onward i) (Owner i)
+      → Starts Onward Owner (word f i nextWord) (Onward i) (Owner i) × Starts Onward Owner (word f i armGoals) (Onward i) (Owner i)
   unfolding referred onwardWords ownerWords
   arm-parts i s z =
       let a = rw (arm-is s z) at (onward-holds i z (s .below)) in
       let b = rw (arm-is s z) at (owner-holds i z (s .below)) in
       (λ y. (a .0 y, b .0 y), λ y. (a .1 .0 y, b .1 .0 y))
 
-  switch-parts : (i n x cs : ℕ) → recordAt f i ≡ Switch n x cs → Starts Onward Owner cs (onto (word f i 1) (Onward i)) (Owner i)
+  switch-parts : (i n x cs : ℕ) → recordAt f i ≡ Switch n x cs → Starts Onward Owner cs (onto (word f i nextWord) (Onward i)) (Owner i)
   unfolding referred onwardWords ownerWords
   switch-parts i n x cs e y =
       let c = switch-at F refl e in
@@ -101,7 +102,7 @@ module _ {f : List ℕ} (F : Formed f) where
       (a .1 .0 y ∙ ap (λ k. onto k (Onward i)) (c .w1), b .1 .0 y)
 
   if-parts : (i n y z a b : ℕ) → recordAt f i ≡ If n y z a b
-      → Starts Onward Owner a (onto (word f i 1) (Onward i)) (Owner i) × Starts Onward Owner b (onto (word f i 1) (Onward i)) (Owner i)
+      → Starts Onward Owner a (onto (word f i nextWord) (Onward i)) (Owner i) × Starts Onward Owner b (onto (word f i nextWord) (Onward i)) (Owner i)
   unfolding referred onwardWords ownerWords
   if-parts i n y z a b e =
       let c = if-at F refl e in
@@ -114,7 +115,7 @@ module _ {f : List ℕ} (F : Formed f) where
   some-record : (p i : ℕ) → p < length (chainRecords f i) → i ≢ 0
   some-record p i l z = let e = ap length (records-none f z) in omega arith
 
-  later-owner : (i k : ℕ) → Stands f procedures i → (z : i ≢ 0) → Owner i ≡ k → word f i 1 ≢ 0 → Owner (word f i 1) ≡ suc k
+  later-owner : (i k : ℕ) → Stands f procedures i → (z : i ≢ 0) → Owner i ≡ k → word f i nextWord ≢ 0 → Owner (word f i nextWord) ≡ suc k
   unfolding referred ownerWords
   later-owner i k s z e y = let h = rw (procedure-is s z) at (owner-holds i z (s .below)) in h .0 y ∙ ap suc e
 
@@ -124,33 +125,33 @@ module _ {f : List ℕ} (F : Formed f) where
   unfolding nth
   numbered zero i k s e l =
       let z = some-record zero i l in
-      rw (records-step {w = word f i 1} F z (s .below) refl) (e z ∙ omega arith, z, s)
+      rw (records-step {w = word f i nextWord} F z (s .below) refl) (e z ∙ omega arith, z, s)
   numbered (suc p) i k s e l =
       let z = some-record (suc p) i l in
-      let r = records-step {w = word f i 1} F z (s .below) refl in
+      let r = records-step {w = word f i nextWord} F z (s .below) refl in
       let c = ap length r in
-      let h = numbered p (word f i 1) (suc k) (procedure-at F refl (procedure-is s z) .to-next .stands) (later-owner i k s z (e z)) (omega arith) in
+      let h = numbered p (word f i nextWord) (suc k) (procedure-at F refl (procedure-is s z) .to-next .stands) (later-owner i k s z (e z)) (omega arith) in
       rw r (h .0 ∙ omega arith, h .1, h .2)
 
-  first-owner : word f 0 1 ≢ 0 → Owner (word f 0 1) ≡ 0
+  first-owner : word f 0 headerProcedures ≢ 0 → Owner (word f 0 headerProcedures) ≡ 0
   unfolding owners
   first-owner z =
       let s = procedures-stand F in
       let c = counted F in
-      filled-other ownerWords f (recordCount f - 1) 1 (replicate 4096 0) (word f 0 1) (first-free f F z (s .below))
-      ∙ getD-replicate 4096 (word f 0 1) 0 0 (omega (arith, s .below))
+      filled-other ownerWords f (recordCount f - 1) 1 (replicate maxRecords 0) (word f 0 headerProcedures) (first-free f F z (s .below))
+      ∙ getD-replicate maxRecords (word f 0 headerProcedures) 0 0 (omega (arith, s .below))
 
-  procedure-count : length (program f .procedures) ≡ length (chainRecords f (word f 0 1))
-  procedure-count = ap length (program-procedures F) ∙ procedures-count F (word f 0 1) (procedures-stand F)
+  procedure-count : length (program f .procedures) ≡ length (chainRecords f (word f 0 headerProcedures))
+  procedure-count = ap length (program-procedures F) ∙ procedures-count F (word f 0 headerProcedures) (procedures-stand F)
 
   body-starts : (p : ℕ) → p < length (program f .procedures) → Starts Onward Owner (bodyRecord f p) 0 p
   unfolding referred onwardWords ownerWords
   body-starts p l y =
-      let h = numbered p (word f 0 1) 0 (procedures-stand F) first-owner (omega (arith, procedure-count)) in
+      let h = numbered p (word f 0 headerProcedures) 0 (procedures-stand F) first-owner (omega (arith, procedure-count)) in
       let r = procedure-is (h .2) (h .1) in
-      let a = rw r at (onward-holds (nth 0 (chainRecords f (word f 0 1)) p) (h .1) (h .2 .below)) in
-      let b = rw r at (owner-holds (nth 0 (chainRecords f (word f 0 1)) p) (h .1) (h .2 .below)) in
-      let w = field-some f (nth 0 (chainRecords f (word f 0 1)) p) 4 (h .1) in
+      let a = rw r at (onward-holds (nth 0 (chainRecords f (word f 0 headerProcedures)) p) (h .1) (h .2 .below)) in
+      let b = rw r at (owner-holds (nth 0 (chainRecords f (word f 0 headerProcedures)) p) (h .1) (h .2 .below)) in
+      let w = field-some f (nth 0 (chainRecords f (word f 0 headerProcedures)) p) procedureGoals (h .1) in
       rw (← w) (a .1 .0 (λ z. y (sym w ∙ z)), b .1 .0 (λ z. y (sym w ∙ z)) ∙ h .0 ∙ omega arith)
 
   -- ---- arguments
@@ -170,8 +171,8 @@ module _ {f : List ℕ} (F : Formed f) where
   argument-matches i n q ys e =
       let c = call-at F refl e in
       both-say (parametersOf (signatureOf (program f) q)) (chainRecords f ys)
-      (matches-say F (λ a. a .variable) (recordCount f - 1) 1 (replicate 4096 0) few i n q ys e (omega (arith, c .some)) (omega (arith, c .some, c .below)))
-      (matches-say F (λ a. a .mode) (recordCount f - 1) 1 (replicate 4096 0) few i n q ys e (omega (arith, c .some)) (omega (arith, c .some, c .below)))
+      (matches-say F (λ a. a .variable) (recordCount f - 1) 1 (replicate maxRecords 0) few i n q ys e (omega (arith, c .some)) (omega (arith, c .some, c .below)))
+      (matches-say F (λ a. a .mode) (recordCount f - 1) 1 (replicate maxRecords 0) few i n q ys e (omega (arith, c .some)) (omega (arith, c .some, c .below)))
 
   -- ---- all tables, of a file that passes number 3
   module _ (ok : typingOk (program f) ≡ true) (i n q ys m : ℕ) (e : recordAt f i ≡ Call n q ys) where
@@ -181,8 +182,8 @@ module _ {f : List ℕ} (F : Formed f) where
     passed-here =
         let M = argument-matches i n q ys e in
         rw (← call-at F refl e .w3) (
-          slots-passed F ok i n q ys e Slot Mode M (λ a. packed (Slot a) (word f a 2) 0) (λ a. 0) (λ a h. refl) m,
-          givens-passed F ok i n q ys e Slot Mode M (λ a. packed (Slot a) (word f a 2) 0) (λ a. 0) (λ a h. refl) m,
+          slots-passed F ok i n q ys e Slot Mode M (λ a. packed (Slot a) (word f a argumentVariable) 0) (λ a. 0) (λ a h. refl) m,
+          givens-passed F ok i n q ys e Slot Mode M (λ a. packed (Slot a) (word f a argumentVariable) 0) (λ a. 0) (λ a h. refl) m,
         )
 
   pub tabled : typingOk (program f) ≡ true → Tabled f (tablesOf f)

@@ -7,13 +7,14 @@ use mathlib.Core.List.{List, [], _∷_, map}
 use Rattle.sets.specs.Members.{inList, cons-here, cons-later}
 use Rattle.language.specs.Program.{four, trimOnto, trimmed, fourWords, argumentsOf}
 use Rattle.language.specs.Frames.{Value}
+use Rattle.language.specs.Format.{maxVariables}
 use Rattle.heap.specs.Words.{wordsOf}
 use Rattle.heap.specs.Standing.{StandEach}
 use Rattle.word_machine.specs.Machine.{termOf}
 
 -- numbers from 1 to 64
 abbrev pub Ranged : List ℕ → Type 0
-Ranged ys = (y : ℕ) → inList y ys ≡ true → (1 ≤ y) × (y ≤ 64)
+Ranged ys = (y : ℕ) → inList y ys ≡ true → (1 ≤ y) × (y ≤ maxVariables)
 
 -- of such numbers, zeros at the end aside: what follows the first, and nothing behind a 0
 pub ranged-rest : (y : ℕ) (zs : List ℕ) → Ranged (suc y ∷ zs) → Ranged zs

@@ -10,6 +10,7 @@ use Rattle.language.specs.File.{GoalKind, kLiteral, kSum, kAssign, kConstruct, 
 use Rattle.language.specs.Program.{Functor, Goals, done, _then_, Goal, step, switch, ifLess, Arms, noArms, arm, Signature, Program, signatureOf}
 use Rattle.language.specs.Typing.{goalsOk, goalOk, armsOk, typingOk}
 use Rattle.language.specs.Answers.{program}
+use Rattle.language.specs.Format.{kindWord}
 use Rattle.laws.specs.Typed.{TypedArms, typed-arms, typed-arm}
 use Rattle.region_graph.specs.Typed.{goals-typed}
 use Rattle.chains.specs.Layout.{all-rows}
@@ -83,7 +84,7 @@ module _ {f : List ℕ} (F : Formed f) (ok : typingOk (program f) ≡ true) wher
   armed-on b t z = rw (b z) t
 
   module _ (i : ℕ) (p : 0 < i) (q : i < recordCount f) where
-    armed-step : (k : Kind) → kindOf (word f i 0) ≡ k → real (row k .chain) ≡ true → Armed (row k .chain) i → Each Armed (word f i) 1 (uses (row k))
+    armed-step : (k : Kind) → kindOf (word f i kindWord) ≡ k → real (row k .chain) ≡ true → Armed (row k .chain) i → Each Armed (word f i) 1 (uses (row k))
     unfolding all-rows uses real Armed
     armed-step kNone e r h = absurd (false≢true r)
     armed-step kHeader e r h = absurd (false≢true r)
@@ -118,7 +119,7 @@ module _ {f : List ℕ} (F : Formed f) (ok : typingOk (program f) ≡ true) wher
   unfolding sortOf usesOf
   all-armed =
       outward F Armed header-armed
-      (λ i p q l. armed-step i p q (kindOf (word f i 0)) refl (known-chain (word f) (recordCount f) (F .form) (header-kind f (F .header) (F .form)) i p q) l)
+      (λ i p q l. armed-step i p q (kindOf (word f i kindWord)) refl (known-chain (word f) (recordCount f) (F .form) (header-kind f (F .header) (F .form)) i p q) l)
 
   pub typed-arms-at : (i : ℕ) → Stands f arms i → (i ≡ 0 → ⊥) → TypedArms (program f) (owning i) (armsAt f i)
   unfolding sortOf Armed

@@ -19,6 +19,7 @@ use Rattle.language.specs.AcceptedRun as Run
 use Rattle.language.specs.Machine.{Room, holds, roomIn, Outlook, ended, outlookFor, outlookIn, outlookAt, outlook}
 use Rattle.language.specs.Machine as D
 use Rattle.language.specs.Answers.{program}
+use Rattle.language.specs.Format.{callProcedure}
 use Rattle.laws.specs.Numbers.{among-in}
 use Rattle.records.specs.Records.{recordAt}
 use Rattle.chains.specs.Formed.{Formed}
@@ -66,7 +67,7 @@ module _ {f : List ℕ} {T : Tables} (B : Tabled f T) (A : Accepted (program f))
   unfolding returnWords regionsOut valuesOut choose
   return-length k i fw = by (ltb i (recordCount f))
     where
-      by : (b : Bool) → length (choose b (regionsOut f T k i (members (T .bears (word f i 2))) (valuesOut f T k i fw)) fw) ≡ length fw
+      by : (b : Bool) → length (choose b (regionsOut f T k i (members (T .bears (word f i callProcedure))) (valuesOut f T k i fw)) fw) ≡ length fw
       by true = copied-length _ _ _ _ ∙ copied-length _ _ _ fw
       by false = refl
 

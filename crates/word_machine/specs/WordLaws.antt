@@ -10,18 +10,25 @@ use mir.Val.{bits, hbits, toZ}
 use mir.Syntax.{Width}
 use mir.Facts.{toZ-pos}
 use Rattle.language.specs.Numbers.{literalNumber, residue}
+use Rattle.records.specs.Sizes.{wordEnd}
 use Rattle.word_machine.specs.Machine.{literalWord, sumWord}
 
 -- the upper half of the words
 toZ-high : (w : Width) (n : ℕ) → 2 ^ hbits w ≤ n → toZ w n ≡ negsuc (2 ^ bits w - suc n)
 toZ-high w n h = simp (le-ltb n (2 ^ hbits w) h)
 
--- ---- literals
-pub literal-low : (v : ℕ) → v < 32768 → v ≡ literalWord v
+-- ---- literals: one from the half on is negative, and its word has all bits of the high half
+abbrev pub literalHalf : ℕ
+literalHalf = 32768
+
+abbrev pub highHalf : ℕ
+highHalf = 4294901760
+
+pub literal-low : (v : ℕ) → v < literalHalf → v ≡ literalWord v
 unfolding literalWord literalNumber residue
 literal-low v h = rw (toZ-pos w16 {n = v} h) (omega arith)
 
-pub literal-high : (v : ℕ) → 32768 ≤ v → v < 65536 → v + 4294901760 ≡ literalWord v
+pub literal-high : (v : ℕ) → literalHalf ≤ v → v < wordEnd → v + highHalf ≡ literalWord v
 unfolding literalWord literalNumber residue
 literal-high v h k = rw (toZ-high w16 v h) (omega arith)
 

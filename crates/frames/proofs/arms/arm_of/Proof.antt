@@ -10,9 +10,6 @@ use Rattle.frames.specs.Strays.{whole}
 use borrow.Author.Needs.{needs}
 use Rattle.frames.proofs.arms.arm_of.Statement.{statement}
 use Rattle.frames.proofs.arms.arm_of.Tie as tie
-use Rattle.frames.proofs.arms.arm_of.Reads as reads
-use Rattle.frames.proofs.arms.arm_of.Lts as lts
-use Rattle.records.proofs.word_in.Reads as word-in-reads
 
 abbrev Inv-loop : tie.InvT-loop
 Inv-loop file start functor at₀ at = (at < recordCount file) × (armOf file functor (chainRecords file at) ≡ armOf file functor (chainRecords file start))
@@ -20,15 +17,12 @@ Inv-loop file start functor at₀ at = (at < recordCount file) × (armOf file fu
 abbrev μ-loop : tie.MeasureT-loop
 μ-loop file start functor at₀ at = ahead file at
 
--- src/passing.rt:35:5
 loop-holds : tie.Need-loop-holds Inv-loop μ-loop
 loop-holds c = (c .before .pre .1, refl)
 
--- src/passing.rt:36:12
 word-in-requires : tie.Need-word-in-requires Inv-loop μ-loop
 word-in-requires c κs = let w = whole (c .before .before .before .pre .0) (c .before .loop .at) (c .before .loop .inv .0) in search needs
 
--- src/passing.rt:37:13
 returns : tie.Need-returns Inv-loop μ-loop
 returns c =
     let l = c .before .before .before .loop in (
@@ -36,15 +30,12 @@ returns c =
       l .inv .0,
     )
 
--- src/passing.rt:39:9
 word-in-requires-2 : tie.Need-word-in-requires-2 Inv-loop μ-loop
 word-in-requires-2 c κs = let w = whole (c .before .before .before .before .before .pre .0) (c .before .before .before .loop .at) (c .before .before .before .loop .inv .0) in search needs
 
--- src/passing.rt:35:5
 loop-less : tie.Need-loop-less Inv-loop μ-loop
 loop-less c = next-onward (c .before .before .before .before .before .before .pre .0) (c .before .before .before .loop-test .taken) (c .before .before .before .before .loop .inv .0) (c .word-in2 .ensures .0) .falls
 
--- src/passing.rt:35:5
 loop-again : tie.Need-loop-again Inv-loop μ-loop
 loop-again c =
     let F = c .before .before .before .before .before .before .pre .0 in
@@ -54,7 +45,6 @@ loop-again c =
       arm-later _ _ (l .at) _ _ (records-step F t (l .inv .0) (c .word-in2 .ensures .0)) (λ z. c .before .if1 .left (c .before .before .word-in .ensures .0 ∙ z)) ∙ l .inv .1,
     )
 
--- src/passing.rt:28:1
 returns-2 : tie.Need-returns-2 Inv-loop μ-loop
 returns-2 c = let l = c .before .loop in (arm-none _ _ _ (records-none _ (c .loop-test .left)) ∙ l .inv .1, counted (c .before .before .before .pre .0) .some)
 

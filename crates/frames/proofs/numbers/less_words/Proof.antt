@@ -6,19 +6,13 @@ use Rattle.language.specs.Numbers.{less}
 use borrow.Author.Needs.{needs}
 use Rattle.frames.proofs.numbers.less_words.Statement.{statement}
 use Rattle.frames.proofs.numbers.less_words.Tie as tie
-use Rattle.frames.proofs.numbers.less_words.Reads as reads
-use Rattle.frames.proofs.numbers.less_words.Lts as lts
-use Rattle.frames.proofs.numbers.signed.Reads as signed-reads
 
--- src/numbers.rt:42:5
 signed-requires : tie.Need-signed-requires
 signed-requires c κs = search needs
 
--- src/numbers.rt:42:17
 signed-requires-2 : tie.Need-signed-requires-2
 signed-requires-2 c κs = search needs
 
--- src/numbers.rt:39:1
 returns : tie.Need-returns
 unfolding less
 returns c =

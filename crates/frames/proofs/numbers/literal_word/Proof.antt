@@ -2,18 +2,13 @@ use Rattle.word_machine.specs.WordLaws.{literal-low, literal-high}
 use borrow.Author.Needs.{needs}
 use Rattle.frames.proofs.numbers.literal_word.Statement.{statement}
 use Rattle.frames.proofs.numbers.literal_word.Tie as tie
-use Rattle.frames.proofs.numbers.literal_word.Reads as reads
-use Rattle.frames.proofs.numbers.literal_word.Lts as lts
 
--- src/numbers.rt:14:31
 add-result : tie.Need-add-result
 add-result c = search needs
 
--- src/numbers.rt:10:1
 returns : tie.Need-returns
 returns c = literal-low _ (c .if1 .taken)
 
--- src/numbers.rt:10:1
 returns-2 : tie.Need-returns-2
 returns-2 c = literal-high _ (c .if1 .left) (c .before .pre)
 

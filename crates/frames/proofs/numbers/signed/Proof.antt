@@ -6,30 +6,22 @@ use Rattle.frames.specs.Laws.{complement}
 use borrow.Author.Needs.{needs}
 use Rattle.frames.proofs.numbers.signed.Statement.{statement}
 use Rattle.frames.proofs.numbers.signed.Tie as tie
-use Rattle.frames.proofs.numbers.signed.Reads as reads
-use Rattle.frames.proofs.numbers.signed.Lts as lts
 
--- src/numbers.rt:32:9
 cast-result : tie.Need-cast-result
 cast-result c = search needs
 
--- src/numbers.rt:34:16
 sub-result : tie.Need-sub-result
 sub-result c = search needs
 
--- src/numbers.rt:34:15
 cast-result-2 : tie.Need-cast-result-2
 cast-result-2 c = search needs
 
--- src/numbers.rt:34:9
 sub-result-2 : tie.Need-sub-result-2
 sub-result-2 c = complement w32 (c .before .args .x) (4294967295 - c .before .args .x) _ (omega (arith, c .before .fits .x)) (toZ-pos w32 (omega (arith, c .before .fits .x))) (omega arith) (c .if1 .left) .0
 
--- src/numbers.rt:28:1
 returns : tie.Need-returns
 returns c = search needs
 
--- src/numbers.rt:28:1
 returns-2 : tie.Need-returns-2
 returns-2 c = complement w32 (c .before .args .x) (4294967295 - c .before .args .x) _ (omega (arith, c .before .fits .x)) (toZ-pos w32 (omega (arith, c .before .fits .x))) (omega arith) (c .if1 .left) .1
 

@@ -3,24 +3,16 @@ use Rattle.frames.specs.Laws.{sum-added, sum-subtracted}
 use borrow.Author.Needs.{needs}
 use Rattle.frames.proofs.numbers.sum_word.Statement.{statement}
 use Rattle.frames.proofs.numbers.sum_word.Tie as tie
-use Rattle.frames.proofs.numbers.sum_word.Reads as reads
-use Rattle.frames.proofs.numbers.sum_word.Lts as lts
-use Rattle.std.proofs.num.wrapping_add_u32.Reads as wrapping-add-u32-reads
-use Rattle.std.proofs.num.wrapping_sub_u32.Reads as wrapping-sub-u32-reads
 
--- src/numbers.rt:22:9
 wrapping-add-u32-requires : tie.Need-wrapping-add-u32-requires
 wrapping-add-u32-requires c κs = search needs
 
--- src/numbers.rt:24:9
 wrapping-sub-u32-requires : tie.Need-wrapping-sub-u32-requires
 wrapping-sub-u32-requires c κs = search needs
 
--- src/numbers.rt:18:1
 returns : tie.Need-returns
 returns c = let s = c .before .before in sum-added _ _ _ _ (c .before .if1 .taken) (s .fits .a .fits) (s .fits .b .fits) (c .wrapping-add-u32 .ensures)
 
--- src/numbers.rt:18:1
 returns-2 : tie.Need-returns-2
 returns-2 c = let s = c .before .before in sum-subtracted _ _ _ (c .wrapping-sub-u32 .result) (c .before .if1 .left) (s .fits .a .fits) (s .fits .b .fits) (omega arith) (c .wrapping-sub-u32 .ensures)
 

@@ -3,13 +3,14 @@ use Prim.Native.Nat.{_+_, _*_, _-_, _≤_}
 use native.Mathlib.Omega.{arith}
 use lib.ListN.{length, take}
 use borrow.Author.Needs.{needs}
+use Rattle.lines.specs.Widths.{numberBytes}
 use Rattle.lines.specs.Put.{Put, put-none, put-length}
 use Rattle.lines.specs.Signed.{numbers, numbers-none, put-numbers, all-numbers}
 use Rattle.lines.proofs.answers.put_numbers.Statement.{statement}
 use Rattle.lines.proofs.answers.put_numbers.Tie as tie
 
 abbrev Inv-loop : tie.InvT-loop
-Inv-loop out₀ at words end₀ i₀ out end i = (i ≤ length words) × (end ≤ at + 12 * i) × Put out₀ at (numbers (take i words)) out end
+Inv-loop out₀ at words end₀ i₀ out end i = (i ≤ length words) × (end ≤ at + numberBytes * i) × Put out₀ at (numbers (take i words)) out end
 
 abbrev μ-loop : tie.MeasureT-loop
 μ-loop out₀ at words end₀ i₀ out end i = length words - i

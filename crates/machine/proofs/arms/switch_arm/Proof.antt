@@ -7,80 +7,55 @@ use Rattle.machine.specs.Numbers.{arm-stands}
 use borrow.Author.Needs.{needs}
 use Rattle.machine.proofs.arms.switch_arm.Statement.{statement}
 use Rattle.machine.proofs.arms.switch_arm.Tie as tie
-use Rattle.machine.proofs.arms.switch_arm.Reads as reads
-use Rattle.machine.proofs.arms.switch_arm.Lts as lts
-use Rattle.frames.proofs.arm_of.Reads as arm-of-reads
-use Rattle.frames.proofs.value.Reads as value-reads
-use Rattle.machine.proofs.arms.arm_part.Reads as arm-part-reads
-use Rattle.machine.proofs.arms.arm_values.Reads as arm-values-reads
-use Rattle.memory.proofs.word.Reads as word-reads
-use Rattle.records.proofs.word_in.Reads as word-in-reads
 
--- src/arms.rt:68:39
 word-in-requires : tie.Need-word-in-requires
 word-in-requires c κs = (omega arith, whole (c .before .before .before .before .pre .0) _ (c .before .before .before .before .pre .1 .0 .0) .1)
 
--- src/arms.rt:68:9
 value-requires : tie.Need-value-requires
 value-requires c κs = search needs
 
--- src/arms.rt:69:27
 cast-p : tie.Need-cast-p
 cast-p c = search needs
 
--- src/arms.rt:69:13
 mul-p : tie.Need-mul-p
 mul-p c = search needs
 
--- src/arms.rt:70:9
 word-in-requires-2 : tie.Need-word-in-requires-2
 word-in-requires-2 c κs = (omega arith, whole (c .before .before .before .before .before .before .pre .0) _ (c .before .before .before .before .before .before .pre .1 .0 .0) .1)
 
--- src/arms.rt:71:22
 add-if1 : tie.Need-add-if1
 add-if1 c = search needs
 
--- src/arms.rt:72:37
 word-requires : tie.Need-word-requires
 word-requires c κs = search needs
 
--- src/arms.rt:72:13
 arm-of-requires : tie.Need-arm-of-requires
 arm-of-requires c κs = (c .before .before .before .before .before .before .before .before .before .pre .0, to-arms (c .before .before .before .before .before .before .before .before .before .pre .0) (c .before .before .before .before .before .before .before .before .before .pre .1 .0 .1) (c .before .before .word-in2 .ensures .0) .stands .below)
 
--- src/arms.rt:73:9
 arm-part-requires : tie.Need-arm-part-requires
 arm-part-requires c κs = let F = c .before .before .before .before .before .before .before .before .before .before .before .pre .0 in ((whole F _ (c .before .arm-of .ensures .1) .1, c .before .before .before .before .before .before .before .before .before .before .before .pre .1 .0 .2), c .before .before .before .before .before .before .before .before .before .before .before .pre .1 .1 .1 _ (rw (c .before .arm-of .ensures .0) (arm-stands F _ _ (to-arms F (c .before .before .before .before .before .before .before .before .before .before .before .pre .1 .0 .1) (c .before .before .before .before .word-in2 .ensures .0) .stands))))
 
--- src/arms.rt:74:9
 same-length : tie.Need-same-length
 same-length c = search needs
 
--- src/arms.rt:74:9
 returns : tie.Need-returns
 returns c = (arm-as _ _ _ _ _ _ _ _ _ _ (c .before .before .before .before .before .before .before .before .value .ensures) (c .before .before .before .before .before .before .before .before .before .word-in .ensures .0) (c .before .before .before .before .before .before .before .word-in2 .ensures .0) (c .before .before .before .before .before .word .ensures) (c .before .before .before .before .arm-of .ensures .0), (c .before .before .before .before .arm-of .ensures .1, arms-at _ _ _ _ _ _ _ _ _ (c .before .before .arm-part .ensures) (c .before .before .before .before .before .before .before .before .value .ensures) (c .before .before .before .before .before .before .before .before .before .word-in .ensures .0)))
 
--- src/arms.rt:76:33
 mul-arm-of : tie.Need-mul-arm-of
 mul-arm-of c = search needs
 
--- src/arms.rt:76:33
 shared-slice-read-arm-of : tie.Need-shared-slice-read-arm-of
 shared-slice-read-arm-of c = search needs
 
--- src/arms.rt:76:9
 arm-of-requires-2 : tie.Need-arm-of-requires-2
 arm-of-requires-2 c κs = (c .before .before .before .before .before .before .before .before .before .pre .0, to-arms (c .before .before .before .before .before .before .before .before .before .pre .0) (c .before .before .before .before .before .before .before .before .before .pre .1 .0 .1) (c .before .before .word-in2 .ensures .0) .stands .below)
 
--- src/arms.rt:77:5
 arm-values-requires : tie.Need-arm-values-requires
 arm-values-requires c κs = let F = c .before .before .before .before .before .before .before .before .before .before .before .pre .0 in ((whole F _ (c .before .arm-of2 .ensures .1) .1, c .before .before .before .before .before .before .before .before .before .before .before .pre .1 .0 .2), (c .before .before .before .before .before .before .before .before .before .before .before .pre .1 .1 .1 _ (rw (c .before .arm-of2 .ensures .0) (arm-stands F _ _ (to-arms F (c .before .before .before .before .before .before .before .before .before .before .before .pre .1 .0 .1) (c .before .before .before .before .word-in2 .ensures .0) .stands))), c .before .before .before .if1 .left))
 
--- src/arms.rt:59:1
 same-length-2 : tie.Need-same-length-2
 same-length-2 c = search needs
 
--- src/arms.rt:59:1
 returns-2 : tie.Need-returns-2
 returns-2 c = (arm-as _ _ _ _ _ _ _ _ _ _ (c .before .before .before .before .before .before .before .before .value .ensures) (c .before .before .before .before .before .before .before .before .before .word-in .ensures .0) (c .before .before .before .before .before .before .before .word-in2 .ensures .0) refl (c .before .before .before .before .arm-of2 .ensures .0), (c .before .before .before .before .arm-of2 .ensures .1, arms-at _ _ _ _ _ _ _ _ _ (c .before .before .arm-values .ensures) (c .before .before .before .before .before .before .before .before .value .ensures) (c .before .before .before .before .before .before .before .before .before .word-in .ensures .0)))
 

@@ -5,76 +5,52 @@ use Rattle.machine.specs.Calls.{return-none, return-as, pictured}
 use borrow.Author.Needs.{needs}
 use Rattle.machine.proofs.calls.give_back.Statement.{statement}
 use Rattle.machine.proofs.calls.give_back.Tie as tie
-use Rattle.machine.proofs.calls.give_back.Reads as reads
-use Rattle.machine.proofs.calls.give_back.Lts as lts
-use Rattle.frames.proofs.regions_out.Reads as regions-out-reads
-use Rattle.frames.proofs.values_out.Reads as values-out-reads
-use Rattle.machine.proofs.calls.callee_word.Reads as callee-word-reads
-use Rattle.machine.proofs.calls.wide.Reads as wide-reads
-use Rattle.records.proofs.word_in.Reads as word-in-reads
-use Rattle.sets.proofs.Set.loaded.Reads as loaded-reads
 
--- src/calls.rt:123:25
 add-wide : tie.Need-add-wide
 add-wide c = search needs
 
--- src/calls.rt:123:25
 add-wide-2 : tie.Need-add-wide-2
 add-wide-2 c = search needs
 
--- src/calls.rt:123:18
 mul-wide : tie.Need-mul-wide
 mul-wide c = search needs
 
--- src/calls.rt:123:18
 slice-read-wide : tie.Need-slice-read-wide
 slice-read-wide c = search needs
 
--- src/calls.rt:123:9
 wide-requires : tie.Need-wide-requires
 wide-requires c κs = search needs
 
--- src/calls.rt:125:9
 returns : tie.Need-returns
 returns c = λ k e. return-none _ _ _ _ k _ _ _ e (c .before .wide .ensures) (past-length (c .before .before .before .before .before .before .pre .0) _ (c .if1 .taken))
 
--- src/calls.rt:127:5
 values-out-requires : tie.Need-values-out-requires
 values-out-requires c κs = (c .before .before .before .before .before .before .before .pre .1 .0 .outs, (whole (c .before .before .before .before .before .before .before .pre .0) _ (in-length (c .before .before .before .before .before .before .before .pre .0) _ (c .before .if1 .left)) .0, c .before .before .before .before .before .before .before .pre .1 .1))
 
--- src/calls.rt:128:9
 word-in-requires : tie.Need-word-in-requires
 word-in-requires c κs = (omega arith, whole (c .before .before .before .before .before .before .before .before .before .before .pre .0) _ (in-length (c .before .before .before .before .before .before .before .before .before .before .pre .0) _ (c .before .before .before .before .if1 .left)) .1)
 
--- src/calls.rt:129:28
 callee-word-requires : tie.Need-callee-word-requires
 callee-word-requires c κs = search needs
 
--- src/calls.rt:129:9
 loaded-requires : tie.Need-loaded-requires
 loaded-requires c κs = search needs
 
--- src/calls.rt:130:36
 add-regions-out : tie.Need-add-regions-out
 add-regions-out c = omega (arith, whole (c .before .before .before .before .before .before .before .before .before .before .before .before .before .pre .0) _ (in-length (c .before .before .before .before .before .before .before .before .before .before .before .before .before .pre .0) _ (c .before .before .before .before .before .before .before .if1 .left)) .0)
 
--- src/calls.rt:130:31
 mul-regions-out : tie.Need-mul-regions-out
 mul-regions-out c = omega (arith, whole (c .before .before .before .before .before .before .before .before .before .before .before .before .before .pre .0) _ (in-length (c .before .before .before .before .before .before .before .before .before .before .before .before .before .pre .0) _ (c .before .before .before .before .before .before .before .if1 .left)) .0)
 
--- src/calls.rt:130:31
 element-copy-out-regions-out : tie.Need-element-copy-out-regions-out
 element-copy-out-regions-out c = omega (arith, whole (c .before .before .before .before .before .before .before .before .before .before .before .before .before .pre .0) _ (in-length (c .before .before .before .before .before .before .before .before .before .before .before .before .before .pre .0) _ (c .before .before .before .before .before .before .before .if1 .left)) .0)
 
--- src/calls.rt:130:5
 regions-out-requires : tie.Need-regions-out-requires
 regions-out-requires c κs = (pictured (c .before .before .before .before .before .before .before .before .before .before .before .before .before .before .before .pre .1 .0) _ (whole (c .before .before .before .before .before .before .before .before .before .before .before .before .before .before .before .pre .0) _ (in-length (c .before .before .before .before .before .before .before .before .before .before .before .before .before .before .before .pre .0) _ (c .before .before .before .before .before .before .before .before .before .if1 .left)) .0), search needs)
 
--- src/calls.rt:109:1
 same-length : tie.Need-same-length
 same-length c = search needs
 
--- src/calls.rt:109:1
 returns-2 : tie.Need-returns-2
 returns-2 c = λ k e. return-as _ _ _ _ k _ _ _ _ _ _ _ _ _ e (c .before .before .before .before .before .before .before .before .before .before .before .before .before .wide .ensures) (in-length (c .before .before .before .before .before .before .before .before .before .before .before .before .before .before .before .before .before .before .pre .0) _ (c .before .before .before .before .before .before .before .before .before .before .before .before .if1 .left)) (c .before .before .before .before .before .before .before .before .before .before .values-out .ensures) (c .before .before .before .before .before .before .before .word-in .ensures .0) (c .before .before .before .before .before .before .callee-word .ensures) (c .before .before .before .before .before .loaded .ensures) refl (c .before .before .regions-out .ensures)
 

@@ -2,9 +2,6 @@ use Rattle.machine.specs.Calls.{marked-as}
 use borrow.Author.Needs.{needs}
 use Rattle.machine.proofs.calls.mark.Statement.{statement}
 use Rattle.machine.proofs.calls.mark.Tie as tie
-use Rattle.machine.proofs.calls.mark.Reads as reads
-use Rattle.machine.proofs.calls.mark.Lts as lts
-use Rattle.frames.proofs.store.Reads as store-reads
 
 store-requires : tie.Need-store-requires
 store-requires c κs = search needs

@@ -10,12 +10,8 @@ use Rattle.word_machine.specs.Machine.{frameWords, settledFrom, settled}
 use Rattle.machine.specs.Words.{wordsOf}
 use Rattle.machine.specs.Calls.{settle-first, settle-entry, settle-goal, settle-return, return-length}
 use borrow.Author.Needs.{needs}
-use Rattle.machine.proofs.calls.wide.Reads as wide-reads
 use Rattle.machine.proofs.calls.settle.Statement.{statement}
 use Rattle.machine.proofs.calls.settle.Tie as tie
-use Rattle.machine.proofs.calls.settle.Reads as reads
-use Rattle.machine.proofs.calls.settle.Lts as lts
-use Rattle.machine.proofs.calls.give_back.Reads as give-back-reads
 
 abbrev Inv-loop : tie.InvT-loop
 Inv-loop file plan images callees frames₀ printed top₀ at₀ goal₀ frames top at goal =

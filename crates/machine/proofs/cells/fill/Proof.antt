@@ -8,11 +8,6 @@ use Rattle.machine.specs.Terms.{pouredFrom, pour-first, pour-end, pour-s
 use borrow.Author.Needs.{needs}
 use Rattle.machine.proofs.cells.fill.Statement.{statement}
 use Rattle.machine.proofs.cells.fill.Tie as tie
-use Rattle.machine.proofs.cells.fill.Reads as reads
-use Rattle.machine.proofs.cells.fill.Lts as lts
-use Rattle.frames.proofs.store.Reads as store-reads
-use Rattle.frames.proofs.value.Reads as value-reads
-use Rattle.records.proofs.word_in.Reads as word-in-reads
 
 abbrev Inv-loop : tie.InvT-loop
 Inv-loop file i at cell cells₀ frames p n₀ cells n = (pouredFrom file i at frames cell n cells ≡ pouredFrom file i at frames cell 0 cells₀) × (length cells ≡ length cells₀)
@@ -20,78 +15,60 @@ Inv-loop file i at cell cells₀ frames p n₀ cells n = (pouredFrom file i at f
 abbrev μ-loop : tie.MeasureT-loop
 μ-loop file i at cell cells₀ frames p n₀ cells n = maxArity - n
 
--- src/cells.rt:35:13
 mul-p : tie.Need-mul-p Inv-loop μ-loop
 mul-p c = search needs
 
--- src/cells.rt:36:30
 word-in-requires : tie.Need-word-in-requires Inv-loop μ-loop
 word-in-requires c κs = search needs
 
--- src/cells.rt:36:30
 cast-store : tie.Need-cast-store Inv-loop μ-loop
 cast-store c = search needs
 
--- src/cells.rt:36:5
 store-requires : tie.Need-store-requires Inv-loop μ-loop
 store-requires c κs = search needs
 
--- src/cells.rt:38:5
 loop-holds : tie.Need-loop-holds Inv-loop μ-loop
 loop-holds c = (refl, refl)
 
--- src/cells.rt:39:34
 add-word-in : tie.Need-add-word-in Inv-loop μ-loop
 add-word-in c = search needs
 
--- src/cells.rt:39:13
 word-in-requires-2 : tie.Need-word-in-requires-2 Inv-loop μ-loop
 word-in-requires-2 c κs = search needs
 
--- src/cells.rt:41:13
 same-length : tie.Need-same-length Inv-loop μ-loop
 same-length c = search needs
 
--- src/cells.rt:41:13
 returns : tie.Need-returns Inv-loop μ-loop
 returns c = pour-stop _ _ _ _ _ _ _ (c .before .before .loop-test .taken) (c .before .word-in2 .ensures .0) _ (c .if1 .taken) ∙ c .before .before .before .loop .inv .0 ∙ pour-first _ _ _ _ _ _ _ _ (c .before .before .before .before .before .before .before .word-in .ensures .0) (c .before .before .before .before .before .before .store .ensures)
 
--- src/cells.rt:43:31
 add-store : tie.Need-add-store Inv-loop μ-loop
 add-store c = search needs
 
--- src/cells.rt:43:31
 add-store-2 : tie.Need-add-store-2 Inv-loop μ-loop
 add-store-2 c = search needs
 
--- src/cells.rt:43:42
 value-requires : tie.Need-value-requires Inv-loop μ-loop
 value-requires c κs = (rw (c .before .before .word-in2 .ensures .0) (c .before .before .before .before .before .before .before .before .before .before .before .before .before .pre .1 .0 _ (c .before .before .before .loop-test .taken)), c .before .before .before .before .before .before .before .before .before .before .before .before .before .pre .0 .1)
 
--- src/cells.rt:43:9
 store-requires-2 : tie.Need-store-requires-2 Inv-loop μ-loop
 store-requires-2 c κs = omega (arith, c .before .before .before .before .loop-test .taken, c .before .before .before .before .before .loop .inv .1, simp length-set at (ap length (c .before .before .before .before .before .before .before .before .store .ensures)), c .before .before .before .before .before .before .before .before .before .before .before .before .before .before .pre .1 .1)
 
--- src/cells.rt:44:9
 add-n : tie.Need-add-n Inv-loop μ-loop
 add-n c = search needs
 
--- src/cells.rt:38:5
 loop-less : tie.Need-loop-less Inv-loop μ-loop
 loop-less c = omega (arith, c .before .before .before .before .before .before .before .loop-test .taken)
 
--- src/cells.rt:38:5
 loop-again : tie.Need-loop-again Inv-loop μ-loop
 loop-again c = (
   pour-on _ _ _ _ _ _ _ (c .before .before .before .before .before .before .before .loop-test .taken) (c .before .before .before .before .before .before .word-in2 .ensures .0) _ _ _ (c .before .before .before .before .before .if1 .left) (c .before .before .before .value .ensures) (c .before .before .store2 .ensures) ∙ c .before .before .before .before .before .before .before .before .loop .inv .0,
   ap length (c .before .before .store2 .ensures) ∙ simp length-set (c .before .before .before .before .before .before .before .before .loop .inv .1),
 )
 
--- src/cells.rt:30:1
 same-length-2 : tie.Need-same-length-2 Inv-loop μ-loop
 same-length-2 c = search needs
 
--- src/cells.rt:30:1
 returns-2 : tie.Need-returns-2 Inv-loop μ-loop
 returns-2 c = pour-end _ _ _ _ _ _ _ (c .loop-test .left) ∙ c .before .loop .inv .0 ∙ pour-first _ _ _ _ _ _ _ _ (c .before .before .before .before .before .word-in .ensures .0) (c .before .before .before .before .store .ensures)
 

@@ -8,11 +8,6 @@ use Rattle.machine.specs.Terms.{pouredFrom, pour-first, pour-end, pour-s
 use borrow.Author.Needs.{needs}
 use Rattle.machine.proofs.cells.fill_part.Statement.{statement}
 use Rattle.machine.proofs.cells.fill_part.Tie as tie
-use Rattle.machine.proofs.cells.fill_part.Reads as reads
-use Rattle.machine.proofs.cells.fill_part.Lts as lts
-use Rattle.frames.proofs.value.Reads as value-reads
-use Rattle.memory.proofs.put.Reads as put-reads
-use Rattle.records.proofs.word_in.Reads as word-in-reads
 
 abbrev Inv-loop : tie.InvT-loop
 Inv-loop file i at cell cells₀ frames p n₀ cells n = (pouredFrom file i at frames cell n cells ≡ pouredFrom file i at frames cell 0 cells₀) × (length cells ≡ length cells₀)
@@ -20,78 +15,60 @@ Inv-loop file i at cell cells₀ frames p n₀ cells n = (pouredFrom file i at f
 abbrev μ-loop : tie.MeasureT-loop
 μ-loop file i at cell cells₀ frames p n₀ cells n = maxArity - n
 
--- src/cells.rt:54:13
 mul-p : tie.Need-mul-p Inv-loop μ-loop
 mul-p c = search needs
 
--- src/cells.rt:55:28
 word-in-requires : tie.Need-word-in-requires Inv-loop μ-loop
 word-in-requires c κs = search needs
 
--- src/cells.rt:55:28
 cast-put : tie.Need-cast-put Inv-loop μ-loop
 cast-put c = search needs
 
--- src/cells.rt:55:5
 put-requires : tie.Need-put-requires Inv-loop μ-loop
 put-requires c κs = search needs
 
--- src/cells.rt:57:5
 loop-holds : tie.Need-loop-holds Inv-loop μ-loop
 loop-holds c = (refl, refl)
 
--- src/cells.rt:58:34
 add-word-in : tie.Need-add-word-in Inv-loop μ-loop
 add-word-in c = search needs
 
--- src/cells.rt:58:13
 word-in-requires-2 : tie.Need-word-in-requires-2 Inv-loop μ-loop
 word-in-requires-2 c κs = search needs
 
--- src/cells.rt:60:13
 same-length : tie.Need-same-length Inv-loop μ-loop
 same-length c = search needs
 
--- src/cells.rt:60:13
 returns : tie.Need-returns Inv-loop μ-loop
 returns c = pour-stop _ _ _ _ _ _ _ (c .before .before .loop-test .taken) (c .before .word-in2 .ensures .0) _ (c .if1 .taken) ∙ c .before .before .before .loop .inv .0 ∙ pour-first _ _ _ _ _ _ _ _ (c .before .before .before .before .before .before .before .word-in .ensures .0) (c .before .before .before .before .before .before .put .ensures)
 
--- src/cells.rt:62:29
 add-put : tie.Need-add-put Inv-loop μ-loop
 add-put c = search needs
 
--- src/cells.rt:62:29
 add-put-2 : tie.Need-add-put-2 Inv-loop μ-loop
 add-put-2 c = search needs
 
--- src/cells.rt:62:40
 value-requires : tie.Need-value-requires Inv-loop μ-loop
 value-requires c κs = (rw (c .before .before .word-in2 .ensures .0) (c .before .before .before .before .before .before .before .before .before .before .before .before .before .pre .1 _ (c .before .before .before .loop-test .taken)), c .before .before .before .before .before .before .before .before .before .before .before .before .before .pre .0 .1)
 
--- src/cells.rt:62:9
 put-requires-2 : tie.Need-put-requires-2 Inv-loop μ-loop
 put-requires-2 c κs = search needs
 
--- src/cells.rt:63:9
 add-n : tie.Need-add-n Inv-loop μ-loop
 add-n c = search needs
 
--- src/cells.rt:57:5
 loop-less : tie.Need-loop-less Inv-loop μ-loop
 loop-less c = omega (arith, c .before .before .before .before .before .before .before .loop-test .taken)
 
--- src/cells.rt:57:5
 loop-again : tie.Need-loop-again Inv-loop μ-loop
 loop-again c = (
   pour-on _ _ _ _ _ _ _ (c .before .before .before .before .before .before .before .loop-test .taken) (c .before .before .before .before .before .before .word-in2 .ensures .0) _ _ _ (c .before .before .before .before .before .if1 .left) (c .before .before .before .value .ensures) (c .before .before .put2 .ensures) ∙ c .before .before .before .before .before .before .before .before .loop .inv .0,
   ap length (c .before .before .put2 .ensures) ∙ simp length-set (c .before .before .before .before .before .before .before .before .loop .inv .1),
 )
 
--- src/cells.rt:49:1
 same-length-2 : tie.Need-same-length-2 Inv-loop μ-loop
 same-length-2 c = search needs
 
--- src/cells.rt:49:1
 returns-2 : tie.Need-returns-2 Inv-loop μ-loop
 returns-2 c = pour-end _ _ _ _ _ _ _ (c .loop-test .left) ∙ c .before .loop .inv .0 ∙ pour-first _ _ _ _ _ _ _ _ (c .before .before .before .before .before .word-in .ensures .0) (c .before .before .before .before .put .ensures)
 

@@ -1,35 +1,23 @@
-use Prim.Native.Nat.{_*_}
 use Rattle.machine.specs.Goals.{gives, value-as}
 use borrow.Author.Needs.{needs}
 use Rattle.machine.proofs.goals.assign.Statement.{statement}
 use Rattle.machine.proofs.goals.assign.Tie as tie
-use Rattle.machine.proofs.goals.assign.Reads as reads
-use Rattle.machine.proofs.goals.assign.Lts as lts
-use Rattle.frames.proofs.give.Reads as give-reads
-use Rattle.frames.proofs.value.Reads as value-reads
-use Rattle.records.proofs.word_in.Reads as word-in-reads
 
--- src/goals.rt:74:37
 word-in-requires : tie.Need-word-in-requires
 word-in-requires c κs = search needs
 
--- src/goals.rt:74:9
 value-requires : tie.Need-value-requires
 value-requires c κs = search needs
 
--- src/goals.rt:75:23
 word-in-requires-2 : tie.Need-word-in-requires-2
 word-in-requires-2 c κs = search needs
 
--- src/goals.rt:75:5
 give-requires : tie.Need-give-requires
 give-requires c κs = search needs
 
--- src/goals.rt:69:1
 same-length : tie.Need-same-length
 same-length c = search needs
 
--- src/goals.rt:69:1
 returns : tie.Need-returns
 returns c = gives (c .before .before .before .before .before .before .before .before .before .before .args .at) _ _ _ _ (c .before .before .before .before .before .before .before .before .before .before .args .frames .now) _ (c .before .before .give .ensures) (c .before .before .before .word-in2 .ensures .0) (value-as (c .before .before .before .before .before .before .before .before .before .before .args .at) _ _ _ (c .before .before .before .before .before .before .before .before .before .before .args .frames .now) (c .before .before .before .before .before .value .ensures) (c .before .before .before .before .before .before .word-in .ensures .0))
 

@@ -1,47 +1,32 @@
-use Prim.Native.Nat.{_*_}
 use Rattle.machine.specs.Goals.{part-then, part-else, value-as}
 use borrow.Author.Needs.{needs}
 use Rattle.machine.proofs.goals.part_of.Statement.{statement}
 use Rattle.machine.proofs.goals.part_of.Tie as tie
-use Rattle.machine.proofs.goals.part_of.Reads as reads
-use Rattle.machine.proofs.goals.part_of.Lts as lts
-use Rattle.frames.proofs.less_words.Reads as less-words-reads
-use Rattle.frames.proofs.value.Reads as value-reads
-use Rattle.records.proofs.word_in.Reads as word-in-reads
 
--- src/goals.rt:85:32
 word-in-requires : tie.Need-word-in-requires
 word-in-requires c κs = search needs
 
--- src/goals.rt:85:9
 value-requires : tie.Need-value-requires
 value-requires c κs = search needs
 
--- src/goals.rt:86:32
 word-in-requires-2 : tie.Need-word-in-requires-2
 word-in-requires-2 c κs = search needs
 
--- src/goals.rt:86:9
 value-requires-2 : tie.Need-value-requires-2
 value-requires-2 c κs = search needs
 
--- src/goals.rt:87:8
 less-words-requires : tie.Need-less-words-requires
 less-words-requires c κs = search needs
 
--- src/goals.rt:88:9
 word-in-requires-3 : tie.Need-word-in-requires-3
 word-in-requires-3 c κs = search needs
 
--- src/goals.rt:90:9
 word-in-requires-4 : tie.Need-word-in-requires-4
 word-in-requires-4 c κs = search needs
 
--- src/goals.rt:79:1
 returns : tie.Need-returns
 returns c = part-then _ _ _ _ _ _ _ _ (c .before .before .less-words .ensures) (value-as (c .before .before .before .before .before .before .before .before .before .args .at) _ _ _ (c .before .before .before .before .before .before .before .before .before .args .frames .now) (c .before .before .before .before .before .value .ensures) (c .before .before .before .before .before .before .word-in .ensures .0)) (value-as (c .before .before .before .before .before .before .before .before .before .args .at) _ _ _ (c .before .before .before .before .before .before .before .before .before .args .frames .now) (c .before .before .before .value2 .ensures) (c .before .before .before .before .word-in2 .ensures .0)) (c .before .if1 .taken) (c .word-in3 .ensures .0)
 
--- src/goals.rt:79:1
 returns-2 : tie.Need-returns-2
 returns-2 c = part-else _ _ _ _ _ _ _ _ (c .before .before .less-words .ensures) (value-as (c .before .before .before .before .before .before .before .before .before .args .at) _ _ _ (c .before .before .before .before .before .before .before .before .before .args .frames .now) (c .before .before .before .before .before .value .ensures) (c .before .before .before .before .before .before .word-in .ensures .0)) (value-as (c .before .before .before .before .before .before .before .before .before .args .at) _ _ _ (c .before .before .before .before .before .before .before .before .before .args .frames .now) (c .before .before .before .value2 .ensures) (c .before .before .before .before .word-in2 .ensures .0)) (c .before .if1 .left) (c .word-in4 .ensures .0)
 

@@ -1,18 +1,11 @@
 use mathlib.Core.Path.{refl}
 use Rattle.machine.specs.Numbers.{remove-low}
 use mathlib.Core.Path.{_∙_, sym}
-use mathlib.Core.Path.{_≡_}
 use Rattle.frames.specs.Strays.{whole}
 use Rattle.machine.specs.Heaps.{remaining, remove-keeps}
 use borrow.Author.Needs.{needs}
 use Rattle.machine.proofs.heaps.keep.Statement.{statement}
 use Rattle.machine.proofs.heaps.keep.Tie as tie
-use Rattle.machine.proofs.heaps.keep.Reads as reads
-use Rattle.machine.proofs.heaps.keep.Lts as lts
-use Rattle.machine.proofs.places.drop_region.Reads as drop-region-reads
-use Rattle.machine.proofs.heaps.construct_step.Reads as construct-step-reads
-use Rattle.machine.proofs.heaps.create_step.Reads as create-step-reads
-use Rattle.records.proofs.word_in.Reads as word-in-reads
 
 word-in-requires : tie.Need-word-in-requires
 word-in-requires c κs = let w = whole (c .before .before .before .before .pre .0 .0) (c .before .before .before .before .args .state .goal) (c .before .before .before .before .pre .1 .0 .0) in search needs

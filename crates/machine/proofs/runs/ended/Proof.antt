@@ -2,10 +2,7 @@ use mathlib.Core.Path.{refl}
 use Rattle.machine.specs.Runs.{endedAt}
 use Rattle.machine.proofs.runs.ended.Statement.{statement}
 use Rattle.machine.proofs.runs.ended.Tie as tie
-use Rattle.machine.proofs.runs.ended.Reads as reads
-use Rattle.machine.proofs.runs.ended.Lts as lts
 
--- src/runs.rt:32:1
 returns : tie.Need-returns
 unfolding endedAt
 returns c = refl

@@ -10,18 +10,6 @@ use Rattle.machine.specs.Heaps.{changed, unchanged}
 use native.Mathlib.Omega.{arith}
 use Rattle.machine.proofs.runs.run_on.Statement.{statement}
 use Rattle.machine.proofs.runs.run_on.Tie as tie
-use Rattle.machine.proofs.runs.run_on.Reads as reads
-use Rattle.machine.proofs.runs.run_on.Lts as lts
-use Rattle.machine.proofs.calls.settle.Reads as settle-reads
-use Rattle.machine.proofs.goals.successor.Reads as successor-reads
-use Rattle.machine.proofs.heaps.changes_heap.Reads as changes-heap-reads
-use Rattle.machine.proofs.heaps.keep.Reads as keep-reads
-use Rattle.machine.proofs.runs.ended.Reads as ended-reads
-use Rattle.machine.proofs.runs.first_state.Reads as first-state-reads
-use Rattle.machine.proofs.steps.go.Reads as go-reads
-use Rattle.machine.proofs.steps.onward.Reads as onward-reads
-use Rattle.memory.proofs.empty.Reads as empty-reads
-use Rattle.records.proofs.word_in.Reads as word-in-reads
 
 abbrev Inv-loop : tie.InvT-loop
 Inv-loop file plan images callees cells₀ regions₀ frames₀ prints₀ steps heap₀ state₀ left₀ cells regions frames prints heap state left =
@@ -31,46 +19,36 @@ abbrev μ-loop : tie.MeasureT-loop
 μ-loop file plan images callees cells₀ regions₀ frames₀ prints₀ steps heap₀ state₀ left₀ cells regions frames prints heap state left =
     left
 
--- src/runs.rt:75:9
 empty-requires : tie.Need-empty-requires Inv-loop μ-loop
 empty-requires c κs = search needs
 
--- src/runs.rt:76:9
 first-state-requires : tie.Need-first-state-requires Inv-loop μ-loop
 first-state-requires c κs = search needs
 
--- src/runs.rt:78:5
 loop-holds : tie.Need-loop-holds Inv-loop μ-loop
 loop-holds c = first _ _ _ _ _ _ _ _ (c .before .before .before .before .before .before .before .before .before .before .args .callees .now) _ (c .first-state .ensures) (c .before .before .before .before .before .before .before .before .before .before .pre .1)
 
--- src/runs.rt:79:13
 settle-requires : tie.Need-settle-requires Inv-loop μ-loop
 settle-requires c κs = ((c .before .before .before .before .before .before .before .before .before .before .before .before .pre .0 .0, c .before .loop .inv .placed), c .before .before .before .before .before .before .before .before .before .before .before .before .pre .0 .1)
 
 sub-ended : tie.Need-sub-ended Inv-loop μ-loop
 sub-ended c = omega (arith, c .before .before .before .before .before .loop .inv .most)
 
--- src/runs.rt:82:13
 ended-requires : tie.Need-ended-requires Inv-loop μ-loop
 ended-requires c κs = search needs
 
--- src/runs.rt:82:13
 same-length : tie.Need-same-length Inv-loop μ-loop
 same-length c = c .before .before .before .before .before .before .loop .inv .cells
 
--- src/runs.rt:82:13
 same-length-2 : tie.Need-same-length-2 Inv-loop μ-loop
 same-length-2 c = c .before .before .before .before .before .before .loop .inv .regions
 
--- src/runs.rt:82:13
 same-length-3 : tie.Need-same-length-3 Inv-loop μ-loop
 same-length-3 c = c .before .before .before .before .settle .kept .1 .1 .1 .1 .1 .0 ∙ c .before .before .before .before .before .before .loop .inv .frames
 
--- src/runs.rt:82:13
 same-length-4 : tie.Need-same-length-4 Inv-loop μ-loop
 same-length-4 c = c .before .before .before .before .before .before .loop .inv .prints
 
--- src/runs.rt:82:13
 returns : tie.Need-returns Inv-loop μ-loop
 returns c =
     first-as _ _ _ _ _ _ _ _ _ _ _ _ _ _ _ _ (c .before .before .before .before .before .before .before .before .empty .ensures) (c .before .before .before .before .before .before .before .first-state .ensures)
@@ -79,163 +57,126 @@ returns c =
 sub-ended-2 : tie.Need-sub-ended-2 Inv-loop μ-loop
 sub-ended-2 c = omega (arith, c .before .before .before .before .before .before .loop .inv .most)
 
--- src/runs.rt:85:13
 ended-requires-2 : tie.Need-ended-requires-2 Inv-loop μ-loop
 ended-requires-2 c κs = search needs
 
--- src/runs.rt:85:13
 same-length-5 : tie.Need-same-length-5 Inv-loop μ-loop
 same-length-5 c = c .before .before .before .before .before .before .before .loop .inv .cells
 
--- src/runs.rt:85:13
 same-length-6 : tie.Need-same-length-6 Inv-loop μ-loop
 same-length-6 c = c .before .before .before .before .before .before .before .loop .inv .regions
 
--- src/runs.rt:85:13
 same-length-7 : tie.Need-same-length-7 Inv-loop μ-loop
 same-length-7 c = c .before .before .before .before .before .settle .kept .1 .1 .1 .1 .1 .0 ∙ c .before .before .before .before .before .before .before .loop .inv .frames
 
--- src/runs.rt:85:13
 same-length-8 : tie.Need-same-length-8 Inv-loop μ-loop
 same-length-8 c = c .before .before .before .before .before .before .before .loop .inv .prints
 
--- src/runs.rt:85:13
 returns-2 : tie.Need-returns-2 Inv-loop μ-loop
 returns-2 c =
     first-as _ _ _ _ _ _ _ _ _ _ _ _ _ _ _ _ (c .before .before .before .before .before .before .before .before .before .empty .ensures) (c .before .before .before .before .before .before .before .before .first-state .ensures)
     (run-spent _ _ _ _ _ _ _ _ _ _ _ _ _ _ _ (arrives _ _ _ _ _ _ _ _ _ _ _ _ _ _ _ _ _ (c .before .before .before .before .before .before .before .loop .inv) (c .before .before .before .before .before .settle .ensures .0) (c .before .before .before .before .before .settle .ensures .1) (c .before .before .before .before .before .settle .kept .1 .1 .1 .1 .1 .0)) _ (c .before .before .if1 .left) (c .before .if2 .taken) (c .ended2 .ensures))
 
--- src/runs.rt:89:13
 sub-left : tie.Need-sub-left Inv-loop μ-loop
 sub-left c = omega (arith, c .before .if2 .left)
 
--- src/runs.rt:78:5
 loop-less : tie.Need-loop-less Inv-loop μ-loop
 loop-less c = omega (arith, c .before .if2 .left)
 
--- src/runs.rt:78:5
 loop-again : tie.Need-loop-again Inv-loop μ-loop
 loop-again c = past-on _ _ _ _ _ _ _ _ _ _ _ _ _ _ _ (arrives _ _ _ _ _ _ _ _ _ _ _ _ _ _ _ _ _ (c .before .before .before .before .before .before .before .loop .inv) (c .before .before .before .before .before .settle .ensures .0) (c .before .before .before .before .before .settle .ensures .1) (c .before .before .before .before .before .settle .kept .1 .1 .1 .1 .1 .0)) (c .before .before .before .before .before .before .before .before .before .before .before .before .before .before .before .before .before .before .pre .0 .0) (c .before .before .if1 .left) (omega (arith, c .before .if2 .left)) (past-length (c .before .before .before .before .before .before .before .before .before .before .before .before .before .before .before .before .before .before .pre .0 .0) _ (c .if3 .taken))
 
--- src/runs.rt:92:25
 word-in-requires : tie.Need-word-in-requires Inv-loop μ-loop
 word-in-requires c κs = let w = whole (c .before .before .before .before .before .before .before .before .before .before .before .before .before .before .before .before .before .before .pre .0 .0) _ (in-length (c .before .before .before .before .before .before .before .before .before .before .before .before .before .before .before .before .before .before .pre .0 .0) _ (c .if3 .left)) in search needs
 
--- src/runs.rt:92:12
 changes-heap-requires : tie.Need-changes-heap-requires Inv-loop μ-loop
 changes-heap-requires c κs = search needs
 
--- src/runs.rt:93:17
 keep-requires : tie.Need-keep-requires Inv-loop μ-loop
 keep-requires c κs = ((c .before .before .before .before .before .before .before .before .before .before .before .before .before .before .before .before .before .before .before .before .before .before .before .before .pre .0 .0, c .before .before .before .before .before .before .before .before .before .before .before .before .before .before .before .before .before .before .before .before .before .before .before .before .pre .0 .2), ((in-length (c .before .before .before .before .before .before .before .before .before .before .before .before .before .before .before .before .before .before .before .before .before .before .before .before .pre .0 .0) _ (c .before .before .before .before .before .before .if3 .left), c .before .before .before .before .before .before .before .before .before .before .before .settle .ensures .1), changed _ _ _ (c .before .before .before .before .before .word-in .ensures .0) (c .before .before .before .before .changes-heap .ensures) (c .before .before .before .if4 .taken)))
 
--- src/runs.rt:95:28
 enum-known-kept : tie.Need-enum-known-kept Inv-loop μ-loop
 enum-known-kept c = search needs
 
--- src/runs.rt:97:42
 successor-requires : tie.Need-successor-requires Inv-loop μ-loop
 successor-requires c κs = let w = whole (c .before .before .before .before .before .before .before .before .before .before .before .before .before .before .before .before .before .before .before .before .before .before .before .before .before .before .before .before .before .before .before .before .before .before .pre .0 .0) _ (in-length (c .before .before .before .before .before .before .before .before .before .before .before .before .before .before .before .before .before .before .before .before .before .before .before .before .before .before .before .before .before .before .before .before .before .before .pre .0 .0) _ (c .before .before .before .before .before .before .before .before .before .before .before .before .before .before .before .before .if3 .left)) in search needs
 
--- src/runs.rt:97:21
 onward-requires : tie.Need-onward-requires Inv-loop μ-loop
 onward-requires c κs = search needs
 
--- src/runs.rt:98:21
 sub-left-2 : tie.Need-sub-left-2 Inv-loop μ-loop
 sub-left-2 c = omega (arith, c .before .before .before .before .before .before .before .before .before .before .before .before .before .before .before .before .before .before .before .if2 .left)
 
--- src/runs.rt:78:5
 loop-less-2 : tie.Need-loop-less-2 Inv-loop μ-loop
 loop-less-2 c = omega (arith, c .before .before .before .before .before .before .before .before .before .before .before .before .before .before .before .before .before .before .before .if2 .left)
 
--- src/runs.rt:78:5
 loop-again-2 : tie.Need-loop-again-2 Inv-loop μ-loop
 loop-again-2 c =
     kept-on _ _ _ _ _ _ _ _ _ _ _ _ _ _ _ (arrives _ _ _ _ _ _ _ _ _ _ _ _ _ _ _ _ _ (c .before .before .before .before .before .before .before .before .before .before .before .before .before .before .before .before .before .before .before .before .before .before .before .before .before .loop .inv) (c .before .before .before .before .before .before .before .before .before .before .before .before .before .before .before .before .before .before .before .before .before .before .before .settle .ensures .0) (c .before .before .before .before .before .before .before .before .before .before .before .before .before .before .before .before .before .before .before .before .before .before .before .settle .ensures .1) (c .before .before .before .before .before .before .before .before .before .before .before .before .before .before .before .before .before .before .before .before .before .before .before .settle .kept .1 .1 .1 .1 .1 .0)) _ _ _ _ _ _ _ (c .before .before .before .before .before .before .before .before .before .before .before .before .before .before .before .before .before .before .before .before .if1 .left) (omega (arith, c .before .before .before .before .before .before .before .before .before .before .before .before .before .before .before .before .before .before .before .if2 .left)) (c .before .before .before .before .before .before .before .before .before .before .before .keep .ensures _ _) (c .before .before .before .kept .given .1) (successor-as _ _ _ _ _ (c .before .successor .ensures)) (c .onward .ensures)
     (c .before .before .before .before .before .before .before .before .before .before .before .keep .kept .1 .1 .1 .1 .0) (c .before .before .before .before .before .before .before .before .before .before .before .keep .kept .1 .1 .1 .1 .1 .0) (c .before .before .before .before .before .before .before .before .before .before .before .keep .kept .1 .1 .1 .1 .1 .1 .0)
 
--- src/runs.rt:101:29
 enum-known-kept-2 : tie.Need-enum-known-kept-2 Inv-loop μ-loop
 enum-known-kept-2 c = search needs
 
 sub-ended-3 : tie.Need-sub-ended-3 Inv-loop μ-loop
 sub-ended-3 c = omega (arith, c .before .before .before .before .before .before .before .before .before .before .before .before .before .before .before .before .before .before .before .before .before .before .before .loop .inv .most)
 
--- src/runs.rt:101:38
 ended-requires-3 : tie.Need-ended-requires-3 Inv-loop μ-loop
 ended-requires-3 c κs = search needs
 
--- src/runs.rt:101:38
 same-length-9 : tie.Need-same-length-9 Inv-loop μ-loop
 same-length-9 c = c .before .before .before .before .before .before .before .before .before .before .keep .kept .1 .1 .1 .1 .0 ∙ c .before .before .before .before .before .before .before .before .before .before .before .before .before .before .before .before .before .before .before .before .before .before .before .before .loop .inv .cells
 
--- src/runs.rt:101:38
 same-length-10 : tie.Need-same-length-10 Inv-loop μ-loop
 same-length-10 c = c .before .before .before .before .before .before .before .before .before .before .keep .kept .1 .1 .1 .1 .1 .0 ∙ c .before .before .before .before .before .before .before .before .before .before .before .before .before .before .before .before .before .before .before .before .before .before .before .before .loop .inv .regions
 
--- src/runs.rt:101:38
 same-length-11 : tie.Need-same-length-11 Inv-loop μ-loop
 same-length-11 c = c .before .before .before .before .before .before .before .before .before .before .keep .kept .1 .1 .1 .1 .1 .1 .0 ∙ c .before .before .before .before .before .before .before .before .before .before .before .before .before .before .before .before .before .before .before .before .before .before .settle .kept .1 .1 .1 .1 .1 .0 ∙ c .before .before .before .before .before .before .before .before .before .before .before .before .before .before .before .before .before .before .before .before .before .before .before .before .loop .inv .frames
 
--- src/runs.rt:101:38
 same-length-12 : tie.Need-same-length-12 Inv-loop μ-loop
 same-length-12 c = c .before .before .before .before .before .before .before .before .before .before .before .before .before .before .before .before .before .before .before .before .before .before .before .before .loop .inv .prints
 
--- src/runs.rt:101:38
 returns-3 : tie.Need-returns-3 Inv-loop μ-loop
 returns-3 c =
     first-as _ _ _ _ _ _ _ _ _ _ _ _ _ _ _ _ (c .before .before .before .before .before .before .before .before .before .before .before .before .before .before .before .before .before .before .before .before .before .before .before .before .before .before .empty .ensures) (c .before .before .before .before .before .before .before .before .before .before .before .before .before .before .before .before .before .before .before .before .before .before .before .before .before .first-state .ensures)
     (kept-stopped _ _ _ _ _ _ _ _ _ _ _ _ _ _ _ (arrives _ _ _ _ _ _ _ _ _ _ _ _ _ _ _ _ _ (c .before .before .before .before .before .before .before .before .before .before .before .before .before .before .before .before .before .before .before .before .before .before .before .before .loop .inv) (c .before .before .before .before .before .before .before .before .before .before .before .before .before .before .before .before .before .before .before .before .before .before .settle .ensures .0) (c .before .before .before .before .before .before .before .before .before .before .before .before .before .before .before .before .before .before .before .before .before .before .settle .ensures .1) (c .before .before .before .before .before .before .before .before .before .before .before .before .before .before .before .before .before .before .before .before .before .before .settle .kept .1 .1 .1 .1 .1 .0)) _ _ _ _ _ _ (c .before .before .before .before .before .before .before .before .before .before .before .before .before .before .before .before .before .before .before .if1 .left) (omega (arith, c .before .before .before .before .before .before .before .before .before .before .before .before .before .before .before .before .before .before .if2 .left)) (c .before .before .before .before .before .before .before .before .before .before .keep .ensures _ _) (c .before .before .kept2 .given .1) (c .ended3 .ensures))
 
--- src/runs.rt:104:13
 go-requires : tie.Need-go-requires Inv-loop μ-loop
 go-requires c κs = ((c .before .before .before .before .before .before .before .before .before .before .before .before .before .before .before .before .before .before .before .before .before .before .before .before .pre .0 .0, c .before .before .before .before .before .before .before .before .before .before .before .before .before .before .before .before .before .before .before .before .before .before .before .before .pre .0 .2), (c .before .before .before .before .before .before .before .before .before .before .before .before .before .before .before .before .before .before .before .before .before .before .before .before .pre .0 .1, ((in-length (c .before .before .before .before .before .before .before .before .before .before .before .before .before .before .before .before .before .before .before .before .before .before .before .before .pre .0 .0) _ (c .before .before .before .before .before .before .if3 .left), c .before .before .before .before .before .before .before .before .before .before .before .settle .ensures .1), unchanged _ _ _ (c .before .before .before .before .before .word-in .ensures .0) (c .before .before .before .before .changes-heap .ensures) (c .before .before .before .if4 .left))))
 
--- src/runs.rt:106:24
 enum-known-went : tie.Need-enum-known-went Inv-loop μ-loop
 enum-known-went c = search needs
 
--- src/runs.rt:108:17
 sub-left-3 : tie.Need-sub-left-3 Inv-loop μ-loop
 sub-left-3 c = omega (arith, c .before .before .before .before .before .before .before .before .before .before .before .before .before .before .before .if2 .left)
 
--- src/runs.rt:78:5
 loop-less-3 : tie.Need-loop-less-3 Inv-loop μ-loop
 loop-less-3 c = omega (arith, c .before .before .before .before .before .before .before .before .before .before .before .before .before .before .before .if2 .left)
 
--- src/runs.rt:78:5
 loop-again-3 : tie.Need-loop-again-3 Inv-loop μ-loop
 loop-again-3 c = went-on _ _ _ _ _ _ _ _ _ _ _ _ _ _ _ (arrives _ _ _ _ _ _ _ _ _ _ _ _ _ _ _ _ _ (c .before .before .before .before .before .before .before .before .before .before .before .before .before .before .before .before .before .before .before .before .before .loop .inv) (c .before .before .before .before .before .before .before .before .before .before .before .before .before .before .before .before .before .before .before .settle .ensures .0) (c .before .before .before .before .before .before .before .before .before .before .before .before .before .before .before .before .before .before .before .settle .ensures .1) (c .before .before .before .before .before .before .before .before .before .before .before .before .before .before .before .before .before .before .before .settle .kept .1 .1 .1 .1 .1 .0)) _ _ _ _ (c .before .before .before .before .before .before .before .before .before .before .before .before .before .before .before .before .if1 .left) (omega (arith, c .before .before .before .before .before .before .before .before .before .before .before .before .before .before .before .if2 .left)) (c .before .before .before .before .before .before .before .go .ensures) (c .before .went .given .1) (c .before .before .before .before .before .before .before .go .kept .1 .1 .1 .1 .1 .1 .0) (c .before .before .before .before .before .before .before .go .kept .1 .1 .1 .1 .1 .1 .1 .0)
 
--- src/runs.rt:110:25
 enum-known-went-2 : tie.Need-enum-known-went-2 Inv-loop μ-loop
 enum-known-went-2 c = search needs
 
 sub-ended-4 : tie.Need-sub-ended-4 Inv-loop μ-loop
 sub-ended-4 c = omega (arith, c .before .before .before .before .before .before .before .before .before .before .before .before .before .before .before .before .before .before .before .before .before .loop .inv .most)
 
--- src/runs.rt:110:34
 ended-requires-4 : tie.Need-ended-requires-4 Inv-loop μ-loop
 ended-requires-4 c κs = search needs
 
--- src/runs.rt:110:34
 same-length-13 : tie.Need-same-length-13 Inv-loop μ-loop
 same-length-13 c = c .before .before .before .before .before .before .before .before .before .before .before .before .before .before .before .before .before .before .before .before .before .before .loop .inv .cells
 
--- src/runs.rt:110:34
 same-length-14 : tie.Need-same-length-14 Inv-loop μ-loop
 same-length-14 c = c .before .before .before .before .before .before .before .before .before .before .before .before .before .before .before .before .before .before .before .before .before .before .loop .inv .regions
 
--- src/runs.rt:110:34
 same-length-15 : tie.Need-same-length-15 Inv-loop μ-loop
 same-length-15 c = c .before .before .before .before .before .before .before .before .go .kept .1 .1 .1 .1 .1 .1 .0 ∙ c .before .before .before .before .before .before .before .before .before .before .before .before .before .before .before .before .before .before .before .before .settle .kept .1 .1 .1 .1 .1 .0 ∙ c .before .before .before .before .before .before .before .before .before .before .before .before .before .before .before .before .before .before .before .before .before .before .loop .inv .frames
 
--- src/runs.rt:110:34
 same-length-16 : tie.Need-same-length-16 Inv-loop μ-loop
 same-length-16 c = c .before .before .before .before .before .before .before .before .go .kept .1 .1 .1 .1 .1 .1 .1 .0 ∙ c .before .before .before .before .before .before .before .before .before .before .before .before .before .before .before .before .before .before .before .before .before .before .loop .inv .prints
 
--- src/runs.rt:110:34
 returns-4 : tie.Need-returns-4 Inv-loop μ-loop
 returns-4 c =
     first-as _ _ _ _ _ _ _ _ _ _ _ _ _ _ _ _ (c .before .before .before .before .before .before .before .before .before .before .before .before .before .before .before .before .before .before .before .before .before .before .before .before .empty .ensures) (c .before .before .before .before .before .before .before .before .before .before .before .before .before .before .before .before .before .before .before .before .before .before .before .first-state .ensures)

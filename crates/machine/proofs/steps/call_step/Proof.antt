@@ -7,47 +7,34 @@ use native.Mathlib.Omega.{arith}
 use borrow.Author.Needs.{needs}
 use Rattle.machine.proofs.steps.call_step.Statement.{statement}
 use Rattle.machine.proofs.steps.call_step.Tie as tie
-use Rattle.machine.proofs.steps.call_step.Reads as reads
-use Rattle.machine.proofs.steps.call_step.Lts as lts
-use Rattle.machine.proofs.calls.call.Reads as call-reads
-use Rattle.memory.proofs.room.Reads as room-reads
 
--- src/steps.rt:72:17
 room-requires : tie.Need-room-requires
 room-requires c κs = search needs
 
--- src/steps.rt:72:17
 cast-limit : tie.Need-cast-limit
 cast-limit c = search needs
 
--- src/steps.rt:73:18
 cast-above : tie.Need-cast-above
 cast-above c = search needs
 
--- src/steps.rt:73:17
 add-above : tie.Need-add-above
 add-above c = search needs
 
--- src/steps.rt:75:9
 returns : tie.Need-returns
 returns c = λ m ps. call-stops _ _ _ _ _ _ (c .before .before .before .before .before .pre .1 .1 .2) _ refl _ (c .before .before .before .before .before .pre .1 .1 .1) (c .before .room .ensures) (omega (arith, c .if1 .taken))
 
--- src/steps.rt:77:9
 call-requires : tie.Need-call-requires
 call-requires c κs = let p = c .before .before .before .before .before .before .pre in (whole (p .0) _ (p .1 .1 .0), (p .1 .0, step-fits _ _ _ (p .1 .1 .2) (c .before .before .room .ensures) (omega (arith, c .before .if1 .left))))
 
--- src/steps.rt:79:14
 add-t14 : tie.Need-add-t14
 add-t14 c = search needs
 
 add-t15 : tie.Need-add-t15
 add-t15 c = let l = step-fits _ _ _ (c .before .before .before .before .before .before .before .before .before .pre .1 .1 .2) (c .before .before .before .before .before .room .ensures) (omega (arith, c .before .before .before .before .if1 .left)) in search needs
 
--- src/steps.rt:55:1
 same-length : tie.Need-same-length
 same-length c = search needs
 
--- src/steps.rt:55:1
 returns-2 : tie.Need-returns-2
 returns-2 c = λ m ps. call-goes _ _ _ _ _ _ (c .before .before .before .before .before .before .before .before .before .pre .1 .1 .2) _ refl _ _ _ _ _ (c .before .before .before .before .before .before .before .before .before .pre .1 .1 .1) (body-as _ _ _ _ _ (c .before .before .call .ensures .0)) (c .before .before .call .ensures .1 _ (c .before .before .before .before .before .before .before .before .before .pre .1 .1 .2 .place)) (omega arith) refl (c .before .before .before .before .before .room .ensures) (omega (arith, c .before .before .before .before .if1 .left))
 

@@ -7,56 +7,34 @@ use Rattle.machine.specs.Steps.{goes-same, literal-goes, sum-goes, assig
 use borrow.Author.Needs.{needs}
 use Rattle.machine.proofs.steps.go.Statement.{statement}
 use Rattle.machine.proofs.steps.go.Tie as tie
-use Rattle.machine.proofs.steps.go.Reads as reads
-use Rattle.machine.proofs.steps.go.Lts as lts
-use Rattle.machine.proofs.goals.assign.Reads as assign-reads
-use Rattle.machine.proofs.goals.literal.Reads as literal-reads
-use Rattle.machine.proofs.goals.successor.Reads as successor-reads
-use Rattle.machine.proofs.goals.sum.Reads as sum-reads
-use Rattle.machine.proofs.steps.call_step.Reads as call-step-reads
-use Rattle.machine.proofs.steps.onward.Reads as onward-reads
-use Rattle.machine.proofs.steps.switch_step.Reads as switch-step-reads
-use Rattle.machine.proofs.steps.if_step.Reads as if-step-reads
-use Rattle.machine.proofs.steps.print_step.Reads as print-step-reads
-use Rattle.records.proofs.word_in.Reads as word-in-reads
 
--- src/steps.rt:134:11
 word-in-requires : tie.Need-word-in-requires
 word-in-requires c κs = let p = c .before .before .before .before .before .pre in (omega arith, whole (p .0 .0) _ (p .1 .1 .0 .0) .1)
 
--- src/steps.rt:136:13
 literal-requires : tie.Need-literal-requires
 literal-requires c κs = let p = c .before .before .before .before .before .before .before .before .pre in ((whole (p .0 .0) _ (p .1 .1 .0 .0) .1, p .1 .1 .0 .1 .fits), literal-low (p .0 .1) _ (c .before .before .word-in .ensures .0) (c .before .match .keys1))
 
--- src/steps.rt:137:38
 successor-requires : tie.Need-successor-requires
 successor-requires c κs = let p = c .before .before .before .before .before .before .before .before .before .before .before .pre in whole (p .0 .0) _ (p .1 .1 .0 .0) .0
 
--- src/steps.rt:137:24
 onward-requires : tie.Need-onward-requires
 onward-requires c κs = search needs
 
--- src/steps.rt:140:13
 sum-requires : tie.Need-sum-requires
 sum-requires c κs = let p = c .before .before .before .before .before .before .before .before .pre in ((whole (p .0 .0) _ (p .1 .1 .0 .0) .1, p .1 .1 .0 .1 .fits), sum-low (p .0 .1) _ (c .before .before .word-in .ensures .0) (c .before .match .keys2))
 
--- src/steps.rt:141:38
 successor-requires-2 : tie.Need-successor-requires-2
 successor-requires-2 c κs = let p = c .before .before .before .before .before .before .before .before .before .before .before .pre in whole (p .0 .0) _ (p .1 .1 .0 .0) .0
 
--- src/steps.rt:141:24
 onward-requires-2 : tie.Need-onward-requires-2
 onward-requires-2 c κs = search needs
 
--- src/steps.rt:144:13
 assign-requires : tie.Need-assign-requires
 assign-requires c κs = let p = c .before .before .before .before .before .before .before .before .pre in ((whole (p .0 .0) _ (p .1 .1 .0 .0) .1, p .1 .1 .0 .1 .fits), assign-low (p .0 .1) _ (c .before .before .word-in .ensures .0) (c .before .match .keys3))
 
--- src/steps.rt:145:38
 successor-requires-3 : tie.Need-successor-requires-3
 successor-requires-3 c κs = let p = c .before .before .before .before .before .before .before .before .before .before .before .pre in whole (p .0 .0) _ (p .1 .1 .0 .0) .0
 
--- src/steps.rt:145:24
 onward-requires-3 : tie.Need-onward-requires-3
 onward-requires-3 c κs = search needs
 
@@ -66,75 +44,57 @@ switch-step-requires c κs = (c .before .before .before .before .before .before 
 if-step-requires : tie.Need-if-step-requires
 if-step-requires c κs = (c .before .before .before .before .before .before .before .before .pre .0, (c .before .before .before .before .before .before .before .before .pre .1 .1 .0 .0, sym (c .before .before .word-in .ensures .0) ∙ c .before .match .keys5, c .before .before .before .before .before .before .before .before .pre .1 .1 .0 .1))
 
--- src/steps.rt:155:17
 call-step-requires : tie.Need-call-step-requires
 call-step-requires c κs = let p = c .before .before .before .before .before .before .before .before .pre in (p .0 .0, (p .1 .0, (p .1 .1 .0 .0, sym (c .before .before .word-in .ensures .0) ∙ c .before .match .keys6, p .1 .1 .0 .1)))
 
--- src/steps.rt:156:18
 print-step-requires : tie.Need-print-step-requires
 print-step-requires c κs = (c .before .before .before .before .before .before .before .before .before .pre .0, (c .before .before .before .before .before .before .before .before .before .pre .1 .1 .0 .0, sym (c .before .before .before .word-in .ensures .0) ∙ c .before .before .match .keys7, c .before .before .before .before .before .before .before .before .before .pre .1 .1 .0 .1))
 
--- src/steps.rt:115:1
 same-length : tie.Need-same-length
 same-length c = search needs
 
--- src/steps.rt:115:1
 returns : tie.Need-returns
 returns c = goes-same _ _ _ _ _ _ _ _ _ _ (c .onward .ensures) (literal-goes _ _ _ _ _ _ (c .before .before .before .before .before .before .before .before .before .before .before .before .before .pre .1 .1 .0 .1) _ _ (c .before .before .before .before .before .before .before .word-in .ensures .0) (successor-as _ _ _ _ _ (c .before .successor .ensures)) _ (c .before .before .before .before .before .before .match .keys1) (c .before .before .before .before .literal .ensures))
 
--- src/steps.rt:115:1
 same-length-2 : tie.Need-same-length-2
 same-length-2 c = search needs
 
--- src/steps.rt:115:1
 returns-2 : tie.Need-returns-2
 returns-2 c = goes-same _ _ _ _ _ _ _ _ _ _ (c .onward2 .ensures) (sum-goes _ _ _ _ _ _ (c .before .before .before .before .before .before .before .before .before .before .before .before .before .pre .1 .1 .0 .1) _ _ (c .before .before .before .before .before .before .before .word-in .ensures .0) (successor-as _ _ _ _ _ (c .before .successor2 .ensures)) _ (c .before .before .before .before .before .before .match .keys2) (c .before .before .before .before .sum .ensures))
 
--- src/steps.rt:115:1
 same-length-3 : tie.Need-same-length-3
 same-length-3 c = search needs
 
--- src/steps.rt:115:1
 returns-3 : tie.Need-returns-3
 returns-3 c = goes-same _ _ _ _ _ _ _ _ _ _ (c .onward3 .ensures) (assign-goes _ _ _ _ _ _ (c .before .before .before .before .before .before .before .before .before .before .before .before .before .pre .1 .1 .0 .1) _ _ (c .before .before .before .before .before .before .before .word-in .ensures .0) (successor-as _ _ _ _ _ (c .before .successor3 .ensures)) _ (c .before .before .before .before .before .before .match .keys3) (c .before .before .before .before .assign .ensures))
 
--- src/steps.rt:115:1
 same-length-4 : tie.Need-same-length-4
 same-length-4 c = search needs
 
--- src/steps.rt:115:1
 returns-4 : tie.Need-returns-4
 returns-4 c = c .before .before .switch-step .ensures _ _ _
 
--- src/steps.rt:115:1
 same-length-5 : tie.Need-same-length-5
 same-length-5 c = search needs
 
--- src/steps.rt:115:1
 returns-5 : tie.Need-returns-5
 returns-5 c = c .if-step .ensures _ _ _ _
 
--- src/steps.rt:115:1
 same-length-6 : tie.Need-same-length-6
 same-length-6 c = search needs
 
--- src/steps.rt:115:1
 returns-6 : tie.Need-returns-6
 returns-6 c = c .before .before .call-step .ensures _ _
 
--- src/steps.rt:115:1
 same-length-7 : tie.Need-same-length-7
 same-length-7 c = search needs
 
--- src/steps.rt:115:1
 same-length-8 : tie.Need-same-length-8
 same-length-8 c = search needs
 
--- src/steps.rt:115:1
 returns-7 : tie.Need-returns-7
 returns-7 c = c .before .before .print-step .ensures _ _ _
 
--- src/steps.rt:115:1
 returns-8 : tie.Need-returns-8
 returns-8 c =
     else-goes _ _ _ _ _ _ (c .before .before .before .before .before .before .before .pre .1 .1 .0 .1) _ (c .before .word-in .ensures .0) (c .match .rest .0 .0 .0 .0 .0 .0 .1) (c .match .rest .0 .0 .0 .0 .0 .1) (c .match .rest .0 .0 .0 .0 .1) (λ z. c .before .before .before .before .before .before .before .pre .1 .1 .1 .0 (sym (c .before .word-in .ensures .0) ∙ z)) (c .match .rest .0 .0 .0 .1) (c .match .rest .0 .0 .1) (c .match .rest .0 .1) (c .match .rest .1)

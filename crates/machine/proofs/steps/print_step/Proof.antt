@@ -1,6 +1,5 @@
 use native.Mathlib.Omega.{arith}
 use Rattle.machine.specs.Numbers.{print-low}
-use Prim.Native.Nat.{_*_}
 use mathlib.Core.Path.{refl}
 use Rattle.frames.specs.Strays.{whole}
 use Rattle.machine.specs.Calls.{successor-as}
@@ -9,51 +8,34 @@ use Rattle.machine.specs.Steps.{print-goes, print-stops}
 use borrow.Author.Needs.{needs}
 use Rattle.machine.proofs.steps.print_step.Statement.{statement}
 use Rattle.machine.proofs.steps.print_step.Tie as tie
-use Rattle.machine.proofs.steps.print_step.Reads as reads
-use Rattle.machine.proofs.steps.print_step.Lts as lts
-use Rattle.frames.proofs.value.Reads as value-reads
-use Rattle.machine.proofs.goals.successor.Reads as successor-reads
-use Rattle.memory.proofs.room.Reads as room-reads
-use Rattle.memory.proofs.put.Reads as put-reads
-use Rattle.records.proofs.word_in.Reads as word-in-reads
 
--- src/steps.rt:101:17
 room-requires : tie.Need-room-requires
 room-requires c κs = search needs
 
--- src/steps.rt:101:17
 cast-limit : tie.Need-cast-limit
 cast-limit c = search needs
 
--- src/steps.rt:103:9
 returns : tie.Need-returns
 returns c = λ images callees m. print-stops _ _ _ _ _ _ (c .before .before .before .before .before .pre .1 .2) _ refl _ (c .before .before .before .before .before .pre .1 .1) (c .before .room .ensures) (c .if1 .taken)
 
--- src/steps.rt:105:30
 word-in-requires : tie.Need-word-in-requires
 word-in-requires c κs = let p = c .before .before .before .before .before .pre in let w = whole (p .0 .0) _ (p .1 .0) in (omega arith, w .1)
 
--- src/steps.rt:105:9
 value-requires : tie.Need-value-requires
 value-requires c κs = let p = c .before .before .before .before .before .before .pre in (rw (c .word-in .ensures .0) (print-low (p .0 .1) _ refl (p .1 .1)), p .1 .2 .fits)
 
--- src/steps.rt:106:5
 put-requires : tie.Need-put-requires
 put-requires c κs = search needs
 
--- src/steps.rt:109:15
 successor-requires : tie.Need-successor-requires
 successor-requires c κs = whole (c .before .before .before .before .before .before .before .before .before .before .before .pre .0 .0) _ (c .before .before .before .before .before .before .before .before .before .before .before .pre .1 .0) .0
 
--- src/steps.rt:110:18
 add-t19 : tie.Need-add-t19
 add-t19 c = search needs
 
--- src/steps.rt:86:1
 same-length : tie.Need-same-length
 same-length c = search needs
 
--- src/steps.rt:86:1
 returns-2 : tie.Need-returns-2
 returns-2 c =
     λ images callees m. print-goes _ _ _ _ _ _ (c .before .before .before .before .before .before .before .before .before .before .before .before .pre .1 .2) _ _ refl (successor-as _ _ _ _ _ (c .successor .ensures)) _ _ _ (c .before .before .before .before .before .before .before .before .before .before .before .before .pre .1 .1)

@@ -1,7 +1,6 @@
 use Rattle.machine.specs.Numbers.{switch-low, arm-low}
 use mathlib.Core.Path.{refl}
 use Rattle.machine.specs.Calls.{entry-as}
-use Rattle.machine.specs.Goals.{onto-as}
 use Rattle.machine.specs.Steps.{goes-same, switch-goes}
 use Rattle.frames.specs.Strays.{whole}
 use borrow.Author.Needs.{needs}

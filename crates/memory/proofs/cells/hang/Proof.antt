@@ -2,48 +2,34 @@ use Rattle.memory.specs.Laws.{hang-first, hang-more}
 use borrow.Author.Needs.{needs}
 use Rattle.memory.proofs.cells.hang.Statement.{statement}
 use Rattle.memory.proofs.cells.hang.Tie as tie
-use Rattle.memory.proofs.cells.hang.Reads as reads
-use Rattle.memory.proofs.cells.hang.Lts as lts
-use Rattle.memory.proofs.words.put.Reads as put-reads
-use Rattle.memory.proofs.words.word.Reads as word-reads
 
--- src/cells.rt:31:14
 mul-at : tie.Need-mul-at
 mul-at c = search needs
 
--- src/cells.rt:32:35
 add-word : tie.Need-add-word
 add-word c = search needs
 
--- src/cells.rt:32:9
 word-requires : tie.Need-word-requires
 word-requires c κs = search needs
 
--- src/cells.rt:33:5
 put-requires : tie.Need-put-requires
 put-requires c κs = search needs
 
--- src/cells.rt:35:31
 add-put : tie.Need-add-put
 add-put c = search needs
 
--- src/cells.rt:35:9
 put-requires-2 : tie.Need-put-requires-2
 put-requires-2 c κs = search needs
 
--- src/cells.rt:28:1
 same-length : tie.Need-same-length
 same-length c = search needs
 
--- src/cells.rt:28:1
 returns : tie.Need-returns
 returns c = hang-first _ _ _ _ _ (c .before .before .before .before .before .before .before .before .before .word .ensures) _ (c .before .before .before .before .before .before .before .put .ensures) (c .before .before .before .before .if1 .taken) _ (c .before .before .put2 .ensures)
 
--- src/cells.rt:28:1
 same-length-2 : tie.Need-same-length-2
 same-length-2 c = search needs
 
--- src/cells.rt:28:1
 returns-2 : tie.Need-returns-2
 returns-2 c = hang-more _ _ _ _ _ (c .before .before .before .before .before .word .ensures) _ (c .before .before .before .put .ensures) (c .if1 .left)
 

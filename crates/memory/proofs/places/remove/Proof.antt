@@ -2,64 +2,46 @@ use Rattle.memory.specs.Laws.{remove-empty, remove-some}
 use borrow.Author.Needs.{needs}
 use Rattle.memory.proofs.places.remove.Statement.{statement}
 use Rattle.memory.proofs.places.remove.Tie as tie
-use Rattle.memory.proofs.places.remove.Reads as reads
-use Rattle.memory.proofs.places.remove.Lts as lts
-use Rattle.memory.proofs.words.put.Reads as put-reads
-use Rattle.memory.proofs.words.word.Reads as word-reads
 
--- src/places.rt:91:14
 mul-at : tie.Need-mul-at
 mul-at c = search needs
 
--- src/places.rt:92:9
 word-requires : tie.Need-word-requires
 word-requires c κs = search needs
 
--- src/places.rt:93:35
 add-word : tie.Need-add-word
 add-word c = search needs
 
--- src/places.rt:93:9
 word-requires-2 : tie.Need-word-requires-2
 word-requires-2 c κs = search needs
 
--- src/places.rt:94:5
 put-requires : tie.Need-put-requires
 put-requires c κs = search needs
 
--- src/places.rt:101:9
 same-length : tie.Need-same-length
 same-length c = search needs
 
--- src/places.rt:101:9
 returns : tie.Need-returns
 returns c = remove-empty _ _ _ _ _ _ (c .before .before .before .before .before .before .before .before .word .ensures) (c .before .before .before .before .before .before .word2 .ensures) _ (c .before .before .before .before .put .ensures) (c .if1 .taken)
 
--- src/places.rt:106:30
 cast-put : tie.Need-cast-put
 cast-put c = search needs
 
--- src/places.rt:106:25
 mul-put : tie.Need-mul-put
 mul-put c = search needs
 
--- src/places.rt:106:25
 add-put : tie.Need-add-put
 add-put c = search needs
 
--- src/places.rt:106:5
 put-requires-2 : tie.Need-put-requires-2
 put-requires-2 c κs = search needs
 
--- src/places.rt:84:1
 same-length-2 : tie.Need-same-length-2
 same-length-2 c = search needs
 
--- src/places.rt:84:1
 same-length-3 : tie.Need-same-length-3
 same-length-3 c = search needs
 
--- src/places.rt:84:1
 returns-2 : tie.Need-returns-2
 returns-2 c = remove-some _ _ _ _ _ _ (c .before .before .before .before .before .before .before .before .before .before .before .before .word .ensures) (c .before .before .before .before .before .before .before .before .before .before .word2 .ensures) _ (c .before .before .before .before .before .before .before .before .put .ensures) (c .before .before .before .before .if1 .left) _ (c .before .before .put2 .ensures)
 

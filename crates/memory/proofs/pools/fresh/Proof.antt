@@ -2,10 +2,7 @@ use mathlib.Core.Path.{refl}
 use Rattle.memory.specs.Memory.{unused}
 use Rattle.memory.proofs.pools.fresh.Statement.{statement}
 use Rattle.memory.proofs.pools.fresh.Tie as tie
-use Rattle.memory.proofs.pools.fresh.Reads as reads
-use Rattle.memory.proofs.pools.fresh.Lts as lts
 
--- src/pools.rt:20:1
 returns : tie.Need-returns
 unfolding unused
 returns c = refl

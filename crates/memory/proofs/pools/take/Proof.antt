@@ -3,22 +3,16 @@ use Rattle.memory.specs.Laws.{take-full, take-top, take-link}
 use borrow.Author.Needs.{needs}
 use Rattle.memory.proofs.pools.take.Statement.{statement}
 use Rattle.memory.proofs.pools.take.Tie as tie
-use Rattle.memory.proofs.pools.take.Reads as reads
-use Rattle.memory.proofs.pools.take.Lts as lts
 
--- src/pools.rt:38:9
 returns : tie.Need-returns
 returns c = sym (take-full _ _ (c .if1 .taken))
 
--- src/pools.rt:41:21
 add-above : tie.Need-add-above
 add-above c = search needs
 
--- src/pools.rt:42:9
 returns-2 : tie.Need-returns-2
 returns-2 c = sym (take-top _ _ (c .before .if1 .left) (c .if2 .taken))
 
--- src/pools.rt:31:1
 returns-3 : tie.Need-returns-3
 returns-3 c = sym (take-link _ _ (c .before .if1 .left) (c .if2 .left))
 

@@ -3,26 +3,19 @@ use lib.Seq.{set-out}
 use borrow.Author.Needs.{needs}
 use Rattle.memory.proofs.words.put.Statement.{statement}
 use Rattle.memory.proofs.words.put.Tie as tie
-use Rattle.memory.proofs.words.put.Reads as reads
-use Rattle.memory.proofs.words.put.Lts as lts
 
--- src/words.rt:17:9
 mul-mem : tie.Need-mul-mem
 mul-mem c = search needs
 
--- src/words.rt:17:9
 slice-write-mem : tie.Need-slice-write-mem
 slice-write-mem c = search needs
 
--- src/words.rt:13:1
 same-length : tie.Need-same-length
 same-length c = search needs
 
--- src/words.rt:13:1
 returns : tie.Need-returns
 returns c = search needs
 
--- src/words.rt:13:1
 returns-2 : tie.Need-returns-2
 returns-2 c = sym (set-out _ _ _ (c .if1 .left))
 

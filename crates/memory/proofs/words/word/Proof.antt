@@ -3,22 +3,16 @@ use lib.ListN.{List·getD-eq-default}
 use borrow.Author.Needs.{needs}
 use Rattle.memory.proofs.words.word.Statement.{statement}
 use Rattle.memory.proofs.words.word.Tie as tie
-use Rattle.memory.proofs.words.word.Reads as reads
-use Rattle.memory.proofs.words.word.Lts as lts
 
--- src/words.rt:9:25
 mul-result : tie.Need-mul-result
 mul-result c = search needs
 
--- src/words.rt:9:25
 shared-slice-read-result : tie.Need-shared-slice-read-result
 shared-slice-read-result c = search needs
 
--- src/words.rt:6:1
 returns : tie.Need-returns
 returns c = search needs
 
--- src/words.rt:6:1
 returns-2 : tie.Need-returns-2
 returns-2 c = sym (List·getD-eq-default (c .before .args .mem .now) 0 (c .if1 .left))
 

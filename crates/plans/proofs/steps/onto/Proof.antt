@@ -1,14 +1,10 @@
 use Rattle.plans.specs.Onward.{onto-none, onto-some}
 use Rattle.plans.proofs.steps.onto.Statement.{statement}
 use Rattle.plans.proofs.steps.onto.Tie as tie
-use Rattle.plans.proofs.steps.onto.Reads as reads
-use Rattle.plans.proofs.steps.onto.Lts as lts
 
--- src/steps.rt:19:1
 returns : tie.Need-returns
 returns c = onto-none _ _ (c .if1 .taken)
 
--- src/steps.rt:19:1
 returns-2 : tie.Need-returns-2
 returns-2 c = onto-some _ _ (c .if1 .left)
 

@@ -4,125 +4,91 @@ use Rattle.word_machine.specs.Filling.{stores, referred, onwardWords}
 use borrow.Author.Needs.{needs}
 use Rattle.plans.proofs.steps.onward_step.Statement.{statement}
 use Rattle.plans.proofs.steps.onward_step.Tie as tie
-use Rattle.plans.proofs.steps.onward_step.Reads as reads
-use Rattle.plans.proofs.steps.onward_step.Lts as lts
-use Rattle.plans.proofs.steps.onto.Reads as onto-reads
-use Rattle.plans.proofs.steps.put.Reads as put-reads
-use Rattle.plans.proofs.steps.put_both.Reads as put-both-reads
 
--- src/steps.rt:38:27
 enum-known-found : tie.Need-enum-known-found
 enum-known-found c = search needs
 
--- src/steps.rt:38:41
 put-requires : tie.Need-put-requires
 put-requires c κs = search needs
 
--- src/steps.rt:39:23
 enum-known-found-2 : tie.Need-enum-known-found-2
 enum-known-found-2 c = search needs
 
--- src/steps.rt:39:37
 put-requires-2 : tie.Need-put-requires-2
 put-requires-2 c κs = search needs
 
--- src/steps.rt:40:26
 enum-known-found-3 : tie.Need-enum-known-found-3
 enum-known-found-3 c = search needs
 
--- src/steps.rt:40:40
 put-requires-3 : tie.Need-put-requires-3
 put-requires-3 c κs = search needs
 
--- src/steps.rt:41:29
 enum-known-found-4 : tie.Need-enum-known-found-4
 enum-known-found-4 c = search needs
 
--- src/steps.rt:41:43
 put-requires-4 : tie.Need-put-requires-4
 put-requires-4 c κs = search needs
 
--- src/steps.rt:42:26
 enum-known-found-5 : tie.Need-enum-known-found-5
 enum-known-found-5 c = search needs
 
--- src/steps.rt:42:77
 onto-requires : tie.Need-onto-requires
 onto-requires c κs = search needs
 
--- src/steps.rt:42:46
 put-both-requires : tie.Need-put-both-requires
 put-both-requires c κs = search needs
 
--- src/steps.rt:43:23
 enum-known-found-6 : tie.Need-enum-known-found-6
 enum-known-found-6 c = search needs
 
--- src/steps.rt:43:44
 put-both-requires-2 : tie.Need-put-both-requires-2
 put-both-requires-2 c κs = search needs
 
--- src/steps.rt:45:13
 enum-known-found-7 : tie.Need-enum-known-found-7
 enum-known-found-7 c = search needs
 
--- src/steps.rt:50:17
 onto-requires-2 : tie.Need-onto-requires-2
 onto-requires-2 c κs = search needs
 
--- src/steps.rt:51:13
 put-both-requires-3 : tie.Need-put-both-requires-3
 put-both-requires-3 c κs = search needs
 
--- src/steps.rt:52:13
 put-requires-5 : tie.Need-put-requires-5
 put-requires-5 c κs = search needs
 
--- src/steps.rt:55:13
 enum-known-found-8 : tie.Need-enum-known-found-8
 enum-known-found-8 c = search needs
 
--- src/steps.rt:58:14
 put-both-requires-4 : tie.Need-put-both-requires-4
 put-both-requires-4 c κs = search needs
 
--- src/steps.rt:59:28
 enum-known-found-9 : tie.Need-enum-known-found-9
 enum-known-found-9 c = search needs
 
--- src/steps.rt:59:42
 put-requires-6 : tie.Need-put-requires-6
 put-requires-6 c κs = search needs
 
--- src/steps.rt:60:25
 enum-known-found-10 : tie.Need-enum-known-found-10
 enum-known-found-10 c = search needs
 
--- src/steps.rt:60:39
 put-requires-7 : tie.Need-put-requires-7
 put-requires-7 c κs = search needs
 
--- src/steps.rt:61:26
 enum-known-found-11 : tie.Need-enum-known-found-11
 enum-known-found-11 c = search needs
 
--- src/steps.rt:61:40
 put-requires-8 : tie.Need-put-requires-8
 put-requires-8 c κs = search needs
 
--- src/steps.rt:62:26
 enum-known-found-12 : tie.Need-enum-known-found-12
 enum-known-found-12 c = search needs
 
--- src/steps.rt:62:40
 put-requires-9 : tie.Need-put-requires-9
 put-requires-9 c κs = search needs
 
--- src/steps.rt:63:29
 enum-known-found-13 : tie.Need-enum-known-found-13
 enum-known-found-13 c = search needs
 
--- src/steps.rt:63:50
 put-both-requires-5 : tie.Need-put-both-requires-5
 put-both-requires-5 c κs = search needs
 
@@ -147,154 +113,121 @@ enum-told-6 c = search needs
 enum-told-7 : tie.Need-enum-told-7
 enum-told-7 c = search needs
 
--- src/steps.rt:34:1
 same-length : tie.Need-same-length
 same-length c = search needs
 
--- src/steps.rt:34:1
 returns : tie.Need-returns
 unfolding stores referred onwardWords
 returns c = rw (c .before .before .before .before .before .found .given .1) (c .before .before .put .ensures)
 
--- src/steps.rt:34:1
 same-length-2 : tie.Need-same-length-2
 same-length-2 c = search needs
 
--- src/steps.rt:34:1
 returns-2 : tie.Need-returns-2
 unfolding stores referred onwardWords
 returns-2 c = rw (c .before .before .before .before .before .found2 .given .1) (c .before .before .put2 .ensures)
 
--- src/steps.rt:34:1
 same-length-3 : tie.Need-same-length-3
 same-length-3 c = search needs
 
--- src/steps.rt:34:1
 returns-3 : tie.Need-returns-3
 unfolding stores referred onwardWords
 returns-3 c = rw (c .before .before .before .before .before .found3 .given .1) (c .before .before .put3 .ensures)
 
--- src/steps.rt:34:1
 same-length-4 : tie.Need-same-length-4
 same-length-4 c = search needs
 
--- src/steps.rt:34:1
 returns-4 : tie.Need-returns-4
 unfolding stores referred onwardWords
 returns-4 c = rw (c .before .before .before .before .before .found4 .given .1) (c .before .before .put4 .ensures)
 
--- src/steps.rt:34:1
 same-length-5 : tie.Need-same-length-5
 same-length-5 c = search needs
 
--- src/steps.rt:34:1
 returns-5 : tie.Need-returns-5
 unfolding stores referred onwardWords
 returns-5 c = rw (c .before .before .before .before .before .before .found5 .given .1) (rw (c .before .before .before .onto .ensures) at (c .before .before .put-both .ensures))
 
--- src/steps.rt:34:1
 same-length-6 : tie.Need-same-length-6
 same-length-6 c = search needs
 
--- src/steps.rt:34:1
 returns-6 : tie.Need-returns-6
 unfolding stores referred onwardWords
 returns-6 c = rw (c .before .before .before .before .before .found6 .given .1) (c .before .before .put-both2 .ensures)
 
--- src/steps.rt:34:1
 same-length-7 : tie.Need-same-length-7
 same-length-7 c = search needs
 
--- src/steps.rt:34:1
 returns-7 : tie.Need-returns-7
 unfolding stores referred onwardWords
 returns-7 c = rw (c .before .before .before .before .before .before .before .before .before .before .found7 .given .1) (rw (c .before .before .before .before .before .before .put-both3 .ensures, c .before .before .before .before .before .before .before .before .onto2 .ensures) at (c .before .before .put5 .ensures))
 
--- src/steps.rt:34:1
 same-length-8 : tie.Need-same-length-8
 same-length-8 c = search needs
 
--- src/steps.rt:34:1
 returns-8 : tie.Need-returns-8
 unfolding stores referred onwardWords
 returns-8 c = rw (c .before .before .before .before .before .found8 .given .1) (c .before .before .put-both4 .ensures)
 
--- src/steps.rt:34:1
 same-length-9 : tie.Need-same-length-9
 same-length-9 c = search needs
 
--- src/steps.rt:34:1
 returns-9 : tie.Need-returns-9
 unfolding stores referred onwardWords
 returns-9 c = rw (c .before .before .before .before .before .found9 .given .1) (c .before .before .put6 .ensures)
 
--- src/steps.rt:34:1
 same-length-10 : tie.Need-same-length-10
 same-length-10 c = search needs
 
--- src/steps.rt:34:1
 returns-10 : tie.Need-returns-10
 unfolding stores referred onwardWords
 returns-10 c = rw (c .before .before .before .before .before .found10 .given .1) (c .before .before .put7 .ensures)
 
--- src/steps.rt:34:1
 same-length-11 : tie.Need-same-length-11
 same-length-11 c = search needs
 
--- src/steps.rt:34:1
 returns-11 : tie.Need-returns-11
 unfolding stores referred onwardWords
 returns-11 c = rw (c .before .before .before .before .before .found11 .given .1) (c .before .before .put8 .ensures)
 
--- src/steps.rt:34:1
 same-length-12 : tie.Need-same-length-12
 same-length-12 c = search needs
 
--- src/steps.rt:34:1
 returns-12 : tie.Need-returns-12
 unfolding stores referred onwardWords
 returns-12 c = rw (c .before .before .before .before .before .found12 .given .1) (c .before .before .put9 .ensures)
 
--- src/steps.rt:34:1
 same-length-13 : tie.Need-same-length-13
 same-length-13 c = search needs
 
--- src/steps.rt:34:1
 returns-13 : tie.Need-returns-13
 unfolding stores referred onwardWords
 returns-13 c = rw (c .before .before .before .before .before .found13 .given .1) (c .before .before .put-both5 .ensures)
 
--- src/steps.rt:34:1
 returns-14 : tie.Need-returns-14
 unfolding stores referred onwardWords
 returns-14 c = rw (c .enum-told .given .1) refl
 
--- src/steps.rt:34:1
 returns-15 : tie.Need-returns-15
 unfolding stores referred onwardWords
 returns-15 c = rw (c .enum-told2 .given .1) refl
 
--- src/steps.rt:34:1
 returns-16 : tie.Need-returns-16
 unfolding stores referred onwardWords
 returns-16 c = rw (c .enum-told3 .given .1) refl
 
--- src/steps.rt:34:1
 returns-17 : tie.Need-returns-17
 unfolding stores referred onwardWords
 returns-17 c = rw (c .enum-told4 .given .1) refl
 
--- src/steps.rt:34:1
 returns-18 : tie.Need-returns-18
 unfolding stores referred onwardWords
 returns-18 c = rw (c .enum-told5 .given .1) refl
 
--- src/steps.rt:34:1
 returns-19 : tie.Need-returns-19
 unfolding stores referred onwardWords
 returns-19 c = rw (c .enum-told6 .given .1) refl
 
--- src/steps.rt:34:1
 returns-20 : tie.Need-returns-20
 unfolding stores referred onwardWords
 returns-20 c = rw (c .enum-told7 .given .1) refl

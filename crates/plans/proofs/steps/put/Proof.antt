@@ -3,26 +3,19 @@ use lib.Seq.{set-out}
 use borrow.Author.Needs.{needs}
 use Rattle.plans.proofs.steps.put.Statement.{statement}
 use Rattle.plans.proofs.steps.put.Tie as tie
-use Rattle.plans.proofs.steps.put.Reads as reads
-use Rattle.plans.proofs.steps.put.Lts as lts
 
--- src/steps.rt:14:9
 mul-table : tie.Need-mul-table
 mul-table c = search needs
 
--- src/steps.rt:14:9
 slice-write-table : tie.Need-slice-write-table
 slice-write-table c = search needs
 
--- src/steps.rt:10:1
 same-length : tie.Need-same-length
 same-length c = search needs
 
--- src/steps.rt:10:1
 returns : tie.Need-returns
 returns c = search needs
 
--- src/steps.rt:10:1
 returns-2 : tie.Need-returns-2
 returns-2 c = sym (set-out _ _ _ (c .if1 .left))
 

@@ -1,23 +1,16 @@
 use borrow.Author.Needs.{needs}
 use Rattle.plans.proofs.steps.put_both.Statement.{statement}
 use Rattle.plans.proofs.steps.put_both.Tie as tie
-use Rattle.plans.proofs.steps.put_both.Reads as reads
-use Rattle.plans.proofs.steps.put_both.Lts as lts
-use Rattle.plans.proofs.steps.put.Reads as put-reads
 
--- src/steps.rt:29:5
 put-requires : tie.Need-put-requires
 put-requires c κs = search needs
 
--- src/steps.rt:30:5
 put-requires-2 : tie.Need-put-requires-2
 put-requires-2 c κs = search needs
 
--- src/steps.rt:26:1
 same-length : tie.Need-same-length
 same-length c = search needs
 
--- src/steps.rt:26:1
 returns : tie.Need-returns
 returns c = rw (c .before .before .before .before .before .before .put .ensures) at (c .before .before .put2 .ensures)
 

@@ -3,59 +3,42 @@ use Rattle.profiling.specs.Kinds.{count-construct, count-create, count-r
 use borrow.Author.Needs.{needs}
 use Rattle.profiling.proofs.counting.count.Statement.{statement}
 use Rattle.profiling.proofs.counting.count.Tie as tie
-use Rattle.profiling.proofs.counting.count.Reads as reads
-use Rattle.profiling.proofs.counting.count.Lts as lts
-use Rattle.profiling.proofs.counting.less.Reads as less-reads
-use Rattle.profiling.proofs.walking.region_size.Reads as region-size-reads
-use Rattle.records.proofs.word.Reads as word-reads
 
--- src/counting.rt:43:11
 word-requires : tie.Need-word-requires
 word-requires c κs = search needs
 
--- src/counting.rt:45:20
 add-t13 : tie.Need-add-t13
 add-t13 c = search needs
 
--- src/counting.rt:50:22
 add-t14 : tie.Need-add-t14
 add-t14 c = search needs
 
--- src/counting.rt:53:51
 word-requires-2 : tie.Need-word-requires-2
 word-requires-2 c κs = search needs
 
--- src/counting.rt:53:17
 region-place-requires : tie.Need-region-place-requires
 region-place-requires c κs = search needs
 
--- src/counting.rt:54:17
 region-size-requires : tie.Need-region-size-requires
 region-size-requires c κs = search needs
 
--- src/counting.rt:56:24
 less-requires : tie.Need-less-requires
 less-requires c κs = search needs
 
--- src/counting.rt:57:26
 less-requires-2 : tie.Need-less-requires-2
 less-requires-2 c κs = search needs
 
--- src/counting.rt:29:1
 returns : tie.Need-returns
 returns c h ps e = count-construct _ _ _ _ _ _ _ (c .before .before .word .ensures .0) h ps (c .before .match .keys1)
 
--- src/counting.rt:29:1
 returns-2 : tie.Need-returns-2
 returns-2 c h ps e = count-create _ _ _ _ _ _ _ (c .before .before .word .ensures .0) h ps (c .before .match .keys2)
 
--- src/counting.rt:29:1
 returns-3 : tie.Need-returns-3
 returns-3 c h ps e =
     count-remove _ _ _ _ _ _ _ (c .before .before .before .before .before .before .word .ensures .0) h ps (c .before .before .before .before .before .match .keys3) _ _ _ _ _ _ e (c .before .before .before .before .word2 .ensures .0) (c .before .before .before .region-place .ensures)
     (c .before .before .region-size .ensures) (c .before .less .ensures) (c .less2 .ensures)
 
--- src/counting.rt:29:1
 returns-4 : tie.Need-returns-4
 returns-4 c h ps e = count-same _ _ _ _ _ _ _ (c .before .word .ensures .0) h ps (λ z. c .match .rest .0 .0 .1 z) (λ z. c .match .rest .0 .1 z) (λ z. c .match .rest .1 z)
 

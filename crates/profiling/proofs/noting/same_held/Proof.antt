@@ -1,8 +1,6 @@
 -- `same_held` meets its contract.
-use native.Mathlib.Omega.{arith}
 use mathlib.Core.Path.{ap}
 use Rattle.profiling.specs.Noting.{held-equal}
-use borrow.Author.Needs.{needs}
 use Rattle.profiling.proofs.noting.same_held.Statement.{statement}
 use Rattle.profiling.proofs.noting.same_held.Tie as tie
 

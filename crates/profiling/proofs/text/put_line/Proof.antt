@@ -4,36 +4,25 @@ use Rattle.profiling.specs.Text.{line-put}
 use borrow.Author.Needs.{needs}
 use Rattle.profiling.proofs.text.put_line.Statement.{statement}
 use Rattle.profiling.proofs.text.put_line.Tie as tie
-use Rattle.profiling.proofs.text.put_line.Reads as reads
-use Rattle.profiling.proofs.text.put_line.Lts as lts
-use Rattle.profiling.proofs.text.put_last.Reads as put-last-reads
-use Rattle.profiling.proofs.text.put_spaced.Reads as put-spaced-reads
 
--- src/text.rt:40:9
 put-spaced-requires : tie.Need-put-spaced-requires
 put-spaced-requires c κs = search needs
 
--- src/text.rt:41:9
 put-spaced-requires-2 : tie.Need-put-spaced-requires-2
 put-spaced-requires-2 c κs = search needs
 
--- src/text.rt:42:9
 put-spaced-requires-3 : tie.Need-put-spaced-requires-3
 put-spaced-requires-3 c κs = search needs
 
--- src/text.rt:43:9
 put-spaced-requires-4 : tie.Need-put-spaced-requires-4
 put-spaced-requires-4 c κs = search needs
 
--- src/text.rt:44:5
 put-last-requires : tie.Need-put-last-requires
 put-last-requires c κs = search needs
 
--- src/text.rt:34:1
 same-length : tie.Need-same-length
 same-length c = search needs
 
--- src/text.rt:34:1
 returns : tie.Need-returns
 returns c =
     let a = c .before .before .before .before .before .before .before .before .before .before .before .before .before .before .before .before .before .before .put-spaced .ensures in

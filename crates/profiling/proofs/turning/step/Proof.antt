@@ -6,132 +6,95 @@ use Rattle.profiling.specs.Turning.{placed-long, placed-onward, kept-tur
 use borrow.Author.Needs.{needs}
 use Rattle.profiling.proofs.turning.step.Statement.{statement}
 use Rattle.profiling.proofs.turning.step.Tie as tie
-use Rattle.profiling.proofs.turning.step.Reads as reads
-use Rattle.profiling.proofs.turning.step.Lts as lts
-use Rattle.machine.proofs.settle.Reads as settle-reads
-use Rattle.machine.proofs.successor.Reads as successor-reads
-use Rattle.machine.proofs.changes_heap.Reads as changes-heap-reads
-use Rattle.machine.proofs.keep.Reads as keep-reads
-use Rattle.machine.proofs.go.Reads as go-reads
-use Rattle.machine.proofs.onward.Reads as onward-reads
-use Rattle.records.proofs.word_in.Reads as word-in-reads
 
--- src/turning.rt:44:21
 word-in-requires : tie.Need-word-in-requires
 word-in-requires c κs = let w = whole (c .before .before .before .before .before .before .pre .0) _ (c .before .before .before .before .before .before .pre .1 .1 .0) in search needs
 
--- src/turning.rt:44:8
 changes-heap-requires : tie.Need-changes-heap-requires
 changes-heap-requires c κs = search needs
 
--- src/turning.rt:45:13
 keep-requires : tie.Need-keep-requires
 keep-requires c κs =
     let p = c .before .before .before .before .before .before .before .before .before .before .before .before .pre in
     ((p .0, p .1 .0 .1), (p .1 .1, changed _ _ _ (c .before .before .before .before .before .word-in .ensures .0) (c .before .before .before .before .changes-heap .ensures) (c .before .before .before .if1 .taken)))
 
--- src/turning.rt:47:24
 enum-known-kept : tie.Need-enum-known-kept
 enum-known-kept c = search needs
 
--- src/turning.rt:48:42
 successor-requires : tie.Need-successor-requires
 successor-requires c κs = let w = whole (c .before .before .before .before .before .before .before .before .before .before .before .before .before .before .before .before .before .before .before .before .before .before .pre .0) _ (c .before .before .before .before .before .before .before .before .before .before .before .before .before .before .before .before .before .before .before .before .before .before .pre .1 .1 .0) in search needs
 
--- src/turning.rt:48:21
 onward-requires : tie.Need-onward-requires
 onward-requires c κs = search needs
 
--- src/turning.rt:49:33
 settle-requires : tie.Need-settle-requires
 settle-requires c κs = ((c .before .before .before .before .before .before .before .before .before .before .before .before .before .before .before .before .before .before .before .before .before .before .before .before .before .pre .0, placed-onward _ (c .before .onward .ensures) (c .before .before .before .before .before .before .before .before .before .before .before .before .keep .kept .1 .1 .1 .1 .1 .1 .0) (c .before .before .before .before .before .before .before .before .before .before .before .before .before .before .before .before .before .before .before .before .before .before .before .before .before .pre .1 .1 .1)), c .before .before .before .before .before .before .before .before .before .before .before .before .before .before .before .before .before .before .before .before .before .before .before .before .before .pre .1 .0 .0)
 
--- src/turning.rt:49:17
 same-length : tie.Need-same-length
 same-length c = search needs
 
--- src/turning.rt:49:17
 same-length-2 : tie.Need-same-length-2
 same-length-2 c = search needs
 
--- src/turning.rt:49:17
 same-length-3 : tie.Need-same-length-3
 same-length-3 c = search needs
 
--- src/turning.rt:49:17
 returns : tie.Need-returns
 returns c =
     kept-turns _ _ _ _ _ _ _ _ _ _ _ _ (c .before .before .before .before .before .before .before .before .before .before .before .before .before .before .before .keep .ensures _ _) _ _ _ _ _ (c .before .before .before .before .before .before .before .kept .given .1) (successor-as _ _ _ _ _ (c .before .before .before .before .before .successor .ensures))
     (c .before .before .before .before .onward .ensures) (c .before .before .settle .ensures .0) (c .before .before .settle .ensures .1)
 
--- src/turning.rt:51:25
 enum-known-kept-2 : tie.Need-enum-known-kept-2
 enum-known-kept-2 c = search needs
 
--- src/turning.rt:51:34
 same-length-4 : tie.Need-same-length-4
 same-length-4 c = search needs
 
--- src/turning.rt:51:34
 same-length-5 : tie.Need-same-length-5
 same-length-5 c = search needs
 
--- src/turning.rt:51:34
 same-length-6 : tie.Need-same-length-6
 same-length-6 c = search needs
 
--- src/turning.rt:51:34
 returns-2 : tie.Need-returns-2
 returns-2 c = kept-lacks _ _ _ _ _ _ _ _ _ _ _ _ (c .before .before .before .before .before .before .before .before .before .keep .ensures _ _) _ (c .before .kept2 .given .1)
 
--- src/turning.rt:54:9
 go-requires : tie.Need-go-requires
 go-requires c κs =
     let p = c .before .before .before .before .before .before .before .before .before .before .before .before .pre in
     ((p .0, p .1 .0 .1), (p .1 .0 .0, (p .1 .1, unchanged _ _ _ (c .before .before .before .before .before .word-in .ensures .0) (c .before .before .before .before .changes-heap .ensures) (c .before .before .before .if1 .left))))
 
--- src/turning.rt:56:20
 enum-known-went : tie.Need-enum-known-went
 enum-known-went c = search needs
 
--- src/turning.rt:56:38
 settle-requires-2 : tie.Need-settle-requires-2
 settle-requires-2 c κs = ((c .before .before .before .before .before .before .before .before .before .before .before .before .before .before .before .before .before .before .before .before .before .pre .0, placed-long (c .before .before .before .before .before .before .before .before .go .kept .1 .1 .1 .1 .1 .1 .0) (c .before .before .before .before .before .before .before .before .go .ensures .stays _ (c .before .before .went .given .1))), c .before .before .before .before .before .before .before .before .before .before .before .before .before .before .before .before .before .before .before .before .before .pre .1 .0 .0)
 
--- src/turning.rt:57:21
 enum-known-went-2 : tie.Need-enum-known-went-2
 enum-known-went-2 c = search needs
 
--- src/turning.rt:24:1
 same-length-7 : tie.Need-same-length-7
 same-length-7 c = search needs
 
--- src/turning.rt:24:1
 same-length-8 : tie.Need-same-length-8
 same-length-8 c = search needs
 
--- src/turning.rt:24:1
 same-length-9 : tie.Need-same-length-9
 same-length-9 c = search needs
 
--- src/turning.rt:24:1
 returns-3 : tie.Need-returns-3
 returns-3 c =
     went-turns _ _ _ _ _ _ _ _ _ _ _ (c .before .before .before .before .before .before .before .before .before .before .before .go .ensures) _ _ _ (c .before .before .before .before .before .went .given .1) (c .before .before .settle2 .ensures .0) (c .before .before .settle2 .ensures .1)
 
--- src/turning.rt:24:1
 same-length-10 : tie.Need-same-length-10
 same-length-10 c = search needs
 
--- src/turning.rt:24:1
 same-length-11 : tie.Need-same-length-11
 same-length-11 c = search needs
 
--- src/turning.rt:24:1
 same-length-12 : tie.Need-same-length-12
 same-length-12 c = search needs
 
--- src/turning.rt:24:1
 returns-4 : tie.Need-returns-4
 returns-4 c = went-lacks _ _ _ _ _ _ _ _ _ _ _ (c .before .before .before .before .before .before .before .go .ensures) _ (c .before .went2 .given .1)
 

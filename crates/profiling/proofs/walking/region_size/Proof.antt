@@ -5,10 +5,6 @@ use Rattle.profiling.specs.Walking.{Passed, passed-none, passed-last, pa
 use borrow.Author.Needs.{needs}
 use Rattle.profiling.proofs.walking.region_size.Statement.{statement}
 use Rattle.profiling.proofs.walking.region_size.Tie as tie
-use Rattle.profiling.proofs.walking.region_size.Reads as reads
-use Rattle.profiling.proofs.walking.region_size.Lts as lts
-use Rattle.memory.proofs.cell_word.Reads as cell-word-reads
-use Rattle.memory.proofs.word.Reads as word-reads
 
 abbrev Inv-loop : tie.InvT-loop
 Inv-loop cells regions limit region at last cell₀ n₀ cell n = Passed cells last limit cell₀ n cell
@@ -16,52 +12,43 @@ Inv-loop cells regions limit region at last cell₀ n₀ cell n = Passed cells l
 abbrev μ-loop : tie.MeasureT-loop
 μ-loop cells regions limit region at last cell₀ n₀ cell n = limit - n
 
--- src/walking.rt:18:14
 mul-at : tie.Need-mul-at Inv-loop μ-loop
 mul-at c = search needs
 
--- src/walking.rt:19:30
 add-word : tie.Need-add-word Inv-loop μ-loop
 add-word c = search needs
 
--- src/walking.rt:19:9
 word-requires : tie.Need-word-requires Inv-loop μ-loop
 word-requires c κs = search needs
 
--- src/walking.rt:21:9
 returns : tie.Need-returns Inv-loop μ-loop
 returns c = size-none _ _ _ _ (c .before .word .ensures) (c .if1 .taken)
 
--- src/walking.rt:23:9
 word-requires-2 : tie.Need-word-requires-2 Inv-loop μ-loop
 word-requires-2 c κs = search needs
 
--- src/walking.rt:25:5
 loop-holds : tie.Need-loop-holds Inv-loop μ-loop
 loop-holds c = passed-none _ _ _ _
 
--- src/walking.rt:26:9
 add-n : tie.Need-add-n Inv-loop μ-loop
 add-n c = search needs
 
--- src/walking.rt:28:13
 returns-2 : tie.Need-returns-2 Inv-loop μ-loop
 returns-2 c =
     size-walked _ _ _ _ (c .before .before .before .before .before .word .ensures) (omega arith) (c .before .before .before .word2 .ensures) (passed-last (c .before .before .loop .inv) (omega arith) (c .if2 .taken))
 
--- src/walking.rt:30:9
+cast-cell-word : tie.Need-cast-cell-word Inv-loop μ-loop
+cast-cell-word c = search needs
+
 cell-word-requires : tie.Need-cell-word-requires Inv-loop μ-loop
 cell-word-requires c κs = search needs
 
--- src/walking.rt:25:5
 loop-less : tie.Need-loop-less Inv-loop μ-loop
 loop-less c = search needs
 
--- src/walking.rt:25:5
 loop-again : tie.Need-loop-again Inv-loop μ-loop
 loop-again c = rw (c .cell-word .ensures) (passed-more (c .before .before .before .loop .inv) (omega arith) (c .before .if2 .left))
 
--- src/walking.rt:15:1
 returns-3 : tie.Need-returns-3 Inv-loop μ-loop
 returns-3 c = size-walked _ _ _ _ (c .before .before .before .before .word .ensures) (omega arith) (c .before .before .word2 .ensures) (passed-all (c .before .loop .inv) (omega arith))
 
@@ -79,6 +66,7 @@ region-size-spec =
     loop-holds
     add-n
     returns-2
+    cast-cell-word
     cell-word-requires
     loop-less
     loop-again
