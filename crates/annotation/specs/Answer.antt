@@ -2,19 +2,19 @@
 use Prim.Native.Nat.{ℕ, _*_, _≤_, _<_}
 use native.Mathlib.Omega.{arith}
 use native.Mathlib.Decide.{decLt}
-use mathlib.Core.Bool.{Bool, true, false}
+use mathlib.Core.Bool.{true}
 use mathlib.Core.List.{List, [], _∷_, _++_}
 use mathlib.Core.Path.{_≡_, refl, sym, ap, _∙_}
 use borrow.Author.Tests.{le-leb, lt-leb}
 use lib.Dec.{leb}
-use lib.ListN.{length, replicate, length-replicate}
+use lib.ListN.{length}
 use Rattle.sets.specs.Tests.{_&_}
 use Rattle.language.specs.declared.Refusal.{Refusal}
 use Rattle.language.specs.declared.Refusal.the-variants.{Room}
 use Rattle.language.specs.declared.Verdict.{Verdict}
 use Rattle.language.specs.declared.Verdict.the-variants.{Refused, Accepted}
 use Rattle.language.specs.Lists.{frontWritten}
-use Rattle.language.specs.Format.{maxRecords, maxBytes}
+use Rattle.language.specs.Format.{maxRecords, maxBytes, recordBytes}
 use Rattle.language.specs.Layout.{size}
 use Rattle.language.specs.Program.{Program}
 use Rattle.language.specs.Records.{programTree}
@@ -83,7 +83,7 @@ module _ (f : List ℕ) (lent : ℕ) (n : ℕ) (small : size (programTree (annot
   abbrev P : Program
   P = annotate (program f)
 
-  bytes : length (fileOf P) ≡ 16 * size (programTree P)
+  bytes : length (fileOf P) ≡ recordBytes * size (programTree P)
   unfolding fileOf
   bytes = length-of-program P
 
@@ -106,22 +106,18 @@ module _ (f : List ℕ) (lent : ℕ) (n : ℕ) (small : size (programTree (annot
     fits : leb (size (programTree P)) maxRecords ≡ true
     fits = le-leb (size (programTree P)) maxRecords (let e = sized in omega arith)
 
-    pub too-long : {room : ℕ} → RoomIn room lent → room < 16 * n → roomAnswer f lent ≡ refuses Room
+    pub too-long : {room : ℕ} → RoomIn room lent → room < recordBytes * n → roomAnswer f lent ≡ refuses Room
     unfolding roomOk lowest writesUnless _&_
     too-long R k =
         let e = R .1 (omega arith) in
-        let h : lent < 16 * n = omega arith in
+        let h : lent < recordBytes * n = omega arith in
         rw (fits, lt-leb (length (fileOf P)) lent (let e = sized in omega (arith, bytes))) refl
 
-    pub room-there : 16 * n ≤ lent → roomAnswer f lent ≡ writes (fileOf P)
+    pub room-there : recordBytes * n ≤ lent → roomAnswer f lent ≡ writes (fileOf P)
     unfolding roomOk lowest writesUnless _&_
     room-there h = rw (fits, le-leb (length (fileOf P)) lent (let e = sized in omega (arith, bytes))) refl
 
-    pub file-told : (before : List ℕ) {front after : List ℕ} → 16 * n ≤ lent → front ≡ fileOf P → after ≡ frontWritten front before
-        → Annotates (roomAnswer f lent) before after (Written (16 * n))
+    pub file-told : (before : List ℕ) {front after : List ℕ} → recordBytes * n ≤ lent → front ≡ fileOf P → after ≡ frontWritten front before
+        → Annotates (roomAnswer f lent) before after (Written (recordBytes * n))
     unfolding told annotatorMemory
     file-told before h p e = rw (room-there h) (ap (λ (k : ℕ). Written k) (let q = sized in omega (arith, bytes)), e ∙ ap (λ (g : List ℕ). frontWritten g before) p)
-
--- a table of zeros is as long as it was made
-pub blank-fits : (n : ℕ) {t : List ℕ} → t ≡ replicate n 0 → n ≤ length t
-blank-fits n e = omega (arith, ap length e, length-replicate {A = ℕ} n 0)

@@ -1,16 +1,15 @@
 -- The front part of the lent memory that is the annotated file; nothing after a refusal.
 use Prim.Native.Nat.{ℕ, _≤_}
 use native.Mathlib.Omega.{arith}
-use mathlib.Core.List.{List, [], _++_}
-use mathlib.Core.Path.{_≡_, refl, sym, ap, _∙_}
+use mathlib.Core.List.{List, []}
+use mathlib.Core.Path.{_≡_, refl}
 use lib.ListN.{length, take, drop, length-append}
 use lib.Seq.{take-at}
 use Rattle.language.specs.declared.Refusal.{Refusal}
 use Rattle.language.specs.Lists.{frontWritten}
 use Rattle.language.specs.Answers.{AnnotatorAnswer, refuses, writes, annotatorMemory}
-use Rattle.annotation.specs.declared.Annotated.{Annotated}
 use Rattle.annotation.specs.declared.Annotated.the-variants.{Refused as NotAnnotated, Written}
-use Rattle.annotation.specs.Answer.{told, Annotates}
+use Rattle.annotation.specs.Answer.{told}
 
 unfoldable pub frontOf : AnnotatorAnswer → List ℕ
 frontOf (refuses r) = []

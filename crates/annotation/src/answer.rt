@@ -22,7 +22,7 @@ ghost use lib.ListN.{length};
 ghost use Rattle.language.specs.Typing.{typingOk};
 ghost use Rattle.language.specs.Answers.{program, annotated};
 ghost use Rattle.chains.specs.Formed.{Formed};
-ghost use Rattle.liveness.specs.Done.{pointWords};
+ghost use Rattle.liveness.specs.Points.{pointWords};
 ghost use Rattle.insertion.specs.Procedures.{Given};
 ghost use Rattle.annotation.specs.Answer.{Annotates, RoomIn, roomAnswer, typedAnswer};
 

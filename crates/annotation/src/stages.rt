@@ -19,7 +19,7 @@ ghost use Rattle.language.specs.Answers.{lowest, program};
 ghost use Rattle.records.specs.Blank.{fileWords, rowWords};
 ghost use Rattle.chains.specs.Formed.{Formed};
 ghost use Rattle.tables.specs.Filled.{Prepared};
-ghost use Rattle.liveness.specs.Done.{pointWords};
+ghost use Rattle.liveness.specs.Points.{pointWords};
 ghost use Rattle.annotation.specs.Stages.{sooner, markStages};
 
 // Number 6 stands before number 7: "a create or remove in the input".

@@ -4,15 +4,15 @@ use Prim.Native.Nat.{ℕ, _+_}
 use mathlib.Core.Path.{_≡_, refl, ap, _∙_}
 use mathlib.Core.List.{List, map}
 use lib.ListN.{length, length-map}
-use Rattle.language.specs.Format.{typeFunctors, functorArity, procedureVariables, procedureRegions, procedureGoals, variableMode, variableType, variableRegion, regionType, regionClass, regionEdges, edgeFunctor, edgePosition, edgeTarget, argumentVariable, functorTypes}
-use Rattle.language.specs.File.{types, functors, procedures, variables, regions, edges, arguments}
-use Rattle.language.specs.Program.{four, Functor, Variable, Edge, Region, Procedure}
+use Rattle.language.specs.Format.{typeFunctors, functorArity, procedureVariables, procedureRegions, procedureGoals, variableMode, variableType, variableRegion, regionType, regionClass, regionEdges, argumentVariable, functorTypes}
+use Rattle.language.specs.File.{types, functors, procedures, variables, regions, arguments}
+use Rattle.language.specs.Program.{four, Functor, Variable, Region, Procedure}
 use Rattle.layout.specs.Chains.{real}
 use Rattle.layout.specs.Steps.{procedureOf}
-use Rattle.chains.specs.Formed.{Formed, Stands, typesAt, functorsAt, proceduresAt, variablesAt, regionsAt, edgesAt, goalsAt, argumentsAt, types-none, functors-none, procedures-none, variables-none, regions-none, edges-none, arguments-none}
-use Rattle.chains.specs.Declared.{type-at, functor-at, procedure-at, variable-at, region-at, edge-at}
+use Rattle.chains.specs.Formed.{Formed, Stands, typesAt, functorsAt, proceduresAt, variablesAt, regionsAt, edgesAt, goalsAt, argumentsAt, types-none, functors-none, procedures-none, variables-none, regions-none, arguments-none}
+use Rattle.chains.specs.Declared.{type-at, functor-at, procedure-at, variable-at, region-at}
 use Rattle.chains.specs.Parts.{argument-at}
-use Rattle.chains.specs.Is.{type-is, functor-is, procedure-is, variable-is, region-is, edge-is, argument-is}
+use Rattle.chains.specs.Is.{type-is, functor-is, procedure-is, variable-is, region-is, argument-is}
 use Rattle.chains.specs.Fields.{fieldOf, field-some}
 use Rattle.chains.specs.Records.{chainRecords, view-map}
 
@@ -29,9 +29,6 @@ module _ (f : List ℕ) (j : ℕ) where
 
   abbrev pub variableFrom : Variable
   variableFrom = record { mode = fieldOf f j variableMode; type = fieldOf f j variableType; region = fieldOf f j variableRegion }
-
-  abbrev pub edgeFrom : Edge
-  edgeFrom = record { functor = fieldOf f j edgeFunctor; position = fieldOf f j edgePosition; target = fieldOf f j edgeTarget }
 
   abbrev pub regionFrom : Region
   regionFrom = record { type = fieldOf f j regionType; class = fieldOf f j regionClass; edges = edgesAt f (fieldOf f j regionEdges) }
@@ -66,13 +63,6 @@ module _ {f : List ℕ} (F : Formed f) (i : ℕ) where
       view-map F variables refl (variablesAt f) (variableFrom f) (variables-none f refl)
       (λ j s z. rw (← field-some f j variableMode z, ← field-some f j variableType z, ← field-some f j variableRegion z)
       (variable-at F refl (variable-is s z) .view)) i
-
-  pub edges-map : Stands f edges i → edgesAt f i ≡ map (edgeFrom f) (chainRecords f i)
-  unfolding real
-  edges-map =
-      view-map F edges refl (edgesAt f) (edgeFrom f) (edges-none f refl)
-      (λ j s z. rw (← field-some f j edgeFunctor z, ← field-some f j edgePosition z, ← field-some f j edgeTarget z)
-      (edge-at F refl (edge-is s z) .view)) i
 
   pub regions-map : Stands f regions i → regionsAt f i ≡ map (regionFrom f) (chainRecords f i)
   unfolding real

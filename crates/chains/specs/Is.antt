@@ -157,17 +157,5 @@ module _ {f : List ℕ} {i : ℕ} {r : Record} where
   pub functor-else : Stands f functors i → (i ≡ 0 → ⊥) → r ≡ recordAt f i → OneOf (tagsBut 20 0 2) (tagOf the-type r) → ⊥
   functor-else s z e h = never s z e (tagsBut 20 0 2) tt h
 
-  pub procedure-else : Stands f procedures i → (i ≡ 0 → ⊥) → r ≡ recordAt f i → OneOf (tagsBut 20 0 3) (tagOf the-type r) → ⊥
-  procedure-else s z e h = never s z e (tagsBut 20 0 3) tt h
-
-  pub variable-else : Stands f variables i → (i ≡ 0 → ⊥) → r ≡ recordAt f i → OneOf (tagsBut 20 0 4) (tagOf the-type r) → ⊥
-  variable-else s z e h = never s z e (tagsBut 20 0 4) tt h
-
-  pub region-else : Stands f regions i → (i ≡ 0 → ⊥) → r ≡ recordAt f i → OneOf (tagsBut 20 0 5) (tagOf the-type r) → ⊥
-  region-else s z e h = never s z e (tagsBut 20 0 5) tt h
-
   pub edge-else : Stands f edges i → (i ≡ 0 → ⊥) → r ≡ recordAt f i → OneOf (tagsBut 20 0 6) (tagOf the-type r) → ⊥
   edge-else s z e h = never s z e (tagsBut 20 0 6) tt h
-
-  pub arm-else : Stands f arms i → (i ≡ 0 → ⊥) → r ≡ recordAt f i → OneOf (tagsBut 20 0 12) (tagOf the-type r) → ⊥
-  arm-else s z e h = never s z e (tagsBut 20 0 12) tt h

@@ -8,7 +8,6 @@ pub mod Is
 pub mod Shapes
 pub mod Fields
 pub mod Records
-pub mod Tables
 pub mod Elements
 pub mod Reached
 pub mod Lookups

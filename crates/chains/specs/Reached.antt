@@ -1,5 +1,5 @@
 -- Records that are found by their place in a chain, and the chains that their words lead to: each may be missing, and then its number is 0.
--- After r = entry(table, n) or chain_at(file, i, n): r stands in its chain (`stands-nth`, `stands-nth1`), and w = field(file, r, k) in the chain that
+-- After r = entry(table, n): r stands in its chain (`stands-nth`, `stands-nth1`), and w = field(file, r, k) in the chain that
 -- word k leads to (`type-functors` and its like).
 use Prim.Native.Nat.{ℕ, zero, suc, _≤_, _<_}
 use native.Mathlib.Omega.{arith}
@@ -7,20 +7,19 @@ use native.Mathlib.Decide.{decLt}
 use mathlib.Core.Path.{_≡_, refl, sym}
 use mathlib.Core.List.{List, [], _∷_, map}
 use mathlib.Core.Bool.{true, false}
-use lib.Dec.{leb}
 use lib.ListN.{length}
 use borrow.Author.Tests.{le-leb, lt-leb}
 use Rattle.sets.specs.Tests.{_&_, true-and}
 use Rattle.language.specs.Format.{typeFunctors, procedureVariables, procedureRegions, procedureGoals, regionEdges}
 use Rattle.language.specs.Lists.{nth, nth1, among}
 use Rattle.language.specs.File.{Chain, types, functors, procedures, variables, regions, edges, goals, word}
+use Rattle.laws.specs.Lists.{nth-past}
 use Rattle.layout.specs.Chains.{real}
 use Rattle.chains.specs.Formed.{Formed, Stands, stands-none}
 use Rattle.chains.specs.Declared.{type-at, procedure-at, region-at}
 use Rattle.chains.specs.Is.{type-is, procedure-is, region-is}
 use Rattle.chains.specs.Fields.{fieldOf}
 use Rattle.chains.specs.Records.{chainRecords, records-none, records-step, Somes, along}
-use Rattle.chains.specs.Tables.{nth-past}
 
 -- ---- the n-th record of a chain stands in it
 nth-cons : (P : ℕ → Type 0) {xs ys : List ℕ} {x : ℕ} → xs ≡ x ∷ ys → P x → ((k : ℕ) → P (nth 0 ys k)) → (k : ℕ) → P (nth 0 xs k)
@@ -83,7 +82,7 @@ nth-some (x ∷ xs) s (suc k) h = nth-some xs (s .1) k (omega arith)
 
 module _ (xs : List ℕ) where
   pub place-below : (k : ℕ) → (nth 0 xs k ≡ 0 → ⊥) → k < length xs
-  place-below k h = elim (decLt k (length xs)) [ yes l ↦ l | no l ↦ absurd (h (nth-past xs k (omega arith))) ]
+  place-below k h = elim (decLt k (length xs)) [ yes l ↦ l | no l ↦ absurd (h (nth-past 0 xs k (omega arith))) ]
 
   pub place-past : Somes xs → (k : ℕ) → nth 0 xs k ≡ 0 → length xs ≤ k
   place-past s k e = elim (decLt k (length xs)) [ yes l ↦ absurd (omega (arith, nth-some xs s k l)) | no l ↦ omega arith ]
@@ -97,9 +96,3 @@ module _ (xs : List ℕ) where
   unfolding nth1 among _&_
   among-past s n zero e h = refl
   among-past s n (suc k) e h = rw (le-leb 1 (suc k) (omega arith), lt-leb (suc k) n (omega (arith, place-past s k h)))
-
-  -- a type: 0 or a place of the chain
-  pub type-past : Somes xs → (n k : ℕ) → length xs ≡ n → (k ≡ 0 → ⊥) → nth1 0 xs k ≡ 0 → leb k n ≡ false
-  unfolding nth1
-  type-past s n zero e z h = absurd (z refl)
-  type-past s n (suc k) e z h = lt-leb (suc k) n (omega (arith, place-past s k h))

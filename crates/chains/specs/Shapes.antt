@@ -6,7 +6,7 @@ use mathlib.Core.Path.{_≡_, refl, sym, ap, _∙_}
 use mathlib.Core.List.{List}
 use mathlib.Core.Logic.{_⊎_, inl, inr}
 use Rattle.language.specs.Format
-use Rattle.language.specs.Format.{kindWord, nextWord, variableKind, literalKind, sumKind, assignKind, constructKind, switchKind, armKind, ifKind, callKind, printKind, createKind, removeKind, argumentVariable, armGoals, assignY, callArguments, callProcedure, goalX, ifElse, ifThen, ifY, ifZ, lifetimeRegion, literalValue, printY, sumOperation, sumY, sumZ, switchArms, termArguments, termFunctor}
+use Rattle.language.specs.Format.{kindWord, nextWord, variableKind, literalKind, sumKind, assignKind, constructKind, switchKind, ifKind, callKind, printKind, createKind, removeKind, argumentVariable, armGoals, assignY, callArguments, callProcedure, goalX, ifElse, ifThen, ifY, ifZ, lifetimeRegion, literalValue, printY, sumOperation, sumY, sumZ, switchArms, termArguments, termFunctor}
 use Rattle.language.specs.File.{GoalKind, kLiteral, kSum, kAssign, kConstruct, kSwitch, kIf, kCall, kPrint, kCreate, kRemove, Kind, kNone, kVariable, kGoal, procedures, variables, regions, edges, goals, arms, arguments, row, kindOf, word, recordCount}
 use Rattle.language.specs.Program.{Step, _then_, Goal, step}
 use Rattle.layout.specs.Table.{all-rows, number-is, number-kind}
@@ -35,9 +35,6 @@ module _ (f : List ℕ) (i : ℕ) where
 
   abbrev pub IsSwitch : Type 0
   IsSwitch = word f i kindWord ≡ switchKind
-
-  abbrev pub IsArm : Type 0
-  IsArm = word f i kindWord ≡ armKind
 
   abbrev pub IsIf : Type 0
   IsIf = word f i kindWord ≡ ifKind

@@ -9,27 +9,36 @@ use lib.Seq.{getD-set-same, getD-set-other}
 use Rattle.sets.specs.Sets.{_∩_, sameSet, stored, loaded, loaded-stored}
 use Rattle.sets.specs.declared.Set.{Set}
 use Rattle.language.specs.Program.{Signature, Program}
+use Rattle.records.specs.Blank.{walkWords}
 use Rattle.values.specs.Walk.{outcome, goesOn, require}
 use Rattle.checking.specs.Checker.{State, carrying, checker}
 
+-- the two words
+abbrev pub heldPlace : ℕ
+heldPlace = 0
+
+abbrev pub soundPlace : ℕ
+soundPlace = 1
+
 unfoldable pub heldIn : List ℕ → Set
-heldIn c = loaded (getD c 0 0)
+heldIn c = loaded (getD c heldPlace 0)
 
 unfoldable pub soundIn : List ℕ → Set
-soundIn c = loaded (getD c 1 0)
+soundIn c = loaded (getD c soundPlace 0)
 
 -- what is carried then
 abbrev pub state : List ℕ → State
 state c = carrying (heldIn c) (soundIn c)
 
 -- what is put there is found there
-pub carried-put : (c : List ℕ) {a b : ℕ} {h s : Set} → a ≡ stored h → b ≡ stored s → 2 ≤ length c
-    → (heldIn (set (set c 0 a) 1 b) ≡ h) × (soundIn (set (set c 0 a) 1 b) ≡ s)
+pub carried-put : (c : List ℕ) {a b : ℕ} {h s : Set} → a ≡ stored h → b ≡ stored s → walkWords ≤ length c
+    → (heldIn (set (set c heldPlace a) soundPlace b) ≡ h) × (soundIn (set (set c heldPlace a) soundPlace b) ≡ s)
 unfolding heldIn soundIn
 carried-put c {a} {b} {h} {s} ea eb l =
-    let n : length (set c 0 a) ≡ length c = length-set c 0 a in (
-      ap loaded (getD-set-other (set c 0 a) 1 0 b 0 (λ e. omega arith) ∙ getD-set-same c 0 a 0 (omega arith) ∙ ea) ∙ loaded-stored h,
-      ap loaded (getD-set-same (set c 0 a) 1 b 0 (omega arith) ∙ eb) ∙ loaded-stored s,
+    let n : length (set c heldPlace a) ≡ length c = length-set c heldPlace a in (
+      ap loaded (getD-set-other (set c heldPlace a) soundPlace heldPlace b 0 (λ e. omega arith) ∙ getD-set-same c heldPlace a 0 (omega arith) ∙ ea)
+          ∙ loaded-stored h,
+      ap loaded (getD-set-same (set c heldPlace a) soundPlace b 0 (omega arith) ∙ eb) ∙ loaded-stored s,
     )
 
 -- ---- where arms end: held and sound are what the first ended with, c what the others did

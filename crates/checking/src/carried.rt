@@ -1,35 +1,42 @@
 // What the walk carries, in place: a word for the held regions and one for the sound variables.
+use records::blank::WALK_WORDS;
 use sets::Set;
 ghost use mathlib.Core.Path.{_≡_};
 ghost use Prim.Native.Nat.{_≤_};
 ghost use lib.ListN.{length};
 ghost use Rattle.language.specs.Program.{Signature, Program};
 ghost use Rattle.values.specs.Walk.{outcome};
+ghost use Rattle.records.specs.Blank.{walkWords};
 ghost use Rattle.checking.specs.Checker.{carrying, checker};
 ghost use Rattle.checking.specs.Carried.{heldIn, soundIn, state};
 
-pub fn held_in(carried: &[u64; 2]) -> Set
+// The two words.
+const HELD: usize = 0;
+
+const SOUND: usize = 1;
+
+pub fn held_in(carried: &[u64; WALK_WORDS]) -> Set
     ensures { λ s. ⌜ s ≡ heldIn (now (carried .entry)) ⌝ }
 {
-    Set::loaded(carried[0])
+    Set::loaded(carried[HELD])
 }
 
-pub fn sound_in(carried: &[u64; 2]) -> Set
+pub fn sound_in(carried: &[u64; WALK_WORDS]) -> Set
     ensures { λ s. ⌜ s ≡ soundIn (now (carried .entry)) ⌝ }
 {
-    Set::loaded(carried[1])
+    Set::loaded(carried[SOUND])
 }
 
 pub fn carry(carried: &mut [u64], held: Set, sound: Set)
-    requires { ⌜ 2 ≤ length (now carried) ⌝ }
+    requires { ⌜ walkWords ≤ length (now carried) ⌝ }
     ensures { λ _. ⌜ (heldIn (now (carried .exit)) ≡ held) × (soundIn (now (carried .exit)) ≡ sound) ⌝ }
 {
-    carried[0] = held.stored();
-    carried[1] = sound.stored();
+    carried[HELD] = held.stored();
+    carried[SOUND] = sound.stored();
 }
 
 // "Arms end with equal held regions; sound afterwards is sound after every arm." False where they differ.
-pub fn join(held: Set, sound: Set, carried: &mut [u64; 2]) -> bool
+pub fn join(held: Set, sound: Set, carried: &mut [u64; WALK_WORDS]) -> bool
     ensures { λ b. ⌜ ((P : Program) (S : Signature) → outcome b (state (now (carried .exit))) ≡ checker P S .join (carrying held sound) (state (now (carried .entry)))) ⌝ }
 {
     if !held.same(held_in(carried)) {

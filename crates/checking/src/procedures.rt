@@ -6,7 +6,7 @@ use crate::walk::goals;
 use chains::word;
 use language::format::HEADER_PROCEDURES;
 use language::format::NEXT;
-use records::blank::blank_pair;
+use records::blank::blank_walk;
 use tables::BODY;
 use tables::BORN;
 use tables::DEAD;
@@ -37,7 +37,7 @@ fn window_ok(file: &[u8], rows: &[u64; ROWS], own: &[u64]) -> bool
     ensures { λ b. ⌜ WindowChecked (now (file .entry)) (now (rows .entry)) (now (own .entry)) b ⌝ }
 {
     let kept = set_at(own, KEPT);
-    let mut carried = blank_pair();
+    let mut carried = blank_walk();
     carry(
         &mut carried,
         set_at(own, DEAD).union(kept),

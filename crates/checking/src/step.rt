@@ -4,6 +4,7 @@ use crate::carried::held_in;
 use crate::carried::sound_in;
 use crate::sound::sound_given;
 use crate::sound::sound_without;
+use records::blank::WALK_WORDS;
 use sets::Set;
 use tables::KEPT;
 use tables::ROWS;
@@ -41,7 +42,7 @@ fn allowed(rows: &[u64; ROWS], own: &[u64], i: usize, held: Set, sound: Set) -> 
 }
 
 // After the step at record i; false where a rule is broken.
-pub fn step(rows: &[u64; ROWS], own: &[u64], carried: &mut [u64; 2], i: usize) -> bool
+pub fn step(rows: &[u64; ROWS], own: &[u64], carried: &mut [u64; WALK_WORDS], i: usize) -> bool
     ensures { λ b. ⌜ StepChecked (now (rows .entry)) (now (own .entry)) i (now (carried .entry)) b (now (carried .exit)) ⌝ }
 {
     let held = held_in(carried);
@@ -58,7 +59,7 @@ pub fn step(rows: &[u64; ROWS], own: &[u64], carried: &mut [u64; 2], i: usize) -
 }
 
 // Where the goals of the arm at record i start: its arguments have been given their values.
-pub fn enter(rows: &[u64; ROWS], own: &[u64], carried: &mut [u64; 2], i: usize)
+pub fn enter(rows: &[u64; ROWS], own: &[u64], carried: &mut [u64; WALK_WORDS], i: usize)
     ensures { λ _. ⌜ Entered (now (rows .entry)) (now (own .entry)) i (now (carried .entry)) (now (carried .exit)) ⌝ }
 {
     let held = held_in(carried);

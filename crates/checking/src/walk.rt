@@ -18,6 +18,7 @@ use language::format::KIND;
 use language::format::NEXT;
 use language::format::SWITCH;
 use language::format::SWITCH_ARMS;
+use records::blank::WALK_WORDS;
 use tables::ROWS;
 use values::is_step;
 ghost use mathlib.Core.Path.{_≡_};
@@ -31,7 +32,7 @@ pub fn goals(
     file: &[u8],
     rows: &[u64; ROWS],
     own: &[u64],
-    carried: &mut [u64; 2],
+    carried: &mut [u64; WALK_WORDS],
     start: usize,
 ) -> bool
     requires { ⌜ Formed (now file) ⌝ }
@@ -49,7 +50,13 @@ pub fn goals(
 }
 
 // After the goal at record i.
-fn goal(file: &[u8], rows: &[u64; ROWS], own: &[u64], carried: &mut [u64; 2], i: usize) -> bool
+fn goal(
+    file: &[u8],
+    rows: &[u64; ROWS],
+    own: &[u64],
+    carried: &mut [u64; WALK_WORDS],
+    i: usize,
+) -> bool
     requires { ⌜ Formed (now file) ⌝ }
     requires { ⌜ Stands (now file) File.goals i × (i ≡ 0 → ⊥) ⌝ }
     ensures { λ b. ⌜ GoalChecked (now (file .entry)) (now (rows .entry)) (now (own .entry)) i (now (carried .entry)) b (now (carried .exit)) ⌝ }
@@ -68,7 +75,13 @@ fn goal(file: &[u8], rows: &[u64; ROWS], own: &[u64], carried: &mut [u64; 2], i:
 }
 
 // After any of the arms of a switch.
-fn switch(file: &[u8], rows: &[u64; ROWS], own: &[u64], carried: &mut [u64; 2], i: usize) -> bool
+fn switch(
+    file: &[u8],
+    rows: &[u64; ROWS],
+    own: &[u64],
+    carried: &mut [u64; WALK_WORDS],
+    i: usize,
+) -> bool
     requires { ⌜ Formed (now file) ⌝ }
     requires { ⌜ IsSwitch (now file) i ⌝ }
     ensures { λ b. ⌜ GoalChecked (now (file .entry)) (now (rows .entry)) (now (own .entry)) i (now (carried .entry)) b (now (carried .exit)) ⌝ }
@@ -81,7 +94,13 @@ fn switch(file: &[u8], rows: &[u64; ROWS], own: &[u64], carried: &mut [u64; 2], 
 }
 
 // After either part of an if.
-fn branches(file: &[u8], rows: &[u64; ROWS], own: &[u64], carried: &mut [u64; 2], i: usize) -> bool
+fn branches(
+    file: &[u8],
+    rows: &[u64; ROWS],
+    own: &[u64],
+    carried: &mut [u64; WALK_WORDS],
+    i: usize,
+) -> bool
     requires { ⌜ Formed (now file) ⌝ }
     requires { ⌜ IsIf (now file) i ⌝ }
     ensures { λ b. ⌜ GoalChecked (now (file .entry)) (now (rows .entry)) (now (own .entry)) i (now (carried .entry)) b (now (carried .exit)) ⌝ }
@@ -112,7 +131,13 @@ fn branches(file: &[u8], rows: &[u64; ROWS], own: &[u64], carried: &mut [u64; 2]
 }
 
 // After any of the arms from record i on.
-fn arms(file: &[u8], rows: &[u64; ROWS], own: &[u64], carried: &mut [u64; 2], i: usize) -> bool
+fn arms(
+    file: &[u8],
+    rows: &[u64; ROWS],
+    own: &[u64],
+    carried: &mut [u64; WALK_WORDS],
+    i: usize,
+) -> bool
     requires { ⌜ Formed (now file) ⌝ }
     requires { ⌜ Stands (now file) File.arms i ⌝ }
     ensures { λ b. ⌜ ArmsChecked (now (file .entry)) (now (rows .entry)) (now (own .entry)) i (now (carried .entry)) b (now (carried .exit)) ⌝ }

@@ -9,6 +9,7 @@ use Rattle.sets.specs.Tests.{and-true}
 use mathlib.Core.List.{List}
 use mathlib.Core.Logic.{inl, inr}
 use lib.ListN.{length, getD, replicate}
+use Rattle.laws.specs.Lists.{nth-past}
 use Rattle.language.specs.Format.{nextWord, headerTypes, headerProcedures, typeFunctors, procedureVariables, procedureRegions, maxFunctors, maxTypes, maxProcedures, maxVariables, maxRegions, places}
 use Rattle.language.specs.Lists.{nth, nth1}
 use Rattle.language.specs.File.{procedures, variables, regions, word, recordCount}
@@ -20,7 +21,6 @@ use Rattle.chains.specs.Records.{chainRecords, records-none, records-step}
 use Rattle.chains.specs.Elements.{procedures-count, variables-count, regions-count}
 use Rattle.chains.specs.Is.{procedure-is}
 use Rattle.chains.specs.Declared.{procedure-at}
-use Rattle.chains.specs.Tables.{nth-past}
 use Rattle.declarations.specs.Places.{procedurePlaces, functorPlaces, filePlaces, placeIn, place-past, place-there, place-same, functorIn, functor-past, functor-there, functor-same, regionPlaces, ownPlaces, variableIn, regionIn}
 use Rattle.declarations.specs.Listing.{Lists, lists-entry, lists-place, Left, blank-at}
 use Rattle.declarations.specs.Parameters.{Linked}
@@ -36,7 +36,7 @@ start-none f = sym (field-none f typeFunctors refl)
 
 start-past : (f : List ℕ) (n : ℕ) → length (chainRecords f (word f 0 headerTypes)) ≤ n → typeStart f (suc n) ≡ 0
 unfolding typeStart nth1
-start-past f n h = sym (field-none f typeFunctors (nth-past (chainRecords f (word f 0 headerTypes)) n h))
+start-past f n h = sym (field-none f typeFunctors (nth-past 0 (chainRecords f (word f 0 headerTypes)) n h))
 
 start-here : (f : List ℕ) (n : ℕ) {i start : ℕ} → nth 0 (chainRecords f (word f 0 headerTypes)) n ≡ i → (i ≡ 0 → ⊥) → start ≡ word f i typeFunctors → start ≡ typeStart f (suc n)
 unfolding typeStart nth1
@@ -100,7 +100,7 @@ module _ {f t u : List ℕ} {n : ℕ} (S : FunctorsSo f t u n) where
     there : (ty m : ℕ) → ty ≤ n → functorIn u ty m ≡ nth 0 (chainRecords f (typeStart f ty)) m
     there ty m h = sym (functor-there u ty m (omega (arith, types-few F ok)) (sym (elim (decLt m maxFunctors) [
       | yes l ↦ sym (place-there u (functorPlaces + maxFunctors * ty) maxFunctors m l) ∙ S .right ty m h l
-      | no l ↦ sym (place-past u (functorPlaces + maxFunctors * ty) maxFunctors m (omega arith)) ∙ sym (nth-past (chainRecords f (typeStart f ty)) m (omega (arith, functors-length F ty, few-functors (program f .types) ok ty)))
+      | no l ↦ sym (place-past u (functorPlaces + maxFunctors * ty) maxFunctors m (omega arith)) ∙ sym (nth-past 0 (chainRecords f (typeStart f ty)) m (omega (arith, functors-length F ty, few-functors (program f .types) ok ty)))
     ])))
 
     past : (ty m : ℕ) → n < ty → functorIn u ty m ≡ 0
@@ -144,7 +144,7 @@ numbered f i u at most z h l zero = sym (place-there u at (suc most) 0 (omega ar
 numbered f i u at most z h l (suc n) =
     elim (decLt n most) [
       | yes d ↦ sym (place-there u at (suc most) (suc n) (omega arith)) ∙ ap (λ k. getD u k 0) (omega arith) ∙ h n d
-      | no d ↦ sym (place-past u at (suc most) (suc n) (omega arith)) ∙ sym (nth-past (chainRecords f i) n (omega arith))
+      | no d ↦ sym (place-past u at (suc most) (suc n) (omega arith)) ∙ sym (nth-past 0 (chainRecords f i) n (omega arith))
     ]
 
 module _ {f : List ℕ} (F : Formed f) {i : ℕ} (s : Stands f procedures i) (z : i ≡ 0 → ⊥) (h : fewDeclared (signatureAt f i) ≡ true) where

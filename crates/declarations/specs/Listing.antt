@@ -7,12 +7,12 @@ use mathlib.Core.List.{List}
 use mathlib.Core.Logic.{_⊎_, inl, inr}
 use lib.ListN.{length, getD, set, replicate, length-set, length-replicate}
 use lib.Seq.{getD-set-same, getD-set-other}
+use Rattle.laws.specs.Lists.{nth-past}
 use Rattle.language.specs.Format.{nextWord}
 use Rattle.language.specs.Lists.{nth}
 use Rattle.language.specs.File.{word, recordCount}
 use Rattle.chains.specs.Formed.{Formed}
 use Rattle.chains.specs.Records.{chainRecords, records-none, records-step}
-use Rattle.chains.specs.Tables.{nth-past}
 use Rattle.declarations.specs.Places.{placeIn, place-past, place-there}
 
 -- u has the records of the chain at record start in the places from `at` on, and is as t elsewhere
@@ -86,14 +86,14 @@ module _ {f : List ℕ} {start at : ℕ} {t u : List ℕ} (L : Lists f start at 
   lists-entry n l =
       elim (decLt n (length (chainRecords f start))) [
         | yes d ↦ L .here n d
-        | no d ↦ L .other (at + n) (inr (omega arith)) ∙ z (at + n) (omega arith) (omega arith) ∙ sym (nth-past (chainRecords f start) n (omega arith))
+        | no d ↦ L .other (at + n) (inr (omega arith)) ∙ z (at + n) (omega arith) (omega arith) ∙ sym (nth-past 0 (chainRecords f start) n (omega arith))
       ]
 
   pub lists-place : length (chainRecords f start) ≤ most → (n : ℕ) → placeIn u at most n ≡ nth 0 (chainRecords f start) n
   lists-place h n =
       elim (decLt n most) [
         | yes l ↦ sym (place-there u at most n l) ∙ lists-entry n l
-        | no l ↦ sym (place-past u at most n (omega arith)) ∙ sym (nth-past (chainRecords f start) n (omega arith))
+        | no l ↦ sym (place-past u at most n (omega arith)) ∙ sym (nth-past 0 (chainRecords f start) n (omega arith))
       ]
 
 -- ---- a table of zeros

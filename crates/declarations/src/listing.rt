@@ -24,6 +24,7 @@ ghost use Rattle.language.specs.Format.{maxProcedures};
 ghost use Rattle.language.specs.File.{procedures, recordCount};
 ghost use Rattle.language.specs.Typing.{typesOk};
 ghost use Rattle.language.specs.Answers.{program};
+ghost use Rattle.records.specs.Sizes.{wordEnd};
 ghost use Rattle.chains.specs.Formed.{Formed, Stands};
 ghost use Rattle.chains.specs.Records.{chainRecords};
 ghost use Rattle.declarations.specs.Places.{filePlaces, functorPlaces, ownPlaces};
@@ -40,7 +41,7 @@ pub fn wide(v: u16) -> usize
 }
 
 fn narrow(v: usize) -> u16
-    requires { ⌜ v < 65536 ⌝ }
+    requires { ⌜ v < wordEnd ⌝ }
     ensures { λ r. ⌜ r ≡ v ⌝ }
 {
     v as u16

@@ -1,10 +1,11 @@
 -- Along a chain of goals: what was laid, and what is left.
-use Prim.Native.Nat.{ℕ, _+_, _*_, _≤_, _<_}
+use Prim.Native.Nat.{ℕ, _+_, _*_, _≤_}
 use native.Mathlib.Omega.{arith}
 use mathlib.Core.List.{List}
 use mathlib.Core.Path.{_≡_, refl, ap, sym, _∙_}
 use lib.ListN.{length}
 use Rattle.sets.specs.declared.Set.{Set}
+use Rattle.language.specs.Format.{nextWord}
 use Rattle.language.specs.File.{goals, word}
 use Rattle.language.specs.Layout.{lay}
 use Rattle.language.specs.Records.{goalsTree}
@@ -17,9 +18,10 @@ use Rattle.chains.specs.Is.{chain-next, goals-step}
 use Rattle.chains.specs.Shapes.{IsSwitch, IsIf}
 use Rattle.liveness.specs.Points.{points}
 use Rattle.liveness.specs.Counts.{goalsCount, goalCount}
-use Rattle.liveness.specs.Done.{Ready, Belongs}
+use Rattle.tables.specs.Filled.{Owned, Belongs}
 use Rattle.laying.specs.Lays.{Lays, lays-end}
 use Rattle.insertion.specs.Chains.{Fronts, chain-goes, lays-first}
+use Rattle.insertion.specs.Cursor.{recordIn, pointIn}
 use Rattle.insertion.specs.Wants.{Wants, first-wants}
 use Rattle.insertion.specs.Done.{GoalsLaid, GoalLaid}
 
@@ -40,8 +42,12 @@ module _ (f rows t : List ℕ) (start at₀ : ℕ) (a b : List ℕ) (first i at 
     pub stands : Stands f goals i
     pub near : ahead f i ≤ ahead f start
     pub same : length b ≡ length a
-    rest : (o : ℕ → ℕ) (q : ℕ) (after : Set) → Ready f rows o → Belongs o q start
+    rest : (o : ℕ → ℕ) (q : ℕ) (after : Set) → Owned f rows o → Belongs o q start
         → Wants (signatureOf (program f) q) t at₀ (points (program f) (goalsAt f start) after) → Left o q after
+
+-- the same as the contract says it, where the walk stands at `c` before and at `d` behind
+abbrev pub LaysAlong : (f rows t : List ℕ) (start i : ℕ) (a b c d : List ℕ) → Type 0
+LaysAlong f rows t start i a b c d = Along f rows t start (pointIn c) a b (recordIn c) i (pointIn d) (recordIn d)
 
 pub along-first : (f rows t : List ℕ) (start at : ℕ) (a : List ℕ) (first : ℕ) → Stands f goals start → Along f rows t start at a a first start at first
 along-first f rows t start at a first st = record {
@@ -63,10 +69,10 @@ module _ {f rows t : List ℕ} {start at₀ : ℕ} {a b : List ℕ} {first i at 
   )
 
   module _ (F : Formed f) (z : i ≡ 0 → ⊥) where
-    pub along-onward : {w : ℕ} → w ≡ word f i 1 → Onward f goals i w
+    pub along-onward : {w : ℕ} → w ≡ word f i nextWord → Onward f goals i w
     along-onward e = chain-next F (G .stands) z e
 
-    pub along-next : {d : List ℕ} {r p w : ℕ} → GoalLaid f rows t i at b d c r p → w ≡ word f i 1 → Along f rows t start at₀ a d first w p r
+    pub along-next : {d : List ℕ} {r p w : ℕ} → GoalLaid f rows t i at b d c r p → w ≡ word f i nextWord → Along f rows t start at₀ a d first w p r
     unfolding goalsCount
     along-next {d} {r} {p} {w} m e =
         let u = along-onward e in

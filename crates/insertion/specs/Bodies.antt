@@ -1,5 +1,5 @@
 -- The goals of a procedure, by its window: the points that are filled for them, and what is laid.
-use Prim.Native.Nat.{ℕ, _+_, _≤_}
+use Prim.Native.Nat.{ℕ, _≤_}
 use native.Mathlib.Omega.{arith}
 use mathlib.Core.List.{List}
 use mathlib.Core.Path.{_≡_, refl, ap, _∙_}
@@ -18,9 +18,10 @@ use Rattle.language.specs.Answers.{program}
 use Rattle.placement.specs.Local.{removesTo, localGoals}
 use Rattle.chains.specs.Formed.{Formed, Stands, goalsAt}
 use Rattle.tables.specs.Window.{Window, setIn, bodyPlace, outsPlace, deadPlace, keptPlace}
-use Rattle.liveness.specs.Points.{points}
+use Rattle.liveness.specs.Points.{points, pointWords}
 use Rattle.liveness.specs.Holds.{written-holds}
-use Rattle.liveness.specs.Done.{pointWords, Ready, Belongs, ListDone}
+use Rattle.tables.specs.Filled.{Owned, Belongs}
+use Rattle.liveness.specs.Done.{ListDone}
 use Rattle.laying.specs.Lays.{Lays}
 use Rattle.laying.specs.Marks.{marks}
 use Rattle.insertion.specs.Chains.{chain-goes, lays-part}
@@ -42,7 +43,7 @@ bodyOf f S i =
 abbrev pub BodyLaid : List ℕ → List ℕ → List ℕ → List ℕ → List ℕ → ℕ → ℕ → Type 0
 BodyLaid f rows own a b c r =
     (length b ≡ length a)
-    × ((o : ℕ → ℕ) (q : ℕ) → Ready f rows o → Window f (signatureOf (program f) q) own → Belongs o q (getD own bodyPlace 0)
+    × ((o : ℕ → ℕ) (q : ℕ) → Owned f rows o → Window f (signatureOf (program f) q) own → Belongs o q (getD own bodyPlace 0)
     → Lays a b c r (lay (goalsTree (bodyOf f (signatureOf (program f) q) (getD own bodyPlace 0))) c))
 
 -- ---- points

@@ -7,7 +7,7 @@ use lib.ListN.{length}
 use Rattle.sets.specs.Sets.{_∖_}
 use Rattle.sets.specs.Members.{members}
 use Rattle.sets.specs.declared.Set.{Set}
-use Rattle.language.specs.Format.{createKind, removeKind}
+use Rattle.language.specs.Format.{createKind, removeKind, kindWord, nextWord}
 use Rattle.language.specs.File.{kCreate, kRemove, Kind, kGoal, goals, kindOf, word}
 use Rattle.language.specs.Tree.{Tree, end, node, Words}
 use Rattle.language.specs.Layout.{reference, lay}
@@ -122,17 +122,17 @@ done-goes c = refl
 
 -- a goal of the file, laid as it is
 module _ {f : List ℕ} {i : ℕ} (F : Formed f) (st : Stands f goals i) (z : i ≡ 0 → ⊥) where
-  here-node : {g : Goal} → goalsAt f i ≡ g then goalsAt f (word f i 1) → (t : Tree) → goalTree g t ≡ node (kindOf (word f i 0)) t (wordsAt f i)
+  here-node : {g : Goal} → goalsAt f i ≡ g then goalsAt f (word f i nextWord) → (t : Tree) → goalTree g t ≡ node (kindOf (word f i kindWord)) t (wordsAt f i)
   unfolding rehung goalsTree
   here-node {g} e t =
-      let n : goalTree g (goalsTree (goalsAt f (word f i 1))) ≡ node (kindOf (word f i 0)) (treeAt f (word f i 1)) (wordsAt f i) =
+      let n : goalTree g (goalsTree (goalsAt f (word f i nextWord))) ≡ node (kindOf (word f i kindWord)) (treeAt f (word f i nextWord)) (wordsAt f i) =
       ap goalsTree (sym e) ∙ sym (goals-tree F st) ∙ tree-is F i (omega arith) (st .below) in
       sym (goal-rehung g _ t) ∙ ap (λ u. rehung u t) n
 
-  pub fronts-copy : {a b : List ℕ} {c r : ℕ} {g : Goal} (on : ℕ) → goalsAt f i ≡ g then goalsAt f (word f i 1) → Lays a b c r (frontTo f i on c)
+  pub fronts-copy : {a b : List ℕ} {c r : ℕ} {g : Goal} (on : ℕ) → goalsAt f i ≡ g then goalsAt f (word f i nextWord) → Lays a b c r (frontTo f i on c)
       → Fronts a b c r (g then done) on
   unfolding frontTo headOf
-  fronts-copy {g = g} on e p = fronts-head g (kindOf (word f i 0)) on (wordsAt f i) (here-node e) p
+  fronts-copy {g = g} on e p = fronts-head g (kindOf (word f i kindWord)) on (wordsAt f i) (here-node e) p
 
 -- ---- the local placement
 module _ (P : Program) (S : Signature) where

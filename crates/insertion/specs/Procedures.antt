@@ -4,6 +4,7 @@ use native.Mathlib.Omega.{arith}
 use mathlib.Core.List.{List, map}
 use mathlib.Core.Path.{_≡_, refl, ap, sym, _∙_}
 use lib.ListN.{length, getD, take, drop}
+use Rattle.language.specs.Format.{nextWord, headerProcedures, procedureVariables, procedureRegions, procedureGoals}
 use Rattle.language.specs.File.{kProcedure, kVariable, kRegion, goals, procedures, word}
 use Rattle.language.specs.Tree.{Tree}
 use Rattle.language.specs.Layout.{reference, lay}
@@ -39,7 +40,7 @@ placedBody P q = annotateProcedure P (procedureAt P q) .body
 
 -- the annotated procedure at record i, number q, from place c on
 unfoldable pub procedureHead : List ℕ → ℕ → ℕ → ℕ → List (List ℕ)
-procedureHead f i q c = headOf kProcedure (word f i 1) (procedureWords (annotateProcedure (program f) (procedureAt (program f) q))) c
+procedureHead f i q c = headOf kProcedure (word f i nextWord) (procedureWords (annotateProcedure (program f) (procedureAt (program f) q))) c
 
 -- annotated procedures as a tree
 unfoldable pub proceduresTree : Program → List Procedure → Tree
@@ -64,23 +65,25 @@ module _ {f table rows : List ℕ} (G : Given f table rows) {q : ℕ} (l : q < l
 
 -- ---- the procedure at record i
 module _ {f : List ℕ} {i q : ℕ} (F : Formed f) (T : Turn f i q) (z : i ≡ 0 → ⊥) where
-  pub here : ProcedureAt f i (word f i 1) (word f i 2) (word f i 3) (word f i 4)
+  pub here : ProcedureAt f i (word f i nextWord) (word f i procedureVariables) (word f i procedureRegions) (word f i procedureGoals)
   here = procedure-at F refl (procedure-is (T .stands) z)
 
   pub here-below : q < length (program f .procedures)
   here-below = turn-below T here
 
-  pub procedure-laid : {a b d e g : List ℕ} {c s m n r v w : ℕ} → Behind c 1 s → v ≡ word f i 2 → Lays a b s m (lay (treeAt f v) s) → w ≡ word f i 3
+  pub procedure-laid : {a b d e g : List ℕ} {c s m n r v w : ℕ} → Behind c 1 s → v ≡ word f i procedureVariables → Lays a b s m (lay (treeAt f v) s) → w ≡ word f i procedureRegions
       → Lays b d m n (lay (treeAt f w) m) → Lays d e n r (lay (goalsTree (placedBody (program f) q)) n) → ProcedureStored f i e g c s m n r
       → Lays a g c r (procedureHead f i q c)
   unfolding procedureHead placedBody procedureWords annotateProcedure
   procedure-laid B ev L ew K J H =
       let p = turn-procedure T here in
-      let x : treeAt f (word f i 2) ≡ chainOf kVariable variableWords (procedureAt (program f) q .signature .variables) =
+      let x : treeAt f (word f i procedureVariables) ≡ chainOf kVariable variableWords (procedureAt (program f) q .signature .variables) =
       variables-tree F (here .to-variables .stands) ∙ ap (λ y. chainOf kVariable variableWords (y .signature .variables)) (sym p) in
-      let y : treeAt f (word f i 3) ≡ chainOf kRegion regionWords (procedureAt (program f) q .signature .regions) =
+      let y : treeAt f (word f i procedureRegions) ≡ chainOf kRegion regionWords (procedureAt (program f) q .signature .regions) =
       regions-tree F (here .to-regions .stands) ∙ ap (λ u. chainOf kRegion regionWords (u .signature .regions)) (sym p) in
-      rw (sym x, sym y) (procedure-head B (treeAt f (word f i 2)) (treeAt f (word f i 3)) (goalsTree (placedBody (program f) q)) (rw ev at L) (rw ew at K) J H)
+      rw (sym x, sym y)
+      (procedure-head B (treeAt f (word f i procedureVariables)) (treeAt f (word f i procedureRegions)) (goalsTree (placedBody (program f) q))
+      (rw ev at L) (rw ew at K) J H)
 
 -- ---- all of them
 -- whether the chain of procedures goes on at record w
@@ -96,7 +99,7 @@ pub record Laying (f a b : List ℕ) (first i q c : ℕ) : Type 0 where
   pub laid : (d : List ℕ) (e : ℕ) → Lays b d c e (lay (proceduresTree (program f) (proceduresAt f i)) c)
       → Lays a d first e (lay (proceduresTree (program f) (program f .procedures)) first)
 
-pub laying-first : {f : List ℕ} (a : List ℕ) (first : ℕ) {i : ℕ} → Formed f → i ≡ word f 0 1 → Laying f a a first i 0 first
+pub laying-first : {f : List ℕ} (a : List ℕ) (first : ℕ) {i : ℕ} → Formed f → i ≡ word f 0 headerProcedures → Laying f a a first i 0 first
 laying-first {f} a first F e =
     let T = turn-first F e in
     record { turn = T; same = refl; laid = λ d s L. rw (sym (T .rest)) at L }
@@ -106,7 +109,7 @@ module _ {f a b : List ℕ} {first i q c : ℕ} (G : Laying f a b first i q c) w
   unfolding proceduresTree chainOf
   laying-last z = G .laid b c (rw (procedures-none f z) (lays-end b c))
 
-  pub laying-next : {d : List ℕ} {r w : ℕ} → Formed f → (i ≡ 0 → ⊥) → Lays b d c r (procedureHead f i q c) → w ≡ word f i 1 → Laying f a d first w (q + 1) r
+  pub laying-next : {d : List ℕ} {r w : ℕ} → Formed f → (i ≡ 0 → ⊥) → Lays b d c r (procedureHead f i q c) → w ≡ word f i nextWord → Laying f a d first w (q + 1) r
   unfolding proceduresTree chainOf procedureHead
   laying-next {d} {r} {w} F z K e =
       let A = here F (G .turn) z in
@@ -122,5 +125,5 @@ module _ {f a b : List ℕ} {first i q c : ℕ} (G : Laying f a b first i q c) w
             (chain-goes F (program f) w (T .stands)) (rw (sym e) at K) L));
       }
 
-  pub laying-falls : {w : ℕ} → Formed f → (i ≡ 0 → ⊥) → w ≡ word f i 1 → ahead f w < ahead f i
+  pub laying-falls : {w : ℕ} → Formed f → (i ≡ 0 → ⊥) → w ≡ word f i nextWord → ahead f w < ahead f i
   laying-falls F z e = rw e (here F (G .turn) z .to-next .falls)

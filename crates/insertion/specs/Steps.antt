@@ -6,7 +6,7 @@ use mathlib.Core.Path.{_≡_, refl, ap, sym, _∙_}
 use Rattle.sets.specs.Sets.{_∪_, _∖_}
 use Rattle.sets.specs.Members.{members}
 use Rattle.sets.specs.declared.Set.{Set}
-use Rattle.language.specs.Format.{createKind, removeKind}
+use Rattle.language.specs.Format.{createKind, removeKind, nextWord}
 use Rattle.language.specs.File.{goals, word}
 use Rattle.language.specs.Program.{Step, Goal, step, signatureOf}
 use Rattle.language.specs.Lifetimes.{wanted, liveGoal, heldAfter}
@@ -19,7 +19,7 @@ use Rattle.tables.specs.Rows.{needsIn, bearsIn, endsIn}
 use Rattle.tables.specs.Filled.{StepAt}
 use Rattle.liveness.specs.Counts.{goalCount}
 use Rattle.liveness.specs.Table.{beforeAt, afterAt}
-use Rattle.liveness.specs.Done.{pointWords}
+use Rattle.liveness.specs.Points.{pointWords}
 use Rattle.writer.specs.Ready.{frontTo}
 use Rattle.laying.specs.Lays.{Lays}
 use Rattle.laying.specs.Marks.{moreOf, marks}
@@ -47,7 +47,7 @@ unfolding goalCount
 step-count e = rw e refl
 
 module _ {f : List ℕ} (rows t : List ℕ) {i : ℕ} (at : ℕ) (F : Formed f) (st : Stands f goals i) (z : i ≡ 0 → ⊥) (p : IsSwitch f i → ⊥) (q : IsIf f i → ⊥) where
-  pub step-laid : {a b d e : List ℕ} {c m n r u next mid : ℕ} {cs rs : Set} → cs ≡ createdIn rows t i at → rs ≡ removedIn rows t i at cs → next ≡ word f i 1
+  pub step-laid : {a b d e : List ℕ} {c m n r u next mid : ℕ} {cs rs : Set} → cs ≡ createdIn rows t i at → rs ≡ removedIn rows t i at cs → next ≡ word f i nextWord
       → Lays a b c m (marks createKind (members cs) 1 c) → mid ≡ moreOf (members rs) next → Lays b d m n (frontTo f i mid m)
       → Lays d e n r (marks removeKind (members rs) next n) → (at < pointWords → u ≡ at + 2) → GoalLaid f rows t i at a e c r u
   unfolding createdIn removedIn createdFor heldPast heldAfter liveGoal firstGoal goalAt

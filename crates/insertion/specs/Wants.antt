@@ -11,10 +11,9 @@ use Rattle.sets.specs.declared.Set.{Set}
 use Rattle.language.specs.Program.{Four, Goals, _then_, Goal, switch, ifLess, Arms, arm, Signature, Program}
 use Rattle.language.specs.Lifetimes.{wanted, live, liveGoal}
 use Rattle.tables.specs.Window.{Window}
-use Rattle.liveness.specs.Points.{Point, point, points, partPoints, goalPoints, armsPoints, words}
+use Rattle.liveness.specs.Points.{Point, point, points, partPoints, goalPoints, armsPoints, words, pointWords}
 use Rattle.liveness.specs.Counts.{goalsCount, goalCount, points-count, parts-count}
 use Rattle.liveness.specs.Table.{beforeAt, afterAt}
-use Rattle.liveness.specs.Done.{pointWords}
 use Rattle.liveness.specs.Holds.{Holds, holds-before, holds-after, holds-behind}
 
 -- from that place on the table has what is wanted at the points ps

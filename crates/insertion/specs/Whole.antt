@@ -6,7 +6,7 @@ use native.Mathlib.Numerals.{add-one}
 use mathlib.Core.List.{List, [], _∷_, _++_}
 use mathlib.Core.Path.{_≡_, refl, ap, ap₂, sym, _∙_}
 use lib.ListN.{length, getD, take, drop, set}
-use Rattle.language.specs.Format.{recordBytes, maxRecords, maxBytes, headerKind}
+use Rattle.language.specs.Format.{recordBytes, maxRecords, maxBytes, headerKind, headerTypes}
 use Rattle.language.specs.Lists.{frontWritten}
 use Rattle.language.specs.File.{kType, word, recordCount}
 use Rattle.language.specs.Tree.{Tree, plain, leads}
@@ -17,6 +17,7 @@ use Rattle.language.specs.Answers.{program, fileOf}
 use Rattle.layout.specs.Bytes.{written-length}
 use Rattle.layout.specs.Programs.{length-of-program}
 use Rattle.layout.specs.ProgramFits.{program-fits}
+use Rattle.records.specs.Sizes.{byteEnd}
 use Rattle.chains.specs.Layout.{all-rows, lay-length, layWords-length}
 use Rattle.chains.specs.Formed.{Formed, types-stand, program-types}
 use Rattle.writer.specs.Laid.{linked}
@@ -66,15 +67,15 @@ headed-laid {a} {b} {d} {g} {m} {e} t u L K H =
     header-words t u (i .0) (i .1) (j .0) (j .1) (H .counts .is l))
 
 module _ {f : List ℕ} (F : Formed f) where
-  pub file-laid : {a b d g : List ℕ} {w m e : ℕ} → w ≡ word f 0 2 → Lays a b 1 m (lay (treeAt f w) 1)
+  pub file-laid : {a b d g : List ℕ} {w m e : ℕ} → w ≡ word f 0 headerTypes → Lays a b 1 m (lay (treeAt f w) 1)
       → Lays b d m e (lay (proceduresTree (program f) (program f .procedures)) m) → HeaderStored d g m e → Lays a g 0 e (lay (programTree (annotate (program f))) 0)
   unfolding programTree annotate proceduresTree
   file-laid ew L K H =
-      let x : treeAt f (word f 0 2) ≡ chainOf kType typeWords (program f .types) =
+      let x : treeAt f (word f 0 headerTypes) ≡ chainOf kType typeWords (program f .types) =
       types-tree F (types-stand F) ∙ ap (chainOf kType typeWords) (sym (program-types F)) in
       headed-laid (chainOf kType typeWords (program f .types)) (proceduresTree (program f) (program f .procedures)) (rw (ew, x) at L) K H
 
-  pub types-below : {w : ℕ} → w ≡ word f 0 2 → w < recordCount f
+  pub types-below : {w : ℕ} → w ≡ word f 0 headerTypes → w < recordCount f
   types-below e = rw e (types-stand F .below)
 
 -- how many records it has
@@ -94,7 +95,7 @@ take-front : (s t : List ℕ) {n : ℕ} → n ≡ length s → take n (s ++ t) �
 take-front [] t e = rw e refl
 take-front (x ∷ s) t {n} e = rw e (ap (λ r. x ∷ r) (take-front s t refl))
 
-pub file-written : (f : List ℕ) {a b : List ℕ} {r : ℕ} → ((j : ℕ) → getD b j 0 < 256) → size (programTree (annotate (program f))) ≤ maxRecords
+pub file-written : (f : List ℕ) {a b : List ℕ} {r : ℕ} → ((j : ℕ) → getD b j 0 < byteEnd) → size (programTree (annotate (program f))) ≤ maxRecords
     → recordBytes * size (programTree (annotate (program f))) ≤ length a → Lays a b 0 r (lay (programTree (annotate (program f))) 0)
     → b ≡ frontWritten (fileOf (annotate (program f))) a
 unfolding frontWritten fileOf
@@ -105,7 +106,7 @@ file-written f {a} B l m L =
     ∙ ap (λ k. written t ++ drop k a) (sym (written-length (program-fits (annotate (program f)))))
 
 -- what was laid into memory for the longest file, as far as it goes
-pub file-front : (f : List ℕ) {a b : List ℕ} {r : ℕ} → ((j : ℕ) → getD b j 0 < 256) → maxBytes ≡ length a
+pub file-front : (f : List ℕ) {a b : List ℕ} {r : ℕ} → ((j : ℕ) → getD b j 0 < byteEnd) → maxBytes ≡ length a
     → Lays a b 0 r (lay (programTree (annotate (program f))) 0) → r ≤ maxRecords → take (recordBytes * r) b ≡ fileOf (annotate (program f))
 unfolding frontWritten
 file-front f {a} {b} {r} B n L h =

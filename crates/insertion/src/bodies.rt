@@ -30,7 +30,7 @@ ghost use Rattle.language.specs.Lifetimes.{startHeld, wanted};
 ghost use Rattle.chains.specs.Formed.{Formed, Stands};
 ghost use Rattle.tables.specs.Window.{Window, bodyPlace};
 ghost use Rattle.tables.specs.Filled.{Accessed};
-ghost use Rattle.liveness.specs.Done.{pointWords};
+ghost use Rattle.liveness.specs.Points.{pointWords};
 ghost use Rattle.insertion.specs.Bodies.{PointsFilled, BodyLaid};
 
 // Fills the points of the procedure's goals with what is wanted there. "After the last goal, the out variables are live."

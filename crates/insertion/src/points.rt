@@ -9,7 +9,7 @@ ghost use Prim.Native.Nat.{_+_, _≤_, _<_};
 ghost use lib.ListN.{length};
 ghost use Rattle.sets.specs.Sets.{_∖_};
 ghost use Rattle.liveness.specs.Table.{beforeAt, afterAt};
-ghost use Rattle.liveness.specs.Done.{pointWords};
+ghost use Rattle.liveness.specs.Points.{pointWords};
 ghost use Rattle.insertion.specs.Wants.{Turned};
 
 // The place behind the point at that place.

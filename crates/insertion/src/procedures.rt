@@ -20,7 +20,7 @@ ghost use Rattle.language.specs.Layout.{lay};
 ghost use Rattle.language.specs.Records.{goalsTree};
 ghost use Rattle.language.specs.Answers.{program};
 ghost use Rattle.chains.specs.Turns.{Turn};
-ghost use Rattle.liveness.specs.Done.{pointWords};
+ghost use Rattle.liveness.specs.Points.{pointWords};
 ghost use Rattle.laying.specs.Lays.{Lays};
 ghost use Rattle.insertion.specs.Procedures.{Given, placedBody, procedureHead, proceduresTree};
 

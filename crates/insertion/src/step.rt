@@ -29,9 +29,8 @@ ghost use mathlib.Core.Path.{_≡_};
 ghost use Rattle.language.specs.File;
 ghost use Rattle.chains.specs.Formed.{Formed, Stands};
 ghost use Rattle.chains.specs.Shapes.{IsSwitch, IsIf};
-ghost use Rattle.insertion.specs.Cursor.{recordIn, pointIn};
-ghost use Rattle.insertion.specs.Done.{GoalLaid};
-ghost use Rattle.insertion.specs.Along.{Along, Parted};
+ghost use Rattle.insertion.specs.Done.{LaysGoal};
+ghost use Rattle.insertion.specs.Along.{LaysAlong, Parted};
 ghost use Rattle.insertion.specs.Steps.{createdIn, removedIn};
 
 // What is created before the step at record i, whose point is at that place.
@@ -70,7 +69,7 @@ fn step(
     requires { ⌜ Formed (now (now file)) ⌝ }
     requires { ⌜ Stands (now (now file)) File.goals i × (i ≡ 0 → ⊥) ⌝ }
     requires { ⌜ (IsSwitch (now (now file)) i → ⊥) × (IsIf (now (now file)) i → ⊥) ⌝ }
-    ensures { λ _. ⌜ GoalLaid (now (now (file .entry))) (now (rows .entry)) (now (points .entry)) i (pointIn (now (at .entry))) (now (out .entry)) (now (out .exit)) (recordIn (now (at .entry))) (recordIn (now (at .exit))) (pointIn (now (at .exit))) ⌝ }
+    ensures { λ _. ⌜ LaysGoal (now (now (file .entry))) (now (rows .entry)) (now (points .entry)) i (now (out .entry)) (now (out .exit)) (now (at .entry)) (now (at .exit)) ⌝ }
 {
     let point = point_in(at);
     let created = created_at(rows, points, i, point);
@@ -93,7 +92,7 @@ pub fn steps(
 ) -> usize
     requires { ⌜ Formed (now (now file)) ⌝ }
     requires { ⌜ Stands (now (now file)) File.goals start ⌝ }
-    ensures { λ r. ⌜ Along (now (now (file .entry))) (now (rows .entry)) (now (points .entry)) start (pointIn (now (at .entry))) (now (out .entry)) (now (out .exit)) (recordIn (now (at .entry))) r (pointIn (now (at .exit))) (recordIn (now (at .exit))) ⌝ }
+    ensures { λ r. ⌜ LaysAlong (now (now (file .entry))) (now (rows .entry)) (now (points .entry)) start r (now (out .entry)) (now (out .exit)) (now (at .entry)) (now (at .exit)) ⌝ }
     ensures { λ r. ⌜ Parted (now (now (file .entry))) r ⌝ }
 {
     let mut i = start;

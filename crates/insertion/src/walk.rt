@@ -24,12 +24,10 @@ use laying::store_switch;
 use liveness::POINTS;
 use tables::ROWS;
 use writer::behind;
-ghost use mathlib.Core.Path.{_≡_};
 ghost use Rattle.language.specs.File;
 ghost use Rattle.chains.specs.Formed.{Formed, Stands};
 ghost use Rattle.chains.specs.Shapes.{IsSwitch, IsIf};
-ghost use Rattle.insertion.specs.Cursor.{recordIn, pointIn};
-ghost use Rattle.insertion.specs.Done.{GoalsLaid, GoalLaid, PartLaid, ArmsLaid};
+ghost use Rattle.insertion.specs.Done.{LaysGoals, LaysGoal, LaysPart, LaysArms};
 ghost use Rattle.insertion.specs.Along.{Parted};
 
 // The goals from record start on, which is a goal with parts.
@@ -43,7 +41,7 @@ pub fn goals(
 )
     requires { ⌜ Formed (now (now file)) ⌝ }
     requires { ⌜ Stands (now (now file)) File.goals start × Parted (now (now file)) start ⌝ }
-    ensures { λ _. ⌜ GoalsLaid (now (now (file .entry))) (now (rows .entry)) (now (points .entry)) start (pointIn (now (at .entry))) (now (out .entry)) (now (out .exit)) (recordIn (now (at .entry))) (recordIn (now (at .exit))) (pointIn (now (at .exit))) ⌝ }
+    ensures { λ _. ⌜ LaysGoals (now (now (file .entry))) (now (rows .entry)) (now (points .entry)) start (now (out .entry)) (now (out .exit)) (now (at .entry)) (now (at .exit)) ⌝ }
 {
     let mut i = start;
     while i != 0 {
@@ -68,7 +66,7 @@ fn switch(
 )
     requires { ⌜ Formed (now (now file)) ⌝ }
     requires { ⌜ IsSwitch (now (now file)) i ⌝ }
-    ensures { λ _. ⌜ GoalLaid (now (now (file .entry))) (now (rows .entry)) (now (points .entry)) i (pointIn (now (at .entry))) (now (out .entry)) (now (out .exit)) (recordIn (now (at .entry))) (recordIn (now (at .exit))) (pointIn (now (at .exit))) ⌝ }
+    ensures { λ _. ⌜ LaysGoal (now (now (file .entry))) (now (rows .entry)) (now (points .entry)) i (now (out .entry)) (now (out .exit)) (now (at .entry)) (now (at .exit)) ⌝ }
 {
     let first = record_in(at);
     let whole = point_in(at);
@@ -90,7 +88,7 @@ fn branches(
 )
     requires { ⌜ Formed (now (now file)) ⌝ }
     requires { ⌜ IsIf (now (now file)) i ⌝ }
-    ensures { λ _. ⌜ GoalLaid (now (now (file .entry))) (now (rows .entry)) (now (points .entry)) i (pointIn (now (at .entry))) (now (out .entry)) (now (out .exit)) (recordIn (now (at .entry))) (recordIn (now (at .exit))) (pointIn (now (at .exit))) ⌝ }
+    ensures { λ _. ⌜ LaysGoal (now (now (file .entry))) (now (rows .entry)) (now (points .entry)) i (now (out .entry)) (now (out .exit)) (now (at .entry)) (now (at .exit)) ⌝ }
 {
     let first = record_in(at);
     let whole = point_in(at);
@@ -116,7 +114,7 @@ fn part(
 )
     requires { ⌜ Formed (now (now file)) ⌝ }
     requires { ⌜ Stands (now (now file)) File.goals start ⌝ }
-    ensures { λ _. ⌜ PartLaid (now (now (file .entry))) (now (rows .entry)) (now (points .entry)) start (pointIn (now (at .entry))) (now (out .entry)) (now (out .exit)) (recordIn (now (at .entry))) (recordIn (now (at .exit))) (pointIn (now (at .exit))) whole ⌝ }
+    ensures { λ _. ⌜ LaysPart (now (now (file .entry))) (now (rows .entry)) (now (points .entry)) start (now (out .entry)) (now (out .exit)) (now (at .entry)) (now (at .exit)) whole ⌝ }
 {
     let point = point_in(at);
     let removed = left_over(points, whole, start, point);
@@ -140,7 +138,7 @@ fn arms(
 )
     requires { ⌜ Formed (now (now file)) ⌝ }
     requires { ⌜ Stands (now (now file)) File.arms i ⌝ }
-    ensures { λ _. ⌜ ArmsLaid (now (now (file .entry))) (now (rows .entry)) (now (points .entry)) i (pointIn (now (at .entry))) (now (out .entry)) (now (out .exit)) (recordIn (now (at .entry))) (recordIn (now (at .exit))) (pointIn (now (at .exit))) whole ⌝ }
+    ensures { λ _. ⌜ LaysArms (now (now (file .entry))) (now (rows .entry)) (now (points .entry)) i (now (out .entry)) (now (out .exit)) (now (at .entry)) (now (at .exit)) whole ⌝ }
 {
     if i == 0 {
         return;

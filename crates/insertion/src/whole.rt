@@ -20,7 +20,8 @@ ghost use Rattle.language.specs.Layout.{size, lay};
 ghost use Rattle.language.specs.Records.{programTree};
 ghost use Rattle.language.specs.Annotation.{annotate};
 ghost use Rattle.language.specs.Answers.{program, fileOf};
-ghost use Rattle.liveness.specs.Done.{pointWords};
+ghost use Rattle.records.specs.Sizes.{byteEnd};
+ghost use Rattle.liveness.specs.Points.{pointWords};
 ghost use Rattle.laying.specs.Lays.{Lays};
 ghost use Rattle.insertion.specs.Procedures.{Given};
 ghost use Rattle.insertion.specs.Whole.{HeaderStored};
@@ -59,7 +60,7 @@ fn lent(memory: &[u8]) {}
 
 // What stands in memory are bytes: that is known of a slice that is lent on, and not of an array.
 fn are_bytes(memory: &[u8])
-    ensures { λ _. ⌜ ((j : ℕ) → getD (now (memory .entry)) j 0 < 256) ⌝ }
+    ensures { λ _. ⌜ ((j : ℕ) → getD (now (memory .entry)) j 0 < byteEnd) ⌝ }
 {
     lent(memory);
 }

@@ -5,13 +5,13 @@ use native.Mathlib.Decide.{decLt}
 use mathlib.Core.List.{List, [], _∷_}
 use mathlib.Core.Path.{_≡_, ap₂, sym}
 use lib.ListN.{length}
-use Rattle.language.specs.Format.{maxRecords, switchKind, ifKind, armKind, procedureKind}
+use Rattle.language.specs.Format.{maxRecords, switchKind, ifKind, armKind, procedureKind, nextWord, goalX, ifY, ifZ, termFunctor, termArguments}
 use Rattle.language.specs.File.{kSwitch, kIf, kProcedure, kArm, kGoal, word}
 use Rattle.language.specs.Tree.{Tree, node, noWords, plain, leads}
 use Rattle.language.specs.Layout.{wordList, lay, layWords}
 use Rattle.language.specs.Records.{zeros, fourPlain}
-use Rattle.language.specs.Program.{four}
 use Rattle.chains.specs.Layout.{all-rows}
+use Rattle.chains.specs.Parts.{fourAt}
 use Rattle.writer.specs.Skips.{Behind}
 use Rattle.laying.specs.Lays.{Lays, lays-none, Stored, Goes, headOf, lays-number, lays-no-words, lays-leads, lays-head, lays-front, Refers, Spans, lays-span}
 
@@ -28,32 +28,36 @@ unfolding zeros
 lays-zeros a c zero = lays-no-words a c
 lays-zeros a c (suc n) = lays-number 0 (zeros n) (lays-zeros a c n)
 
+-- the functor and the arguments of a construct or an arm
+abbrev pub termWords : List ℕ → ℕ → List ℕ
+termWords f i = word f i termFunctor ∷ word f i termArguments ∷ word f i (termArguments + 1) ∷ word f i (termArguments + 2) ∷ word f i (termArguments + 3) ∷ []
+
 module _ (f : List ℕ) (i : ℕ) (a b : List ℕ) (c : ℕ) where
   -- a switch whose arms were laid from s to e
   pub record SwitchStored (s e : ℕ) : Type 0 where
     pub next : ℕ
     pub link : ℕ
-    pub refers : Refers (word f i 1) e next
+    pub refers : Refers (word f i nextWord) e next
     pub spans : Spans s e link
-    pub stored : Stored a b c (switchKind ∷ next ∷ word f i 2 ∷ link ∷ 0 ∷ 0 ∷ 0 ∷ 0 ∷ [])
+    pub stored : Stored a b c (switchKind ∷ next ∷ word f i goalX ∷ link ∷ 0 ∷ 0 ∷ 0 ∷ 0 ∷ [])
 
   -- an if whose parts were laid from s to m and from m to e
   pub record IfStored (s m e : ℕ) : Type 0 where
     pub next : ℕ
     pub yes-link : ℕ
     pub no-link : ℕ
-    pub refers : Refers (word f i 1) e next
+    pub refers : Refers (word f i nextWord) e next
     pub yes-spans : Spans s m yes-link
     pub no-spans : Spans m e no-link
-    pub stored : Stored a b c (ifKind ∷ next ∷ word f i 2 ∷ word f i 3 ∷ yes-link ∷ no-link ∷ 0 ∷ 0 ∷ [])
+    pub stored : Stored a b c (ifKind ∷ next ∷ word f i ifY ∷ word f i ifZ ∷ yes-link ∷ no-link ∷ 0 ∷ 0 ∷ [])
 
   -- an arm whose goals were laid from s to e
   pub record ArmStored (s e : ℕ) : Type 0 where
     pub next : ℕ
     pub link : ℕ
-    pub refers : Refers (word f i 1) e next
+    pub refers : Refers (word f i nextWord) e next
     pub spans : Spans s e link
-    pub stored : Stored a b c (armKind ∷ next ∷ link ∷ word f i 3 ∷ word f i 4 ∷ word f i 5 ∷ word f i 6 ∷ word f i 7 ∷ [])
+    pub stored : Stored a b c (armKind ∷ next ∷ link ∷ termWords f i)
 
   -- a procedure whose variables, regions and goals were laid from s to m, to n, to e
   pub record ProcedureStored (s m n e : ℕ) : Type 0 where
@@ -61,27 +65,29 @@ module _ (f : List ℕ) (i : ℕ) (a b : List ℕ) (c : ℕ) where
     pub first-link : ℕ
     pub second-link : ℕ
     pub third-link : ℕ
-    pub refers : Refers (word f i 1) e next
+    pub refers : Refers (word f i nextWord) e next
     pub first-spans : Spans s m first-link
     pub second-spans : Spans m n second-link
     pub third-spans : Spans n e third-link
     pub stored : Stored a b c (procedureKind ∷ next ∷ first-link ∷ second-link ∷ third-link ∷ 0 ∷ 0 ∷ 0 ∷ [])
 
 -- ---- as the code stores them
-module _ (f : List ℕ) (i : ℕ) {e w x : ℕ} (ew : w ≡ word f i 1) (R : Refers w e x) where
-  refers-next : Refers (word f i 1) e x
+module _ (f : List ℕ) (i : ℕ) {e w x : ℕ} (ew : w ≡ word f i nextWord) (R : Refers w e x) where
+  refers-next : Refers (word f i nextWord) e x
   refers-next = rw ew at R
 
-  pub switch-stored : {a b : List ℕ} {c s y l : ℕ} → y ≡ word f i 2 → Spans s e l → Stored a b c (switchKind ∷ x ∷ y ∷ l ∷ 0 ∷ 0 ∷ 0 ∷ 0 ∷ []) → SwitchStored f i a b c s e
+  pub switch-stored : {a b : List ℕ} {c s y l : ℕ} → y ≡ word f i goalX → Spans s e l → Stored a b c (switchKind ∷ x ∷ y ∷ l ∷ 0 ∷ 0 ∷ 0 ∷ 0 ∷ [])
+      → SwitchStored f i a b c s e
   switch-stored p q o = record { next = _; link = _; refers = refers-next; spans = q; stored = rw p at o }
 
-  pub if-stored : {a b : List ℕ} {c s m y z k l : ℕ} → y ≡ word f i 2 → z ≡ word f i 3 → Spans s m k → Spans m e l → Stored a b c (ifKind ∷ x ∷ y ∷ z ∷ k ∷ l ∷ 0 ∷ 0 ∷ [])
-      → IfStored f i a b c s m e
+  pub if-stored : {a b : List ℕ} {c s m y z k l : ℕ} → y ≡ word f i ifY → z ≡ word f i ifZ → Spans s m k → Spans m e l
+      → Stored a b c (ifKind ∷ x ∷ y ∷ z ∷ k ∷ l ∷ 0 ∷ 0 ∷ []) → IfStored f i a b c s m e
   if-stored p q u v o = record { next = _; yes-link = _; no-link = _; refers = refers-next; yes-spans = u; no-spans = v; stored = rw (p, q) at o }
 
-  pub arm-stored : {a b : List ℕ} {c s l w3 w4 w5 w6 w7 : ℕ} → Spans s e l → w3 ≡ word f i 3 → w4 ≡ word f i 4 → w5 ≡ word f i 5 → w6 ≡ word f i 6 → w7 ≡ word f i 7
-      → Stored a b c (armKind ∷ x ∷ l ∷ w3 ∷ w4 ∷ w5 ∷ w6 ∷ w7 ∷ []) → ArmStored f i a b c s e
-  arm-stored q e3 e4 e5 e6 e7 o = record { next = _; link = _; refers = refers-next; spans = q; stored = rw (e3, e4, e5, e6, e7) at o }
+  pub arm-stored : {a b : List ℕ} {c s l functor a1 a2 a3 a4 : ℕ} → Spans s e l → functor ≡ word f i termFunctor → a1 ≡ word f i termArguments
+      → a2 ≡ word f i (termArguments + 1) → a3 ≡ word f i (termArguments + 2) → a4 ≡ word f i (termArguments + 3)
+      → Stored a b c (armKind ∷ x ∷ l ∷ functor ∷ a1 ∷ a2 ∷ a3 ∷ a4 ∷ []) → ArmStored f i a b c s e
+  arm-stored q ef e1 e2 e3 e4 o = record { next = _; link = _; refers = refers-next; spans = q; stored = rw (ef, e1, e2, e3, e4) at o }
 
   pub procedure-stored : {a b : List ℕ} {c s m n j k l : ℕ} → Spans s m j → Spans m n k → Spans n e l → Stored a b c (procedureKind ∷ x ∷ j ∷ k ∷ l ∷ 0 ∷ 0 ∷ 0 ∷ [])
       → ProcedureStored f i a b c s m n e
@@ -91,41 +97,41 @@ module _ (f : List ℕ) (i : ℕ) {e w x : ℕ} (ew : w ≡ word f i 1) (R : Ref
 -- ---- laid
 module _ {f : List ℕ} {i : ℕ} {a b d : List ℕ} {c s e : ℕ} (B : Behind c 1 s) where
   pub switch-head : (t : Tree) → Lays a b s e (lay t s) → SwitchStored f i b d c s e
-      → Lays a d c e (headOf (kGoal kSwitch) (word f i 1) (plain (word f i 2) (leads t (zeros 4))) c)
+      → Lays a d c e (headOf (kGoal kSwitch) (word f i nextWord) (plain (word f i goalX) (leads t (zeros 4))) c)
   unfolding all-rows wordList zeros
   switch-head t L H =
-      lays-head (kGoal kSwitch) (word f i 1) (plain (word f i 2) (leads t (zeros 4))) B
-      (lays-number (word f i 2) (leads t (zeros 4)) (lays-leads t (zeros 4) L (lays-zeros b e 4))) (H .stored)
-      (λ l n. ap₂ (λ u v. switchKind ∷ u ∷ word f i 2 ∷ v ∷ 0 ∷ 0 ∷ 0 ∷ 0 ∷ []) (H .refers .is l) (lays-span t (H .spans) L l .0))
+      lays-head (kGoal kSwitch) (word f i nextWord) (plain (word f i goalX) (leads t (zeros 4))) B
+      (lays-number (word f i goalX) (leads t (zeros 4)) (lays-leads t (zeros 4) L (lays-zeros b e 4))) (H .stored)
+      (λ l n. ap₂ (λ u v. switchKind ∷ u ∷ word f i goalX ∷ v ∷ 0 ∷ 0 ∷ 0 ∷ 0 ∷ []) (H .refers .is l) (lays-span t (H .spans) L l .0))
 
 module _ {f : List ℕ} {i : ℕ} {a b d g : List ℕ} {c s m e : ℕ} (B : Behind c 1 s) where
   pub if-head : (t u : Tree) → Lays a b s m (lay t s) → Lays b d m e (lay u m) → IfStored f i d g c s m e
-      → Lays a g c e (headOf (kGoal kIf) (word f i 1) (plain (word f i 2) (plain (word f i 3) (leads t (leads u (zeros 2))))) c)
+      → Lays a g c e (headOf (kGoal kIf) (word f i nextWord) (plain (word f i ifY) (plain (word f i ifZ) (leads t (leads u (zeros 2))))) c)
   unfolding all-rows wordList zeros
   if-head t u L K H =
-      lays-head (kGoal kIf) (word f i 1) (plain (word f i 2) (plain (word f i 3) (leads t (leads u (zeros 2))))) B
-      (lays-number (word f i 2) (plain (word f i 3) (leads t (leads u (zeros 2))))
-      (lays-number (word f i 3) (leads t (leads u (zeros 2))) (lays-leads t (leads u (zeros 2)) L (lays-leads u (zeros 2) K (lays-zeros d e 2))))) (H .stored)
+      lays-head (kGoal kIf) (word f i nextWord) (plain (word f i ifY) (plain (word f i ifZ) (leads t (leads u (zeros 2))))) B
+      (lays-number (word f i ifY) (plain (word f i ifZ) (leads t (leads u (zeros 2))))
+      (lays-number (word f i ifZ) (leads t (leads u (zeros 2))) (lays-leads t (leads u (zeros 2)) L (lays-leads u (zeros 2) K (lays-zeros d e 2))))) (H .stored)
       (λ l n.
       let p = lays-span t (H .yes-spans) L (lays-low K l) in
       let q = lays-span u (H .no-spans) K l in
-      rw (sym (p .1)) (ap₂ (λ v w. ifKind ∷ v ∷ word f i 2 ∷ word f i 3 ∷ w) (H .refers .is l) (ap₂ (λ v w. v ∷ w ∷ 0 ∷ 0 ∷ []) (p .0) (q .0))))
+      rw (sym (p .1)) (ap₂ (λ v w. ifKind ∷ v ∷ word f i ifY ∷ word f i ifZ ∷ w) (H .refers .is l) (ap₂ (λ v w. v ∷ w ∷ 0 ∷ 0 ∷ []) (p .0) (q .0))))
 
   -- an arm, stored when the later arms are laid
-  pub arm-front : (t u : Tree) → Goes (word f i 1) u → Lays a b s m (lay t s) → Lays b d m e (lay u m) → ArmStored f i d g c s m
-      → Lays a g c e (lay (node kArm u (leads t (plain (word f i 3) (fourPlain (four (word f i 4) (word f i 5) (word f i 6) (word f i 7)) noWords)))) c)
+  pub arm-front : (t u : Tree) → Goes (word f i nextWord) u → Lays a b s m (lay t s) → Lays b d m e (lay u m) → ArmStored f i d g c s m
+      → Lays a g c e (lay (node kArm u (leads t (plain (word f i termFunctor) (fourPlain (fourAt f i) noWords)))) c)
   unfolding all-rows wordList fourPlain layWords
   arm-front t u o L K H =
-      lays-front kArm (word f i 1) u (leads t (plain (word f i 3) (fourPlain (four (word f i 4) (word f i 5) (word f i 6) (word f i 7)) noWords))) o B
-      (lays-leads t (plain (word f i 3) (fourPlain (four (word f i 4) (word f i 5) (word f i 6) (word f i 7)) noWords)) L (lays-none b m)) K (H .stored)
-      (λ l n. ap₂ (λ x y. armKind ∷ x ∷ y ∷ word f i 3 ∷ word f i 4 ∷ word f i 5 ∷ word f i 6 ∷ word f i 7 ∷ []) (H .refers .is l) (lays-span t (H .spans) L l .0))
+      lays-front kArm (word f i nextWord) u (leads t (plain (word f i termFunctor) (fourPlain (fourAt f i) noWords))) o B
+      (lays-leads t (plain (word f i termFunctor) (fourPlain (fourAt f i) noWords)) L (lays-none b m)) K (H .stored)
+      (λ l n. ap₂ (λ x y. armKind ∷ x ∷ y ∷ termWords f i) (H .refers .is l) (lays-span t (H .spans) L l .0))
 
 module _ {f : List ℕ} {i : ℕ} {a b d g h : List ℕ} {c s m n e : ℕ} (B : Behind c 1 s) where
   pub procedure-head : (t u v : Tree) → Lays a b s m (lay t s) → Lays b d m n (lay u m) → Lays d g n e (lay v n) → ProcedureStored f i g h c s m n e
-      → Lays a h c e (headOf kProcedure (word f i 1) (leads t (leads u (leads v (zeros 3)))) c)
+      → Lays a h c e (headOf kProcedure (word f i nextWord) (leads t (leads u (leads v (zeros 3)))) c)
   unfolding all-rows wordList zeros
   procedure-head t u v L K J H =
-      lays-head kProcedure (word f i 1) (leads t (leads u (leads v (zeros 3)))) B
+      lays-head kProcedure (word f i nextWord) (leads t (leads u (leads v (zeros 3)))) B
       (lays-leads t (leads u (leads v (zeros 3))) L (lays-leads u (leads v (zeros 3)) K (lays-leads v (zeros 3) J (lays-zeros g e 3)))) (H .stored)
       (λ l o.
       let z = lays-low J l in

@@ -10,6 +10,7 @@ use language::format::IF_Z;
 use language::format::NEXT;
 use language::format::PROCEDURE;
 use language::format::SWITCH;
+use language::format::TERM_ARGUMENTS;
 use language::format::TERM_FUNCTOR;
 use records::word;
 ghost use Rattle.laying.specs.Heads.{SwitchStored, IfStored, ArmStored, ProcedureStored};
@@ -51,11 +52,11 @@ pub fn store_arm(file: &[u8], out: &mut [u8], i: usize, at: usize, start: usize,
     let next = refer(word(file, i, NEXT), end);
     let goals = span(start, end);
     let functor = word(file, i, TERM_FUNCTOR);
-    let w4 = word(file, i, 4);
-    let w5 = word(file, i, 5);
-    let w6 = word(file, i, 6);
-    let w7 = word(file, i, 7);
-    store(out, at, ARM, next, goals, functor, w4, w5, w6, w7);
+    let a1 = word(file, i, TERM_ARGUMENTS);
+    let a2 = word(file, i, TERM_ARGUMENTS + 1);
+    let a3 = word(file, i, TERM_ARGUMENTS + 2);
+    let a4 = word(file, i, TERM_ARGUMENTS + 3);
+    store(out, at, ARM, next, goals, functor, a1, a2, a3, a4);
 }
 
 // The same for a procedure, whose variables, regions and goals were laid from start to regions, from there to body, from there to end.

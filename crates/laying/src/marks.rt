@@ -8,6 +8,7 @@ ghost use mathlib.Core.Path.{_≡_};
 ghost use Prim.Native.Nat.{_≤_, _<_};
 ghost use Rattle.sets.specs.Members.{members};
 ghost use Rattle.language.specs.Format.{places};
+ghost use Rattle.records.specs.Sizes.{wordEnd};
 ghost use Rattle.laying.specs.Lays.{Lays};
 ghost use Rattle.laying.specs.Marks.{moreOf, marks};
 
@@ -28,7 +29,7 @@ pub fn follows(s: Set, on: usize) -> usize
 
 // Lays a record of that kind for each member, in rising number. Behind them the chain goes on where `on` is not 0.
 pub fn lay_marks(out: &mut [u8], kind: usize, s: Set, on: usize, first: usize) -> usize
-    requires { ⌜ kind < 65536 ⌝ }
+    requires { ⌜ kind < wordEnd ⌝ }
     ensures { λ r. ⌜ Lays (now (out .entry)) (now (out .exit)) first r (marks kind (members s) on first) ⌝ }
 {
     let mut at = first;

@@ -9,22 +9,23 @@ use Rattle.sets.specs.Sets.{emptySet, single, _∪_, _∖_}
 use Rattle.sets.specs.Members.{setOf}
 use Rattle.sets.specs.declared.Set.{Set}
 use Rattle.language.specs.File.{goals, arms, word, recordCount}
-use Rattle.language.specs.Program.{four, argumentsOf, Step, Goals, _then_, Goal, step, switch, ifLess, Arms, arm, Signature, Program, signatureOf}
+use Rattle.language.specs.Format.{nextWord, goalX, switchArms, ifY, ifZ, ifThen, ifElse, armGoals}
+use Rattle.language.specs.Program.{argumentsOf, Step, Goals, _then_, Goal, step, switch, ifLess, Arms, arm, Signature, Program, signatureOf}
 use Rattle.language.specs.Lifetimes.{liveStep, live, liveGoal, liveArms, stepClasses, goalsClasses, goalClasses, armsClasses}
 use Rattle.language.specs.Answers.{program}
 use Rattle.chains.specs.Formed.{Formed, Stands, Onward, goalsAt, goalAt, firstGoal, armsAt, goals-none, arms-none}
-use Rattle.chains.specs.Parts.{SwitchAt, IfAt, ArmAt, arm-at}
-use Rattle.chains.specs.Is.{chain-next, goals-step, arm-is}
-use Rattle.chains.specs.Shapes.{StepAt as Stepped, step-here, switch-here, if-here}
+use Rattle.chains.specs.Parts.{SwitchAt, IfAt, fourAt}
+use Rattle.chains.specs.Is.{chain-next, goals-step}
+use Rattle.chains.specs.Shapes.{IsSwitch, IsIf, StepAt as Stepped, step-here, switch-here, if-here, arm-here}
 use Rattle.tables.specs.Filled.{StepAt, Accessed}
-use Rattle.liveness.specs.Points.{Point, point, points, partPoints, goalPoints, armsPoints}
+use Rattle.liveness.specs.Points.{Point, point, points, partPoints, goalPoints, armsPoints, pointWords}
 use Rattle.liveness.specs.Table.{Fills, fills-none, fills-more}
 use Rattle.liveness.specs.Carried.{liveIn, placeIn, classesIn, wantsOf, Carries}
 use Rattle.liveness.specs.Noted.{Noted}
 use Rattle.liveness.specs.Room.{points-room}
 use Rattle.liveness.specs.Wants.{Listed, wants-are}
 use Rattle.liveness.specs.Step.{StepNoted, and-right, live-is, classes-are}
-use Rattle.liveness.specs.Done.{GoalsFrom, GoalFrom, ArmsFrom, GoalsDone, GoalDone, ArmsDone, pointWords, AtEnd, ListDone, ListClasses}
+use Rattle.liveness.specs.Done.{GoalsFrom, GoalFrom, ArmsFrom, GoalsDone, GoalDone, AtEnd, ListDone, ListClasses}
 
 -- what is walked later stands in front
 later-first : (x a b : Bool) → ((x & b) & a) ≡ (x & (a & b))
@@ -107,37 +108,34 @@ module _ (P : Program) where
 
 -- ---- where the records lead
 module _ (f : List ℕ) (i : ℕ) where
-  pub to-next : Formed f → Stands f goals i → (i ≡ 0 → ⊥) → Onward f goals i (word f i 1)
+  pub to-next : Formed f → Stands f goals i → (i ≡ 0 → ⊥) → Onward f goals i (word f i nextWord)
   to-next F s z = chain-next F s z refl
 
   pub part-stands : (k : ℕ) {n : ℕ} → n ≡ word f i k → Stands f goals (word f i k) → Stands f goals n
   part-stands k e s = rw e s
 
-  module _ (F : Formed f) (k : word f i 0 ≡ 12) where
-    switch-at : SwitchAt f i (word f i 1) (word f i 2) (word f i 3)
+  module _ (F : Formed f) (k : IsSwitch f i) where
+    switch-at : SwitchAt f i (word f i nextWord) (word f i goalX) (word f i switchArms)
     switch-at = switch-here F refl k
 
     pub switch-there : i < recordCount f
     switch-there = switch-at .below
 
-    pub to-arms : {n : ℕ} → n ≡ word f i 3 → Onward f arms i n
+    pub to-arms : {n : ℕ} → n ≡ word f i switchArms → Onward f arms i n
     to-arms e = rw e (switch-at .to-arms)
 
-  module _ (F : Formed f) (k : word f i 0 ≡ 14) where
-    if-at : IfAt f i (word f i 1) (word f i 2) (word f i 3) (word f i 4) (word f i 5)
+  module _ (F : Formed f) (k : IsIf f i) where
+    if-at : IfAt f i (word f i nextWord) (word f i ifY) (word f i ifZ) (word f i ifThen) (word f i ifElse)
     if-at = if-here F refl k
 
     pub if-there : i < recordCount f
     if-there = if-at .below
 
-    pub to-then : Onward f goals i (word f i 4)
+    pub to-then : Onward f goals i (word f i ifThen)
     to-then = if-at .to-then
 
-    pub to-else : Onward f goals i (word f i 5)
+    pub to-else : Onward f goals i (word f i ifElse)
     to-else = if-at .to-else
-
-  pub arm-here : Formed f → Stands f arms i → (i ≡ 0 → ⊥) → ArmAt f i (word f i 1) (word f i 2) (word f i 3) (word f i 4) (word f i 5) (word f i 6) (word f i 7)
-  arm-here F S z = arm-at F refl (arm-is S z)
 
 -- ---- over the records
 module _ (f rows : List ℕ) where
@@ -153,7 +151,7 @@ module _ (f rows : List ℕ) where
       }
 
   pub goals-more : (i : ℕ) {after : Set} {end : ℕ} {x : Bool} {t d u e v w : List ℕ} → Formed f → Stands f goals i → (i ≡ 0 → ⊥)
-      → GoalsFrom f rows w (word f i 1) after end x t d u → GoalDone f rows i d u e v → GoalsFrom f rows w i after end x t e v
+      → GoalsFrom f rows w (word f i nextWord) after end x t d u → GoalDone f rows i d u e v → GoalsFrom f rows w i after end x t e v
   goals-more i {after} {x = x} F s z h m =
       let e = goals-step F s z refl in
       let k = rw (h .wants-is) at m in
@@ -167,7 +165,7 @@ module _ (f rows : List ℕ) where
       }
 
   -- ---- a step
-  module _ (i : ℕ) (F : Formed f) (S : Stands f goals i) (z : i ≡ 0 → ⊥) (p : word f i 0 ≡ 12 → ⊥) (q : word f i 0 ≡ 14 → ⊥) where
+  module _ (i : ℕ) (F : Formed f) (S : Stands f goals i) (z : i ≡ 0 → ⊥) (p : IsSwitch f i → ⊥) (q : IsIf f i → ⊥) where
     step-at : Stepped f i
     step-at = step-here F S z refl p q
 
@@ -192,9 +190,9 @@ module _ (f rows : List ℕ) where
         }
 
   -- ---- a switch
-  module _ (i : ℕ) (F : Formed f) (k : word f i 0 ≡ 12) where
-    pub switch-done : {after now : Set} {end first m : ℕ} {x : Bool} {t d u e v w : List ℕ} {o n b : Set} → now ≡ after → first ≡ word f i 3
-        → ArmsFrom f rows w first after end x t d u → m ≡ word f i 2 → o ≡ single m → n ≡ liveIn d → b ≡ o ∪ n
+  module _ (i : ℕ) (F : Formed f) (k : IsSwitch f i) where
+    pub switch-done : {after now : Set} {end first m : ℕ} {x : Bool} {t d u e v w : List ℕ} {o n b : Set} → now ≡ after → first ≡ word f i switchArms
+        → ArmsFrom f rows w first after end x t d u → m ≡ word f i goalX → o ≡ single m → n ≡ liveIn d → b ≡ o ∪ n
         → Noted d u e v b now (classesIn d) → GoalFrom f rows w i after end x t e v
     switch-done {after} {now} {x = x} {b = b} ea ew h em eo en eb n =
         let l : b ≡ liveGoal (program f) (goalAt f i) after = eb ∙ cc (eo, em, en, ew, h .live-is) ∙ switch-live (program f) after (switch-at f i F k .goal) in
@@ -224,14 +222,14 @@ module _ (f rows : List ℕ) where
       }
 
   -- ---- an if
-  module _ (i : ℕ) (F : Formed f) (k : word f i 0 ≡ 14) where
+  module _ (i : ℕ) (F : Formed f) (k : IsIf f i) where
     -- the points of the second part stand behind those of the first
     pub if-done : {after now : Set} {end m n : ℕ} {x : Bool} {t c u c′ d v e v′ w : List ℕ} {other one a b p q r : Set} → now ≡ after
-        → GoalsFrom f rows w (word f i 5) after end x t c u → other ≡ liveIn c → Carries c′ (wantsOf c) now (placeIn c) (classesIn c)
-        → GoalsDone f rows (word f i 4) c′ u d v → one ≡ liveIn d → m ≡ word f i 2 → a ≡ single m → n ≡ word f i 3 → b ≡ single n
+        → GoalsFrom f rows w (word f i ifElse) after end x t c u → other ≡ liveIn c → Carries c′ (wantsOf c) now (placeIn c) (classesIn c)
+        → GoalsDone f rows (word f i ifThen) c′ u d v → one ≡ liveIn d → m ≡ word f i ifY → a ≡ single m → n ≡ word f i ifZ → b ≡ single n
         → p ≡ a ∪ b → q ≡ one ∪ other → r ≡ p ∪ q → Noted d v e v′ r now (classesIn d) → GoalFrom f rows w i after end x t e v′
     if-done {after} {now} {x = x} {r = r} ea h eo g j ep p₁ p₂ p₃ p₄ p₅ p₆ p₇ n =
-        let j′ = part-from (word f i 4) ea (carries-on (h .wants-is) g) j in
+        let j′ = part-from (word f i ifThen) ea (carries-on (h .wants-is) g) j in
         let l : r ≡ liveGoal (program f) (goalAt f i) after =
         p₇ ∙ cc (h .live-is, eo, ep, j′ .live-is, p₁, p₂, p₃, p₄, p₅, p₆) ∙ if-live (program f) after (if-at f i F k .goal) in
         record {
@@ -257,31 +255,31 @@ module _ (f rows : List ℕ) where
 
   module _ (i : ℕ) (F : Formed f) (S : Stands f arms i) (z : i ≡ 0 → ⊥) where
     arms-live : (after : Set) {r : Set}
-        → r ≡ (live (program f) (goalsAt f (word f i 2)) after ∖ setOf (argumentsOf (four (word f i 4) (word f i 5) (word f i 6) (word f i 7))))
-        ∪ liveArms (program f) (armsAt f (word f i 1)) after → r ≡ liveArms (program f) (armsAt f i) after
+        → r ≡ (live (program f) (goalsAt f (word f i armGoals)) after ∖ setOf (argumentsOf (fourAt f i)))
+        ∪ liveArms (program f) (armsAt f (word f i nextWord)) after → r ≡ liveArms (program f) (armsAt f i) after
     unfolding liveArms
-    arms-live after e = rw (arm-here f i F S z .view) e
+    arms-live after e = rw (arm-here F z S .view) e
 
     arms-points : (after : Set) {t v : List ℕ} {s end : ℕ}
-        → Fills t v s end (points (program f) (goalsAt f (word f i 2)) after ++ armsPoints (program f) (armsAt f (word f i 1)) after)
+        → Fills t v s end (points (program f) (goalsAt f (word f i armGoals)) after ++ armsPoints (program f) (armsAt f (word f i nextWord)) after)
         → Fills t v s end (armsPoints (program f) (armsAt f i) after)
     unfolding armsPoints
-    arms-points after h = rw (arm-here f i F S z .view) h
+    arms-points after h = rw (arm-here F z S .view) h
 
-    pub arms-more : {after now : Set} {end next : ℕ} {x : Bool} {t c u c′ d v e w : List ℕ} {other own bound p r : Set} → now ≡ after → next ≡ word f i 1
+    pub arms-more : {after now : Set} {end next : ℕ} {x : Bool} {t c u c′ d v e w : List ℕ} {other own bound p r : Set} → now ≡ after → next ≡ word f i nextWord
         → ArmsFrom f rows w next after end x t c u → other ≡ liveIn c → Carries c′ (wantsOf c) now (placeIn c) (classesIn c)
-        → GoalsDone f rows (word f i 2) c′ u d v → own ≡ liveIn d
-        → bound ≡ setOf (argumentsOf (four (word f i 4) (word f i 5) (word f i 6) (word f i 7))) → p ≡ own ∖ bound → r ≡ p ∪ other
+        → GoalsDone f rows (word f i armGoals) c′ u d v → own ≡ liveIn d
+        → bound ≡ setOf (argumentsOf (fourAt f i)) → p ≡ own ∖ bound → r ≡ p ∪ other
         → Carries e (wantsOf d) r (placeIn d) (classesIn d) → ArmsFrom f rows w i after end x t e v
     arms-more {after} {now} {x = x} {r = r} ea ew h eo g j ep eb p₁ p₂ n =
-        let j′ = part-from (word f i 2) ea (carries-on (h .wants-is) g) j in
+        let j′ = part-from (word f i armGoals) ea (carries-on (h .wants-is) g) j in
         record {
           wants-is = n .wants-is ∙ j′ .wants-is;
           live-is = n .live-is ∙ arms-live after (p₂ ∙ cc (ew, h .live-is, eo, ep, j′ .live-is, eb, p₁));
           fills = rw (n .place-is) (arms-points after (fills-more (rw ew at (h .fills)) (j′ .fills)));
           classes-are = λ o q y b.
               n .classes-is
-              ∙ arms-classes (program f) (signatureOf (program f) q) after x (arm-here f i F S z .view)
+              ∙ arms-classes (program f) (signatureOf (program f) q) after x (arm-here F z S .view)
               (rw ew at (h .classes-are o q y (λ k. y .ready .owning .arm-next i S z _ ew k ∙ b z)))
               (j′ .classes-are o q y (λ k. y .ready .owning .arm-goals i S z _ refl k ∙ b z));
         }

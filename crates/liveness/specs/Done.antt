@@ -1,5 +1,6 @@
--- What the walk has done: from c carried and the table t to d and u; w is what c has for wanted, and d too. What d has for live is live before the goals, and their points were written in
--- front of the place that c has, from the place that d has on. Number 7 is kept in d if it is in c and by these goals too.
+-- What the walk has done: from c carried and the table t to d and u; w is what c has for wanted, and d too. What d has for live is live before the
+-- goals, and their points were written in front of the place that c has, from the place that d has on. Number 7 is kept in d if it is in c and by
+-- these goals too.
 use Prim.Native.Nat.{ℕ}
 use mathlib.Core.Bool.{Bool, true}
 use mathlib.Core.List.{List}
@@ -12,15 +13,11 @@ use Rattle.language.specs.Lifetimes.{wanted, live, liveGoal, liveArms, goalsCla
 use Rattle.language.specs.Answers.{program}
 use Rattle.chains.specs.Formed.{goalsAt, goalAt, armsAt}
 use Rattle.tables.specs.Window.{Window}
-use Rattle.tables.specs.Filled.{Effected, Owning}
-use Rattle.liveness.specs.Points.{Point, points, goalPoints, armsPoints}
+use Rattle.tables.specs.Filled.{Effected, Owning, Belongs, Owned}
+use Rattle.liveness.specs.Points.{pointWords, points, goalPoints, armsPoints}
 use Rattle.liveness.specs.Table.{Written, Fills}
 use Rattle.liveness.specs.Carried.{liveIn, placeIn, classesIn, wantsOf, carriedWords}
 use Rattle.liveness.specs.Wants.{wantedIn}
-
--- words of the points of 4,096 goals
-abbrev pub pointWords : ℕ
-pointWords = 8192
 
 -- nothing is behind the last goal
 pub record AtEnd (c : List ℕ) : Type 0 where
@@ -28,18 +25,9 @@ pub record AtEnd (c : List ℕ) : Type 0 where
   pub place-is : placeIn c ≡ pointWords
   pub classes-is : classesIn c ≡ true
 
--- record i belongs to procedure q, if there is such a record
-abbrev pub Belongs : (ℕ → ℕ) → ℕ → ℕ → Type 0
-Belongs o q i = (i ≡ 0 → ⊥) → o i ≡ q
-
--- the rows have what steps do to regions
-pub record Ready (f rows : List ℕ) (o : ℕ → ℕ) : Type 0 where
-  pub effected : Effected f o rows
-  pub owning : Owning f o
-
--- and w has what procedure q wants
+-- the rows have what steps do to regions, and w has what procedure q wants
 pub record Wanting (f rows w : List ℕ) (o : ℕ → ℕ) (q : ℕ) : Type 0 where
-  pub ready : Ready f rows o
+  pub ready : Owned f rows o
   pub wants : (live : Set) → wantedIn w live ≡ wanted (signatureOf (program f) q) live
 
 -- what was live behind, the place then, number 7 till then

@@ -1,13 +1,18 @@
 -- The points of goals, in the order of a walk: a goal, then the points of its parts, then those of the goals behind it.
-use Prim.Native.Nat.{ℕ, _+_, _*_}
+use Prim.Native.Nat.{ℕ, _*_}
 use native.Mathlib.Omega.{arith}
 use mathlib.Core.Path.{_≡_, refl, ap}
 use mathlib.Core.List.{List, [], _∷_, _++_}
 use lib.ListN.{length}
 use Rattle.sets.specs.Sets.{stored}
 use Rattle.sets.specs.declared.Set.{Set}
+use Rattle.language.specs.Format.{maxRecords}
 use Rattle.language.specs.Program.{Goals, done, _then_, Goal, step, switch, ifLess, Arms, noArms, arm, Program}
 use Rattle.language.specs.Lifetimes.{live, liveGoal}
+
+-- two words a point, one for each goal
+abbrev pub pointWords : ℕ
+pointWords = 2 * maxRecords
 
 -- what is live before a goal and after it
 pub record Point : Type 0 where

@@ -15,13 +15,10 @@ use Rattle.language.specs.Tree.{Tree, readWords, readRecord, readChain, readTre
 use Rattle.language.specs.Layout.{size, sizeWords}
 use Rattle.language.specs.Answers.{program}
 use Rattle.laws.specs.Counts.{hit-other, count-cons}
-use Rattle.chains.specs.Layout.{hits, hits-suc, hits-zero}
-use Rattle.chains.specs.Layout.{chain-end}
-use Rattle.chains.specs.Layout.{Leads, Used, once, next-leads, record-used, chain-step}
-use Rattle.chains.specs.Layout.{tree-size}
+use Rattle.chains.specs.Layout.{hits, hits-suc, hits-zero, chain-end, Leads, Used, once, next-leads, record-used, chain-step, tree-size}
 use Rattle.chains.specs.Layout.Steps
 use Rattle.chains.specs.Formed.{Formed, counted, goalsAt}
-use Rattle.liveness.specs.Points.{points}
+use Rattle.liveness.specs.Points.{pointWords, points}
 use Rattle.liveness.specs.Counts.{points-count, tree-count}
 
 module _ (W : ℕ → ℕ → ℕ) (n : ℕ) where
@@ -100,5 +97,5 @@ module _ {f : List ℕ} (F : Formed f) where
   points-few i after q =
       omega (arith, points-count (program f) (goalsAt f i) after, tree-count (readChain (recordCount f) (word f) i), chain-small i q)
 
-  pub points-room : (i : ℕ) (after : Set) → i < recordCount f → 2 * length (points (program f) (goalsAt f i) after) ≤ 8192
+  pub points-room : (i : ℕ) (after : Set) → i < recordCount f → 2 * length (points (program f) (goalsAt f i) after) ≤ pointWords
   points-room i after q = let n = counted F in omega (arith, points-few i after q, n .most)

@@ -6,7 +6,7 @@ use mathlib.Core.Path.{_≡_, refl, sym, ap, _∙_}
 use Rattle.sets.specs.Tests.{_&_}
 use Rattle.sets.specs.Sets.{_∪_, _∖_, apart}
 use Rattle.sets.specs.declared.Set.{Set}
-use Rattle.language.specs.Program.{Step, Signature, signatureOf}
+use Rattle.language.specs.Program.{Step, signatureOf}
 use Rattle.language.specs.Lifetimes.{wanted, liveStep, stepClasses}
 use Rattle.language.specs.Answers.{program}
 use Rattle.tables.specs.Rows.{readsIn, givesIn, bearsIn, endsIn, markIn}

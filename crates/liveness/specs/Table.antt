@@ -3,7 +3,7 @@ use Prim.Native.Nat.{ℕ, suc, _+_, _-_, _*_, _≤_}
 use native.Mathlib.Omega.{arith}
 use mathlib.Core.Path.{_≡_, refl, sym, ap, _∙_}
 use mathlib.Core.List.{List, [], _∷_, _++_, append-assoc}
-use lib.ListN.{length, getD, take, drop, set, length-append, length-set, take-append-drop, List·getD-eq-default}
+use lib.ListN.{length, getD, take, drop, set, length-append, length-set, List·getD-eq-default}
 use lib.Seq.{take-take, drop-cons, getD-set-same, getD-set-other, take-set-le, drop-set-lt}
 use Rattle.sets.specs.Sets.{emptySet, stored, loaded, loaded-zero}
 use Rattle.sets.specs.declared.Set.{Set}
@@ -43,11 +43,6 @@ fills-more {t} {u} {v} {s} {m} {end} {ps} {qs} h k =
                 ∙ ap (λ r. r ++ drop end t) (sym (words-append ps qs));
           };
     }
-
--- the whole table
-pub written-whole : {t u : List ℕ} {start end : ℕ} {ps : List Point} → Written t u start end ps → u ≡ take start t ++ (words ps ++ drop end t)
-written-whole {t} {u} {start} h =
-    sym (take-append-drop start u) ∙ ap (λ r. r ++ drop start u) (h .below) ∙ ap (λ r. take start t ++ r) (h .above)
 
 -- one point
 pub fills-point : (t : List ℕ) (b a : Set) (end : ℕ) {x y : ℕ} → 2 ≤ end → end ≤ length t → x ≡ stored b → y ≡ stored a

@@ -19,11 +19,11 @@ use Rattle.language.specs.Format.{places}
 use Rattle.language.specs.Program.{Signature}
 use Rattle.language.specs.Regions.{reachAll}
 use Rattle.language.specs.Lifetimes.{wanted}
-use Rattle.liveness.specs.Carried.{placeIn, classesIn, wantsOf, carriedWords}
+use Rattle.liveness.specs.Carried.{placeWord, classesWord, reachesWord, placeIn, classesIn, wantsOf, carriedWords}
 use Rattle.tables.specs.Window.{setIn, reachIn, keptPlace, number-past, reach-none, Window}
 
 abbrev pub wantsKept : ℕ
-wantsKept = 65
+wantsKept = places
 
 -- the reach of variable x
 unfoldable pub reachedIn : List ℕ → ℕ → Set
@@ -58,43 +58,43 @@ pub record Copying (own c d : List ℕ) (n : ℕ) : Type 0 where
   pub reach-is : (x : ℕ) → x < n → loaded (getD (wantsOf d) x 0) ≡ reachIn own x
 
 -- the words of what is wanted are the carried ones from the fourth on
-pub wants-at : (c : List ℕ) (x : ℕ) → getD (wantsOf c) x 0 ≡ getD c (3 + x) 0
+pub wants-at : (c : List ℕ) (x : ℕ) → getD (wantsOf c) x 0 ≡ getD c (reachesWord + x) 0
 unfolding wantsOf
-wants-at c x = getD-drop 3 c x 0
+wants-at c x = getD-drop reachesWord c x 0
 
-copied : (own c : List ℕ) (n x a : ℕ) {s : Set} → 3 + n < length c → a ≡ stored s → s ≡ reachIn own n
-    → ((y : ℕ) → y < n → loaded (getD (wantsOf c) y 0) ≡ reachIn own y) → x < n + 1 → loaded (getD (wantsOf (set c (3 + n) a)) x 0) ≡ reachIn own x
+copied : (own c : List ℕ) (n x a : ℕ) {s : Set} → reachesWord + n < length c → a ≡ stored s → s ≡ reachIn own n
+    → ((y : ℕ) → y < n → loaded (getD (wantsOf c) y 0) ≡ reachIn own y) → x < n + 1 → loaded (getD (wantsOf (set c (reachesWord + n) a)) x 0) ≡ reachIn own x
 copied own c n x a {s} l e g h p =
-    ap loaded (wants-at (set c (3 + n) a) x)
+    ap loaded (wants-at (set c (reachesWord + n) a) x)
     ∙ elim (ℕ-discrete x n) [
-      | yes z ↦ rw z (ap loaded (getD-set-same c (3 + n) a 0 l ∙ e) ∙ loaded-stored s ∙ g)
-      | no z ↦ ap loaded (getD-set-other c (3 + n) (3 + x) a 0 (λ y. z (omega arith)) ∙ sym (wants-at c x)) ∙ h x (omega arith)
+      | yes z ↦ rw z (ap loaded (getD-set-same c (reachesWord + n) a 0 l ∙ e) ∙ loaded-stored s ∙ g)
+      | no z ↦ ap loaded (getD-set-other c (reachesWord + n) (reachesWord + x) a 0 (λ y. z (omega arith)) ∙ sym (wants-at c x)) ∙ h x (omega arith)
     ]
 
 module _ (own : List ℕ) {c : List ℕ} (long : carriedWords ≤ length c) where
   pub copying-first : Copying own c c 0
   copying-first = record { same = refl; few = omega arith; place-is = refl; classes-is = refl; reach-is = λ x p. absurd (omega arith) }
 
-  pub copying-next : {d : List ℕ} {n a : ℕ} {s : Set} → Copying own c d n → n < places → s ≡ reachIn own n → a ≡ stored s → Copying own c (set d (3 + n) a) (n + 1)
+  pub copying-next : {d : List ℕ} {n a : ℕ} {s : Set} → Copying own c d n → n < places → s ≡ reachIn own n → a ≡ stored s → Copying own c (set d (reachesWord + n) a) (n + 1)
   unfolding placeIn classesIn
   copying-next {d} {n} {a} h l g e = record {
-    same = length-set d (3 + n) a ∙ h .same;
+    same = length-set d (reachesWord + n) a ∙ h .same;
     few = omega arith;
-    place-is = getD-set-other d (3 + n) 1 a 0 (λ z. omega arith) ∙ h .place-is;
-    classes-is = ap (λ (k : ℕ). eqb k 1) (getD-set-other d (3 + n) 2 a 0 (λ z. omega arith)) ∙ h .classes-is;
+    place-is = getD-set-other d (reachesWord + n) placeWord a 0 (λ z. omega arith) ∙ h .place-is;
+    classes-is = ap (λ (k : ℕ). eqb k 1) (getD-set-other d (reachesWord + n) classesWord a 0 (λ z. omega arith)) ∙ h .classes-is;
     reach-is = λ x p. copied own d n x a (omega (arith, h .same)) e g (h .reach-is) p;
   }
 
-  pub copying-last : {d : List ℕ} {n a : ℕ} {s : Set} → Copying own c d n → places ≤ n → s ≡ setIn own keptPlace → a ≡ stored s → Listed own c (set d (3 + wantsKept) a)
+  pub copying-last : {d : List ℕ} {n a : ℕ} {s : Set} → Copying own c d n → places ≤ n → s ≡ setIn own keptPlace → a ≡ stored s → Listed own c (set d (reachesWord + wantsKept) a)
   unfolding placeIn classesIn
   copying-last {d} {n} {a} {s} h l g e = record {
-    same = length-set d (3 + wantsKept) a ∙ h .same;
-    place-is = getD-set-other d (3 + wantsKept) 1 a 0 (λ z. omega arith) ∙ h .place-is;
-    classes-is = ap (λ (k : ℕ). eqb k 1) (getD-set-other d (3 + wantsKept) 2 a 0 (λ z. omega arith)) ∙ h .classes-is;
+    same = length-set d (reachesWord + wantsKept) a ∙ h .same;
+    place-is = getD-set-other d (reachesWord + wantsKept) placeWord a 0 (λ z. omega arith) ∙ h .place-is;
+    classes-is = ap (λ (k : ℕ). eqb k 1) (getD-set-other d (reachesWord + wantsKept) classesWord a 0 (λ z. omega arith)) ∙ h .classes-is;
     wants = record {
-      kept-is = ap loaded (wants-at (set d (3 + wantsKept) a) wantsKept ∙ getD-set-same d (3 + wantsKept) a 0 (omega (arith, h .same)) ∙ e) ∙ loaded-stored s ∙ g;
+      kept-is = ap loaded (wants-at (set d (reachesWord + wantsKept) a) wantsKept ∙ getD-set-same d (reachesWord + wantsKept) a 0 (omega (arith, h .same)) ∙ e) ∙ loaded-stored s ∙ g;
       reach-is = λ x p.
-          ap loaded (wants-at (set d (3 + wantsKept) a) x ∙ getD-set-other d (3 + wantsKept) (3 + x) a 0 (λ z. omega arith) ∙ sym (wants-at d x))
+          ap loaded (wants-at (set d (reachesWord + wantsKept) a) x ∙ getD-set-other d (reachesWord + wantsKept) (reachesWord + x) a 0 (λ z. omega arith) ∙ sym (wants-at d x))
           ∙ h .reach-is x (omega arith);
     };
   }

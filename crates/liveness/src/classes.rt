@@ -21,7 +21,8 @@ ghost use Rattle.language.specs.Answers.{program};
 ghost use Rattle.chains.specs.Formed.{Formed, Stands};
 ghost use Rattle.tables.specs.Window.{bodyPlace, outsPlace, setIn};
 ghost use Rattle.tables.specs.Filled.{Accessed, Prepared};
-ghost use Rattle.liveness.specs.Done.{pointWords, ListClasses};
+ghost use Rattle.liveness.specs.Points.{pointWords};
+ghost use Rattle.liveness.specs.Done.{ListClasses};
 ghost use Rattle.liveness.specs.Classes.{procedureClasses};
 
 // Whether the steps of the procedure with this window keep number 7. "After the last goal, the out variables are live."

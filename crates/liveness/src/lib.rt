@@ -8,22 +8,30 @@ mod wants;
 mod whole;
 
 pub use classes::call_classes_ok;
+use language::format::MAX_RECORDS;
+use language::format::PLACES;
 use sets::Set;
 pub use table::blank_points;
 pub use table::live_after;
 pub use table::live_before;
 pub use whole::list_live;
 
-// Words of the points of 4,096 goals.
-pub const POINTS: usize = 8192;
+// Two words a point, one for each goal.
+pub const POINTS: usize = 2 * MAX_RECORDS;
 
 // Words that the walk carries: what is live, the place that the next point is written in front of, 1 unless a step broke number 7; then what is
 // wanted: the reach of each variable, by its number, and the kept regions.
-pub const CARRIED: usize = 69;
+pub const LIVE: usize = 0;
+
+pub const PLACE: usize = 1;
+
+pub const CLASSES: usize = 2;
 
 pub const REACHES: usize = 3;
 
-pub const WANTS_KEPT: usize = 68;
+pub const WANTS_KEPT: usize = REACHES + PLACES;
+
+pub const CARRIED: usize = WANTS_KEPT + 1;
 
 // What is live before the goals whose points were written, the place of the first of them in the table, and whether their steps keep number 7.
 pub struct Filled {

@@ -4,9 +4,8 @@ use sets::Set;
 ghost use mathlib.Core.Path.{_≡_};
 ghost use mathlib.Core.List.{_∷_, []};
 ghost use lib.ListN.{length};
-ghost use Rattle.liveness.specs.Points.{point};
+ghost use Rattle.liveness.specs.Points.{point, pointWords};
 ghost use Rattle.liveness.specs.Table.{Fills, beforeAt, afterAt};
-ghost use Rattle.liveness.specs.Done.{pointWords};
 
 // Room for the points of a procedure's goals.
 pub fn blank_points() -> [u64; POINTS]

@@ -25,6 +25,7 @@ ghost use mathlib.Core.Path.{_≡_};
 ghost use Prim.Native.Nat.{_<_};
 ghost use Rattle.language.specs.File.{goals, arms, word, recordCount};
 ghost use Rattle.language.specs.Format.{kindWord, switchKind, ifKind};
+ghost use Rattle.records.specs.Sizes.{recordWords};
 ghost use Rattle.chains.specs.Formed.{Formed, Stands};
 ghost use Rattle.tables.specs.Filled.{Accessed};
 ghost use Rattle.liveness.specs.Done.{GoalsDone, GoalDone, ArmsDone};
@@ -60,7 +61,7 @@ fn part(
 )
     requires { ⌜ Formed (now file) ⌝ }
     requires { ⌜ Accessed (now file) (now rows) ⌝ }
-    requires { ⌜ (k < 8) × ((i < recordCount (now file)) × Stands (now file) goals (word (now file) i k)) ⌝ }
+    requires { ⌜ (k < recordWords) × ((i < recordCount (now file)) × Stands (now file) goals (word (now file) i k)) ⌝ }
     ensures { λ _. ⌜ GoalsDone (now (file .entry)) (now (rows .entry)) (word (now (file .entry)) i k) (now (carried .entry)) (now (table .entry)) (now (carried .exit)) (now (table .exit)) ⌝ }
 {
     let start = word(file, i, k);

@@ -1,6 +1,8 @@
 // The points of a whole procedure.
 use crate::CARRIED;
+use crate::CLASSES;
 use crate::Filled;
+use crate::PLACE;
 use crate::POINTS;
 use crate::carried::classes_in;
 use crate::carried::live_in;
@@ -16,7 +18,8 @@ ghost use Rattle.language.specs.File.{goals};
 ghost use Rattle.chains.specs.Formed.{Formed, Stands};
 ghost use Rattle.tables.specs.Filled.{Accessed};
 ghost use Rattle.liveness.specs.Carried.{carriedWords};
-ghost use Rattle.liveness.specs.Done.{pointWords, AtEnd, ListDone, ListClasses};
+ghost use Rattle.liveness.specs.Points.{pointWords};
+ghost use Rattle.liveness.specs.Done.{AtEnd, ListDone, ListClasses};
 
 fn blank_carried() -> [u64; CARRIED]
     ensures { λ r. ⌜ carriedWords ≡ length r ⌝ }
@@ -29,8 +32,8 @@ fn at_end() -> [u64; CARRIED]
     ensures { λ r. ⌜ AtEnd r ⌝ }
 {
     let mut carried = blank_carried();
-    carried[1] = POINTS as u64;
-    carried[2] = 1;
+    carried[PLACE] = POINTS as u64;
+    carried[CLASSES] = 1;
     carried
 }
 

@@ -91,7 +91,3 @@ module _ {f : List ℕ} (F : Formed f) where
     pub goal-owner-below : Stands f goals i → ownerOf f i < length (program f .procedures)
     unfolding Few
     goal-owner-below s = few-in s z
-
-    pub arm-owner-below : Stands f arms i → ownerOf f i < length (program f .procedures)
-    unfolding Few
-    arm-owner-below s = few-in s z

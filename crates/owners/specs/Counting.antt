@@ -1,13 +1,12 @@
--- How often the words of records refer to a record: a word that refers counts once, and what is counted is such a word.
+-- How often the words of records refer to a record: what is counted is a word that refers.
 use Prim.Native.Nat.{ℕ, zero, suc, _+_, _≤_, _<_}
 use native.Mathlib.Omega.{arith}
 use native.Mathlib.Decide.{decLt, decLe, ℕ-discrete}
-use mathlib.Core.Path.{_≡_, refl, ap, sym, _∙_}
+use mathlib.Core.Path.{_≡_, refl}
 use mathlib.Core.List.{List, [], _∷_}
-use mathlib.Core.Bool.{false≢true}
 use Rattle.language.specs.Lists.{nth, count}
 use Rattle.language.specs.File.{Chain, Use, number, unused, first, leading, references}
-use Rattle.laws.specs.Counts.{hit, hit-same, hit-other, count-none, count-cons}
+use Rattle.laws.specs.Counts.{hit, hit-other, count-none, count-cons}
 use Rattle.chains.specs.Layout.{hits, hits-suc, hits-zero}
 
 hit-is : (r i : ℕ) → 0 < hit r i → r ≡ i
@@ -15,35 +14,6 @@ hit-is r i h = elim (ℕ-discrete r i) [ yes e ↦ e | no e ↦ absurd (omega (a
 
 -- ---- the words of record j, from word k on
 module _ (W : ℕ → ℕ → ℕ) (n j : ℕ) where
-  pub counts-at : (us : List Use) (k p q : ℕ) (c : Chain) → nth unused us p ≡ first c → q ≡ k + p → 0 < count (W j q) (leading W n j k us)
-  unfolding nth leading
-  counts-at [] k p q c u z = absurd (false≢true cc)
-  counts-at (number ∷ us) k zero q c u z = absurd (false≢true cc)
-  counts-at (number ∷ us) k (suc p) q c u z = counts-at us (suc k) p q c u (omega arith)
-  counts-at (unused ∷ us) k zero q c u z = absurd (false≢true cc)
-  counts-at (unused ∷ us) k (suc p) q c u z = counts-at us (suc k) p q c u (omega arith)
-  counts-at (first d ∷ us) k zero q c u z =
-      let t : q ≡ k = omega arith in rw t (omega (arith, count-cons (W j k) (W j k) (leading W n j (suc k) us), hit-same (W j k)))
-  counts-at (first d ∷ us) k (suc p) q c u z =
-      omega (arith, count-cons (W j q) (W j k) (leading W n j (suc k) us), counts-at us (suc k) p q c u (omega arith))
-
-  -- two words that refer to the same record count twice
-  pub counts-twice : (us : List Use) (k p q l m : ℕ) (c d : Chain) → nth unused us p ≡ first c → nth unused us l ≡ first d → p < l → q ≡ k + p → m ≡ k + l
-      → W j q ≡ W j m → 2 ≤ count (W j m) (leading W n j k us)
-  unfolding nth leading
-  counts-twice [] k p q l m c d u v o y z e = absurd (false≢true cc)
-  counts-twice (a ∷ us) k p q zero m c d u v o y z e = absurd (omega arith)
-  counts-twice (number ∷ us) k zero q (suc l) m c d u v o y z e = absurd (false≢true cc)
-  counts-twice (number ∷ us) k (suc p) q (suc l) m c d u v o y z e = counts-twice us (suc k) p q l m c d u v (omega arith) (omega arith) (omega arith) e
-  counts-twice (unused ∷ us) k zero q (suc l) m c d u v o y z e = absurd (false≢true cc)
-  counts-twice (unused ∷ us) k (suc p) q (suc l) m c d u v o y z e = counts-twice us (suc k) p q l m c d u v (omega arith) (omega arith) (omega arith) e
-  counts-twice (first b ∷ us) k zero q (suc l) m c d u v o y z e =
-      let t : q ≡ k = omega arith in
-      let s : hit (W j k) (W j m) ≡ 1 = ap (λ x. hit x (W j m)) (ap (W j) (sym t) ∙ e) ∙ hit-same (W j m) in
-      omega (arith, count-cons (W j m) (W j k) (leading W n j (suc k) us), counts-at us (suc k) l m d v (omega arith))
-  counts-twice (first b ∷ us) k (suc p) q (suc l) m c d u v o y z e =
-      omega (arith, count-cons (W j m) (W j k) (leading W n j (suc k) us), counts-twice us (suc k) p q l m c d u v (omega arith) (omega arith) (omega arith) e)
-
   later : (k p i : ℕ) → W j (suc k + p) ≡ i → W j (k + suc p) ≡ i
   later k p i e = let z : k + suc p ≡ suc k + p = omega arith in rw z e
 

@@ -7,4 +7,5 @@ pub mod Below
 pub mod Everywhere
 pub mod TreeLaw
 pub mod Numbered
+pub mod Typed
 pub mod Plain

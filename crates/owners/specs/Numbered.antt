@@ -1,22 +1,16 @@
 -- A test of every goal, procedure by procedure: by the procedures' numbers, and as a test of whole procedures such as the definitions have.
-use Prim.Native.Nat.{ℕ, zero, suc, _+_, _<_}
+use Prim.Native.Nat.{ℕ, suc, _+_, _<_}
 use native.Mathlib.Omega.{arith}
 use mathlib.Core.Bool.{Bool, true}
 use mathlib.Core.List.{List, [], _∷_}
 use mathlib.Core.Path.{_≡_, refl, ap, ap₂, _∙_}
 use lib.ListN.{length}
-use Rattle.sets.specs.Tests.{_&_, and-true, true-and}
+use Rattle.sets.specs.Tests.{_&_, true-and}
 use Rattle.language.specs.Lists.{all, nth}
 use Rattle.language.specs.Program.{done, Goal, Procedure, Program, procedureAt}
 use Rattle.owners.specs.Everywhere.{allGoals, allFrom, everyGoal}
 
 module _ (L : ℕ → Goal → Bool) (d : Procedure) where
-  from-at : (ps : List Procedure) (b q : ℕ) → allFrom L b ps ≡ true → q < length ps → allGoals (L (b + q)) (nth d ps q .body) ≡ true
-  unfolding allFrom nth
-  from-at [] b q e l = absurd (omega arith)
-  from-at (p ∷ ps) b zero e l = let z : b + 0 ≡ b = omega arith in rw z (and-true e .0)
-  from-at (p ∷ ps) b (suc q) e l = let z : b + suc q ≡ suc b + q = omega arith in rw z (from-at ps (suc b) q (and-true e .1) (omega arith))
-
   at-from : (ps : List Procedure) (b : ℕ) → ((q : ℕ) → q < length ps → allGoals (L (b + q)) (nth d ps q .body) ≡ true) → allFrom L b ps ≡ true
   unfolding allFrom nth
   at-from [] b h = refl
@@ -43,11 +37,7 @@ abbrev none : Procedure
 none = record { signature = record { variables = []; regions = [] }; body = done }
 
 module _ (L : ℕ → Goal → Bool) (P : Program) where
-  -- every goal passes if and only if those of each procedure do
-  pub every-at : everyGoal L P ≡ true → (q : ℕ) → q < length (P .procedures) → allGoals (L q) (procedureAt P q .body) ≡ true
-  unfolding everyGoal procedureAt
-  every-at e q l = let z : 0 + q ≡ q = omega arith in rw z at (from-at L none (P .procedures) 0 q e l)
-
+  -- every goal passes if those of each procedure do
   pub at-every : ((q : ℕ) → q < length (P .procedures) → allGoals (L q) (procedureAt P q .body) ≡ true) → everyGoal L P ≡ true
   unfolding everyGoal procedureAt
   at-every h = at-from L none (P .procedures) 0 (λ q l. let z : 0 + q ≡ q = omega arith in rw z (h q l))

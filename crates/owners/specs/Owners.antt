@@ -9,10 +9,10 @@ use mathlib.Core.Logic.{inl, inr}
 use lib.ListN.{length, getD, getD-replicate, List·getD-append}
 use Rattle.language.specs.Lists.{nth, count}
 use Rattle.language.specs.Format.{kindWord, nextWord, headerProcedures, procedureVariables, procedureRegions, procedureGoals, regionEdges, armGoals, switchArms, ifThen, ifElse, callArguments}
-use Rattle.language.specs.File.{GoalKind, kSwitch, kIf, kCall, Kind, kHeader, kProcedure, kVariable, kRegion, kEdge, kArm, kArgument, kGoal, procedures, goals, kindOf, word, recordCount}
+use Rattle.language.specs.File.{GoalKind, kLiteral, kSum, kAssign, kConstruct, kSwitch, kIf, kCall, kPrint, kCreate, kRemove, Kind, kHeader, kProcedure, kVariable, kRegion, kEdge, kArm, kArgument, kGoal, procedures, goals, row, kindOf, word, recordCount}
 use Rattle.language.specs.Answers.{program}
 use Rattle.laws.specs.Counts.{hit-same, count-cons}
-use Rattle.chains.specs.Layout.{header-kind, real, chain-kind, goals-kind}
+use Rattle.chains.specs.Layout.{all-rows, header-kind, real, chain-kind, goals-kind}
 use Rattle.records.specs.Records.{recordAt}
 use Rattle.records.specs.declared.Record.{Record}
 use Rattle.records.specs.declared.Record.the-variants.{Procedure, Switch, Arm, If}
@@ -211,6 +211,23 @@ module _ {f : List ℕ} {i : ℕ} {r : Record} (F : Formed f) (e : r ≡ recordA
 -- a record that stands in a chain of goals is a goal
 pub goal-kind : {f : List ℕ} {i : ℕ} → Stands f goals i → (i ≡ 0 → ⊥) → (g : GoalKind) × (kindOf (word f i kindWord) ≡ kGoal g)
 goal-kind {f} {i} s z = goals-kind {k = kindOf (word f i kindWord)} (elim (s .sort) [ inl o ↦ absurd (z o) | inr k ↦ chain-kind goals _ k ])
+
+-- .. and a goal stands in one
+goals-chain : (k : GoalKind) → row (kGoal k) .chain ≡ goals
+unfolding all-rows
+goals-chain kLiteral = refl
+goals-chain kSum = refl
+goals-chain kAssign = refl
+goals-chain kConstruct = refl
+goals-chain kSwitch = refl
+goals-chain kIf = refl
+goals-chain kCall = refl
+goals-chain kPrint = refl
+goals-chain kCreate = refl
+goals-chain kRemove = refl
+
+pub kind-goals : {f : List ℕ} {i : ℕ} → i < recordCount f → (g : GoalKind) → kindOf (word f i kindWord) ≡ kGoal g → Stands f goals i
+kind-goals q g e = record { below = q; sort = inr (ap (λ (k : Kind). row k .chain) e ∙ goals-chain g) }
 
 -- on along a chain of goals, whatever the goal
 pub goals-owned : {f : List ℕ} {i w : ℕ} → Formed f → Stands f goals i → (i ≡ 0 → ⊥) → w ≡ word f i nextWord → Belongs f (ownerOf f i) w

@@ -3,7 +3,7 @@
 use Prim.Native.Nat.{ℕ, zero, suc, _+_, _-_, _≤_, _<_}
 use native.Mathlib.Omega.{arith}
 use native.Mathlib.Decide.{decLt, ℕ-discrete}
-use mathlib.Core.Path.{_≡_, ap, sym, _∙_}
+use mathlib.Core.Path.{_≡_, ap}
 use mathlib.Core.List.{List, [], _∷_}
 use mathlib.Core.Bool.{false≢true}
 use mathlib.Core.Logic.{inl, inr}
@@ -14,7 +14,7 @@ use Rattle.chains.specs.Layout.{Leads, Used, once, next-leads, record-used, hea
 use Rattle.records.specs.Table.{uses}
 use Rattle.records.specs.Form.{references-by-uses}
 use Rattle.chains.specs.Formed.{Formed}
-use Rattle.owners.specs.Counting.{counts-at, counts-twice, count-at, hits-one, hits-two, hits-some}
+use Rattle.owners.specs.Counting.{count-at, hits-one, hits-two, hits-some}
 
 -- the sort of chain that record i stands in
 unfoldable pub sortOf : List ℕ → ℕ → Chain
@@ -73,12 +73,6 @@ unfolding nth1
 each-refers {f} {j} {k = zero} P e r = absurd (false≢true (cc (r .use-is)))
 each-refers {f} {j} {k = suc p} P e r = rw (← r .leads) (each-at P (word f j) (usesOf f j) 1 p (suc p) _ e (r .use-is) (omega arith))
 
-pub refers-times : {f : List ℕ} {j k i : ℕ} {c : Chain} → Refers f j k c i → 0 < times f j i
-unfolding nth1 times usesOf kindAt
-refers-times {k = zero} r = absurd (false≢true (cc (r .use-is)))
-refers-times {f} {j} {k = suc p} {c = c} r =
-    rw (references-by-uses (word f) (recordCount f) j, ← r .leads) (counts-at (word f) (recordCount f) j (usesOf f j) 1 p (suc p) c (r .use-is) (omega arith))
-
 pub times-refers : {f : List ℕ} (j i : ℕ) → j < recordCount f → 0 < times f j i → (k : ℕ) × (c : Chain) × Refers f j k c i
 unfolding nth1 times usesOf kindAt
 times-refers {f} j i q h =
@@ -125,40 +119,6 @@ module _ {f : List ℕ} (F : Formed f) where
         | yes y ↦ omega (arith, hits-two (word f) (recordCount f) (recordCount f) 0 j k i (omega arith) y (omega arith))
         | no y ↦ omega (arith, hits-two (word f) (recordCount f) (recordCount f) 0 k j i (omega arith) (omega (arith, d)) (omega arith))
       ]
-
-  same-record : {j k i l m : ℕ} {c d : Chain} → 0 < i → Refers f j k c i → Refers f l m d i → j ≡ l
-  same-record {j} {k} {i} {l} p r s =
-      elim (ℕ-discrete j l) [
-        | yes e ↦ e
-        | no e ↦ absurd (omega (arith, times-other j l i p (refers-up p r .below) (r .below) (s .below) e (refers-times r), refers-times s))
-      ]
-
-  -- two words of one record
-  twice : (j k l i : ℕ) (c d : Chain) → k < l → Refers f j k c i → Refers f j l d i → 2 ≤ times f j i
-  unfolding nth1 times usesOf kindAt
-  twice j zero l i c d o r s = absurd (false≢true (cc (r .use-is)))
-  twice j (suc p) zero i c d o r s = absurd (omega arith)
-  twice j (suc p) (suc m) i c d o r s =
-      rw (references-by-uses (word f) (recordCount f) j, ← s .leads)
-      (counts-twice (word f) (recordCount f) j (usesOf f j) 1 p (suc p) m (suc m) c d (r .use-is) (s .use-is) (omega arith) (omega arith) (omega arith) (r .leads ∙ sym (s .leads)))
-
-  same-word : (j k l i : ℕ) {c d : Chain} → 0 < i → Refers f j k c i → Refers f j l d i → k ≡ l
-  same-word j k l i p r s =
-      let o = times-one j i p (refers-up p r .below) (r .below) in
-      elim (ℕ-discrete k l) [
-        | yes e ↦ e
-        | no e ↦ elim (decLt k l) [
-          | yes y ↦ absurd (omega (arith, twice j k l i _ _ y r s))
-          | no y ↦ absurd (omega (arith, twice j l k i _ _ (omega (arith, e)) s r))
-        ]
-      ]
-
-  -- REFERRED TO ONCE: two words that refer to the same record are the same word of the same record
-  pub referred-once : {j k i l m : ℕ} {c d : Chain} → 0 < i → Refers f j k c i → Refers f l m d i → (j ≡ l) × (k ≡ m)
-  referred-once {j} {k} {i} {l} {m} {c} {d} p r s =
-      let e = same-record p r s in
-      let t : Refers f j m d i = rw e s in
-      (e, same-word j k m i p r t)
 
   pub referrer : (i : ℕ) → 0 < i → i < recordCount f → Referrer f i
   unfolding times

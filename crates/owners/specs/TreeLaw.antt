@@ -14,14 +14,14 @@ use Rattle.language.specs.Program.{Step, _then_, Goal, step, switch, ifLess}
 use Rattle.language.specs.Answers.{program}
 use Rattle.chains.specs.Layout.{all-rows, real, known-chain, header-kind}
 use Rattle.records.specs.Table.{uses}
-use Rattle.chains.specs.Formed.{Formed, Stands, counted, goalsAt, goalAt, armsAt, proceduresAt, goals-none, arms-none, procedures-none, program-procedures}
+use Rattle.chains.specs.Formed.{Formed, counted, goalsAt, goalAt, armsAt, proceduresAt, goals-none, arms-none, procedures-none, program-procedures}
 use Rattle.chains.specs.Kinds.{same-read}
 use Rattle.chains.specs.Goals.{literal-at, sum-at, assign-at, construct-at, print-at, create-at, remove-at}
 use Rattle.chains.specs.Parts.{switch-at, arm-at, if-at, call-at}
 use Rattle.chains.specs.Declared.{procedure-at}
 use Rattle.owners.specs.Referred.{sortOf, usesOf, Each, EachOf, header-uses, outward, inward, each-later}
 use Rattle.owners.specs.Owner.{ownerOf}
-use Rattle.owners.specs.Owners.{Belongs, goal-kind, goal-next, switch-arms, arm-next, arm-goals, if-then, if-else, procedure-next, procedure-goals, first-owner}
+use Rattle.owners.specs.Owners.{Belongs, goal-next, switch-arms, arm-next, arm-goals, if-then, if-else, procedure-next, procedure-goals, first-owner}
 use Rattle.owners.specs.Everywhere.{allGoals, allArms, allFrom, everyGoal, ifGoal, recordTest, everyRecord}
 
 -- ---- tests, in another order
@@ -213,7 +213,3 @@ module _ (L : ℕ → Goal → Bool) {f : List ℕ} (F : Formed f) where
   pub record-kind : (i : ℕ) (k : Kind) → kindOf (word f i kindWord) ≡ k → recordTest L f i ≡ ifGoal k (L (ownerOf f i) (goalAt f i))
   unfolding recordTest
   record-kind i k e = rw e
-
-  pub record-goal : (i : ℕ) → Stands f goals i → (i ≡ 0 → ⊥) → recordTest L f i ≡ L (ownerOf f i) (goalAt f i)
-  unfolding ifGoal
-  record-goal i s z = let k = goal-kind s z in record-kind i (kGoal (k .0)) (k .1)

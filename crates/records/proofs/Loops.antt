@@ -12,7 +12,7 @@ use Rattle.language.specs.Format.{maxRecords, kindWord}
 use Rattle.language.specs.File.{Use, number, unused, first, row, kindOf, kindAt, recordOk, leading, references, referencesOf, onceIn, formOk}
 use Rattle.records.specs.Lists.{all-same, from-here, from-end, tally, tally-append, tally-once}
 use Rattle.records.specs.Table.{digit, pack, packed, uses, seven, pack-first, pack-rest}
-use Rattle.records.specs.Form.{Tallied, useOk, refers, leads, refersOk, spareOk, leading-cons, references-by-uses, record-apart}
+use Rattle.records.specs.Form.{Tallied, UseTallied, useOk, refers, leads, refersOk, spareOk, leading-cons, references-by-uses, record-apart}
 use Rattle.records.specs.Sizes.{digitEnd, recordWords}
 
 and-first : {a b : Bool} → a ≡ true → (a & b) ≡ b
@@ -57,7 +57,7 @@ module _ (W : ℕ → ℕ → ℕ) (n i : ℕ) where
 
   -- what word k says of itself
   abbrev pub Said : ℕ → ℕ → Bool → List ℕ → List ℕ → Type 0
-  Said k d b seen after = (u : Use) → d ≡ digit u → Tallied b (useOk W n i k u) (leads W n i k u) seen after
+  Said k d b seen after = (u : Use) → d ≡ digit u → UseTallied W n i k u b seen after
 
   -- while a digit is left there is a word
   pub words-some : {seen₀ seen : List ℕ} {digits k : ℕ} → Words seen₀ seen digits k → (digits ≡ 0 → ⊥) → k < recordWords

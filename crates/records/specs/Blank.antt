@@ -4,23 +4,26 @@ use native.Mathlib.Omega.{arith}
 use mathlib.Core.List.{List}
 use mathlib.Core.Path.{_≡_, ap}
 use lib.ListN.{length, replicate, length-replicate}
-use Rattle.language.specs.Format.{maxFunctors, places, maxBytes, maxRecords, maxProcedures}
+use Rattle.language.specs.Format.{maxBytes, maxRecords, maxProcedures}
 
--- a place for each functor of each type, as far as 32 of 65 types
-abbrev pub functorPlaces : ℕ
-functorPlaces = maxFunctors * places
+-- what a walk over goals carries
+abbrev pub walkWords : ℕ
+walkWords = 2
 
--- three words a procedure: born, dead and kept regions
-abbrev pub classWords : ℕ
-classWords = 3 * maxProcedures
+-- the first words of a procedure's window
+abbrev pub headSize : ℕ
+headSize = 10
 
--- a start, a window of 10 words and two words for each of 16 records, for each procedure
+-- for each procedure where its window starts and the window's first words; two words for each record
 abbrev pub fileWords : ℕ
-fileWords = 43 * maxProcedures
+fileWords = (1 + headSize) * maxProcedures + 2 * maxRecords
 
--- six words a record
+-- words of a record's row
+abbrev pub rowSize : ℕ
+rowSize = 6
+
 abbrev pub rowWords : ℕ
-rowWords = 6 * maxRecords
+rowWords = rowSize * maxRecords
 
 -- the longest file and one byte, so that a longer one is told
 abbrev pub inputBytes : ℕ

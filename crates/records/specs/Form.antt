@@ -63,6 +63,10 @@ module _ (W : ℕ → ℕ → ℕ) (n i : ℕ) where
   leads k unused = []
   leads k (first c) = W i k ∷ []
 
+  -- a test of word k that has counted what it refers to
+  abbrev pub UseTallied : ℕ → Use → Bool → List ℕ → List ℕ → Type 0
+  UseTallied k u b before after = Tallied b (useOk k u) (leads k u) before after
+
   pub leading-cons : (k : ℕ) (u : Use) (us : List Use) → leading W n i k (u ∷ us) ≡ leads k u ++ leading W n i (suc k) us
   unfolding leading leads
   leading-cons k number us = refl

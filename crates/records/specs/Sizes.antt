@@ -1,4 +1,4 @@
--- What bytes, words and kinds' numbers are below, and how many words a record has. The code has the numbers under the same names (src/lib.rt).
+-- What bytes, words and kinds' numbers are below, and how many words a record has. The code has the numbers under the same names (src/sizes.rt).
 use Prim.Native.Nat.{ℕ}
 
 abbrev pub byteEnd : ℕ

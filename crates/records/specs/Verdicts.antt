@@ -3,15 +3,11 @@ use Prim.Native.Nat.{ℕ}
 use mathlib.Core.Path.{_≡_, refl}
 use mathlib.Core.Bool.{Bool, true, false}
 use mathlib.Core.List.{List, [], _∷_, _++_}
-use Rattle.language.specs.declared.Refusal.the-variants.{Header, Form, Typing, Values, Regions}
+use Rattle.language.specs.declared.Refusal.the-variants.{Header, Form}
 use Rattle.language.specs.declared.Verdict.{Verdict}
 use Rattle.language.specs.declared.Verdict.the-variants.{Refused, Accepted}
 use Rattle.language.specs.File.{word, recordCount, headerOk, formOk}
-use Rattle.language.specs.Typing.{typingOk}
-use Rattle.language.specs.Values.{valuesOk}
-use Rattle.language.specs.Regions.{regionsOk}
-use Rattle.language.specs.Answers.{Stage, stage, lowest, program, fileStages}
-use Rattle.records.specs.Words.{Sized, header-in}
+use Rattle.language.specs.Answers.{Stage, stage, lowest}
 
 -- numbers 1 and 2
 unfoldable pub formStages : List ℕ → List Stage
@@ -32,14 +28,6 @@ lowest-append (stage r true ∷ ss) ts = lowest-append ss ts
 lowest-append (stage r false ∷ ss) ts = refl
 
 module _ (f : List ℕ) where
-  -- what is left of every program's stages
-  unfoldable pub laterStages : List Stage
-  laterStages = stage Typing (typingOk (program f)) ∷ stage Values (valuesOk (program f)) ∷ stage Regions (regionsOk (program f)) ∷ []
-
-  pub form-then : (ts : List Stage) → lowest (fileStages f ++ ts) ≡ after (formVerdict f) (lowest (laterStages ++ ts))
-  unfolding formVerdict formStages fileStages laterStages
-  form-then ts = lowest-append (formStages f) (laterStages ++ ts)
-
   -- accepted is both tests passed
   pub form-in : formVerdict f ≡ Accepted → (headerOk f ≡ true) × (formOk (word f) (recordCount f) ≡ true)
   unfolding formVerdict formStages lowest
@@ -49,11 +37,3 @@ module _ (f : List ℕ) where
       go true true e = (refl, refl)
       go true false e = (refl, cc)
       go false b e = (cc, cc)
-
-  pub form-mk : headerOk f ≡ true → formOk (word f) (recordCount f) ≡ true → formVerdict f ≡ Accepted
-  unfolding formVerdict formStages lowest
-  form-mk a b = rw (a, b)
-
-  -- then the count is from 1 to 4,096, and the length 16 times as much
-  pub form-sized : formVerdict f ≡ Accepted → Sized f
-  form-sized e = header-in f (form-in e .0)

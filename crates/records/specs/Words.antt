@@ -4,12 +4,11 @@ use native.Mathlib.Omega.{arith}
 use mathlib.Core.Path.{_≡_}
 use mathlib.Core.Bool.{true}
 use mathlib.Core.List.{List}
-use lib.ListN.{length, getD, List·getD-eq-default}
-use borrow.Author.Tests.{le-leb, eq-eqb, leb-true, eqb-true}
-use Rattle.sets.specs.Tests.{_&_, and-true}
+use lib.ListN.{length, List·getD-eq-default}
+use borrow.Author.Tests.{leb-true, eqb-true}
+use Rattle.sets.specs.Tests.{and-true}
 use Rattle.language.specs.File.{word, recordCount, headerOk}
 use Rattle.language.specs.Format.{headerKind, kindWord, maxBytes, maxRecords, recordBytes}
-use Rattle.records.specs.Sizes.{byteEnd, wordEnd}
 
 module _ (f : List ℕ) (i k : ℕ) where
   -- what is past the end is 0
@@ -17,11 +16,6 @@ module _ (f : List ℕ) (i k : ℕ) where
   unfolding word
   word-past h =
       rw (List·getD-eq-default f 0 {n = recordBytes * i + 2 * k} (omega arith), List·getD-eq-default f 0 {n = recordBytes * i + 2 * k + 1} (omega arith))
-
-  -- of bytes, a word is below 65,536
-  pub word-below : ((p : ℕ) → getD f p 0 < byteEnd) → word f i k < wordEnd
-  unfolding word
-  word-below h = omega (arith, h (recordBytes * i + 2 * k), h (recordBytes * i + 2 * k + 1))
 
 -- what number 1 says of a file that passes it
 pub record Sized (f : List ℕ) : Type 0 where
@@ -41,8 +35,3 @@ module _ (f : List ℕ) where
       let high : length f ≤ maxBytes = leb-true _ _ (b .0) in
       let size : length f ≡ recordBytes * recordCount f = eqb-true _ _ (c .0) in
       record { some = omega arith; most = omega arith; size = size; begins = eqb-true _ _ (c .1) }
-
-  pub header-mk : Sized f → headerOk f ≡ true
-  unfolding headerOk _&_
-  header-mk s =
-      rw (le-leb recordBytes (length f) (omega arith), le-leb (length f) maxBytes (omega arith), eq-eqb (length f) (recordBytes * recordCount f) (s .size), eq-eqb (word f 0 kindWord) headerKind (s .begins))

@@ -1,34 +1,35 @@
 // Tables of zeros, one function for each shape.
 use language::format::MAX_BYTES;
-use language::format::MAX_FUNCTORS;
 use language::format::MAX_PROCEDURES;
 use language::format::MAX_RECORDS;
 use language::format::PLACES;
 ghost use mathlib.Core.Path.{_≡_};
 ghost use lib.ListN.{replicate};
-ghost use Rattle.language.specs.Format.{places, maxRecords, maxProcedures};
-ghost use Rattle.records.specs.Blank.{functorPlaces, classWords, fileWords, rowWords, inputBytes};
+ghost use Rattle.language.specs.Format.{places, maxRecords};
+ghost use Rattle.records.specs.Blank.{walkWords, fileWords, rowWords, inputBytes};
 
-// A place for each functor of each type, as far as 32 of 65 types.
-pub const FUNCTOR_PLACES: usize = MAX_FUNCTORS * PLACES;
+// What a walk over goals carries.
+pub const WALK_WORDS: usize = 2;
 
-// Three words a procedure: born, dead and kept regions.
-pub const CLASS_WORDS: usize = 3 * MAX_PROCEDURES;
+// The first words of a procedure's window.
+pub const HEAD_SIZE: usize = 10;
 
-// A start, a window of 10 words and two words for each of 16 records, for each procedure.
-pub const FILE_WORDS: usize = 43 * MAX_PROCEDURES;
+// For each procedure where its window starts and the window's first words; two words for each record.
+pub const FILE_WORDS: usize = (1 + HEAD_SIZE) * MAX_PROCEDURES + 2 * MAX_RECORDS;
 
-// Six words a record.
-pub const ROW_WORDS: usize = 6 * MAX_RECORDS;
+// Words of a record's row.
+pub const ROW_SIZE: usize = 6;
+
+pub const ROW_WORDS: usize = ROW_SIZE * MAX_RECORDS;
 
 // The longest file and one byte, so that a longer one is told.
 pub const INPUT_BYTES: usize = MAX_BYTES + 1;
 
-// Two words, for what a walk over goals carries.
-pub fn blank_pair() -> [u64; 2]
-    ensures { λ r. ⌜ r ≡ replicate 2 0 ⌝ }
+// What a walk over goals starts to carry.
+pub fn blank_walk() -> [u64; WALK_WORDS]
+    ensures { λ r. ⌜ r ≡ replicate walkWords 0 ⌝ }
 {
-    [0; 2]
+    [0; WALK_WORDS]
 }
 
 // A record number for each variable, region or type.
@@ -43,25 +44,6 @@ pub fn blank_sets() -> [u64; PLACES]
     ensures { λ r. ⌜ r ≡ replicate places 0 ⌝ }
 {
     [0; PLACES]
-}
-
-// A record number for each procedure.
-pub fn blank_procedures() -> [usize; MAX_PROCEDURES]
-    ensures { λ r. ⌜ r ≡ replicate maxProcedures 0 ⌝ }
-{
-    [0; MAX_PROCEDURES]
-}
-
-pub fn blank_functors() -> [usize; FUNCTOR_PLACES]
-    ensures { λ r. ⌜ r ≡ replicate functorPlaces 0 ⌝ }
-{
-    [0; FUNCTOR_PLACES]
-}
-
-pub fn blank_classes() -> [u64; CLASS_WORDS]
-    ensures { λ r. ⌜ r ≡ replicate classWords 0 ⌝ }
-{
-    [0; CLASS_WORDS]
 }
 
 // A byte for each record.

@@ -3,7 +3,8 @@ use crate::Record;
 use crate::words::word;
 use language::format::*;
 ghost use mathlib.Core.Path.{_≡_};
-ghost use Rattle.language.specs.File.{word, kHeader, kType, kFunctor, kProcedure, kVariable, kRegion, kEdge, kArm, kArgument, kGoal, kLiteral, kSum, kAssign, kConstruct, kSwitch, kIf, kCall, kPrint, kCreate, kRemove};
+ghost use Rattle.language.specs.File.{word, kHeader, kType, kFunctor, kProcedure, kVariable, kRegion, kEdge, kArm, kArgument, kGoal};
+ghost use Rattle.language.specs.File.{kLiteral, kSum, kAssign, kConstruct, kSwitch, kIf, kCall, kPrint, kCreate, kRemove};
 ghost use Rattle.records.specs.Records.{recordAs, recordAt};
 
 // Record i of a file.

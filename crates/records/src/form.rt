@@ -1,6 +1,8 @@
 // Number 2: a pass over the records, each by its unused words and its references, and a look at the counts.
 use crate::blank::blank_marks;
-use crate::words::WORD_END;
+use crate::sizes::DIGIT_END;
+use crate::sizes::KINDS_END;
+use crate::sizes::WORD_END;
 use crate::words::word_in;
 use language::format::KIND;
 ghost use mathlib.Core.Path.{_≡_};
@@ -14,17 +16,12 @@ ghost use Rattle.language.specs.File.{word, Kind, Chain, Use, first, kindOf, re
 ghost use Rattle.records.specs.Lists.{counted};
 ghost use Rattle.records.specs.Table.{tableOf, digit, packed, lowMost, highMost};
 ghost use Rattle.records.specs.Spare.{LowWords, HighWords};
-ghost use Rattle.records.specs.Form.{Tallied, useOk, leads, refersOk, spareOk};
+ghost use Rattle.records.specs.Form.{Tallied, UseTallied, refersOk, spareOk};
 ghost use Rattle.records.specs.Sizes.{recordWords};
-
-// Kinds' numbers are below this, and the digits of the record table.
-const KINDS: usize = 20;
-
-const DIGIT_END: usize = 16;
 
 // The record table, a row for each kind's number. Hex digit k, from the right, is the chain that word k leads to: 0 none at all, 1 nowhere,
 // 2 types, 3 functors, 4 procedures, 5 variables, 6 regions, 7 edges, 8 goals, 9 arms, a arguments. Digit 0 is the chain that the kind stands in.
-const ROWS: [usize; KINDS] = [
+const ROWS: [usize; KINDS_END] = [
     0x11, // no kind
     0x241, // header
     0x322, // type
@@ -48,7 +45,7 @@ const ROWS: [usize; KINDS] = [
 ];
 
 // The most that w2 and w3 may be as one number, w2 lowest: the words that a kind does not use are its last ones, and are 0.
-const LOW: [usize; KINDS] = [
+const LOW: [usize; KINDS_END] = [
     0, // no kind
     0xffffffff, // header
     0xffff, // type
@@ -72,7 +69,7 @@ const LOW: [usize; KINDS] = [
 ];
 
 // The same of w4 to w7.
-const HIGH: [usize; KINDS] = [
+const HIGH: [usize; KINDS_END] = [
     0, // no kind
     0, // header
     0, // type
@@ -96,28 +93,32 @@ const HIGH: [usize; KINDS] = [
 ];
 
 // The tables in memory, to be lent.
-fn rows() -> [usize; KINDS]
+fn rows() -> [usize; KINDS_END]
     ensures { λ r. ⌜ r ≡ tableOf packed ⌝ }
 {
     ROWS
 }
 
-fn low_most() -> [usize; KINDS]
+fn low_most() -> [usize; KINDS_END]
     ensures { λ r. ⌜ r ≡ tableOf lowMost ⌝ }
 {
     LOW
 }
 
-fn high_most() -> [usize; KINDS]
+fn high_most() -> [usize; KINDS_END]
     ensures { λ r. ⌜ r ≡ tableOf highMost ⌝ }
 {
     HIGH
 }
 
-fn row_of(table: &[usize; KINDS], kind: usize) -> usize
+fn row_of(table: &[usize; KINDS_END], kind: usize) -> usize
     ensures { λ r. ⌜ ((f : Kind → ℕ) → now (table .entry) ≡ tableOf f → r ≡ f (kindOf kind)) ⌝ }
 {
-    if kind < KINDS { table[kind] } else { table[0] }
+    if kind < KINDS_END {
+        table[kind]
+    } else {
+        table[0]
+    }
 }
 
 // w2 and w3 of record i as one number.
@@ -143,7 +144,7 @@ fn high_words(file: &[u8], i: usize) -> usize
 }
 
 // Whether the words of record i that its kind does not use are 0.
-fn spare_ok(low: &[usize; KINDS], high: &[usize; KINDS], file: &[u8], i: usize) -> bool
+fn spare_ok(low: &[usize; KINDS_END], high: &[usize; KINDS_END], file: &[u8], i: usize) -> bool
     requires { ⌜ (now low ≡ tableOf lowMost) × (now high ≡ tableOf highMost) ⌝ }
     requires { ⌜ recordBytes * i + recordBytes ≤ length (now file) ⌝ }
     ensures { λ b. ⌜ b ≡ spareOk (word (now (file .entry))) i ⌝ }
@@ -159,7 +160,7 @@ fn spare_ok(low: &[usize; KINDS], high: &[usize; KINDS], file: &[u8], i: usize) 
 
 // Whether r, a reference of record i, ends its chain or goes up to a record that stands in such a chain.
 fn reference_ok(
-    rows: &[usize; KINDS],
+    rows: &[usize; KINDS_END],
     file: &[u8],
     n: usize,
     i: usize,
@@ -202,7 +203,7 @@ fn count(seen: &mut [u8], r: usize)
 
 // Whether word k of record i is a reference as it should be, or none where chain is 0. Counts what it refers to.
 fn word_ok(
-    rows: &[usize; KINDS],
+    rows: &[usize; KINDS_END],
     file: &[u8],
     seen: &mut [u8],
     n: usize,
@@ -212,7 +213,7 @@ fn word_ok(
 ) -> bool
     requires { ⌜ now rows ≡ tableOf packed ⌝ }
     requires { ⌜ (k < recordWords) × (i < n) × (n ≤ length (now seen)) × (recordBytes * n ≤ length (now file)) ⌝ }
-    ensures { λ b. ⌜ ((u : Use) → chain ≡ digit u → Tallied b (useOk (word (now (file .entry))) n i k u) (leads (word (now (file .entry))) n i k u) (now (seen .entry)) (now (seen .exit))) ⌝ }
+    ensures { λ b. ⌜ ((u : Use) → chain ≡ digit u → UseTallied (word (now (file .entry))) n i k u b (now (seen .entry)) (now (seen .exit))) ⌝ }
 {
     if chain == 0 {
         return true;
@@ -226,7 +227,7 @@ fn word_ok(
 }
 
 // Whether the references of record i are in order. Counts what they refer to.
-fn refers_ok(rows: &[usize; KINDS], file: &[u8], seen: &mut [u8], n: usize, i: usize) -> bool
+fn refers_ok(rows: &[usize; KINDS_END], file: &[u8], seen: &mut [u8], n: usize, i: usize) -> bool
     requires { ⌜ now rows ≡ tableOf packed ⌝ }
     requires { ⌜ (i < n) × (n ≤ length (now seen)) × (recordBytes * n ≤ length (now file)) ⌝ }
     ensures { λ b. ⌜ Tallied b (refersOk (word (now (file .entry))) n i) (references (word (now (file .entry))) n i) (now (seen .entry)) (now (seen .exit)) ⌝ }
@@ -245,9 +246,9 @@ fn refers_ok(rows: &[usize; KINDS], file: &[u8], seen: &mut [u8], n: usize, i: u
 
 // Whether record i is in order. Counts what it refers to.
 fn record_ok(
-    rows: &[usize; KINDS],
-    low: &[usize; KINDS],
-    high: &[usize; KINDS],
+    rows: &[usize; KINDS_END],
+    low: &[usize; KINDS_END],
+    high: &[usize; KINDS_END],
     file: &[u8],
     seen: &mut [u8],
     n: usize,

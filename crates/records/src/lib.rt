@@ -2,6 +2,7 @@
 pub mod blank;
 mod decode;
 mod form;
+pub mod sizes;
 mod stage;
 mod words;
 

@@ -1,4 +1,5 @@
 // Words of a file, and number 1.
+use crate::sizes::BYTE_END;
 use language::format::HEADER;
 use language::format::HEADER_COUNT;
 use language::format::KIND;
@@ -10,11 +11,6 @@ ghost use lib.ListN.{length, getD};
 ghost use Rattle.language.specs.File.{word, headerOk};
 ghost use Rattle.language.specs.Format.{recordBytes};
 ghost use Rattle.records.specs.Sizes.{byteEnd, recordWords, wordEnd};
-
-// A byte is below this, and a word.
-const BYTE_END: usize = 256;
-
-pub const WORD_END: usize = 65536;
 
 fn wide(x: u8) -> usize
     ensures { λ r. ⌜ (r ≡ x) × (r < byteEnd) ⌝ }

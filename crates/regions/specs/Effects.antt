@@ -3,10 +3,9 @@ use Prim.Native.Nat.{ℕ, _<_}
 use native.Mathlib.Omega.{arith}
 use mathlib.Core.Bool.{Bool, true, false, false≢true}
 use mathlib.Core.List.{List}
-use mathlib.Core.Logic.{inr}
 use mathlib.Core.Path.{_≡_, refl, sym, ap, _∙_}
 use Rattle.sets.specs.Sets.{single, single-zero}
-use Rattle.language.specs.File.{GoalKind, kLiteral, kSum, kAssign, kConstruct, kSwitch, kIf, kCall, kPrint, kCreate, kRemove, Kind, kGoal, goals, row, kindOf, word, recordCount}
+use Rattle.language.specs.File.{GoalKind, kLiteral, kSum, kAssign, kConstruct, kSwitch, kIf, kCall, kPrint, kCreate, kRemove, kGoal, kindOf, word, recordCount}
 use Rattle.language.specs.Format.{kindWord, literalKind, sumKind, assignKind, constructKind, callKind, printKind, createKind, removeKind, goalX, lifetimeRegion}
 use Rattle.language.specs.Program.{Four, Step, construct, print, create, remove, Goal, step, switch, ifLess, Signature, Program, regionOf}
 use Rattle.language.specs.Lifetimes
@@ -18,6 +17,7 @@ use Rattle.chains.specs.Kinds.{same-read}
 use Rattle.chains.specs.Goals.{literal-at, sum-at, assign-at, print-at}
 use Rattle.chains.specs.Parts.{switch-at, if-at}
 use Rattle.chains.specs.Shapes.{IsLiteral, IsSum, IsAssign, IsConstruct, IsSwitch, IsCall, IsPrint, IsCreate, IsRemove, goal-number, goal-kind, literal-here, sum-here, assign-here, construct-here, switch-here, call-here, print-here, create-here, remove-here}
+use Rattle.owners.specs.Owners.{kind-goals}
 use Rattle.tables.specs.Window.{homeIn}
 use Rattle.tables.specs.Filled.{StepAt}
 use Rattle.tables.specs.declared.Effect.{Effect}
@@ -79,19 +79,6 @@ isStep (step s) = true
 isStep (switch x cs) = false
 isStep (ifLess y z a b) = false
 
-goals-chain : (k : GoalKind) → row (kGoal k) .chain ≡ goals
-unfolding all-rows
-goals-chain kLiteral = refl
-goals-chain kSum = refl
-goals-chain kAssign = refl
-goals-chain kConstruct = refl
-goals-chain kSwitch = refl
-goals-chain kIf = refl
-goals-chain kCall = refl
-goals-chain kPrint = refl
-goals-chain kCreate = refl
-goals-chain kRemove = refl
-
 module _ (f : List ℕ) (i : ℕ) {h : Step} (v : goalAt f i ≡ step h) where
   same-step : {e : Effect} → Effects (program f) (signatureAt f i) h e → (g : Step) → StepAt f i g → Effects (program f) (signatureAt f i) g e
   unfolding stepIn
@@ -99,7 +86,7 @@ module _ (f : List ℕ) (i : ℕ) {h : Step} (v : goalAt f i ≡ step h) where
 
   pub step-at : (k : GoalKind) → kindOf (word f i kindWord) ≡ kGoal k → 0 < i → i < recordCount f → StepAt f i h
   step-at k n p q = record {
-    stands = record { below = q; sort = inr (ap (λ (c : Kind). row c .chain) n ∙ goals-chain k) };
+    stands = kind-goals q k n;
     some = λ z. omega arith;
     view = v;
   }

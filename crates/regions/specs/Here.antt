@@ -1,19 +1,19 @@
 -- The record at hand: what the pass has of it, and number 5 of its goal by the kind of the record.
 use Prim.Native.Nat.{ℕ, _<_}
+use native.Mathlib.Omega.{arith}
 use mathlib.Core.Bool.{Bool, true, false}
 use mathlib.Core.List.{List}
 use mathlib.Core.Path.{_≡_, refl, sym, ap, ap₂, _∙_}
-use borrow.Author.Tests.{ltb-true}
 use lib.Dec.{eqb}
 use lib.ListN.{length, getD}
-use Rattle.sets.specs.Tests.{_&_, and-true}
+use Rattle.sets.specs.Tests.{_&_}
 use Rattle.laws.specs.Tests.{and-stop, and-on}
 use Rattle.language.specs.File
 use Rattle.language.specs.File.{GoalKind, kLiteral, kSum, kAssign, kConstruct, kSwitch, kIf, kCall, kPrint, kCreate, kRemove, Kind, kNone, kHeader, kType, kFunctor, kProcedure, kVariable, kRegion, kEdge, kArm, kArgument, kGoal, kinds, kindOf, word, recordCount}
 use Rattle.language.specs.Format.{kindWord, nextWord, assignKind, constructKind, switchKind, callKind, goalX, assignY, termFunctor, switchArms}
 use Rattle.language.specs.Lists.{nth}
 use Rattle.language.specs.Program.{argumentsOf, Edge, Step, Goal, step, Arms, noArms, arm, Signature, Program, regionOf, regionAt, signatureOf}
-use Rattle.language.specs.Typing.{stepOk, typingOk}
+use Rattle.language.specs.Typing.{stepOk, goalOk, typingOk}
 use Rattle.language.specs.Regions.{stepRegions}
 use Rattle.language.specs.Answers.{program}
 use Rattle.chains.specs.Layout.{all-rows}
@@ -23,13 +23,15 @@ use Rattle.chains.specs.Goals.{literal-at, sum-at, print-at, create-at, remove-
 use Rattle.chains.specs.Parts.{if-at}
 use Rattle.chains.specs.Shapes.{IsLiteral, IsSum, IsAssign, IsConstruct, IsSwitch, IsCall, IsPrint, IsCreate, IsRemove, goal-number, assign-here, construct-here, switch-here, arm-here}
 use Rattle.owners.specs.Owner.{ownerOf}
+use Rattle.owners.specs.Owners.{kind-goals}
+use Rattle.owners.specs.Below.{goal-owner-below}
+use Rattle.owners.specs.Typed.{typed-goal}
 use Rattle.owners.specs.Everywhere.{ifGoal, recordTest}
 use Rattle.owners.specs.TreeLaw.{record-kind}
 use Rattle.tables.specs.Window.{Window, homeIn, edgesIn, FileTable}
 use Rattle.tables.specs.Starts.{windowIn, window-here}
-use Rattle.regions.specs.Pairs.{Standing, window-stands}
 use Rattle.regions.specs.Terms.{argumentsHere, allIn, all-in-targets}
-use Rattle.regions.specs.Single.{armsHere, agreesHere, agrees, typedHere, known, known-here}
+use Rattle.regions.specs.Single.{armsHere, agreesHere, agrees}
 
 -- what the procedure declares that record i belongs to
 abbrev pub signatureAt : List ℕ → ℕ → Signature
@@ -91,17 +93,12 @@ module _ (f : List ℕ) (i : ℕ) where
 -- ---- what number 3 says of it
 module _ {f : List ℕ} (F : Formed f) (ok : typingOk (program f) ≡ true) {i : ℕ} (p : 0 < i) (q : i < recordCount f) (g : GoalKind)
     (k : kindOf (word f i kindWord) ≡ kGoal g) where
-  goal-known : known (program f) (ownerOf f i) (goalAt f i) ≡ true
-  unfolding ifGoal
-  goal-known = sym (record-kind (known (program f)) F i (kGoal g) k) ∙ known-here F ok i p q
-
   pub owner-below : ownerOf f i < length (program f .procedures)
-  unfolding known
-  owner-below = ltb-true (ownerOf f i) (length (program f .procedures)) (and-true goal-known .0)
+  owner-below = goal-owner-below F (λ z. omega arith) (kind-goals q g k)
 
   pub step-typed : {s : Step} → goalAt f i ≡ step s → stepOk (program f) (signatureAt f i) s ≡ true
-  unfolding known typedHere
-  step-typed e = and-true (ap (known (program f) (ownerOf f i)) (sym e) ∙ goal-known) .1
+  unfolding goalOk
+  step-typed e = ap (goalOk (program f) (signatureAt f i)) (sym e) ∙ typed-goal F ok i p q g k
 
 -- the window that the pass lends
 pub here : {f table owners : List ℕ} → Given f table owners → (i : ℕ) → 0 < i → i < recordCount f → {own : List ℕ} → own ≡ windowIn table (getD owners i 0)
@@ -135,9 +132,6 @@ module _ {f : List ℕ} (i : ℕ) (F : Formed f) where
   goal-test g k e m = m ∙ ap (agreesHere (program f) (signatureAt f i)) (sym e) ∙ sym (record-kind (agrees f) F i (kGoal g) k)
 
 module _ {f own : List ℕ} {i : ℕ} (H : Here f own i) where
-  pub own-stands : (g : GoalKind) → kindOf (word f i kindWord) ≡ kGoal g → Standing f own
-  own-stands g k = window-stands (H .window g k)
-
   pub assign-agrees : {w x y r u : ℕ} {b : Bool} → w ≡ word f i kindWord → w ≡ assignKind → x ≡ word f i goalX → r ≡ homeIn own x → y ≡ word f i assignY
       → u ≡ homeIn own y → b ≡ eqb r u → b ≡ recordTest (agrees f) f i
   unfolding agreesHere stepRegions

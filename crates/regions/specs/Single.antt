@@ -1,23 +1,18 @@
--- Number 5 of single goals, their parts aside: asked of every record that is a goal, it is number 5 of the file. And what number 3 says of each of them.
-use Prim.Native.Nat.{ℕ, suc, _-_, _<_}
-use mathlib.Core.Bool.{Bool, true, false, false≢true}
-use mathlib.Core.List.{List, [], _∷_}
+-- Number 5 of single goals, their parts aside: asked of every record that is a goal, it is number 5 of the file.
+use Prim.Native.Nat.{ℕ, _-_}
+use mathlib.Core.Bool.{Bool, true, false}
+use mathlib.Core.List.{List}
 use mathlib.Core.Path.{_≡_, refl, ap₂, _∙_}
-use borrow.Author.Tests.{lt-ltb}
-use lib.Dec.{ltb}
-use lib.ListN.{length}
-use Rattle.sets.specs.Tests.{_&_, and-true, true-and}
+use Rattle.sets.specs.Tests.{_&_}
 use Rattle.language.specs.File.{recordCount}
 use Rattle.language.specs.Lists.{all, upFrom}
-use Rattle.language.specs.Program.{argumentsOf, Functor, Goals, done, _then_, Goal, step, switch, ifLess, Arms, noArms, arm, Signature, Program, regionOf, signatureOf}
-use Rattle.language.specs.Typing.{stepOk, goalsOk, goalOk, armsOk, typingOk}
+use Rattle.language.specs.Program.{argumentsOf, Goals, done, _then_, Goal, step, switch, ifLess, Arms, noArms, arm, Signature, Program, regionOf, signatureOf}
 use Rattle.language.specs.Regions.{inTargets, stepRegions, goalsRegions, goalRegions, armsRegions, regionsOk}
 use Rattle.language.specs.Answers.{program}
-use Rattle.region_graph.specs.Typed.{goals-typed}
 use Rattle.chains.specs.Formed.{Formed}
 use Rattle.owners.specs.Everywhere.{allGoals, allGoal, allArms, recordTest, everyRecord}
-use Rattle.owners.specs.Numbered.{at-every, every-same}
-use Rattle.owners.specs.TreeLaw.{goals-records, every-record}
+use Rattle.owners.specs.Numbered.{every-same}
+use Rattle.owners.specs.TreeLaw.{every-record}
 
 -- ---- number 5
 module _ (P : Program) (S : Signature) where
@@ -67,40 +62,3 @@ unfolding regionsOk agrees everyRecord signatureOf
 number-5 {f} F =
     every-same (agrees f) (program f) (λ p. goalsRegions (program f) (p .signature) (p .body)) (λ q l. goals-agree (program f) (signatureOf (program f) q) _)
     ∙ every-record (agrees f) F
-
--- ---- number 3: the step's, and that the procedure is one
-unfoldable pub typedHere : Program → Signature → Goal → Bool
-typedHere P S (step s) = stepOk P S s
-typedHere P S (switch x cs) = true
-typedHere P S (ifLess y z a b) = true
-
-unfoldable pub known : Program → ℕ → Goal → Bool
-known P q g = ltb q (length (P .procedures)) & typedHere P (signatureOf P q) g
-
-module _ (P : Program) (q : ℕ) (l : ltb q (length (P .procedures)) ≡ true) where
-  mutual
-    unfolding goalsOk allGoals typedHere known
-
-    goals-known : (gs : Goals) → goalsOk P (signatureOf P q) gs ≡ true → allGoals (known P q) gs ≡ true
-    goals-known done e = refl
-    goals-known (g then gs) e = true-and (goal-known g (and-true e .0)) (goals-known gs (and-true e .1))
-
-    goal-known : (g : Goal) → goalOk P (signatureOf P q) g ≡ true → allGoal (known P q) g ≡ true
-    goal-known (step s) e = true-and l e
-    goal-known (switch x cs) e = true-and (true-and l refl) (arms-known cs _ 0 (and-true (and-true e .1) .1))
-    goal-known (ifLess y z a b) e =
-        let p = and-true (and-true (and-true e .1) .1) in
-        true-and (true-and l refl) (true-and (goals-known a (p .0)) (goals-known b (p .1)))
-
-    arms-known : (cs : Arms) (fs : List Functor) (n : ℕ) → armsOk P (signatureOf P q) cs fs n ≡ true → allArms (known P q) cs ≡ true
-    arms-known noArms fs n e = refl
-    arms-known (arm k ys gs cs) [] n e = absurd (false≢true e)
-    arms-known (arm k ys gs cs) (g ∷ fs) n e =
-        let p = and-true (and-true (and-true e .1) .1) in
-        true-and (goals-known gs (p .0)) (arms-known cs fs (suc n) (p .1))
-
-pub known-here : {f : List ℕ} → Formed f → typingOk (program f) ≡ true → (i : ℕ) → 0 < i → i < recordCount f → recordTest (known (program f)) f i ≡ true
-known-here {f} F ok =
-    goals-records (known (program f)) F
-    (at-every (known (program f)) (program f)
-    (λ q l. goals-known (program f) q (lt-ltb q (length (program f .procedures)) l) _ (goals-typed (program f) ok q)))

@@ -11,7 +11,7 @@ use Rattle.language.specs.Typing.{typingOk}
 use Rattle.language.specs.Values.{valuesOk}
 use Rattle.language.specs.Regions.{regionsOk}
 use Rattle.language.specs.Lifetimes.{declaredClassesOk}
-use Rattle.language.specs.Answers.{Stage, stage, lowest, program, fileStages}
+use Rattle.language.specs.Answers.{Stage, stage, lowest, program}
 use Rattle.records.specs.Verdicts.{formStages, formVerdict, after, lowest-append}
 use Rattle.chains.specs.Formed.{Formed, formed}
 

@@ -1,10 +1,8 @@
 -- The places of words in the rows and in the windows of the file's table. The code has them under the same names (src/lib.rt).
 use Prim.Native.Nat.{ℕ, _+_, _*_}
+pub use Rattle.records.specs.Blank.{rowSize, headSize}
 
--- words of a row, and word k of the row of record i
-abbrev pub rowSize : ℕ
-rowSize = 6
-
+-- word k of the row of record i
 abbrev pub rowPlace : ℕ → ℕ → ℕ
 rowPlace i k = rowSize * i + k
 
@@ -28,9 +26,6 @@ abbrev pub markPlace : ℕ
 markPlace = 5
 
 -- the first words of a window
-abbrev pub headSize : ℕ
-headSize = 10
-
 abbrev pub variablesPlace : ℕ
 variablesPlace = 0
 

@@ -10,7 +10,7 @@ use lib.ListN.{length, getD, take, drop, List·getD-eq-default, length-drop}
 use lib.Seq.{take-all}
 use Rattle.language.specs.Lists.{nth, choose}
 use Rattle.language.specs.File.{word}
-use Rattle.language.specs.Format.{procedureGoals}
+use Rattle.language.specs.Format.{headerProcedures, procedureGoals}
 use Rattle.language.specs.Program.{procedureAt}
 use Rattle.language.specs.Answers.{program}
 use Rattle.chains.specs.Records.{chainRecords}
@@ -53,6 +53,6 @@ module _ {f t : List ℕ} (h : FileTable f t) {q : ℕ} (l : q < length (program
   unfolding windowIn
   window-here = rw (start-is t q (h .starts q l)) (h .at q l)
 
-  pub body-here : getD (windowIn t q) bodyPlace 0 ≡ word f (nth 0 (chainRecords f (word f 0 1)) q) procedureGoals
+  pub body-here : getD (windowIn t q) bodyPlace 0 ≡ word f (nth 0 (chainRecords f (word f 0 headerProcedures)) q) procedureGoals
   unfolding windowIn
   body-here = rw (start-is t q (h .starts q l)) (h .body q l)

@@ -2,11 +2,13 @@
 // each record what its goal does.
 mod reaches;
 mod rows;
+mod starts;
 mod window;
-mod windows;
 
 pub use reaches::reach_all;
 use records::blank::FILE_WORDS;
+use records::blank::HEAD_SIZE;
+use records::blank::ROW_SIZE;
 use records::blank::ROW_WORDS;
 pub use rows::access_at;
 pub use rows::bears_at;
@@ -18,16 +20,16 @@ pub use rows::put_access;
 pub use rows::put_effect;
 pub use rows::reads_at;
 use sets::Set;
+pub use starts::body_of;
+pub use starts::start_of;
 pub use window::edges;
 pub use window::home;
 pub use window::reach;
 pub use window::set_at;
 pub use window::word_at;
-pub use windows::body_of;
-pub use windows::start_of;
 
 // Words of a row, and of the rows of 4,096 records.
-pub const ROW: usize = 6;
+pub const ROW: usize = ROW_SIZE;
 
 pub const ROWS: usize = ROW_WORDS;
 
@@ -68,7 +70,7 @@ pub const FIRST: usize = 9;
 
 // Behind them two words for each variable and one for each region: variable x has its region at 2 * x + HOMES and its reach at 2 * x + REACHES, and
 // region r, where there are n variables, its first edge at 2 * n + r + EDGES.
-pub const HEAD: usize = 10;
+pub const HEAD: usize = HEAD_SIZE;
 
 pub const HOMES: usize = 8;
 

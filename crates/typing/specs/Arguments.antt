@@ -18,7 +18,7 @@ use Rattle.declarations.specs.Functors.{functorAtRecord}
 
 -- the arguments of a construct or an arm
 unfoldable pub argumentsAtRecord : List ℕ → ℕ → Four
-argumentsAtRecord f i = four (word f i 4) (word f i 5) (word f i 6) (word f i 7)
+argumentsAtRecord f i = four (word f i termArguments) (word f i (termArguments + 1)) (word f i (termArguments + 2)) (word f i (termArguments + 3))
 
 module _ (S : Signature) where
   -- argument a at position k, counted from 0, for the type ty: a variable of that type, or 0 past the arity
@@ -88,8 +88,14 @@ module _ (S : Signature) where
 
 -- ---- the four slots of record i for the functor of record g, one after the other
 module _ (f : List ℕ) (S : Signature) (g i : ℕ) where
+  abbrev type : ℕ → ℕ
+  type k = word f g (functorTypes + k)
+
+  abbrev argument : ℕ → ℕ
+  argument k = word f i (termArguments + k)
+
   abbrev pub slotHere : ℕ → Bool
-  slotHere k = argumentSlot S (word f g functorArity) k (word f g (functorTypes + k)) (word f i (termArguments + k))
+  slotHere k = argumentSlot S (word f g functorArity) k (type k) (argument k)
 
   -- the n slots from k on
   unfoldable slotsFrom : ℕ → ℕ → Bool
@@ -104,8 +110,8 @@ module _ (f : List ℕ) (S : Signature) (g i : ℕ) where
   unfolding slotsLeft slotsFrom argumentsAtRecord functorAtRecord argumentsOk typesIn fourWords argumentsOf
   slots-whole =
       ap (λ (b : Bool). slotHere 0 & slotHere 1 & slotHere 2 & b) (and-yes _)
-      ∙ slots-fit S (word f g functorArity) (word f g 3) (word f g 4) (word f g 5) (word f g 6) (word f i 4) (word f i 5) (word f i 6) (word f i 7)
-      ∙ sym (trim-fit S (word f g functorArity) (word f g 3 ∷ word f g 4 ∷ word f g 5 ∷ word f g 6 ∷ []) (word f i 4 ∷ word f i 5 ∷ word f i 6 ∷ word f i 7 ∷ []) refl)
+      ∙ slots-fit S (word f g functorArity) (type 0) (type 1) (type 2) (type 3) (argument 0) (argument 1) (argument 2) (argument 3)
+      ∙ sym (trim-fit S (word f g functorArity) (type 0 ∷ type 1 ∷ type 2 ∷ type 3 ∷ []) (argument 0 ∷ argument 1 ∷ argument 2 ∷ argument 3 ∷ []) refl)
 
   module _ {k : ℕ} (l : k < maxArity) {r : Bool} (e : r ≡ slotHere k) where
     slots-here : slotsLeft k ≡ (r & slotsLeft (k + 1))

@@ -28,6 +28,7 @@ ghost use mathlib.Core.Path.{_≡_};
 ghost use mathlib.Core.Logic.{_⊎_};
 ghost use Prim.Native.Nat.{_<_};
 ghost use Rattle.language.specs.File.{word, goals, recordCount};
+ghost use Rattle.records.specs.Sizes.{recordWords};
 ghost use Rattle.chains.specs.Formed.{Formed, Stands};
 ghost use Rattle.chains.specs.Shapes.{IsSum, IsAssign, IsCreate, IsRemove, IsSwitch, IsIf};
 ghost use Rattle.declarations.specs.Declares.{Declares};
@@ -37,7 +38,7 @@ ghost use Rattle.typing.specs.Settings.{NumberTested, GoalTested};
 // Whether word k of record i is a variable of type 0.
 pub fn is_number(file: &[u8], own: &[u16; OWN_PLACES], i: usize, k: usize) -> bool
     requires { ⌜ Formed (now file) × Own (now file) (now own) ⌝ }
-    requires { ⌜ (k < 8) × (i < recordCount (now file)) ⌝ }
+    requires { ⌜ (k < recordWords) × (i < recordCount (now file)) ⌝ }
     ensures { λ b. ⌜ NumberTested (now (file .entry)) (now (own .entry)) i k b ⌝ }
 {
     has_type(file, own, 0, word(file, i, k))

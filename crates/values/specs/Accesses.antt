@@ -3,7 +3,7 @@ use Prim.Native.Nat.{ℕ}
 use mathlib.Core.Path.{_≡_}
 use mathlib.Core.List.{List}
 use Rattle.language.specs.Program.{Four, Variable, Step, literal, sum, assign, construct, call, print, create, remove, Goals, _then_, step, Program, signatureOf, parametersOf}
-use Rattle.language.specs.Values.{access, accessing, reads, gives}
+use Rattle.language.specs.Values.{access, accessing}
 use Rattle.tables.specs.declared.Access.{Access}
 use Rattle.values.specs.Gathering.{noAccess, readIn, givenIn, fourRead, Gathers, gathers-none, gathers-read, gathers-give, four-read}
 use Rattle.values.specs.Matching.{passing, Matches}
@@ -11,17 +11,6 @@ use Rattle.values.specs.Matching.{passing, Matches}
 -- all that the step reads and gives has been gathered
 pub record Accesses (P : Program) (g : Step) (a : Access) : Type 0 where
   pub gathered : Gathers a (access P g .read) (access P g .given)
-
-pub CallAccesses : Program → ℕ → List ℕ → Access → Type 0
-CallAccesses P q ys a = Accesses P (call q ys) a
-
-pub reads-is : {P : Program} {g : Step} {a : Access} → Accesses P g a → a .reads ≡ reads P g
-unfolding reads
-reads-is h = h .gathered .read
-
-pub gives-is : {P : Program} {g : Step} {a : Access} → Accesses P g a → a .gives ≡ gives P g
-unfolding gives
-gives-is h = h .gathered .given
 
 module _ (P : Program) where
   pub literal-access : (x v : ℕ) → Accesses P (literal x v) (givenIn noAccess x)

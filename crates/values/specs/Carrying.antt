@@ -16,6 +16,7 @@ use Rattle.language.specs.Values.{reads, gives}
 use Rattle.language.specs.Answers.{program}
 use Rattle.chains.specs.Formed.{Formed, Stands}
 use Rattle.chains.specs.Parts.{fourAt}
+use Rattle.records.specs.Blank.{walkWords}
 use Rattle.tables.specs.Rows.{readsIn, givesIn, markIn}
 use Rattle.tables.specs.Filled.{StepAt}
 use Rattle.values.specs.Fitting.{armArguments}
@@ -23,7 +24,7 @@ use Rattle.values.specs.Noting.{Noted}
 use Rattle.values.specs.Closed.{one-at}
 use Rattle.values.specs.Walk.{outcome, goesOn, step-goes}
 use Rattle.values.specs.Along.{GoalsWalked, GoalWalked, ArmsWalked}
-use Rattle.values.specs.Valuing.{Valuation, everyIn, someIn, both, valuation, giving, valuer}
+use Rattle.values.specs.Valuing.{Valuation, everyPlace, somePlace, everyIn, someIn, both, valuation, giving, valuer}
 
 -- with the words c before and d behind, the answer r is right
 abbrev pub GoalsValued : List ℕ → ℕ → List ℕ → Bool → List ℕ → Type 0
@@ -40,12 +41,15 @@ abbrev pub RowValued : List ℕ → ℕ → List ℕ → Bool → List ℕ → T
 RowValued rows i c r d = outcome r (valuation d) ≡ giving (readsIn rows i) (givesIn rows i) (markIn rows i) (valuation c)
 
 -- ---- two words stored
-pub carried-both : (c : List ℕ) {x y : ℕ} {e s : Set} → 2 ≤ length c → x ≡ stored e → y ≡ stored s → valuation (set (set c 0 x) 1 y) ≡ both e s
+pub carried-both : (c : List ℕ) {x y : ℕ} {e s : Set} → walkWords ≤ length c → x ≡ stored e → y ≡ stored s
+    → valuation (set (set c everyPlace x) somePlace y) ≡ both e s
 unfolding everyIn someIn
 carried-both c {x} {y} {e} {s} l p q =
-    let n = length-set c 0 x in
-    ap₂ both (ap loaded (getD-set-other (set c 0 x) 1 0 y 0 (λ z. omega arith) ∙ getD-set-same c 0 x 0 (omega arith) ∙ p) ∙ loaded-stored e)
-    (ap loaded (getD-set-same (set c 0 x) 1 y 0 (omega arith) ∙ q) ∙ loaded-stored s)
+    let n = length-set c everyPlace x in
+    ap₂ both
+    (ap loaded (getD-set-other (set c everyPlace x) somePlace everyPlace y 0 (λ z. omega arith) ∙ getD-set-same c everyPlace x 0 (omega arith) ∙ p)
+    ∙ loaded-stored e)
+    (ap loaded (getD-set-same (set c everyPlace x) somePlace y 0 (omega arith) ∙ q) ∙ loaded-stored s)
 
 module _ (f : List ℕ) {rows : List ℕ} (N : Noted f rows) where
   -- ---- a step's row

@@ -20,11 +20,18 @@ pub record Valuation : Type 0 where
   pub some : Set
 
 -- as the code carries it: two words
+-- the two words
+abbrev pub everyPlace : ℕ
+everyPlace = 0
+
+abbrev pub somePlace : ℕ
+somePlace = 1
+
 unfoldable pub everyIn : List ℕ → Set
-everyIn c = loaded (getD c 0 0)
+everyIn c = loaded (getD c everyPlace 0)
 
 unfoldable pub someIn : List ℕ → Set
-someIn c = loaded (getD c 1 0)
+someIn c = loaded (getD c somePlace 0)
 
 abbrev pub both : Set → Set → Valuation
 both e s = record { every = e; some = s }

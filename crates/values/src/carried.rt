@@ -1,4 +1,5 @@
 // What number 4 carries, in place: a word for the variables with a value on every path that leads here, and one for those with a value on some path.
+use records::blank::WALK_WORDS;
 use sets::Set;
 use tables::ROWS;
 use tables::gives_at;
@@ -8,31 +9,37 @@ ghost use mathlib.Core.Path.{_≡_};
 ghost use Prim.Native.Nat.{_≤_};
 ghost use lib.ListN.{length};
 ghost use Rattle.sets.specs.Sets.{_∪_, _∩_};
+ghost use Rattle.records.specs.Blank.{walkWords};
 ghost use Rattle.values.specs.Valuing.{everyIn, someIn, both, valuation};
 ghost use Rattle.values.specs.Carrying.{RowValued};
 
-pub fn every_in(carried: &[u64; 2]) -> Set
+// The two words.
+const EVERY: usize = 0;
+
+const SOME: usize = 1;
+
+pub fn every_in(carried: &[u64; WALK_WORDS]) -> Set
     ensures { λ s. ⌜ s ≡ everyIn (now (carried .entry)) ⌝ }
 {
-    Set::loaded(carried[0])
+    Set::loaded(carried[EVERY])
 }
 
-pub fn some_in(carried: &[u64; 2]) -> Set
+pub fn some_in(carried: &[u64; WALK_WORDS]) -> Set
     ensures { λ s. ⌜ s ≡ someIn (now (carried .entry)) ⌝ }
 {
-    Set::loaded(carried[1])
+    Set::loaded(carried[SOME])
 }
 
 pub fn carry(carried: &mut [u64], every: Set, some: Set)
-    requires { ⌜ 2 ≤ length (now carried) ⌝ }
+    requires { ⌜ walkWords ≤ length (now carried) ⌝ }
     ensures { λ _. ⌜ valuation (now (carried .exit)) ≡ both every some ⌝ }
 {
-    carried[0] = every.stored();
-    carried[1] = some.stored();
+    carried[EVERY] = every.stored();
+    carried[SOME] = some.stored();
 }
 
 // Where paths meet: another path has those with a value.
-pub fn join(every: Set, some: Set, carried: &mut [u64; 2])
+pub fn join(every: Set, some: Set, carried: &mut [u64; WALK_WORDS])
     ensures { λ _. ⌜ valuation (now (carried .exit)) ≡ both (every ∩ everyIn (now (carried .entry))) (some ∪ someIn (now (carried .entry))) ⌝ }
 {
     let e = every.intersection(every_in(carried));
@@ -41,7 +48,7 @@ pub fn join(every: Set, some: Set, carried: &mut [u64; 2])
 }
 
 // After the step or arm of row i: what it reads has a value on every path, what it gives has one on no path.
-pub fn apply(rows: &[u64; ROWS], i: usize, carried: &mut [u64; 2]) -> bool
+pub fn apply(rows: &[u64; ROWS], i: usize, carried: &mut [u64; WALK_WORDS]) -> bool
     ensures { λ b. ⌜ RowValued (now (rows .entry)) i (now (carried .entry)) b (now (carried .exit)) ⌝ }
 {
     let every = every_in(carried);

@@ -8,7 +8,7 @@ use chains::chain_length;
 use chains::field;
 use language::format::HEADER_PROCEDURES;
 use language::format::PROCEDURE_VARIABLES;
-use records::blank::blank_pair;
+use records::blank::blank_walk;
 use records::word;
 use tables::BODY;
 use tables::INS;
@@ -81,7 +81,7 @@ fn procedure_ok(file: &[u8], table: &[u64; TABLE], rows: &[u64; ROWS], q: usize)
     let ins = set_at(table, window + INS);
     let body = word_at(table, window + BODY);
     let outs = set_at(table, window + OUTS);
-    let mut carried = blank_pair();
+    let mut carried = blank_walk();
     carry(&mut carried, ins, ins);
     if !goals(file, rows, &mut carried, body) {
         return false;

@@ -18,6 +18,7 @@ use language::format::KIND;
 use language::format::NEXT;
 use language::format::SWITCH;
 use language::format::SWITCH_ARMS;
+use records::blank::WALK_WORDS;
 use tables::ROWS;
 ghost use mathlib.Core.Path.{_≡_};
 ghost use Rattle.language.specs.File.{goals, arms, word};
@@ -27,7 +28,7 @@ ghost use Rattle.values.specs.Noting.{Noted};
 ghost use Rattle.values.specs.Carrying.{GoalsValued, GoalValued, ArmsValued};
 
 // The goals from record start on.
-pub fn goals(file: &[u8], rows: &[u64; ROWS], carried: &mut [u64; 2], start: usize) -> bool
+pub fn goals(file: &[u8], rows: &[u64; ROWS], carried: &mut [u64; WALK_WORDS], start: usize) -> bool
     requires { ⌜ Formed (now file) ⌝ }
     requires { ⌜ Noted (now file) (now rows) ⌝ }
     requires { ⌜ Stands (now file) goals start ⌝ }
@@ -44,7 +45,7 @@ pub fn goals(file: &[u8], rows: &[u64; ROWS], carried: &mut [u64; 2], start: usi
 }
 
 // The goal at record i.
-fn goal(file: &[u8], rows: &[u64; ROWS], carried: &mut [u64; 2], i: usize) -> bool
+fn goal(file: &[u8], rows: &[u64; ROWS], carried: &mut [u64; WALK_WORDS], i: usize) -> bool
     requires { ⌜ Formed (now file) ⌝ }
     requires { ⌜ Noted (now file) (now rows) ⌝ }
     requires { ⌜ Stands (now file) goals i × (i ≡ 0 → ⊥) ⌝ }
@@ -63,7 +64,7 @@ fn goal(file: &[u8], rows: &[u64; ROWS], carried: &mut [u64; 2], i: usize) -> bo
     }
 }
 
-fn switch(file: &[u8], rows: &[u64; ROWS], carried: &mut [u64; 2], i: usize) -> bool
+fn switch(file: &[u8], rows: &[u64; ROWS], carried: &mut [u64; WALK_WORDS], i: usize) -> bool
     requires { ⌜ Formed (now file) ⌝ }
     requires { ⌜ Noted (now file) (now rows) ⌝ }
     requires { ⌜ word (now file) i kindWord ≡ switchKind ⌝ }
@@ -77,7 +78,7 @@ fn switch(file: &[u8], rows: &[u64; ROWS], carried: &mut [u64; 2], i: usize) -> 
 }
 
 // An if: its first part, then from what was carried before its second.
-fn branches(file: &[u8], rows: &[u64; ROWS], carried: &mut [u64; 2], i: usize) -> bool
+fn branches(file: &[u8], rows: &[u64; ROWS], carried: &mut [u64; WALK_WORDS], i: usize) -> bool
     requires { ⌜ Formed (now file) ⌝ }
     requires { ⌜ Noted (now file) (now rows) ⌝ }
     requires { ⌜ word (now file) i kindWord ≡ ifKind ⌝ }
@@ -111,7 +112,7 @@ fn branches(file: &[u8], rows: &[u64; ROWS], carried: &mut [u64; 2], i: usize) -
 }
 
 // The arms from record i on, each from what is carried before them.
-fn arms(file: &[u8], rows: &[u64; ROWS], carried: &mut [u64; 2], i: usize) -> bool
+fn arms(file: &[u8], rows: &[u64; ROWS], carried: &mut [u64; WALK_WORDS], i: usize) -> bool
     requires { ⌜ Formed (now file) ⌝ }
     requires { ⌜ Noted (now file) (now rows) ⌝ }
     requires { ⌜ Stands (now file) arms i ⌝ }

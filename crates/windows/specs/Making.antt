@@ -10,6 +10,7 @@ use borrow.Author.Tests.{le-leb, lt-leb}
 use lib.ListN.{length, getD}
 use Rattle.sets.specs.Sets.{emptySet, loaded}
 use Rattle.sets.specs.Members.{setOf}
+use Rattle.laws.specs.Lists.{nth-past}
 use Rattle.language.specs.Lists.{nth1}
 use Rattle.language.specs.File
 use Rattle.language.specs.Program.{Signature, regionOf, regionAt}
@@ -23,7 +24,6 @@ use Rattle.region_graph.specs.Procedure.{declared}
 use Rattle.chains.specs.Formed.{Formed, Stands, edgesAt}
 use Rattle.chains.specs.Fields.{fieldOf, field-none}
 use Rattle.chains.specs.Records.{chainRecords}
-use Rattle.chains.specs.Tables.{nth-past}
 use Rattle.chains.specs.Elements.{variables-count, regions-count}
 use Rattle.chains.specs.Reached.{stands-nth1, region-edges}
 use Rattle.chains.specs.Lookups.{variable-of, region-of}
@@ -72,7 +72,7 @@ module _ {f : List ℕ} {v r : ℕ} (F : Formed f) (S : Signature) (h : Signatur
 
   home-past : (k : ℕ) → length (chainRecords f v) ≤ k → 0 ≡ regionOf S (suc k)
   unfolding nth1
-  home-past k l = field-none f variableRegion (nth-past (chainRecords f v) k l) ∙ sym (home-part (suc k))
+  home-past k l = field-none f variableRegion (nth-past 0 (chainRecords f v) k l) ∙ sym (home-part (suc k))
 
   home-zero : 0 ≡ regionOf S 0
   unfolding nth1 fieldOf
@@ -124,7 +124,7 @@ module _ {f : List ℕ} {v r : ℕ} (F : Formed f) (S : Signature) (h : Signatur
       edge-made (suc k) = elim (decLt k (length (chainRecords f r))) [
         | yes l ↦ sym (edges-some w (suc k) (sym c) (omega (arith, few-variables)) (sym d) (sym (number-yes _ few-regions k l)) refl (sym (edges k l)))
         | no l ↦ sym (edges-none w (suc k) (sym c) (omega (arith, few-variables)) (sym d) (sym (number-no _ few-regions k (omega arith))) refl)
-            ∙ field-none f regionEdges (nth-past (chainRecords f r) k (omega arith))
+            ∙ field-none f regionEdges (nth-past 0 (chainRecords f r) k (omega arith))
       ]
 
       pub edges-made : (q : ℕ) → edgesAt f (edgesIn w q) ≡ regionAt S q .edges

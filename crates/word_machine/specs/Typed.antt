@@ -1,18 +1,16 @@
 -- What number 3 says of every record that is a goal or an arm: each belongs to a procedure (`owners`), and the goals of procedures pass.
-use Prim.Native.Nat.{ℕ, suc, _<_}
+use Prim.Native.Nat.{ℕ, _<_}
 use native.Mathlib.Omega.{arith}
 use mathlib.Core.Bool.{true, false≢true}
-use mathlib.Core.List.{List, [], _∷_}
+use mathlib.Core.List.{List}
 use mathlib.Core.Logic.{inl, inr}
 use mathlib.Core.Path.{_≡_, refl, sym, _∙_}
-use Rattle.sets.specs.Tests.{and-true, true-and}
 use Rattle.language.specs.File.{GoalKind, kLiteral, kSum, kAssign, kConstruct, kSwitch, kIf, kCall, kPrint, kCreate, kRemove, Kind, kNone, kHeader, kType, kFunctor, kProcedure, kVariable, kRegion, kEdge, kArm, kArgument, kGoal, Chain, nowhere, types, functors, procedures, variables, regions, edges, goals, arms, arguments, row, kindOf, word, recordCount}
-use Rattle.language.specs.Program.{Functor, Goals, done, _then_, Goal, step, switch, ifLess, Arms, noArms, arm, Signature, Program, signatureOf}
-use Rattle.language.specs.Typing.{goalsOk, goalOk, armsOk, typingOk}
+use Rattle.language.specs.Program.{Signature, signatureOf}
+use Rattle.language.specs.Typing.{goalOk, typingOk}
 use Rattle.language.specs.Answers.{program}
 use Rattle.language.specs.Format.{kindWord}
 use Rattle.laws.specs.Typed.{TypedArms, typed-arms, typed-arm}
-use Rattle.region_graph.specs.Typed.{goals-typed}
 use Rattle.chains.specs.Layout.{all-rows}
 use Rattle.chains.specs.Layout.{real, known-chain, header-kind}
 use Rattle.records.specs.Table.{uses}
@@ -22,49 +20,16 @@ use Rattle.chains.specs.Kinds.{kindIn, kind-read, same-read}
 use Rattle.chains.specs.Parts.{switch-at, arm-at}
 use Rattle.owners.specs.Owner.{ownerOf}
 use Rattle.owners.specs.Owners.{Belongs, switch-arms, arm-next}
-use Rattle.owners.specs.Everywhere.{allGoals, allGoal, allArms, everyGoal, ifGoal}
-use Rattle.owners.specs.Numbered.{at-every}
-use Rattle.owners.specs.TreeLaw.{goals-records, record-kind}
+use Rattle.owners.specs.Typed.{typed-goal}
 use Rattle.owners.specs.Referred.{sortOf, usesOf, Each, EachOf, header-uses, outward}
-
--- ---- goals that pass: each of them does, with its parts
-module _ (P : Program) (S : Signature) where
-  mutual
-    unfolding goalsOk allGoals
-
-    goals-each : (gs : Goals) → goalsOk P S gs ≡ true → allGoals (goalOk P S) gs ≡ true
-    goals-each done e = refl
-    goals-each (g then gs) e = true-and (goal-each g (and-true e .0)) (goals-each gs (and-true e .1))
-
-    goal-each : (g : Goal) → goalOk P S g ≡ true → allGoal (goalOk P S) g ≡ true
-    goal-each (step s) e = e
-    goal-each (switch x cs) e = true-and e (arms-each cs _ 0 (and-true (and-true e .1) .1))
-    goal-each (ifLess y z a b) e =
-        let p = and-true (and-true (and-true e .1) .1) in
-        true-and e (true-and (goals-each a (p .0)) (goals-each b (p .1)))
-
-    arms-each : (cs : Arms) (fs : List Functor) (n : ℕ) → armsOk P S cs fs n ≡ true → allArms (goalOk P S) cs ≡ true
-    arms-each noArms fs n e = refl
-    arms-each (arm k ys gs cs) [] n e = absurd (false≢true e)
-    arms-each (arm k ys gs cs) (g ∷ fs) n e =
-        let p = and-true (and-true (and-true e .1) .1) in
-        true-and (goals-each gs (p .0)) (arms-each cs fs (suc n) (p .1))
 
 module _ {f : List ℕ} (F : Formed f) (ok : typingOk (program f) ≡ true) where
   -- the signature of the procedure that has record i
   abbrev pub owning : ℕ → Signature
   owning i = signatureOf (program f) (ownerOf f i)
 
-  every : everyGoal (λ q. goalOk (program f) (signatureOf (program f) q)) (program f) ≡ true
-  every =
-      at-every (λ q. goalOk (program f) (signatureOf (program f) q)) (program f)
-      (λ q l. goals-each (program f) (signatureOf (program f) q) _ (goals-typed (program f) ok q))
-
   pub typed-record : (i : ℕ) → 0 < i → i < recordCount f → (g : GoalKind) → kindIn (recordAt f i) ≡ kGoal g → goalOk (program f) (owning i) (goalAt f i) ≡ true
-  unfolding ifGoal
-  typed-record i p q g e =
-      sym (record-kind (λ o. goalOk (program f) (signatureOf (program f) o)) F i (kGoal g) (sym (kind-read f i refl) ∙ e))
-      ∙ goals-records (λ o. goalOk (program f) (signatureOf (program f) o)) F every i p q
+  typed-record i p q g e = typed-goal F ok i p q g (sym (kind-read f i refl) ∙ e)
 
   -- ---- arms: from the switch that has them along their chain
   unfoldable Armed : Chain → ℕ → Type 0

@@ -5,39 +5,41 @@ use mathlib.Core.List.{List, [], _∷_, _++_}
 use mathlib.Core.Path.{_≡_, refl, ap₂, _∙_}
 use lib.ListN.{length, getD, set, length-set, length-append}
 use lib.Seq.{getD-set-same, getD-set-other}
+use Rattle.language.specs.Format.{recordBytes, kindWord, nextWord}
+use Rattle.records.specs.Sizes.{byteEnd, wordEnd, recordWords}
 use Rattle.chains.specs.Layout.{Spelled, Stand, Eights, stand-join, stand-same, spelled-same, spelled-more}
 use Rattle.language.specs.File.{word}
 
 -- each word fits in 16 bits
 abbrev pub Small : List ℕ → Type 0
 Small [] = Unit {0}
-Small (x ∷ xs) = (x < 65536) × Small xs
+Small (x ∷ xs) = (x < wordEnd) × Small xs
 
 -- ---- one word
 -- word k of record i is x now, and no other byte changed
 pub record Put (a b : List ℕ) (i k x : ℕ) : Type 0 where
   pub same : length b ≡ length a
   pub there : word b i k ≡ x
-  pub below : (j : ℕ) → j < 16 * i + 2 * k → getD b j 0 ≡ getD a j 0
-  pub past : (j : ℕ) → 16 * i + 2 * k + 2 ≤ j → getD b j 0 ≡ getD a j 0
+  pub below : (j : ℕ) → j < recordBytes * i + 2 * k → getD b j 0 ≡ getD a j 0
+  pub past : (j : ℕ) → recordBytes * i + 2 * k + 2 ≤ j → getD b j 0 ≡ getD a j 0
 
-pub put-made : (a : List ℕ) (i k x : ℕ) {p q : ℕ} → 16 * i + 16 ≤ length a → k < 8 → p ≡ x % 256 → q ≡ x / 256
-    → Put a (set (set a (16 * i + 2 * k) p) (16 * i + 2 * k + 1) q) i k x
+pub put-made : (a : List ℕ) (i k x : ℕ) {p q : ℕ} → recordBytes * i + recordBytes ≤ length a → k < recordWords → p ≡ x % byteEnd → q ≡ x / byteEnd
+    → Put a (set (set a (recordBytes * i + 2 * k) p) (recordBytes * i + 2 * k + 1) q) i k x
 unfolding word
 put-made a i k x {p = p} {q = q} l h e f =
-    let c = set a (16 * i + 2 * k) p in
-    let d = set c (16 * i + 2 * k + 1) q in
-    let n : length c ≡ length a = length-set a (16 * i + 2 * k) p in
+    let c = set a (recordBytes * i + 2 * k) p in
+    let d = set c (recordBytes * i + 2 * k + 1) q in
+    let n : length c ≡ length a = length-set a (recordBytes * i + 2 * k) p in
     record {
-      same = length-set c (16 * i + 2 * k + 1) q ∙ n;
+      same = length-set c (recordBytes * i + 2 * k + 1) q ∙ n;
       there =
-          let s : getD d (16 * i + 2 * k) 0 ≡ p = getD-set-other c (16 * i + 2 * k + 1) (16 * i + 2 * k) q 0 (λ z. omega arith) ∙ getD-set-same a (16 * i + 2 * k) p 0 (omega arith) in
-          let t : getD d (16 * i + 2 * k + 1) 0 ≡ q = getD-set-same c (16 * i + 2 * k + 1) q 0 (omega arith) in
+          let s : getD d (recordBytes * i + 2 * k) 0 ≡ p = getD-set-other c (recordBytes * i + 2 * k + 1) (recordBytes * i + 2 * k) q 0 (λ z. omega arith) ∙ getD-set-same a (recordBytes * i + 2 * k) p 0 (omega arith) in
+          let t : getD d (recordBytes * i + 2 * k + 1) 0 ≡ q = getD-set-same c (recordBytes * i + 2 * k + 1) q 0 (omega arith) in
           omega arith;
       below = λ j g.
-          getD-set-other c (16 * i + 2 * k + 1) j q 0 (λ z. omega arith) ∙ getD-set-other a (16 * i + 2 * k) j p 0 (λ z. omega arith);
+          getD-set-other c (recordBytes * i + 2 * k + 1) j q 0 (λ z. omega arith) ∙ getD-set-other a (recordBytes * i + 2 * k) j p 0 (λ z. omega arith);
       past = λ j g.
-          getD-set-other c (16 * i + 2 * k + 1) j q 0 (λ z. omega arith) ∙ getD-set-other a (16 * i + 2 * k) j p 0 (λ z. omega arith);
+          getD-set-other c (recordBytes * i + 2 * k + 1) j q 0 (λ z. omega arith) ∙ getD-set-other a (recordBytes * i + 2 * k) j p 0 (λ z. omega arith);
     }
 
 -- ---- the words of a record, from word k on
@@ -45,8 +47,8 @@ put-made a i k x {p = p} {q = q} l h e f =
 pub record Row (a b : List ℕ) (i k : ℕ) (xs : List ℕ) : Type 0 where
   pub same : length b ≡ length a
   pub there : Spelled (word b i) k xs
-  pub below : (j : ℕ) → j < 16 * i + 2 * k → getD b j 0 ≡ getD a j 0
-  pub past : (j : ℕ) → 16 * i + 2 * (k + length xs) ≤ j → getD b j 0 ≡ getD a j 0
+  pub below : (j : ℕ) → j < recordBytes * i + 2 * k → getD b j 0 ≡ getD a j 0
+  pub past : (j : ℕ) → recordBytes * i + 2 * (k + length xs) ≤ j → getD b j 0 ≡ getD a j 0
 
 pub row-none : (a : List ℕ) (i k : ℕ) → Row a a i k []
 row-none a i k = record { same = refl; there = tt; below = λ j l. refl; past = λ j l. refl }
@@ -56,7 +58,7 @@ unfolding word
 row-more {b = b} {d = d} {i = i} {k = k} p q =
     record {
       same = q .same ∙ p .same;
-      there = (ap₂ (λ u v. u + 256 * v) (q .below (16 * i + 2 * k) (omega arith)) (q .below (16 * i + 2 * k + 1) (omega arith)) ∙ p .there, q .there);
+      there = (ap₂ (λ u v. u + byteEnd * v) (q .below (recordBytes * i + 2 * k) (omega arith)) (q .below (recordBytes * i + 2 * k + 1) (omega arith)) ∙ p .there, q .there);
       below = λ j l. q .below j (omega arith) ∙ p .below j l;
       past = λ j l. q .past j (omega arith) ∙ p .past j (omega arith);
     }
@@ -67,13 +69,13 @@ pub record Laid (a b : List ℕ) (c : ℕ) (rs : List (List ℕ)) : Type 0 where
   pub same : length b ≡ length a
   pub eights : Eights rs
   pub there : Stand (word b) c rs
-  pub below : (j : ℕ) → j < 16 * c → getD b j 0 ≡ getD a j 0
-  pub past : (j : ℕ) → 16 * (c + length rs) ≤ j → getD b j 0 ≡ getD a j 0
+  pub below : (j : ℕ) → j < recordBytes * c → getD b j 0 ≡ getD a j 0
+  pub past : (j : ℕ) → recordBytes * (c + length rs) ≤ j → getD b j 0 ≡ getD a j 0
 
 pub laid-none : (a : List ℕ) (c : ℕ) → Laid a a c []
 laid-none a c = record { same = refl; eights = tt; there = tt; below = λ j l. refl; past = λ j l. refl }
 
-pub laid-row : {a b : List ℕ} {c : ℕ} {r : List ℕ} → length r ≡ 8 → Row a b c 0 r → Laid a b c (r ∷ [])
+pub laid-row : {a b : List ℕ} {c : ℕ} {r : List ℕ} → length r ≡ recordWords → Row a b c 0 r → Laid a b c (r ∷ [])
 laid-row e h =
     record {
       same = h .same;
@@ -83,10 +85,10 @@ laid-row e h =
       past = λ j l. h .past j (omega (arith, e));
     }
 
-words-same : (a b : List ℕ) (i k : ℕ) → getD b (16 * i + 2 * k) 0 ≡ getD a (16 * i + 2 * k) 0
-    → getD b (16 * i + 2 * k + 1) 0 ≡ getD a (16 * i + 2 * k + 1) 0 → word b i k ≡ word a i k
+words-same : (a b : List ℕ) (i k : ℕ) → getD b (recordBytes * i + 2 * k) 0 ≡ getD a (recordBytes * i + 2 * k) 0
+    → getD b (recordBytes * i + 2 * k + 1) 0 ≡ getD a (recordBytes * i + 2 * k + 1) 0 → word b i k ≡ word a i k
 unfolding word
-words-same a b i k e f = ap₂ (λ u v. u + 256 * v) e f
+words-same a b i k e f = ap₂ (λ u v. u + byteEnd * v) e f
 
 eights-join : (xs ys : List (List ℕ)) → Eights xs → Eights ys → Eights (xs ++ ys)
 eights-join [] ys h g = g
@@ -124,14 +126,14 @@ module _ {a b d : List ℕ} {c e : ℕ} {xs ys : List (List ℕ)} (q : c + lengt
 -- those of the words that are still to come
 pub record Begun (a b : List ℕ) (at k c : ℕ) (xs : List ℕ) (rs : List (List ℕ)) : Type 0 where
   pub same : length b ≡ length a
-  pub few : k ≤ 8
+  pub few : k ≤ recordWords
   pub many : k ≡ 2 + length xs
   pub words : Spelled (word b at) 2 xs
   pub eights : Eights rs
   pub there : Stand (word b) (suc at) rs
   pub place : c ≡ suc at + length rs
-  pub below : (j : ℕ) → j < 16 * at + 4 → getD b j 0 ≡ getD a j 0
-  pub past : (j : ℕ) → 16 * c ≤ j → getD b j 0 ≡ getD a j 0
+  pub below : (j : ℕ) → j < recordBytes * at + 2 * 2 → getD b j 0 ≡ getD a j 0
+  pub past : (j : ℕ) → recordBytes * c ≤ j → getD b j 0 ≡ getD a j 0
 
 pub begun-none : (a : List ℕ) (at : ℕ) → Begun a a at 2 (at + 1) [] []
 begun-none a at = record {
@@ -148,7 +150,7 @@ begun-none a at = record {
 
 module _ {a b d : List ℕ} {at k c : ℕ} {xs : List ℕ} {rs : List (List ℕ)} (B : Begun a b at k c xs rs) where
   -- the next word
-  pub begun-put : {x : ℕ} → k < 8 → Put b d at k x → Begun a d at (k + 1) c (xs ++ x ∷ []) rs
+  pub begun-put : {x : ℕ} → k < recordWords → Put b d at k x → Begun a d at (k + 1) c (xs ++ x ∷ []) rs
   begun-put {x} l p = record {
     same = p .same ∙ B .same;
     few = omega arith;
@@ -187,10 +189,10 @@ module _ {a b d : List ℕ} {at k c : ℕ} {xs : List ℕ} {rs : List (List ℕ)
   }
 
 -- the first two words come last
-pub begun-done : {a b d e : List ℕ} {at k c u v : ℕ} {xs : List ℕ} {rs : List (List ℕ)} → Begun a b at k c xs rs → 8 ≤ k → Put b d at 0 u → Put d e at 1 v
+pub begun-done : {a b d e : List ℕ} {at k c u v : ℕ} {xs : List ℕ} {rs : List (List ℕ)} → Begun a b at k c xs rs → recordWords ≤ k → Put b d at kindWord u → Put d e at nextWord v
     → Laid a e at ((u ∷ v ∷ xs) ∷ rs)
 begun-done {a} {b} {d} {e} {at} {k} {c} {u} {v} {xs} {rs} B l p q =
-    let past : (j : ℕ) → 16 * at + 4 ≤ j → getD e j 0 ≡ getD b j 0 = λ j m. q .past j (omega arith) ∙ p .past j (omega arith) in
+    let past : (j : ℕ) → recordBytes * at + 2 * 2 ≤ j → getD e j 0 ≡ getD b j 0 = λ j m. q .past j (omega arith) ∙ p .past j (omega arith) in
     record {
       same = q .same ∙ p .same ∙ B .same;
       eights = (omega (arith, B .many, B .few), B .eights);
@@ -207,9 +209,9 @@ begun-done {a} {b} {d} {e} {at} {k} {c} {u} {v} {xs} {rs} B l p q =
 
 -- ---- record i of the file f, but for the next of its chain
 unfoldable pub withNext : List ℕ → ℕ → ℕ → List ℕ
-withNext f i n = word f i 0 ∷ n ∷ word f i 2 ∷ word f i 3 ∷ word f i 4 ∷ word f i 5 ∷ word f i 6 ∷ word f i 7 ∷ []
+withNext f i n = word f i kindWord ∷ n ∷ word f i 2 ∷ word f i 3 ∷ word f i 4 ∷ word f i 5 ∷ word f i 6 ∷ word f i 7 ∷ []
 
-pub laid-next : (f : List ℕ) (i : ℕ) {a b : List ℕ} {c : ℕ} {u0 n u2 u3 u4 u5 u6 u7 : ℕ} → u0 ≡ word f i 0 → u2 ≡ word f i 2 → u3 ≡ word f i 3 → u4 ≡ word f i 4
+pub laid-next : (f : List ℕ) (i : ℕ) {a b : List ℕ} {c : ℕ} {u0 n u2 u3 u4 u5 u6 u7 : ℕ} → u0 ≡ word f i kindWord → u2 ≡ word f i 2 → u3 ≡ word f i 3 → u4 ≡ word f i 4
     → u5 ≡ word f i 5 → u6 ≡ word f i 6 → u7 ≡ word f i 7 → Laid a b c ((u0 ∷ n ∷ u2 ∷ u3 ∷ u4 ∷ u5 ∷ u6 ∷ u7 ∷ []) ∷ []) → Laid a b c (withNext f i n ∷ [])
 unfolding withNext
 laid-next f i p q r s t u v h = rw (← p, ← q, ← r, ← s, ← t, ← u, ← v) h
@@ -228,7 +230,7 @@ unfolding linked
 linked-some zero c z = absurd (z refl)
 linked-some (suc w) c z = refl
 
-pub linked-small : (w c : ℕ) {x : ℕ} → x ≡ linked w c → c < 65536 → x < 65536
+pub linked-small : (w c : ℕ) {x : ℕ} → x ≡ linked w c → c < wordEnd → x < wordEnd
 unfolding linked
 linked-small zero c e h = omega arith
 linked-small (suc w) c e h = omega arith

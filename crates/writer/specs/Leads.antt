@@ -11,6 +11,7 @@ use Rattle.language.specs.Format.{kindWord, headerKind, typeKind, procedureKind
 use Rattle.language.specs.Lists.{nth, all, upFrom}
 use Rattle.language.specs.File.{kLiteral, kSum, kAssign, kConstruct, kSwitch, kIf, kCall, kPrint, kCreate, kRemove, Kind, kNone, kHeader, kType, kFunctor, kProcedure, kVariable, kRegion, kEdge, kArm, kArgument, kGoal, Use, number, unused, first, row, kindOf, word}
 use Rattle.laws.specs.Numbers.{all-at}
+use Rattle.records.specs.Sizes.{recordWords}
 use Rattle.chains.specs.Layout.{all-rows, number-is}
 use Rattle.chains.specs.Shapes.{kind-number}
 
@@ -43,41 +44,41 @@ unfoldable opened : Unit {0}
 unfolding all-rows all upFrom agree nth isFirst _&_
 opened = tt
 
-module _ {k : ℕ} (l : 2 ≤ k) (m : k < 8) where
+module _ {k : ℕ} (l : 2 ≤ k) (m : k < recordWords) where
   right : (v : ℕ) (kd : Kind) → kindOf v ≡ kd → (p : ℕ → Bool) → Right kd p → p k ≡ leadsAt v k
   unfolding leadsAt
   right v kd e p h =
       agree-is (p k) (isFirst (nth unused (row kd .words) (k - 2))) (all-at 6 2 (λ j. agree (p j) (isFirst (nth unused (row kd .words) (j - 2)))) h k l m)
       ∙ ap (λ c. isFirst (nth unused (row c .words) (k - 2))) (sym e)
 
-module _ {w k : ℕ} (l : 2 ≤ k) (m : k < 8) where
+module _ {w k : ℕ} (l : 2 ≤ k) (m : k < recordWords) where
   pub header-leads : w ≡ headerKind → eqb k headerTypes ≡ leadsAt w k
   unfolding opened
-  header-leads e = right l m w kHeader (number-is kHeader w e) (λ j. eqb j 2) refl
+  header-leads e = right l m w kHeader (number-is kHeader w e) (λ j. eqb j headerTypes) refl
 
   pub type-leads : w ≡ typeKind → eqb k typeFunctors ≡ leadsAt w k
   unfolding opened
-  type-leads e = right l m w kType (number-is kType w e) (λ j. eqb j 2) refl
+  type-leads e = right l m w kType (number-is kType w e) (λ j. eqb j typeFunctors) refl
 
   pub procedure-leads : w ≡ procedureKind → leb k procedureGoals ≡ leadsAt w k
   unfolding opened
-  procedure-leads e = right l m w kProcedure (number-is kProcedure w e) (λ j. leb j 4) refl
+  procedure-leads e = right l m w kProcedure (number-is kProcedure w e) (λ j. leb j procedureGoals) refl
 
   pub region-leads : w ≡ regionKind → eqb k regionEdges ≡ leadsAt w k
   unfolding opened
-  region-leads e = right l m w kRegion (number-is kRegion w e) (λ j. eqb j 4) refl
+  region-leads e = right l m w kRegion (number-is kRegion w e) (λ j. eqb j regionEdges) refl
 
   pub switch-leads : w ≡ switchKind → eqb k switchArms ≡ leadsAt w k
   unfolding opened
-  switch-leads e = right l m w (kGoal kSwitch) (number-is (kGoal kSwitch) w e) (λ j. eqb j 3) refl
+  switch-leads e = right l m w (kGoal kSwitch) (number-is (kGoal kSwitch) w e) (λ j. eqb j switchArms) refl
 
   pub arm-leads : w ≡ armKind → eqb k armGoals ≡ leadsAt w k
   unfolding opened
-  arm-leads e = right l m w kArm (number-is kArm w e) (λ j. eqb j 2) refl
+  arm-leads e = right l m w kArm (number-is kArm w e) (λ j. eqb j armGoals) refl
 
   pub call-leads : w ≡ callKind → eqb k callArguments ≡ leadsAt w k
   unfolding opened
-  call-leads e = right l m w (kGoal kCall) (number-is (kGoal kCall) w e) (λ j. eqb j 3) refl
+  call-leads e = right l m w (kGoal kCall) (number-is (kGoal kCall) w e) (λ j. eqb j callArguments) refl
 
   pub then-leads : w ≡ ifKind → k ≡ ifThen → true ≡ leadsAt w k
   unfolding opened leadsAt
@@ -85,7 +86,7 @@ module _ {w k : ℕ} (l : 2 ≤ k) (m : k < 8) where
 
   pub else-leads : w ≡ ifKind → (k ≡ ifThen → ⊥) → eqb k ifElse ≡ leadsAt w k
   unfolding opened _or_
-  else-leads e z = let h = right l m w (kGoal kIf) (number-is (kGoal kIf) w e) (λ j. eqb j 4 or eqb j 5) refl in rw (ne-eqb k 4 z) at h
+  else-leads e z = let h = right l m w (kGoal kIf) (number-is (kGoal kIf) w e) (λ j. eqb j ifThen or eqb j ifElse) refl in rw (ne-eqb k ifThen z) at h
 
   -- ---- no other
   module _ (n1 : w ≡ headerKind → ⊥) (n2 : w ≡ typeKind → ⊥) (n4 : w ≡ procedureKind → ⊥) (n6 : w ≡ regionKind → ⊥) (n12 : w ≡ switchKind → ⊥)

@@ -12,6 +12,7 @@ use Rattle.language.specs.File.{Use, word, recordCount}
 use Rattle.language.specs.Tree.{readWords, readChain}
 use Rattle.language.specs.Layout.{size, sizeWords}
 use Rattle.laws.specs.Lists.{drop-more}
+use Rattle.records.specs.Sizes.{recordWords}
 use Rattle.chains.specs.Layout.{Used, record-used, chain-end}
 use Rattle.chains.specs.Formed.{Formed, counted, ahead, ahead-none, ahead-some}
 use Rattle.chains.specs.Records.{next-onward}
@@ -77,7 +78,7 @@ module _ {f : List ℕ} {start from : ℕ} where
 -- ---- along the words of a record
 pub record Passing (f : List ℕ) (i from k c : ℕ) : Type 0 where
   pub low : 2 ≤ k
-  pub few : k ≤ 8
+  pub few : k ≤ recordWords
   pub left : List Use
   pub uses : drop (k - 2) (usesAt f i) ≡ left
   pub used : Used (word f) (recordCount f) i k left
@@ -100,7 +101,7 @@ module _ {f : List ℕ} {i from : ℕ} (F : Formed f) (l : i < recordCount f) wh
   }
 
   module _ {k c : ℕ} (G : Passing f i from k c) where
-    module _ (m : k < 8) where
+    module _ (m : k < recordWords) where
       here : (u : Use) × (vs : List Use) × (drop (k - 2) (usesAt f i) ≡ u ∷ vs)
       here = some-left (usesAt f i) (k - 2) (omega (arith, row-uses f i, G .low))
 
@@ -149,7 +150,7 @@ module _ {f : List ℕ} {i from : ℕ} (F : Formed f) (l : i < recordCount f) wh
         passing-leads B =
             go-on (leads-next f i k 0 (here .1) (here .0) (sym first-is ∙ e) (rw g at passing-below) used-here) (omega arith) (rw g at B)
 
-    pub passing-done : 8 ≤ k → Behind from (suc (sizeWords (wordsAt f i))) c
+    pub passing-done : recordWords ≤ k → Behind from (suc (sizeWords (wordsAt f i))) c
     unfolding readWords sizeWords
     passing-done h =
         let n : G .left ≡ [] = sym (G .uses) ∙ drop-of-length-le (usesAt f i) {i = k - 2} (omega (arith, row-uses f i, G .low)) in

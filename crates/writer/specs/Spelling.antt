@@ -7,11 +7,12 @@ use mathlib.Core.Path.{_≡_, refl, ap, sym, _∙_}
 use mathlib.Core.Bool.{true, false, false≢true}
 use mathlib.Core.Logic.{_⊎_, inl, inr}
 use lib.ListN.{length, drop, length-drop, drop-of-length-le}
-use Rattle.language.specs.Format.{kindWord}
+use Rattle.language.specs.Format.{recordBytes, kindWord}
 use Rattle.language.specs.File.{kHeader, Use, number, unused, first, row, kindOf, word, recordCount}
 use Rattle.language.specs.Tree.{readWords}
 use Rattle.language.specs.Layout.{size, sizeWords, wordList, lay, layWords}
 use Rattle.laws.specs.Lists.{drop-more, drop-nth}
+use Rattle.records.specs.Sizes.{wordEnd, recordWords}
 use Rattle.chains.specs.Layout.{row-length, Used, record-used, known-number, header-kind, lay-length}
 use Rattle.chains.specs.Shapes.{kind-number}
 use Rattle.chains.specs.Formed.{Formed, counted, ahead, ahead-none, ahead-some}
@@ -93,7 +94,7 @@ module _ (f : List ℕ) (i k c : ℕ) (us : List Use) where
   leads-next (first s) e l h =
       record { used = h .1; text = ap (λ x. x ∷ wordList (c + size (treeAt f (word f i k))) (readWords (λ j. treeAt f j) (word f i) (suc k) us)) (reference-is f c l); laid = refl; total = omega arith }
 
-module _ {f : List ℕ} {i at : ℕ} {a b : List ℕ} {k c : ℕ} (R : RecordReady f i at (length a)) (G : Spelling f i at a b k c) (m : k < 8) where
+module _ {f : List ℕ} {i at : ℕ} {a b : List ℕ} {k c : ℕ} (R : RecordReady f i at (length a)) (G : Spelling f i at a b k c) (m : k < recordWords) where
   here : (u : Use) × (vs : List Use) × (drop (length (G .xs)) (usesAt f i) ≡ u ∷ vs)
   here = some-left (usesAt f i) (length (G .xs)) (omega (arith, row-uses f i, G .begun .many))
 
@@ -106,7 +107,7 @@ module _ {f : List ℕ} {i at : ℕ} {a b : List ℕ} {k c : ℕ} (R : RecordRea
   used-here : Used (word f) (recordCount f) i k (here .0 ∷ here .1)
   used-here = rw left-is at (G .used)
 
-  pub spelling-room : (16 * at + 16 ≤ length b) × (c < 65536)
+  pub spelling-room : (recordBytes * at + recordBytes ≤ length b) × (c < wordEnd)
   spelling-room = (omega (arith, R .room, G .begun .same), omega (arith, R .few, G .total))
 
   go-on : {d : List ℕ} {x e : ℕ} {ys : List (List ℕ)} → Next f i k c (here .0 ∷ here .1) (here .1) x ys e → Begun a d at (k + 1) e (G .xs ++ x ∷ []) (G .rs ++ ys)
@@ -179,7 +180,7 @@ number-here {f} F i q =
           rw z (kind-number (word f 0 kindWord) kHeader h (λ e. let q : _≡_ {A = ℕ} 0 1 = cc in omega arith) ∙ ap (λ k. row k .kind) (sym h))
     ]
 
-module _ {f : List ℕ} {i at : ℕ} {a b : List ℕ} {k c : ℕ} (R : RecordReady f i at (length a)) (G : Spelling f i at a b k c) (l : 8 ≤ k) where
+module _ {f : List ℕ} {i at : ℕ} {a b : List ℕ} {k c : ℕ} (R : RecordReady f i at (length a)) (G : Spelling f i at a b k c) (l : recordWords ≤ k) where
   none-left : G .left ≡ []
   unfolding usesAt
   none-left =
@@ -198,7 +199,7 @@ module _ {f : List ℕ} {i at : ℕ} {a b : List ℕ} {k c : ℕ} (R : RecordRea
   unfolding readWords sizeWords
   all-total = G .total ∙ ap (λ v. c + sizeWords (readWords (λ j. treeAt f j) (word f i) k v)) none-left ∙ omega arith
 
-  pub done-room : (16 * at + 16 ≤ length b) × (c < 65536)
+  pub done-room : (recordBytes * at + recordBytes ≤ length b) × (c < wordEnd)
   done-room = (omega (arith, R .room, G .begun .same), omega (arith, R .few, all-total))
 
   pub spelling-done : {d e : List ℕ} {u v : ℕ} (on : ℕ) → u ≡ word f i kindWord → v ≡ linked on c → Put b d at 0 u → Put d e at 1 v

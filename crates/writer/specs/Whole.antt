@@ -8,6 +8,7 @@ use Rattle.language.specs.Format.{headerProcedures, recordBytes}
 use Rattle.language.specs.File.{Chain, word, recordCount}
 use Rattle.language.specs.Tree.{Tree, readRecord, readTree, treeOf}
 use Rattle.language.specs.Layout.{size, sizeWords, lay, written}
+use Rattle.records.specs.Sizes.{byteEnd}
 use Rattle.chains.specs.Layout.{Fits, lay-length, tree-size, tree-fits, written-front}
 use Rattle.chains.specs.Formed.{Formed, counted, procedures-stand}
 use Rattle.writer.specs.Laid.{Laid, laid-then}
@@ -33,12 +34,12 @@ parts-again (suc k) [] = refl
 parts-again (suc k) (x ∷ xs) = ap (λ ys. x ∷ ys) (parts-again k xs)
 
 -- THE FRONT PART: bytes in which a tree's records were written from 0 on are the tree's file, and behind it as they were
-pub laid-written : {s : Chain} {t : Tree} {a b : List ℕ} → Fits s t → ((j : ℕ) → getD b j 0 < 256) → 16 * size t ≤ length a → Laid a b 0 (lay t 0)
-    → b ≡ written t ++ drop (16 * size t) a
+pub laid-written : {s : Chain} {t : Tree} {a b : List ℕ} → Fits s t → ((j : ℕ) → getD b j 0 < byteEnd) → recordBytes * size t ≤ length a → Laid a b 0 (lay t 0)
+    → b ≡ written t ++ drop (recordBytes * size t) a
 laid-written {s} {t} {a} {b} F B m L =
-    parts-again (16 * size t) b
+    parts-again (recordBytes * size t) b
     ∙ ap₂ _++_ (written-front F b B (omega (arith, L .same)) (L .there))
-    (same-drop (16 * size t) b a (L .same) (λ j l. L .past j (omega (arith, lay-length t 0))))
+    (same-drop (recordBytes * size t) b a (L .same) (λ j l. L .past j (omega (arith, lay-length t 0))))
 
 -- ---- the whole: the header with what its words lead to, then the procedures
 whole-size : {f : List ℕ} → Formed f → recordCount f ≡ suc (sizeWords (wordsAt f 0) + size (treeAt f (word f 0 headerProcedures)))
@@ -72,9 +73,9 @@ module _ {f : List ℕ} (a : List ℕ) (F : Formed f) (m : recordBytes * recordC
           few = omega (arith, whole-size F, N .next, q, n .most);
         })
 
-    pub whole-written : {d : List ℕ} {r : ℕ} → ((j : ℕ) → getD d j 0 < 256) → Wrote b d c r (lay (treeAt f w) c)
+    pub whole-written : {d : List ℕ} {r : ℕ} → ((j : ℕ) → getD d j 0 < byteEnd) → Wrote b d c r (lay (treeAt f w) c)
         → d ≡ written (treeOf f) ++ drop (recordBytes * recordCount f) a
     whole-written {d} B K =
         let n = tree-size f (F .header) (F .form) in
         let L : Laid a d 0 (lay (treeOf f) 0) = rw (whole-lay f, ← (N .next), sym g) (laid-then (sym (N .next)) (N .laid) (K .laid)) in
-        laid-written (tree-fits f (F .header) (F .form)) B (omega (arith, n)) L ∙ ap (λ s. written (treeOf f) ++ drop (16 * s) a) n
+        laid-written (tree-fits f (F .header) (F .form)) B (omega (arith, n)) L ∙ ap (λ s. written (treeOf f) ++ drop (recordBytes * s) a) n

@@ -2,32 +2,34 @@
 use language::format::KIND;
 use language::format::NEXT;
 use language::format::RECORD_BYTES;
+use records::sizes::BYTE_END;
 use records::word;
 ghost use mathlib.Core.Path.{_≡_};
 ghost use mathlib.Core.List.{[], _∷_};
 ghost use Prim.Native.Nat.{_+_, _*_, _/_, _%_, _≤_, _<_};
 ghost use lib.ListN.{length};
 ghost use Rattle.language.specs.Format.{recordBytes};
+ghost use Rattle.records.specs.Sizes.{byteEnd, wordEnd, recordWords};
 ghost use Rattle.writer.specs.Laid.{Put, Laid, Small, linked, withNext};
 
 fn low(x: usize) -> u8
-    ensures { λ r. ⌜ r ≡ x % 256 ⌝ }
+    ensures { λ r. ⌜ r ≡ x % byteEnd ⌝ }
 {
-    (x % 256) as u8
+    (x % BYTE_END) as u8
 }
 
 fn high(x: usize) -> u8
-    requires { ⌜ x < 65536 ⌝ }
-    ensures { λ r. ⌜ r ≡ x / 256 ⌝ }
+    requires { ⌜ x < wordEnd ⌝ }
+    ensures { λ r. ⌜ r ≡ x / byteEnd ⌝ }
 {
-    (x / 256) as u8
+    (x / BYTE_END) as u8
 }
 
 // Writes word k of record i, low byte first.
 pub fn put_word(out: &mut [u8], i: usize, k: usize, x: usize)
     requires { ⌜ recordBytes * i + recordBytes ≤ length (now out) ⌝ }
-    requires { ⌜ k < 8 ⌝ }
-    requires { ⌜ x < 65536 ⌝ }
+    requires { ⌜ k < recordWords ⌝ }
+    requires { ⌜ x < wordEnd ⌝ }
     ensures { λ _. ⌜ Put (now (out .entry)) (now (out .exit)) i k x ⌝ }
 {
     let at = RECORD_BYTES * i + 2 * k;
@@ -72,7 +74,7 @@ pub fn link(w: usize, c: usize) -> usize
 // Writes record i of the file as record at, but for the next of its chain, which is given.
 pub fn copy_record(file: &[u8], out: &mut [u8], i: usize, at: usize, next: usize)
     requires { ⌜ recordBytes * at + recordBytes ≤ length (now out) ⌝ }
-    requires { ⌜ next < 65536 ⌝ }
+    requires { ⌜ next < wordEnd ⌝ }
     ensures { λ _. ⌜ Laid (now (out .entry)) (now (out .exit)) at (withNext (now (file .entry)) i next ∷ []) ⌝ }
 {
     let kind = word(file, i, KIND);

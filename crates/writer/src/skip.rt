@@ -3,6 +3,7 @@ use crate::walk::leads;
 use language::format::KIND;
 use language::format::MAX_RECORDS;
 use language::format::NEXT;
+use records::sizes::RECORD_WORDS;
 use records::word;
 ghost use Prim.Native.Nat.{suc, _<_};
 ghost use Rattle.language.specs.File.{recordCount};
@@ -45,7 +46,7 @@ pub fn skip_record(file: &[u8], i: usize, first: usize) -> usize
     let kind = word(file, i, KIND);
     let mut at = behind(first);
     let mut k = 2;
-    while k < 8 {
+    while k < RECORD_WORDS {
         if leads(kind, k) {
             at = skip_chain(file, word(file, i, k), at);
             k += 1;

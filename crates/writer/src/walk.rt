@@ -20,18 +20,20 @@ use language::format::SWITCH;
 use language::format::SWITCH_ARMS;
 use language::format::TYPE;
 use language::format::TYPE_FUNCTORS;
+use records::sizes::RECORD_WORDS;
 use records::word;
 ghost use mathlib.Core.Path.{_≡_};
 ghost use Prim.Native.Nat.{_≤_, _<_};
 ghost use lib.ListN.{length};
 ghost use Rattle.language.specs.Layout.{lay};
+ghost use Rattle.records.specs.Sizes.{recordWords};
 ghost use Rattle.writer.specs.Ready.{ChainReady, RecordReady, Wrote, treeAt, frontTo};
 ghost use Rattle.writer.specs.Leads.{leadsAt};
 
 // Whether word k, from 2 to 7, of a record of that kind leads to a chain.
 pub fn leads(kind: usize, k: usize) -> bool
     requires { ⌜ 2 ≤ k ⌝ }
-    requires { ⌜ k < 8 ⌝ }
+    requires { ⌜ k < recordWords ⌝ }
     ensures { λ r. ⌜ r ≡ leadsAt kind k ⌝ }
 {
     match kind {
@@ -76,7 +78,7 @@ pub fn write_record(file: &[u8], out: &mut [u8], i: usize, on: usize, at: usize)
     let kind = word(file, i, KIND);
     let mut end = at + 1;
     let mut k = 2;
-    while k < 8 {
+    while k < RECORD_WORDS {
         let w = word(file, i, k);
         if leads(kind, k) {
             put_word(out, at, k, link(w, end));

@@ -1,9 +1,9 @@
 -- `annotate_typed` meets its contract.
 use native.Mathlib.Omega.{arith}
 use mathlib.Core.Path.{refl, sym}
-use Rattle.records.specs.Blank.{fileWords, rowWords}
+use Rattle.records.specs.Blank.{fileWords, rowWords, blank-fits}
 use Rattle.annotation.specs.Stages.{marks-found}
-use Rattle.annotation.specs.Answer.{refusal-told, stage-refuses, stage-goes, answer-moved, blank-fits}
+use Rattle.annotation.specs.Answer.{refusal-told, stage-refuses, stage-goes, answer-moved}
 use borrow.Author.Needs.{needs}
 use Rattle.annotation.proofs.answer.annotate_typed.Statement.{statement}
 use Rattle.annotation.proofs.answer.annotate_typed.Tie as tie

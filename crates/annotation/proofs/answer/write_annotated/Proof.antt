@@ -1,6 +1,6 @@
 -- `write_annotated` meets its contract.
 use native.Mathlib.Omega.{arith}
-use Rattle.annotation.specs.Answer.{refusal-told, too-large, too-long, sized, file-told}
+use Rattle.annotation.specs.Answer.{refusal-told, too-large, too-long, file-told}
 use borrow.Author.Needs.{needs}
 use Rattle.annotation.proofs.answer.write_annotated.Statement.{statement}
 use Rattle.annotation.proofs.answer.write_annotated.Tie as tie

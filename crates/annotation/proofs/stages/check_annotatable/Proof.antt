@@ -1,6 +1,5 @@
 -- `check_annotatable` meets its contract.
 use borrow.Author.Tests.{not-true, not-false}
-use mathlib.Core.Path.{_∙_}
 use Rattle.rules.specs.Stages.{not-accepted}
 use Rattle.annotation.specs.Stages.{refused-before, annotated-refused, calls-refused, marks-passed}
 use borrow.Author.Needs.{needs}

@@ -5,7 +5,6 @@ use Rattle.chains.specs.Formed.{counted}
 use Rattle.chains.specs.Records.{next-onward}
 use Rattle.declarations.specs.Parameters.{link-local, link-parameter}
 use borrow.Author.Needs.{needs}
-use mathlib.Core.Path.{sym, _∙_}
 use Rattle.declarations.proofs.listing.link.Statement.{statement}
 use Rattle.declarations.proofs.listing.link.Tie as tie
 

@@ -6,7 +6,6 @@ use Rattle.language.specs.File.{recordCount}
 use Rattle.chains.specs.Formed.{counted}
 use Rattle.declarations.specs.Parameters.{Linked, linked-none, linked-other, linked-variable, linked-all}
 use borrow.Author.Needs.{needs}
-use mathlib.Core.Path.{_∙_}
 use Rattle.declarations.proofs.listing.list_parameters.Statement.{statement}
 use Rattle.declarations.proofs.listing.list_parameters.Tie as tie
 

@@ -1,6 +1,5 @@
 -- `type_ok` meets its contract.
-use mathlib.Core.Path.{_∙_}
-use mathlib.Core.Path.{sym, _∙_}
+use mathlib.Core.Path.{_∙_, sym}
 use Rattle.chains.specs.Elements.{functors-count}
 use Rattle.declarations.specs.Types.{type-none, type-many, type-all}
 use Rattle.declarations.proofs.types.type_ok.Statement.{statement}

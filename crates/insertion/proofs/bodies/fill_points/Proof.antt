@@ -3,12 +3,6 @@ use Rattle.insertion.specs.Bodies.{points-start, points-filled}
 use borrow.Author.Needs.{needs}
 use Rattle.insertion.proofs.bodies.fill_points.Statement.{statement}
 use Rattle.insertion.proofs.bodies.fill_points.Tie as tie
-use Rattle.insertion.proofs.bodies.fill_points.Reads as reads
-use Rattle.insertion.proofs.bodies.fill_points.Lts as lts
-use Rattle.insertion.proofs.points.list_wanted.Reads as list-wanted-reads
-use Rattle.liveness.proofs.list_live.Reads as list-live-reads
-use Rattle.tables.proofs.set_at.Reads as set-at-reads
-use Rattle.tables.proofs.word_at.Reads as word-at-reads
 
 word-at-requires : tie.Need-word-at-requires
 word-at-requires c κs = search needs

@@ -3,12 +3,6 @@ use Rattle.insertion.specs.Bodies.{start-removed}
 use borrow.Author.Needs.{needs}
 use Rattle.insertion.proofs.bodies.start_removed.Statement.{statement}
 use Rattle.insertion.proofs.bodies.start_removed.Tie as tie
-use Rattle.insertion.proofs.bodies.start_removed.Reads as reads
-use Rattle.insertion.proofs.bodies.start_removed.Lts as lts
-use Rattle.lifetimes.proofs.wanted_in.Reads as wanted-in-reads
-use Rattle.sets.proofs.Set.difference.Reads as difference-reads
-use Rattle.sets.proofs.Set.union.Reads as union-reads
-use Rattle.tables.proofs.set_at.Reads as set-at-reads
 
 set-at-requires : tie.Need-set-at-requires
 set-at-requires c κs = search needs

@@ -1,7 +1,6 @@
 -- `cursor` meets its contract.
 use mathlib.Core.Path.{refl}
 use Rattle.insertion.specs.Cursor.{recordIn, pointIn}
-use borrow.Author.Needs.{needs}
 use Rattle.insertion.proofs.cursor.cursor.Statement.{statement}
 use Rattle.insertion.proofs.cursor.cursor.Tie as tie
 

@@ -2,11 +2,6 @@
 use borrow.Author.Needs.{needs}
 use Rattle.insertion.proofs.points.left_over.Statement.{statement}
 use Rattle.insertion.proofs.points.left_over.Tie as tie
-use Rattle.insertion.proofs.points.left_over.Reads as reads
-use Rattle.insertion.proofs.points.left_over.Lts as lts
-use Rattle.liveness.proofs.live_after.Reads as live-after-reads
-use Rattle.liveness.proofs.live_before.Reads as live-before-reads
-use Rattle.sets.proofs.Set.difference.Reads as difference-reads
 
 live-before-requires : tie.Need-live-before-requires
 live-before-requires c κs = search needs

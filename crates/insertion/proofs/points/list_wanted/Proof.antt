@@ -2,15 +2,10 @@
 use borrow.Author.Needs.{needs}
 use native.Mathlib.Omega.{arith}
 use Prim.Native.Nat.{_-_, _≤_}
-use Rattle.liveness.specs.Done.{pointWords}
+use Rattle.liveness.specs.Points.{pointWords}
 use Rattle.insertion.specs.Wants.{Turned, turned-none, turned-more, turned-whole}
 use Rattle.insertion.proofs.points.list_wanted.Statement.{statement}
 use Rattle.insertion.proofs.points.list_wanted.Tie as tie
-use Rattle.insertion.proofs.points.list_wanted.Reads as reads
-use Rattle.insertion.proofs.points.list_wanted.Lts as lts
-use Rattle.lifetimes.proofs.wanted_in.Reads as wanted-in-reads
-use Rattle.sets.proofs.Set.loaded.Reads as loaded-reads
-use Rattle.sets.proofs.Set.stored.Reads as stored-reads
 
 abbrev Inv-loop : tie.InvT-loop
 Inv-loop own points₀ start at₀ points at =

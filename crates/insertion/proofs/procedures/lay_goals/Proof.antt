@@ -1,13 +1,8 @@
 -- `lay_goals` meets its contract.
 use borrow.Author.Needs.{needs}
 use Rattle.insertion.specs.Procedures.{window-stands, goals-laid}
-use borrow.Author.Needs.{needs}
 use Rattle.insertion.proofs.procedures.lay_goals.Statement.{statement}
 use Rattle.insertion.proofs.procedures.lay_goals.Tie as tie
-use Rattle.insertion.proofs.procedures.lay_goals.Reads as reads
-use Rattle.insertion.proofs.procedures.lay_goals.Lts as lts
-use Rattle.insertion.proofs.bodies.lay_body.Reads as lay-body-reads
-use Rattle.tables.proofs.start_of.Reads as start-of-reads
 
 start-of-requires : tie.Need-start-of-requires
 start-of-requires c κs = search needs

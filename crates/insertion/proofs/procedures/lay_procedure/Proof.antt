@@ -1,17 +1,8 @@
 -- `lay_procedure` meets its contract.
 use borrow.Author.Needs.{needs}
-use mathlib.Core.Path.{_∙_}
 use Rattle.insertion.specs.Procedures.{here, here-below, procedure-laid}
-use borrow.Author.Needs.{needs}
 use Rattle.insertion.proofs.procedures.lay_procedure.Statement.{statement}
 use Rattle.insertion.proofs.procedures.lay_procedure.Tie as tie
-use Rattle.insertion.proofs.procedures.lay_procedure.Reads as reads
-use Rattle.insertion.proofs.procedures.lay_procedure.Lts as lts
-use Rattle.laying.proofs.lay_chain.Reads as lay-chain-reads
-use Rattle.laying.proofs.store_procedure.Reads as store-procedure-reads
-use Rattle.insertion.proofs.procedures.lay_goals.Reads as lay-goals-reads
-use Rattle.records.proofs.word.Reads as word-reads
-use Rattle.writer.proofs.behind.Reads as behind-reads
 
 behind-requires : tie.Need-behind-requires
 behind-requires c κs = search needs

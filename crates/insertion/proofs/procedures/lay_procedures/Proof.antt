@@ -4,14 +4,10 @@ use native.Mathlib.Omega.{arith}
 use mathlib.Core.Path.{_≡_}
 use lib.ListN.{length}
 use Rattle.chains.specs.Formed.{ahead}
-use Rattle.liveness.specs.Done.{pointWords}
+use Rattle.liveness.specs.Points.{pointWords}
 use Rattle.insertion.specs.Procedures.{Laying, laying-first, laying-last, laying-next, laying-falls, here-below}
 use Rattle.insertion.proofs.procedures.lay_procedures.Statement.{statement}
 use Rattle.insertion.proofs.procedures.lay_procedures.Tie as tie
-use Rattle.insertion.proofs.procedures.lay_procedures.Reads as reads
-use Rattle.insertion.proofs.procedures.lay_procedures.Lts as lts
-use Rattle.insertion.proofs.procedures.lay_procedure.Reads as lay-procedure-reads
-use Rattle.records.proofs.word.Reads as word-reads
 
 abbrev Inv-loop : tie.InvT-loop
 Inv-loop file table rows points₀ out₀ first i₀ q₀ record₀ points out i q «record» =

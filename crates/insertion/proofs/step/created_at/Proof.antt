@@ -3,13 +3,6 @@ use Rattle.insertion.specs.Steps.{created-is}
 use borrow.Author.Needs.{needs}
 use Rattle.insertion.proofs.step.created_at.Statement.{statement}
 use Rattle.insertion.proofs.step.created_at.Tie as tie
-use Rattle.insertion.proofs.step.created_at.Reads as reads
-use Rattle.insertion.proofs.step.created_at.Lts as lts
-use Rattle.lifetimes.proofs.created_for.Reads as created-for-reads
-use Rattle.liveness.proofs.live_after.Reads as live-after-reads
-use Rattle.liveness.proofs.live_before.Reads as live-before-reads
-use Rattle.tables.proofs.bears_at.Reads as bears-at-reads
-use Rattle.tables.proofs.needs_at.Reads as needs-at-reads
 
 live-before-requires : tie.Need-live-before-requires
 live-before-requires c κs = search needs

@@ -3,14 +3,6 @@ use Rattle.insertion.specs.Steps.{removed-is}
 use borrow.Author.Needs.{needs}
 use Rattle.insertion.proofs.step.removed_at.Statement.{statement}
 use Rattle.insertion.proofs.step.removed_at.Tie as tie
-use Rattle.insertion.proofs.step.removed_at.Reads as reads
-use Rattle.insertion.proofs.step.removed_at.Lts as lts
-use Rattle.lifetimes.proofs.removed_after.Reads as removed-after-reads
-use Rattle.liveness.proofs.live_after.Reads as live-after-reads
-use Rattle.liveness.proofs.live_before.Reads as live-before-reads
-use Rattle.sets.proofs.Set.union.Reads as union-reads
-use Rattle.tables.proofs.bears_at.Reads as bears-at-reads
-use Rattle.tables.proofs.ends_at.Reads as ends-at-reads
 
 live-before-requires : tie.Need-live-before-requires
 live-before-requires c κs = search needs

@@ -1,6 +1,6 @@
 -- `step` meets its contract.
 use native.Mathlib.Omega.{arith}
-use mathlib.Core.Path.{sym, _∙_}
+use mathlib.Core.Path.{sym}
 use Rattle.insertion.specs.Steps.{step-laid}
 use borrow.Author.Needs.{needs}
 use Rattle.insertion.proofs.step.step.Statement.{statement}

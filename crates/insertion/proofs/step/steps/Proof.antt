@@ -4,7 +4,6 @@ use mathlib.Core.Path.{sym, _∙_}
 use Rattle.chains.specs.Formed.{ahead}
 use Rattle.insertion.specs.Cursor.{recordIn, pointIn}
 use Rattle.insertion.specs.Along.{Along, along-first, along-onward, along-next}
-use borrow.Author.Needs.{needs}
 use Rattle.insertion.proofs.step.steps.Statement.{statement}
 use Rattle.insertion.proofs.step.steps.Tie as tie
 

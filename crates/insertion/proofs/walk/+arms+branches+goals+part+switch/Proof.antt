@@ -3,13 +3,12 @@ use borrow.Author.Needs.{needs}
 use mathlib.Core.Logic.{inl, inr}
 use mathlib.Core.Path.{refl, sym, _∙_}
 use native.Mathlib.Omega.{arith}
-use Prim.Native.Nat.{_+_, _*_}
+use Prim.Native.Nat.{_+_, _*_, ℕ, _<_}
 use Rattle.chains.specs.Formed.{ahead}
 use Rattle.chains.specs.Shapes.{switch-here, if-here, to-arms, to-then, to-else, arm-goals, arm-next}
 use Rattle.insertion.specs.Cursor.{recordIn, pointIn}
 use Rattle.insertion.specs.Along.{Along, Parted, along-first, along-last, along-onward, along-rest}
 use Rattle.insertion.proofs.Walking.{along-turn, goal-moved, part-laid, switch-laid, if-laid, no-arms, arms-laid}
-use Prim.Native.Nat.{ℕ, _<_}
 use borrow.Fn.Kinds.{In}
 use borrow.Fn.PlainCycle.{Measures, is, falls, and}
 use Rattle.insertion.proofs.walk.arms.Reads as arms

@@ -5,7 +5,6 @@ use mathlib.Core.List.{_++_}
 use mathlib.Core.Path.{_≡_, refl, _∙_}
 use lib.ListN.{length, take, drop, length-set}
 use Rattle.insertion.specs.Whole.{copied-more, copied-all}
-use borrow.Author.Needs.{needs}
 use Rattle.insertion.proofs.whole.write.Statement.{statement}
 use Rattle.insertion.proofs.whole.write.Tie as tie
 

@@ -5,8 +5,6 @@ use borrow.Author.Tests.{leb-true, leb-false}
 use borrow.Author.Needs.{needs}
 use Rattle.laying.proofs.copies.has_room.Statement.{statement}
 use Rattle.laying.proofs.copies.has_room.Tie as tie
-use Rattle.laying.proofs.copies.has_room.Reads as reads
-use Rattle.laying.proofs.copies.has_room.Lts as lts
 
 returns : tie.Need-returns
 returns c =

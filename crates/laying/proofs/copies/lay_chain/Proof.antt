@@ -3,11 +3,6 @@ use borrow.Author.Needs.{needs}
 use Rattle.laying.specs.Copies.{chain-ready, chain-laid, chain-not}
 use Rattle.laying.proofs.copies.lay_chain.Statement.{statement}
 use Rattle.laying.proofs.copies.lay_chain.Tie as tie
-use Rattle.laying.proofs.copies.lay_chain.Reads as reads
-use Rattle.laying.proofs.copies.lay_chain.Lts as lts
-use Rattle.laying.proofs.copies.has_room.Reads as has-room-reads
-use Rattle.writer.proofs.skip_chain.Reads as skip-chain-reads
-use Rattle.writer.proofs.write_chain.Reads as write-chain-reads
 
 skip-chain-requires : tie.Need-skip-chain-requires
 skip-chain-requires c κs = search needs

@@ -3,11 +3,6 @@ use borrow.Author.Needs.{needs}
 use Rattle.laying.specs.Copies.{record-ready, record-laid, record-not}
 use Rattle.laying.proofs.copies.lay_record.Statement.{statement}
 use Rattle.laying.proofs.copies.lay_record.Tie as tie
-use Rattle.laying.proofs.copies.lay_record.Reads as reads
-use Rattle.laying.proofs.copies.lay_record.Lts as lts
-use Rattle.laying.proofs.copies.has_room.Reads as has-room-reads
-use Rattle.writer.proofs.skip_record.Reads as skip-record-reads
-use Rattle.writer.proofs.write_record.Reads as write-record-reads
 
 skip-record-requires : tie.Need-skip-record-requires
 skip-record-requires c κs = search needs

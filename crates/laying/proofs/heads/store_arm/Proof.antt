@@ -4,12 +4,6 @@ use Rattle.laying.specs.Heads.{arm-stored}
 use borrow.Author.Needs.{needs}
 use Rattle.laying.proofs.heads.store_arm.Statement.{statement}
 use Rattle.laying.proofs.heads.store_arm.Tie as tie
-use Rattle.laying.proofs.heads.store_arm.Reads as reads
-use Rattle.laying.proofs.heads.store_arm.Lts as lts
-use Rattle.laying.proofs.place.refer.Reads as refer-reads
-use Rattle.laying.proofs.place.span.Reads as span-reads
-use Rattle.laying.proofs.place.store.Reads as store-reads
-use Rattle.records.proofs.word.Reads as word-reads
 
 word-requires : tie.Need-word-requires
 word-requires c κs = search needs
@@ -26,11 +20,20 @@ word-requires-2 c κs = search needs
 word-requires-3 : tie.Need-word-requires-3
 word-requires-3 c κs = search needs
 
+add-word : tie.Need-add-word
+add-word c = search needs
+
 word-requires-4 : tie.Need-word-requires-4
 word-requires-4 c κs = search needs
 
+add-word-2 : tie.Need-add-word-2
+add-word-2 c = search needs
+
 word-requires-5 : tie.Need-word-requires-5
 word-requires-5 c κs = search needs
+
+add-word-3 : tie.Need-add-word-3
+add-word-3 c = search needs
 
 word-requires-6 : tie.Need-word-requires-6
 word-requires-6 c κs = search needs
@@ -55,8 +58,11 @@ store-arm-spec =
     span-requires
     word-requires-2
     word-requires-3
+    add-word
     word-requires-4
+    add-word-2
     word-requires-5
+    add-word-3
     word-requires-6
     store-requires
     same-length

@@ -3,10 +3,6 @@ use Rattle.laying.specs.Marks.{follows-is}
 use borrow.Author.Needs.{needs}
 use Rattle.laying.proofs.marks.follows.Statement.{statement}
 use Rattle.laying.proofs.marks.follows.Tie as tie
-use Rattle.laying.proofs.marks.follows.Reads as reads
-use Rattle.laying.proofs.marks.follows.Lts as lts
-use Rattle.laying.proofs.marks.more.Reads as more-reads
-use Rattle.sets.proofs.Set.after.Reads as after-reads
 
 after-requires : tie.Need-after-requires
 after-requires c κs = search needs

@@ -6,13 +6,6 @@ use Rattle.tables.specs.Walks.{next-falls}
 use Rattle.laying.specs.Marks.{Marking, marking-first, marking-last, marking-next}
 use Rattle.laying.proofs.marks.lay_marks.Statement.{statement}
 use Rattle.laying.proofs.marks.lay_marks.Tie as tie
-use Rattle.laying.proofs.marks.lay_marks.Reads as reads
-use Rattle.laying.proofs.marks.lay_marks.Lts as lts
-use Rattle.laying.proofs.marks.more.Reads as more-reads
-use Rattle.laying.proofs.place.refer.Reads as refer-reads
-use Rattle.laying.proofs.place.store.Reads as store-reads
-use Rattle.sets.proofs.Set.after.Reads as after-reads
-use Rattle.writer.proofs.behind.Reads as behind-reads
 
 abbrev Inv-loop : tie.InvT-loop
 Inv-loop out₀ kind s on first at₀ r₀ out at r =

@@ -3,8 +3,6 @@ use native.Mathlib.Omega.{arith}
 use Rattle.writer.specs.Laid.{linked-none, linked-some}
 use Rattle.laying.proofs.place.refer.Statement.{statement}
 use Rattle.laying.proofs.place.refer.Tie as tie
-use Rattle.laying.proofs.place.refer.Reads as reads
-use Rattle.laying.proofs.place.refer.Lts as lts
 
 returns : tie.Need-returns
 returns c =

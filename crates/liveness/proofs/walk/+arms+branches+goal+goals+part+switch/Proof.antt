@@ -4,7 +4,8 @@ use native.Mathlib.Omega.{arith}
 use Rattle.language.specs.File.{word}
 use Rattle.chains.specs.Formed.{ahead}
 use Rattle.chains.specs.Is.{chain-next}
-use Rattle.liveness.proofs.Walking.{goals-last, to-next, goals-more, step-done, to-arms, switch-done, to-then, to-else, if-done, arms-last, arm-here, arms-more, part-stands, part-done, switch-there, if-there}
+use Rattle.chains.specs.Shapes.{arm-here}
+use Rattle.liveness.proofs.Walking.{goals-last, to-next, goals-more, step-done, to-arms, switch-done, to-then, to-else, if-done, arms-last, arms-more, part-stands, part-done, switch-there, if-there}
 use borrow.Author.Needs.{needs}
 use Prim.Native.Nat.{ℕ, _+_, _*_, _<_}
 use borrow.Fn.Kinds.{In}
@@ -149,7 +150,7 @@ arms-part-requires : (t : ℕ) → arms-lts.Need-part-requires (arms-calls t) (a
 arms-part-requires t c κs =
     let start = c .before .before .before .before .before .before .before .before .before .before .before .before .before .before in
     let p = start .pre .1 in
-    let o = arm-here _ _ (p .0) (p .1 .1) (c .before .before .before .before .before .before .before .before .before .before .before .before .if1 .left) .to-goals in
+    let o = arm-here (p .0) (c .before .before .before .before .before .before .before .before .before .before .before .before .if1 .left) (p .1 .1) .to-goals in
     (omega (arith, o .falls, start .pre .0), (p .0, (p .1 .0, (omega arith, (p .1 .1 .below, o .stands)))))
 
 arms-live-in-requires-3 : (t : ℕ) → arms-lts.Need-live-in-requires-3 (arms-calls t) (arms-at t) arms.Post

@@ -1,5 +1,4 @@
 -- `at_end` meets its contract.
-use native.Mathlib.Omega.{arith}
 use borrow.Author.Needs.{needs}
 use Rattle.liveness.specs.Carried.{placeIn, classesIn}
 use Rattle.liveness.proofs.whole.at_end.Statement.{statement}

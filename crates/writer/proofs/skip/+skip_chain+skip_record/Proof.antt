@@ -5,8 +5,7 @@ use Rattle.language.specs.File.{recordCount}
 use Rattle.chains.specs.Formed.{ahead}
 use Rattle.writer.specs.Leads.{told}
 use Rattle.writer.specs.Skips.{Skipping, skipping-first, skipping-last, skipping-less, skipping-falls, skipping-next, Passing, passing-first, passing-plain, passing-below, passing-falls, passing-leads, passing-done}
-use Prim.Native.Nat.{_+_, _-_, _*_}
-use Prim.Native.Nat.{ℕ, _<_}
+use Prim.Native.Nat.{_+_, _-_, _*_, ℕ, _<_}
 use borrow.Fn.Kinds.{In}
 use borrow.Fn.PlainCycle.{Measures, is, falls, and}
 use Rattle.writer.proofs.skip.skip_chain.Reads as skip-chain

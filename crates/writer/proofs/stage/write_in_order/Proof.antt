@@ -1,14 +1,8 @@
 -- `write_in_order` meets its contract: the header with the types, then the procedures, are the whole (`whole-written`).
 use borrow.Author.Needs.{needs}
 use Rattle.writer.specs.Whole.{header-ready, procedures-ready, whole-written}
-use borrow.Author.Needs.{needs}
 use Rattle.writer.proofs.stage.write_in_order.Statement.{statement}
 use Rattle.writer.proofs.stage.write_in_order.Tie as tie
-use Rattle.writer.proofs.stage.write_in_order.Reads as reads
-use Rattle.writer.proofs.stage.write_in_order.Lts as lts
-use Rattle.records.proofs.word.Reads as word-reads
-use Rattle.writer.proofs.walk.write_chain.Reads as write-chain-reads
-use Rattle.writer.proofs.walk.write_record.Reads as write-record-reads
 
 word-requires : tie.Need-word-requires
 word-requires c κs = search needs

@@ -8,8 +8,7 @@ use Rattle.writer.specs.Laid.{linked-small}
 use Rattle.writer.specs.Leads.{told}
 use Rattle.writer.specs.Ready.{Writing, writing-first, writing-record, writing-less, writing-falls, writing-next, writing-last}
 use Rattle.writer.specs.Spelling.{Spelling, spelling-first, spelling-room, spelling-falls, spelling-chain, spelling-leads, spelling-plain, done-room, spelling-done}
-use Prim.Native.Nat.{_+_, _-_, _*_}
-use Prim.Native.Nat.{ℕ, _<_}
+use Prim.Native.Nat.{_+_, _-_, _*_, ℕ, _<_}
 use borrow.Fn.Kinds.{In}
 use borrow.Fn.PlainCycle.{Measures, is, falls, and}
 use Rattle.writer.proofs.walk.write_chain.Reads as write-chain

@@ -6,8 +6,8 @@ use lib.ListN.{getD}
 use Rattle.tables.specs.Window.{bodyPlace}
 use Rattle.tables.specs.Starts.{window-lent}
 use borrow.Author.Needs.{needs}
-use Rattle.tables.proofs.windows.body_of.Statement.{statement}
-use Rattle.tables.proofs.windows.body_of.Tie as tie
+use Rattle.tables.proofs.starts.body_of.Statement.{statement}
+use Rattle.tables.proofs.starts.body_of.Tie as tie
 
 returns : tie.Need-returns
 returns c =

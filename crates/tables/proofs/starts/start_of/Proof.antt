@@ -3,8 +3,8 @@ use mathlib.Core.Path.{sym}
 use native.Mathlib.Omega.{arith}
 use Rattle.tables.specs.Starts.{start-is, start-past, start-none}
 use borrow.Author.Needs.{needs}
-use Rattle.tables.proofs.windows.start_of.Statement.{statement}
-use Rattle.tables.proofs.windows.start_of.Tie as tie
+use Rattle.tables.proofs.starts.start_of.Statement.{statement}
+use Rattle.tables.proofs.starts.start_of.Tie as tie
 
 returns : tie.Need-returns
 returns c = let a = c .before .before .before .args in (sym (start-is (a .table .now) (a .q) (omega arith)), omega arith)
