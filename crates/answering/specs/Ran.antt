@@ -18,11 +18,11 @@ use Rattle.lines.specs.Answers.{refusal-length}
 use Rattle.word_machine.specs.Machine.{lentWords}
 use Rattle.machine.specs.declared.Outcome.{Outcome}
 use Rattle.machine.specs.Joining.{RanAs}
-use Rattle.running.specs.Lent.{printWords, stepsLent}
+use Rattle.running.specs.Lent.{printsLent, stepsLent}
 
 -- bytes for the lines of the numbers printed and of the ending
 abbrev pub outputBytes : ℕ
-outputBytes = numberBytes * printWords + endingBytes
+outputBytes = numberBytes * printsLent + endingBytes
 
 -- ---- the lines
 pub prints-run : {f m rs fw ps px b e : List ℕ} {r : Outcome} {k : ℕ} → lentWords m rs fw ps stepsLent ≡ runnerLent → RanAs f m rs fw ps stepsLent r px
@@ -46,5 +46,5 @@ prints-refusal f {b} {e} {k} {v} c l p =
 pub printed-fit : {f m rs fw ps px : List ℕ} {r : Outcome} → RanAs f m rs fw ps stepsLent r px → r .printed ≡ length (take (r .printed) px)
 printed-fit {px = px} {r = r} h = sym (length-take-le (r .printed) px (h .printed .room))
 
-pub few-printed : {f m rs fw px : List ℕ} (ps : List ℕ) {r : Outcome} → printWords ≡ length ps → RanAs f m rs fw ps stepsLent r px → r .printed ≤ printWords
+pub few-printed : {f m rs fw px : List ℕ} (ps : List ℕ) {r : Outcome} → printsLent ≡ length ps → RanAs f m rs fw ps stepsLent r px → r .printed ≤ printsLent
 few-printed ps d h = omega (arith, d, h .printed .long, h .printed .room)

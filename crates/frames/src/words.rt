@@ -1,4 +1,5 @@
 // Words of a frame, by the numbers of variables and regions. Every number that a file past number 3 has is that of a word of the frame.
+use language::format::MAX_REGIONS;
 use language::format::MAX_VARIABLES;
 ghost use mathlib.Core.Path.{_≡_};
 ghost use Prim.Native.Nat.{_+_, _≤_, _<_};
@@ -13,7 +14,7 @@ pub const FRAME_WORDS: usize = 136;
 pub const REGIONS_FROM: usize = MAX_VARIABLES;
 
 // The word that has the record of the call that made the frame.
-pub const CALL_FROM: usize = 129;
+pub const CALL_FROM: usize = REGIONS_FROM + MAX_REGIONS + 1;
 
 // The value of variable x of the frame at a place.
 pub fn value(frames: &[u32], at: usize, x: usize) -> u32

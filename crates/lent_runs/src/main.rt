@@ -10,6 +10,7 @@ use lines::ENDING_BYTES;
 use lines::NUMBER_BYTES;
 use lines::runner_output;
 use machine::Outcome;
+use packs::JOBS;
 use packs::PACK_END;
 use packs::next_byte;
 use packs::next_bytes;
@@ -35,9 +36,6 @@ const FILE_BYTES: usize = 64 * RECORD_BYTES;
 
 // Room for the lines of a run.
 const OUTPUT_BYTES: usize = NUMBER_BYTES * PRINTS + ENDING_BYTES;
-
-// More jobs than a pack has.
-const JOBS: usize = 1000;
 
 // What stands in lent memory before a run: no zeros that it might rely on.
 const MARK: u32 = 3735928559;

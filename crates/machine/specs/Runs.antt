@@ -19,7 +19,7 @@ use Rattle.memory.specs.Memory.{cellWords, regionWords, emptyHeap}
 use Rattle.frames.specs.Strays.{past-word}
 use Rattle.plans.specs.Plan.{calleeWord, calleeBody}
 use Rattle.word_machine.specs.Tables.{Tables}
-use Rattle.word_machine.specs.Machine.{Words, went, stops, frameWords, Outcome, endedWith, afterStep, cleared, blocks, steps, settledFrom, settled, settledIf, stepped, runOn, runFrom, startWords, noFrame, lentWords, wordRun}
+use Rattle.word_machine.specs.Machine.{printWords, Words, went, stops, frameWords, Outcome, endedWith, afterStep, cleared, blocks, steps, settledFrom, settled, settledIf, stepped, runOn, runFrom, startWords, noFrame, lentWords, wordRun}
 use Rattle.machine.specs.declared.State.{State}
 use Rattle.machine.specs.declared.Kept.{Kept}
 use Rattle.machine.specs.declared.Kept.the-variants.{Left, Lacks}
@@ -206,7 +206,7 @@ module _ (f : List ℕ) (T : Tables) (l : ℕ) (m₀ rs₀ fw₀ ps₀ : List �
     unfolding roomIn lentWords
     room-frames = rw (G .frames)
 
-    room-prints : K .prints ≡ holds (length ps) 1
+    room-prints : K .prints ≡ holds (length ps) printWords
     unfolding roomIn lentWords
     room-prints = rw (G .prints)
 

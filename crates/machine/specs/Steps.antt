@@ -19,7 +19,7 @@ use Rattle.records.specs.declared.Record.the-variants.{Literal, Sum, Assign, Co
 use Rattle.chains.specs.Shapes.{goal-number}
 use Rattle.memory.specs.declared.Heap.{Heap}
 use Rattle.word_machine.specs.Tables.{Tables, onto}
-use Rattle.word_machine.specs.Machine.{Went, went, stops, frameWords, literalWord, sumWord, given, withFrames, valueOf, printsWord, ifRoom, switches, entersArm, armWords, calls, calleeWords, steps}
+use Rattle.word_machine.specs.Machine.{printWords, Went, went, stops, frameWords, literalWord, sumWord, given, withFrames, valueOf, printsWord, ifRoom, switches, entersArm, armWords, calls, calleeWords, steps}
 use Rattle.word_machine.specs.Machine
 use Rattle.machine.specs.declared.State.{State}
 use Rattle.machine.specs.declared.Step.{Step}
@@ -160,7 +160,7 @@ module _ (f : List ℕ) (T : Tables) (s : State) (m fw ps : List ℕ) (D : Place
     print-step k h rs px v z ev ex l =
         let o : s .printed + 1 ≡ suc (s .printed) = omega arith in rw (print-record f (s .goal) w ew z, lt-ltb (s .printed) (k .prints) l, ex, ev, en, o, D .place)
 
-    pub print-goes : (px : List ℕ) (v limit : ℕ) → w ≡ printKind → v ≡ valueIn (s .at) fw (word f (s .goal) printY) → px ≡ set ps (s .printed) v → limit ≡ holds (length ps) 1
+    pub print-goes : (px : List ℕ) (v limit : ℕ) → w ≡ printKind → v ≡ valueIn (s .at) fw (word f (s .goal) printY) → px ≡ set ps (s .printed) v → limit ≡ holds (length ps) printWords
         → s .printed < limit → Goes f T s m fw ps (WentTo (record { top = s .top; at = s .at; goal = next; printed = s .printed + 1 })) fw px
     unfolding cameTo
     print-goes px v limit z ev ex el l =
@@ -186,7 +186,7 @@ module _ (f : List ℕ) (T : Tables) (s : State) (m fw ps : List ℕ) (D : Place
     unfolding steps ifRoom wordsOf
     print-stop k h rs z l = rw (print-record f (s .goal) w ew z, le-ltb (s .printed) (k .prints) l)
 
-    pub print-stops : (limit : ℕ) → w ≡ printKind → limit ≡ holds (length ps) 1 → limit ≤ s .printed → Goes f T s m fw ps (Stops Prints) fw ps
+    pub print-stops : (limit : ℕ) → w ≡ printKind → limit ≡ holds (length ps) printWords → limit ≤ s .printed → Goes f T s m fw ps (Stops Prints) fw ps
     unfolding cameTo
     print-stops limit z el l = record { comes = λ k h rs a b. print-stop k h rs z (rw (b ∙ sym el) l); kept = λ c e. (refl, refl); stays = λ t e. absurd (stopped-not t _ (sym e)) }
 

@@ -6,7 +6,7 @@ use mathlib.Core.List.{List, _∷_}
 use lib.ListN.{getD, set}
 use Rattle.language.specs.File.{word}
 use Rattle.language.specs.Format.{maxArity, termFunctor, termArguments}
-use Rattle.memory.specs.Memory.{cellWords, cellWord, withWord}
+use Rattle.memory.specs.Memory.{cellArguments, cellWords, cellWord, withWord}
 use Rattle.word_machine.specs.Machine.{givesEach}
 use Rattle.machine.specs.Places.{valueIn, poursEach, argumentsFrom, wordsFrom, poured, armValues}
 
@@ -42,11 +42,11 @@ module _ (f : List ℕ) (i k : ℕ) (fw : List ℕ) (x : ℕ) where
     more zero as′ m z = absurd (z refl)
     more (suc b) as′ m z = refl
 
-    pub pour-on : (v : ℕ) (m m₁ : List ℕ) → (a ≡ 0 → ⊥) → v ≡ valueIn k fw a → m₁ ≡ set m (cellWords * x + 1 + n) v → pouredFrom (n + 1) m₁ ≡ pouredFrom n m
+    pub pour-on : (v : ℕ) (m m₁ : List ℕ) → (a ≡ 0 → ⊥) → v ≡ valueIn k fw a → m₁ ≡ set m (cellWords * x + cellArguments + n) v → pouredFrom (n + 1) m₁ ≡ pouredFrom n m
     unfolding pouredFrom argumentsFrom
     pour-on v m m₁ z ev em =
         let o : n + 1 ≡ suc n = omega arith in
-        let p : cellWords * x + 1 + n ≡ cellWords * x + suc n = omega arith in
+        let p : cellWords * x + cellArguments + n ≡ cellWords * x + suc n = omega arith in
         rw (left n l, ← e, em, ev, o, p) (more a (argumentsFrom f i (maxArity - suc n) (suc n)) m z)
 
 -- ---- an arm's: to variables of the frame at place k, from cell p
@@ -72,11 +72,11 @@ module _ (f : List ℕ) (j p k : ℕ) (m : List ℕ) where
     more-given zero w xs ws fw z = absurd (z refl)
     more-given (suc b) w xs ws fw z = refl
 
-    pub give-on : (v : ℕ) (fw fx : List ℕ) → (a ≡ 0 → ⊥) → v ≡ getD m (cellWords * p + 1 + n) 0 → fx ≡ set fw (k + a) v → givenFrom (n + 1) fx ≡ givenFrom n fw
+    pub give-on : (v : ℕ) (fw fx : List ℕ) → (a ≡ 0 → ⊥) → v ≡ getD m (cellWords * p + cellArguments + n) 0 → fx ≡ set fw (k + a) v → givenFrom (n + 1) fx ≡ givenFrom n fw
     unfolding givenFrom argumentsFrom wordsFrom
     give-on v fw fx z ev ex =
         let o : n + 1 ≡ suc n = omega arith in
-        let q : cellWords * p + 1 + n ≡ cellWords * p + suc n = omega arith in
+        let q : cellWords * p + cellArguments + n ≡ cellWords * p + suc n = omega arith in
         rw (left n l, ← e, ex, ev, o, q) (more-given a (cellWord m p (suc n)) (argumentsFrom f j (maxArity - suc n) (suc n)) (wordsFrom m p (maxArity - suc n) (suc n)) fw z)
 
 -- an argument that is not numbered 0 is the first, or the first was not

@@ -11,7 +11,7 @@ use Rattle.language.specs.Machine.{Room, holds}
 use Rattle.memory.specs.declared.Heap.{Heap}
 use Rattle.records.specs.Records.{recordAt}
 use Rattle.word_machine.specs.Tables.{Tables}
-use Rattle.word_machine.specs.Machine.{Words, Went, went, stops, frameWords, steps}
+use Rattle.word_machine.specs.Machine.{printWords, Words, Went, went, stops, frameWords, steps}
 use Rattle.machine.specs.declared.State.{State}
 use Rattle.machine.specs.declared.Kept.{Kept}
 use Rattle.machine.specs.declared.Kept.the-variants.{Left, Lacks}
@@ -35,7 +35,7 @@ cameTo (Stops c) h m rs fw ps = stops c
 -- The goal at state s, one that leaves cells, regions and the heap alone, is carried out, whatever those are: r is the answer, fx and px the words of
 -- frames and printed numbers afterwards, which are as before where it stops.
 pub record Goes (f : List ℕ) (T : Tables) (s : State) (m fw ps : List ℕ) (r : Step) (fx px : List ℕ) : Type 0 where
-  pub comes : (k : Room) (h : Heap) (rs : List ℕ) → k .frames ≡ holds (length fw) frameWords → k .prints ≡ holds (length ps) 1
+  pub comes : (k : Room) (h : Heap) (rs : List ℕ) → k .frames ≡ holds (length fw) frameWords → k .prints ≡ holds (length ps) printWords
       → cameTo r h m rs fx px ≡ steps f T k (s .goal) (recordAt f (s .goal)) (wordsOf h m rs fw ps s)
   pub kept : (c : Stop) → r ≡ Stops c → (fx ≡ fw) × (px ≡ ps)
   pub stays : (v : State) → r ≡ WentTo v → Placed v (length fw)

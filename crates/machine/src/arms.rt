@@ -6,6 +6,7 @@ use language::format::GOAL_X;
 use language::format::MAX_ARITY;
 use language::format::SWITCH_ARMS;
 use language::format::TERM_ARGUMENTS;
+use memory::CELL_ARGUMENTS;
 use memory::CELL_WORDS;
 use memory::word;
 use records::word_in;
@@ -33,7 +34,7 @@ fn arm_values(file: &[u8], j: usize, cell: u32, at: usize, cells: &[u32], frames
         if x == 0 {
             return;
         }
-        give(&mut frames[..], at, x, cells[p + 1 + n]);
+        give(&mut frames[..], at, x, cells[p + CELL_ARGUMENTS + n]);
         n += 1;
     }
 }
@@ -51,7 +52,7 @@ fn arm_part(file: &[u8], j: usize, cell: u32, at: usize, cells: &[u32], frames: 
         if x == 0 {
             return;
         }
-        give(&mut frames[..], at, x, word(cells, p + 1 + n));
+        give(&mut frames[..], at, x, word(cells, p + CELL_ARGUMENTS + n));
         n += 1;
     }
 }

@@ -7,6 +7,7 @@ use language::format::GOAL_X;
 use language::format::MAX_ARITY;
 use language::format::TERM_ARGUMENTS;
 use language::format::TERM_FUNCTOR;
+use memory::CELL_ARGUMENTS;
 use memory::CELL_WORDS;
 use memory::Heap;
 use memory::Made;
@@ -41,7 +42,7 @@ fn fill(file: &[u8], i: usize, at: usize, cell: u32, cells: &mut [u32], frames: 
         if x == 0 {
             return;
         }
-        store(&mut cells[..], p + 1 + n, value(frames, at, x));
+        store(&mut cells[..], p + CELL_ARGUMENTS + n, value(frames, at, x));
         n += 1;
     }
 }
@@ -60,7 +61,7 @@ fn fill_part(file: &[u8], i: usize, at: usize, cell: u32, cells: &mut [u32], fra
         if x == 0 {
             return;
         }
-        put(&mut cells[..], p + 1 + n, value(frames, at, x));
+        put(&mut cells[..], p + CELL_ARGUMENTS + n, value(frames, at, x));
         n += 1;
     }
 }

@@ -38,6 +38,7 @@ ghost use Rattle.chains.specs.Shapes.{IsCall, IsIf, IsPrint, IsSwitch};
 ghost use Rattle.plans.specs.Plan.{Narrow, Numbered, tablesIn};
 ghost use Rattle.machine.specs.Words.{Placed, Changes, onwardTo, Goes};
 
+// "1 a printed number".
 const PRINT_WORDS: usize = 1;
 
 // The newest frame goes on at record goal.

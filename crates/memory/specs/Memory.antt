@@ -20,7 +20,10 @@ cellWords = 8
 abbrev pub regionWords : ℕ
 regionWords = 2
 
--- the word of a cell that is the link to the next of its region or of the free ones; before it stand the functor and four arguments
+-- the word of a cell where its four arguments start, behind the functor, and the link to the next of its region or of the free ones
+abbrev pub cellArguments : ℕ
+cellArguments = 1
+
 abbrev pub cellNext : ℕ
 cellNext = 5
 

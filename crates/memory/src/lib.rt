@@ -19,7 +19,9 @@ pub const CELL_WORDS: usize = 8;
 
 pub const REGION_WORDS: usize = 2;
 
-// The word of a cell that leads on, to the next cell of its region or to the next free one; before it stand the functor and four arguments.
+// The word of a cell where its arguments start, behind the functor, and the one that leads on, to the next cell of its region or to the next free one.
+pub const CELL_ARGUMENTS: usize = 1;
+
 pub const CELL_NEXT: usize = 5;
 
 // The word of a region that names its last cell; word 0 leads to its first one, or to the next free region.

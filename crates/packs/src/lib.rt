@@ -10,6 +10,9 @@ const BYTE_END: usize = 256;
 // What is read in place of a byte at the end of a pack.
 pub const PACK_END: usize = BYTE_END;
 
+// More jobs than a pack has.
+pub const JOBS: usize = 1000;
+
 fn wide(x: u8) -> usize
     ensures { λ r. ⌜ r < byteEnd ⌝ }
 {

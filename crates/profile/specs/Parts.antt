@@ -12,7 +12,7 @@ use Rattle.lines.specs.Put.{Put, put-length}
 use Rattle.lines.specs.Answers.{ending-length}
 use Rattle.word_machine.specs.Tables.{Tables}
 use Rattle.word_machine.specs.Machine.{frameWords}
-use Rattle.running.specs.Lent.{frameWords as framesLent}
+use Rattle.running.specs.Lent.{framesLent}
 use Rattle.profiling.specs.declared.Point.{Point}
 use Rattle.profiling.specs.declared.Part.{Part}
 use Rattle.profiling.specs.declared.Part.the-variants.{More, Last}

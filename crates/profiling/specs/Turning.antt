@@ -8,7 +8,7 @@ use Rattle.language.specs.declared.Stop.{Stop}
 use Rattle.language.specs.Machine.{Room, holds}
 use Rattle.memory.specs.declared.Heap.{Heap}
 use Rattle.word_machine.specs.Tables.{Tables}
-use Rattle.word_machine.specs.Machine.{frameWords, Went, went, stops, settled, settledIf, stepped}
+use Rattle.word_machine.specs.Machine.{printWords, frameWords, Went, went, stops, settled, settledIf, stepped}
 use Rattle.machine.specs.declared.State.{State}
 use Rattle.machine.specs.declared.Kept.{Kept}
 use Rattle.machine.specs.declared.Kept.the-variants.{Left, Lacks as KeptLacks}
@@ -25,7 +25,7 @@ turnedTo (Lacks c) m rs fw ps = stops c
 
 -- the goal at state s is carried out: r is the answer, and the words with ₁ are those afterwards
 pub record Turns (f : List ℕ) (T : Tables) (s : State) (h : Heap) (m rs fw ps : List ℕ) (r : Turn) (m₁ rs₁ fw₁ ps₁ : List ℕ) : Type 0 where
-  pub comes : (k : Room) → k .frames ≡ holds (length fw) frameWords → k .prints ≡ holds (length ps) 1
+  pub comes : (k : Room) → k .frames ≡ holds (length fw) frameWords → k .prints ≡ holds (length ps) printWords
       → turnedTo r m₁ rs₁ fw₁ ps₁ ≡ stepped f T k (s .goal) (wordsOf h m rs fw ps s)
   pub stays : (v : State) (g : Heap) → r ≡ On v g → Placed v (length fw₁)
 

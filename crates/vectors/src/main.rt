@@ -6,15 +6,13 @@
 use answering::print_annotated;
 use answering::print_checked;
 use libc::STDOUT_FILENO;
+use packs::JOBS;
 use packs::PACK_END;
 use packs::next_byte;
 use packs::next_bytes;
 use packs::next_number;
 use packs::print_name;
 use records::blank::blank_input;
-
-// More jobs than a pack has.
-const JOBS: usize = 1000;
 
 fn try_file(fd: i32, n: usize) {
     let mut file = blank_input();

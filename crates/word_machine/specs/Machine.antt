@@ -20,7 +20,7 @@ use Rattle.language.specs.File.{word, recordCount}
 use Rattle.language.specs.Program.{inMode, outMode}
 use Rattle.language.specs.Numbers.{literalNumber, residue, less}
 use Rattle.language.specs.Machine.{Lent, Room, holds, roomIn}
-use Rattle.language.specs.Format.{termFunctor, termArguments, callProcedure, maxVariables}
+use Rattle.language.specs.Format.{maxRegions, termFunctor, termArguments, callProcedure, maxVariables}
 use Rattle.records.specs.Records.{recordAt}
 use Rattle.records.specs.declared.Record.{Record}
 use Rattle.records.specs.declared.Record.the-variants.{Header, «Type» as TypeOf, Functor, Procedure, Variable, Region, Edge, Literal, Sum, Assign, Construct, Switch, Arm, If, Call, Argument, Print, Create, Remove, Other}
@@ -52,10 +52,14 @@ abbrev pub regionsFrom : ℕ
 regionsFrom = maxVariables
 
 abbrev pub regionsEnd : ℕ
-regionsEnd = 128
+regionsEnd = regionsFrom + maxRegions
 
 abbrev pub callFrom : ℕ
-callFrom = 129
+callFrom = regionsEnd + 1
+
+-- "1 a printed number"
+abbrev pub printWords : ℕ
+printWords = 1
 
 -- ---- words of frame k
 abbrev pub goalPlace : ℕ → ℕ
