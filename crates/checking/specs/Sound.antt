@@ -3,13 +3,12 @@ use Prim.Native.Nat.{ℕ, _≤_, _<_}
 use mathlib.Core.Bool.{Bool, true, false}
 use mathlib.Core.Path.{_≡_, sym, ap, ap₂, _∙_, fun-ext}
 use mathlib.Core.List.{List}
-use Rattle.sets.specs.Tests.{same-truth}
-use Rattle.sets.specs.Sets.{member-ext, member-empty, emptySet, single, _∪_, _∩_, _∖_, sameSet, same-eq, subset, apart, Small}
-use Rattle.sets.specs.SetLaws.{union-empty, empty-union, union-assoc, small-top, apart-mk}
+use Rattle.sets.specs.Sets.{member-empty, emptySet, single, _∪_, _∩_, _∖_, sameSet, same-eq, subset, apart, Small}
+use Rattle.sets.specs.SetLaws.{union-empty, empty-union, union-assoc, apart-mk}
 use Rattle.sets.specs.Members.{nextMember, setOf, filtered, keep}
-use Rattle.sets.specs.MemberLaws.{keep-in, keep-mk}
 use Rattle.sets.specs.Walk.{above, keep-start, keep-end, keep-take, keep-skip}
 use Rattle.sets.specs.declared.Set.{Set}
+use Rattle.laws.specs.MoreSets.{keep-all}
 use Rattle.language.specs.Program.{Signature}
 use Rattle.language.specs.Regions.{reach}
 use Rattle.language.specs.Checking.{soundGiven, soundWithout}
@@ -74,10 +73,6 @@ module _ (t : List ℕ) where
     without-is gone sound e = e ∙ ap (λ (p : ℕ → Bool). keep p sound) (fun-ext λ x. ap (λ (y : Set). apart y gone) (w x))
 
 -- ---- where nothing is gone, what was sound is sound
-keep-all : (p : ℕ → Bool) (s : Set) → Small s → ((n : ℕ) → p n ≡ true) → keep p s ≡ s
-keep-all p s h q =
-    member-ext (keep p s) s λ n. same-truth (λ e. keep-in p s n e .0) λ e. keep-mk p s n e (small-top s h n e) (q n)
-
 pub without-none : (S : Signature) (gone sound : Set) {b : Bool} → Small sound → b ≡ sameSet gone emptySet → b ≡ true → sound ≡ soundWithout S gone sound
 unfolding soundWithout
 without-none S gone sound h e q =

@@ -5,7 +5,7 @@ use mathlib.Core.List.{List, map}
 use mathlib.Core.Path.{_≡_, refl, ap, sym, _∙_}
 use lib.ListN.{length, getD, take, drop}
 use Rattle.language.specs.Format.{nextWord, headerProcedures, procedureVariables, procedureRegions, procedureGoals}
-use Rattle.language.specs.File.{kProcedure, kVariable, kRegion, goals, procedures, word}
+use Rattle.language.specs.File.{kProcedure, kVariable, kRegion, procedures, word}
 use Rattle.language.specs.Tree.{Tree}
 use Rattle.language.specs.Layout.{reference, lay}
 use Rattle.language.specs.Records.{chainOf, variableWords, regionWords, goalsTree, procedureWords}
@@ -48,9 +48,6 @@ proceduresTree P ps = chainOf kProcedure procedureWords (map (annotateProcedure 
 
 -- ---- the goals of procedure q
 module _ {f table rows : List ℕ} (G : Given f table rows) {q : ℕ} (l : q < length (program f .procedures)) {s : ℕ} (e : s ≡ startIn table q) where
-  pub window-stands : Stands f goals (getD (take (length table - s) (drop s table)) bodyPlace 0)
-  window-stands = rw (window-lent table q e) (window-here (G .prepared .windows) l .stands)
-
   body-is : bodyOf f (signatureOf (program f) q) (getD (windowIn table q) bodyPlace 0) ≡ placedBody (program f) q
   unfolding bodyOf placedBody annotateProcedure signatureOf
   body-is = rw (window-here (G .prepared .windows) l .body) (sym (procedure-local (program f) (G .annotatable) q))

@@ -4,13 +4,11 @@ use mathlib.Core.Bool.{Bool}
 use mathlib.Core.List.{List}
 use mathlib.Core.Path.{_≡_, refl, _∙_}
 use lib.ListN.{length, getD, take, drop}
-use Rattle.language.specs.File.{goals}
 use Rattle.language.specs.Lists.{all}
 use Rattle.language.specs.Program.{Procedure, Program, procedureAt, signatureOf}
 use Rattle.language.specs.Values.{outsOf}
 use Rattle.language.specs.Lifetimes.{goalsClasses, callClassesOk}
 use Rattle.language.specs.Answers.{program}
-use Rattle.chains.specs.Formed.{Stands}
 use Rattle.tables.specs.Window.{WindowOf, setIn, bodyPlace, outsPlace}
 use Rattle.tables.specs.Starts.{startIn, windowIn, window-lent, window-here, body-here}
 use Rattle.tables.specs.Filled.{Prepared}
@@ -27,9 +25,6 @@ classes-all P = refl
 module _ {f table rows : List ℕ} (h : Prepared f table rows) (q : ℕ) (l : q < length (program f .procedures)) {s : ℕ} (e : s ≡ startIn table q) where
   here : WindowOf f (procedureAt (program f) q) (windowIn table q)
   here = window-here (h .windows) l
-
-  pub body-stands : Stands f goals (getD (take (length table - s) (drop s table)) bodyPlace 0)
-  body-stands = rw (window-lent table q e) (here .stands)
 
   pub procedure-classes : {b : Bool}
       → ListClasses f rows (take (length table - s) (drop s table)) (getD (take (length table - s) (drop s table)) bodyPlace 0) (setIn (take (length table - s) (drop s table)) outsPlace) b

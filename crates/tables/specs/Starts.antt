@@ -9,10 +9,11 @@ use lib.Dec.{leb}
 use lib.ListN.{length, getD, take, drop, List·getD-eq-default, length-drop}
 use lib.Seq.{take-all}
 use Rattle.language.specs.Lists.{nth, choose}
-use Rattle.language.specs.File.{word}
+use Rattle.language.specs.File.{goals, word}
 use Rattle.language.specs.Format.{headerProcedures, procedureGoals}
 use Rattle.language.specs.Program.{procedureAt}
 use Rattle.language.specs.Answers.{program}
+use Rattle.chains.specs.Formed.{Stands}
 use Rattle.chains.specs.Records.{chainRecords}
 use Rattle.tables.specs.Window.{bodyPlace, WindowOf, FileTable}
 
@@ -52,6 +53,10 @@ module _ {f t : List ℕ} (h : FileTable f t) {q : ℕ} (l : q < length (program
   pub window-here : WindowOf f (procedureAt (program f) q) (windowIn t q)
   unfolding windowIn
   window-here = rw (start-is t q (h .starts q l)) (h .at q l)
+
+  -- .. lent from place s on
+  pub body-stands : {s : ℕ} → s ≡ startIn t q → Stands f goals (getD (take (length t - s) (drop s t)) bodyPlace 0)
+  body-stands e = rw (window-lent t q e) (window-here .stands)
 
   pub body-here : getD (windowIn t q) bodyPlace 0 ≡ word f (nth 0 (chainRecords f (word f 0 headerProcedures)) q) procedureGoals
   unfolding windowIn

@@ -12,13 +12,10 @@ use Rattle.laws.specs.Tests.{and-stop, and-on, and-yes, refuse, pass}
 use Rattle.language.specs.Format.{functorArity, functorTypes, termFunctor, termArguments, maxArity}
 use Rattle.language.specs.Lists.{among, choose}
 use Rattle.language.specs.File.{word}
-use Rattle.language.specs.Program.{Four, four, fourWords, trimOnto, trimmed, argumentsOf, Signature}
+use Rattle.language.specs.Program.{fourWords, trimOnto, trimmed, argumentsOf, Signature}
 use Rattle.language.specs.Typing.{typesIn, isVariable, hasType, haveTypes, argumentsOk}
+use Rattle.chains.specs.Parts.{fourAt}
 use Rattle.declarations.specs.Functors.{functorAtRecord}
-
--- the arguments of a construct or an arm
-unfoldable pub argumentsAtRecord : List ℕ → ℕ → Four
-argumentsAtRecord f i = four (word f i termArguments) (word f i (termArguments + 1)) (word f i (termArguments + 2)) (word f i (termArguments + 3))
 
 module _ (S : Signature) where
   -- argument a at position k, counted from 0, for the type ty: a variable of that type, or 0 past the arity
@@ -106,8 +103,8 @@ module _ (f : List ℕ) (S : Signature) (g i : ℕ) where
   pub slotsLeft : ℕ → Bool
   slotsLeft k = slotsFrom (maxArity - k) k
 
-  pub slots-whole : slotsLeft 0 ≡ argumentsOk S (functorAtRecord f g) (argumentsAtRecord f i)
-  unfolding slotsLeft slotsFrom argumentsAtRecord functorAtRecord argumentsOk typesIn fourWords argumentsOf
+  pub slots-whole : slotsLeft 0 ≡ argumentsOk S (functorAtRecord f g) (fourAt f i)
+  unfolding slotsLeft slotsFrom functorAtRecord argumentsOk typesIn fourWords argumentsOf
   slots-whole =
       ap (λ (b : Bool). slotHere 0 & slotHere 1 & slotHere 2 & b) (and-yes _)
       ∙ slots-fit S (word f g functorArity) (type 0) (type 1) (type 2) (type 3) (argument 0) (argument 1) (argument 2) (argument 3)
@@ -133,7 +130,7 @@ module _ (f : List ℕ) (S : Signature) (g i : ℕ) where
 
 -- ---- an arm against functor n, of record g: the number and the arguments
 unfoldable pub armFits : List ℕ → Signature → ℕ → ℕ → ℕ → Bool
-armFits f S g n i = ltb 0 g & eqb (word f i termFunctor) n & argumentsOk S (functorAtRecord f g) (argumentsAtRecord f i)
+armFits f S g n i = ltb 0 g & eqb (word f i termFunctor) n & argumentsOk S (functorAtRecord f g) (fourAt f i)
 
 module _ (f : List ℕ) (S : Signature) (g n i : ℕ) where
   pub arm-none : g ≡ 0 → false ≡ armFits f S g n i
@@ -148,6 +145,6 @@ module _ (f : List ℕ) (S : Signature) (g n i : ℕ) where
     unfolding armFits
     arm-order h = and-on (lt-ltb 0 g (omega arith)) (and-stop _ (rw (sym ew) (ne-eqb w n h)))
 
-    pub arm-all : w ≡ n → {q : Bool} → q ≡ argumentsOk S (functorAtRecord f g) (argumentsAtRecord f i) → q ≡ armFits f S g n i
+    pub arm-all : w ≡ n → {q : Bool} → q ≡ argumentsOk S (functorAtRecord f g) (fourAt f i) → q ≡ armFits f S g n i
     unfolding armFits
     arm-all h k = and-on (lt-ltb 0 g (omega arith)) (and-on (rw (sym ew) (eq-eqb w n h)) k)

@@ -7,11 +7,12 @@ use mathlib.Core.List.{List}
 use Rattle.language.specs.File.{word}
 use Rattle.language.specs.Answers.{program}
 use Rattle.language.specs.Typing.{hasType, haveTypes, argumentsOk, goalsOk, goalOk, armsOk}
+use Rattle.chains.specs.Parts.{fourAt}
 use Rattle.chains.specs.Formed.{goalsAt, goalAt, armsAt, functorsAt, variablesAt, argumentsAt}
 use Rattle.declarations.specs.Functors.{functorAtRecord}
 use Rattle.declarations.specs.Parameters.{takenTypes}
 use Rattle.declarations.specs.Own.{declared}
-use Rattle.typing.specs.Arguments.{argumentsAtRecord, slotHere, armFits}
+use Rattle.typing.specs.Arguments.{slotHere, armFits}
 
 module _ (f own : List ℕ) where
   abbrev pub GoalsTested : ℕ → Bool → Type 0
@@ -22,7 +23,7 @@ module _ (f own : List ℕ) where
 
   -- record i's arguments for the functor of record g, one of them, and an arm for functor n
   abbrev pub ArgumentsTested : ℕ → ℕ → Bool → Type 0
-  ArgumentsTested g i r = r ≡ argumentsOk (declared f own) (functorAtRecord f g) (argumentsAtRecord f i)
+  ArgumentsTested g i r = r ≡ argumentsOk (declared f own) (functorAtRecord f g) (fourAt f i)
 
   abbrev pub ArgumentTested : ℕ → ℕ → ℕ → Bool → Type 0
   ArgumentTested g k i r = r ≡ slotHere f (declared f own) g i k

@@ -14,13 +14,13 @@ use Rattle.language.specs.File.{word}
 use Rattle.language.specs.Program.{Signature, functorsOf, functorAt, typeOf}
 use Rattle.language.specs.Answers.{program}
 use Rattle.language.specs.Typing.{isVariable, isRegion, hasType, argumentsOk, functorsFor, stepOk, goalOk}
+use Rattle.chains.specs.Parts.{fourAt}
 use Rattle.chains.specs.Formed.{Formed, goalAt}
 use Rattle.chains.specs.Shapes.{IsLiteral, IsSum, IsAssign, IsConstruct, IsPrint, IsCreate, IsRemove, literal-here, sum-here, assign-here, construct-here, print-here, create-here, remove-here}
 use Rattle.declarations.specs.Places.{variableIn, regionIn, functorIn}
 use Rattle.declarations.specs.Functors.{functorAtRecord}
 use Rattle.declarations.specs.Declares.{Declares, functor-listed, functor-here}
 use Rattle.declarations.specs.Own.{Own, declared, variable-none, variable-some, variable-type, region-listed}
-use Rattle.typing.specs.Arguments.{argumentsAtRecord}
 
 -- ---- the steps that name variables of type 0
 module _ {f : List ℕ} (F : Formed f) (S : Signature) (i : ℕ) where
@@ -83,21 +83,21 @@ module _ {f own : List ℕ} (F : Formed f) (O : Own f own) (i : ℕ) where
 
     module _ (n : IsConstruct f i) where
       construct-as : (isVariable signature x & ltb (word f i termFunctor) (length (functorsOf (program f .types) (typeOf signature x)))
-          & argumentsOk signature (functorAt (functorsOf (program f .types) (typeOf signature x)) (word f i termFunctor)) (argumentsAtRecord f i)) ≡ goalOk (program f) signature (goalAt f i)
-      unfolding goalOk stepOk functorsFor argumentsAtRecord
+          & argumentsOk signature (functorAt (functorsOf (program f .types) (typeOf signature x)) (word f i termFunctor)) (fourAt f i)) ≡ goalOk (program f) signature (goalAt f i)
+      unfolding goalOk stepOk functorsFor
       construct-as = rw (construct-here F refl n .goal, ex)
 
       pub construct-unlisted : v ≡ 0 → false ≡ goalOk (program f) signature (goalAt f i)
       construct-unlisted z = and-stop _ (variable-none F O x ev z) ∙ construct-as
 
       module _ {t : List ℕ} (D : Declares f t) (z : v ≡ 0 → ⊥) {ty k g : ℕ} (et : ty ≡ word f v variableType) (ek : k ≡ word f i termFunctor) (eg : g ≡ functorIn t ty k) where
-        construct-some : {q : Bool} → q ≡ (ltb k (length (functorsOf (program f .types) ty)) & argumentsOk signature (functorAt (functorsOf (program f .types) ty) k) (argumentsAtRecord f i))
+        construct-some : {q : Bool} → q ≡ (ltb k (length (functorsOf (program f .types) ty)) & argumentsOk signature (functorAt (functorsOf (program f .types) ty) k) (fourAt f i))
             → q ≡ goalOk (program f) signature (goalAt f i)
         construct-some e = and-on (variable-some F O x ev z) (rw (variable-type F O x ev z, sym et, sym ek) e) ∙ construct-as
 
         pub construct-none : g ≡ 0 → false ≡ goalOk (program f) signature (goalAt f i)
         construct-none n = construct-some (refuse _ (functor-listed D ty k) (le-ltb 0 (functorIn t ty k) (omega arith)))
 
-        pub construct-all : (g ≡ 0 → ⊥) → {q : Bool} → q ≡ argumentsOk signature (functorAtRecord f g) (argumentsAtRecord f i) → q ≡ goalOk (program f) signature (goalAt f i)
+        pub construct-all : (g ≡ 0 → ⊥) → {q : Bool} → q ≡ argumentsOk signature (functorAtRecord f g) (fourAt f i) → q ≡ goalOk (program f) signature (goalAt f i)
         construct-all n e =
-            construct-some (pass (functor-listed D ty k) (lt-ltb 0 (functorIn t ty k) (omega arith)) (e ∙ ap (λ h. argumentsOk signature h (argumentsAtRecord f i)) (sym (functor-here D ty k eg n))))
+            construct-some (pass (functor-listed D ty k) (lt-ltb 0 (functorIn t ty k) (omega arith)) (e ∙ ap (λ h. argumentsOk signature h (fourAt f i)) (sym (functor-here D ty k eg n))))

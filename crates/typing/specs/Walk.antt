@@ -13,6 +13,7 @@ use Rattle.language.specs.File.{functors, goals, arms, word}
 use Rattle.language.specs.Program.{Goals, Goal, _then_, Signature, functorsOf, typeOf}
 use Rattle.language.specs.Answers.{program}
 use Rattle.language.specs.Typing.{isVariable, hasType, functorsFor, argumentsOk, goalsOk, goalOk, armsOk}
+use Rattle.chains.specs.Parts.{fourAt}
 use Rattle.chains.specs.Formed.{Formed, Stands, goalsAt, goalAt, goals-none, armsAt, arms-none, functorsAt, functors-none}
 use Rattle.chains.specs.Is.{goals-step}
 use Rattle.chains.specs.Shapes.{IsSwitch, IsIf, switch-here, if-here, arm-here}
@@ -21,7 +22,7 @@ use Rattle.declarations.specs.Places.{variableIn, functorIn}
 use Rattle.declarations.specs.Functors.{functorAtRecord, functors-step}
 use Rattle.declarations.specs.Declares.{Declares, functors-here}
 use Rattle.declarations.specs.Own.{Own, declared, variable-none, variable-some, variable-type}
-use Rattle.typing.specs.Arguments.{argumentsAtRecord, armFits}
+use Rattle.typing.specs.Arguments.{armFits}
 
 -- ---- a chain of goals
 module _ (f : List ℕ) (S : Signature) where
@@ -69,11 +70,11 @@ module _ {f : List ℕ} (F : Formed f) (S : Signature) where
   module _ (i g n : ℕ) (sa : Stands f arms i) (za : i ≡ 0 → ⊥) (s : Stands f functors g) {r1 : Bool} (e1 : r1 ≡ armFits f S g n i) where
     arms-as : (armFits f S g n i & goalsOk (program f) S (goalsAt f (word f i armGoals)) & armsOk (program f) S (armsAt f (word f i nextWord)) (functorsAt f (word f g nextWord)) (suc n))
         ≡ armsOk (program f) S (armsAt f i) (functorsAt f g) n
-    unfolding armsOk armFits argumentsAtRecord _&_
+    unfolding armsOk armFits _&_
     arms-as =
         elim (decLt 0 g) [
           | yes l ↦
-              ap (λ b. (b & eqb (word f i termFunctor) n & argumentsOk S (functorAtRecord f g) (argumentsAtRecord f i)) & goalsOk (program f) S (goalsAt f (word f i armGoals)) & armsOk (program f) S (armsAt f (word f i nextWord)) (functorsAt f (word f g nextWord)) (suc n)) (lt-ltb 0 g l)
+              ap (λ b. (b & eqb (word f i termFunctor) n & argumentsOk S (functorAtRecord f g) (fourAt f i)) & goalsOk (program f) S (goalsAt f (word f i armGoals)) & armsOk (program f) S (armsAt f (word f i nextWord)) (functorsAt f (word f g nextWord)) (suc n)) (lt-ltb 0 g l)
               ∙ and-assoc (eqb (word f i termFunctor) n) _ _
               ∙ rw (arm-here F za sa .view, functors-step F g s (λ e. omega arith))
           | no l ↦ rw (le-ltb 0 g (omega arith), arm-here F za sa .view, functors-none f {i = g} (omega arith))

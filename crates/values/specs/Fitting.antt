@@ -1,14 +1,14 @@
 -- What was gathered of a record fits it: of a step what it reads and gives, of an arm that it gives its arguments.
-use Prim.Native.Nat.{ℕ, zero, suc, _+_, _≤_, _<_}
+use Prim.Native.Nat.{ℕ, _+_, _≤_, _<_}
 use native.Mathlib.Omega.{arith}
 use mathlib.Core.Path.{_≡_, refl, sym, ap, _∙_}
-use mathlib.Core.List.{List, [], _∷_}
+use mathlib.Core.List.{List, []}
 use mathlib.Core.Bool.{true}
 use lib.ListN.{length, getD, drop}
 use lib.Seq.{getD-drop}
+use Rattle.laws.specs.Lists.{nth-past}
 use Rattle.language.specs.Format.{literalKind, sumKind, assignKind, constructKind, armKind, callKind, printKind, createKind, removeKind, goalX, sumY, sumZ, assignY, printY, callProcedure, callArguments, kindWord, termArguments}
 use Rattle.language.specs.File.{GoalKind, kLiteral, kSum, kAssign, kConstruct, kCall, kPrint, kCreate, kRemove, Kind, kNone, kArm, kGoal, goals, arms, row, kindOf, word, recordCount}
-use Rattle.language.specs.Lists.{nth}
 use Rattle.language.specs.Program.{fourWords, argumentsOf, Step, Goals, _then_, step, call, Program, done, procedureAt, signatureOf}
 use Rattle.language.specs.Typing.{typingOk}
 use Rattle.language.specs.Answers.{program}
@@ -108,17 +108,11 @@ module _ (f : List ℕ) (i : ℕ) (F : Formed f) {w : ℕ} (e : w ≡ word f i k
   }
 
 -- ---- a call: the callee's in and out variables stand in its window
-nth-none : {A : Type 0} (d : A) (xs : List A) (k : ℕ) → length xs ≤ k → nth d xs k ≡ d
-unfolding nth
-nth-none d [] k h = refl
-nth-none d (x ∷ xs) zero h = absurd (omega arith)
-nth-none d (x ∷ xs) (suc k) h = nth-none d xs k (omega arith)
-
 -- a procedure that is not there has no variables
 pub call-none : (P : Program) (q : ℕ) (ys : List ℕ) {a : Access} → length (P .procedures) ≤ q → a ≡ noAccess → Accesses P (call q ys) a
 unfolding signatureOf procedureAt
 call-none P q ys h e =
-    let n = nth-none (record { signature = record { variables = []; regions = [] }; body = done }) (P .procedures) q h in
+    let n = nth-past (record { signature = record { variables = []; regions = [] }; body = done }) (P .procedures) q h in
     rw e (call-access P (sym (ap (λ p. p .signature .variables) n)) (none-matches ys))
 
 -- the window of procedure q, which starts at that place

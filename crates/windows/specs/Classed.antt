@@ -7,11 +7,12 @@ use mathlib.Core.Logic.{⊎-elim}
 use mathlib.Core.Path.{_≡_, sym, ap, ap₂, _∙_, fun-ext}
 use lib.ListN.{length, take, drop, length-drop}
 use lib.Seq.{take-all}
-use Rattle.sets.specs.Tests.{_&_, clash, false-of}
+use Rattle.sets.specs.Tests.{clash, false-of}
 use Rattle.sets.specs.Sets.{member, _∪_, _∖_, subset, union-in, union-left, union-right, difference-in, difference-mk, subset-mk}
 use Rattle.sets.specs.SetLaws.{subset-antisym, apart-in}
 use Rattle.sets.specs.Members.{setOf, unionOver}
 use Rattle.sets.specs.declared.Set.{Set}
+use Rattle.laws.specs.Tests.{and-stop, and-on}
 use Rattle.language.specs.Program.{Functor, Signature, inMode, outMode}
 use Rattle.language.specs.Typing.{signatureOk}
 use Rattle.language.specs.Values.{insOf, outsOf}
@@ -108,14 +109,6 @@ module _ {f : List ℕ} {v r : ℕ} (S : Signature) (h : SignatureAt f v r S) wh
       }
 
 -- ---- number 7 for every program
-and-stop : {a : Bool} (b : Bool) → a ≡ false → false ≡ (a & b)
-unfolding _&_
-and-stop b e = rw e
-
-and-on : {a b c : Bool} → a ≡ true → c ≡ b → c ≡ (a & b)
-unfolding _&_
-and-on e g = rw e g
-
 module _ (S : Signature) {c : Classes} (h : Classed S c) where
   pub born-wrong : {d : Set} {b : Bool} → d ≡ c .outputs ∖ c .inputs → b ≡ subset (c .born) d → b ≡ false → false ≡ classesOk S
   unfolding classesOk

@@ -1,6 +1,7 @@
 -- `lay_goals` meets its contract.
 use borrow.Author.Needs.{needs}
-use Rattle.insertion.specs.Procedures.{window-stands, goals-laid}
+use Rattle.tables.specs.Starts.{body-stands}
+use Rattle.insertion.specs.Procedures.{goals-laid}
 use Rattle.insertion.proofs.procedures.lay_goals.Statement.{statement}
 use Rattle.insertion.proofs.procedures.lay_goals.Tie as tie
 
@@ -22,7 +23,7 @@ part-lay-body-end c = search needs
 lay-body-requires : tie.Need-lay-body-requires
 lay-body-requires c κs =
     let p = c .before .before .before .before .before .before .pre in
-    (p .0 .formed, (p .0 .prepared .accessed, (window-stands (p .0) (p .1 .0) (c .before .before .before .start-of .ensures .0), p .1 .1)))
+    (p .0 .formed, (p .0 .prepared .accessed, (body-stands (p .0 .prepared .windows) (p .1 .0) (c .before .before .before .start-of .ensures .0), p .1 .1)))
 
 returns : tie.Need-returns
 returns c =

@@ -2,6 +2,7 @@
 use borrow.Author.Needs.{needs}
 use native.Mathlib.Omega.{arith}
 use Prim.Native.Nat.{_-_}
+use Rattle.language.specs.Format.{places}
 use Rattle.tables.specs.Walks.{next-falls}
 use Rattle.laying.specs.Marks.{Marking, marking-first, marking-last, marking-next}
 use Rattle.laying.proofs.marks.lay_marks.Statement.{statement}
@@ -13,7 +14,7 @@ Inv-loop out₀ kind s on first at₀ r₀ out at r =
 
 abbrev μ-loop : tie.MeasureT-loop
 μ-loop out₀ kind s on first at₀ r₀ out at r =
-    65 - r
+    places - r
 
 after-requires : tie.Need-after-requires Inv-loop μ-loop
 after-requires c κs =

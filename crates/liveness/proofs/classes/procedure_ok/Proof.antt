@@ -1,5 +1,6 @@
 -- `procedure_ok` meets its contract.
-use Rattle.liveness.specs.Classes.{body-stands, procedure-classes}
+use Rattle.tables.specs.Starts.{body-stands}
+use Rattle.liveness.specs.Classes.{procedure-classes}
 use borrow.Author.Needs.{needs}
 use Rattle.liveness.proofs.classes.procedure_ok.Statement.{statement}
 use Rattle.liveness.proofs.classes.procedure_ok.Tie as tie
@@ -20,7 +21,7 @@ part-window-ok-end : tie.Need-part-window-ok-end
 part-window-ok-end c = search needs
 
 window-ok-requires : tie.Need-window-ok-requires
-window-ok-requires c κs = let p = c .before .before .before .before .before .pre in (p .0, (p .1 .0 .accessed, (body-stands (p .1 .0) _ (p .1 .1 .0) (c .before .before .start-of .ensures .0), p .1 .1 .1)))
+window-ok-requires c κs = let p = c .before .before .before .before .before .pre in (p .0, (p .1 .0 .accessed, (body-stands (p .1 .0 .windows) (p .1 .1 .0) (c .before .before .start-of .ensures .0), p .1 .1 .1)))
 
 returns : tie.Need-returns
 returns c = let p = c .before .before .before .before .before .before .pre in (c .window-ok .ensures .0, procedure-classes (p .1 .0) _ (p .1 .1 .0) (c .before .before .before .start-of .ensures .0) (c .window-ok .ensures .1))

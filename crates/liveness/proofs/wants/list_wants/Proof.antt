@@ -2,6 +2,7 @@
 use Prim.Native.Nat.{_-_}
 use native.Mathlib.Omega.{arith}
 use lib.ListN.{length-set}
+use Rattle.language.specs.Format.{places}
 use Rattle.liveness.specs.Wants.{Copying, copying-first, copying-next, copying-last}
 use borrow.Author.Needs.{needs}
 use Rattle.liveness.proofs.wants.list_wants.Statement.{statement}
@@ -11,7 +12,7 @@ abbrev Inv-loop : tie.InvT-loop
 Inv-loop own carried₀ x₀ carried x = Copying own carried₀ carried x
 
 abbrev μ-loop : tie.MeasureT-loop
-μ-loop own carried₀ x₀ carried x = 65 - x
+μ-loop own carried₀ x₀ carried x = places - x
 
 loop-holds : tie.Need-loop-holds Inv-loop μ-loop
 loop-holds c = copying-first _ (c .before .before .pre)

@@ -1,9 +1,10 @@
 -- `wanted` meets its contract: a walk over the members.
 use Prim.Native.Nat.{_-_}
 use mathlib.Core.Path.{sym, ap, ap₂, _∙_}
+use Rattle.language.specs.Format.{places}
 use Rattle.sets.specs.Sets.{_∪_, loaded}
 use Rattle.tables.specs.Walks.{Gathering, gather-first, gather-more, gather-last, next-falls}
-use Rattle.liveness.specs.Wants.{reachedIn, wantedIn, reached-some, wants-at}
+use Rattle.liveness.specs.Wants.{wantsKept, reachedIn, wantedIn, reached-some, wants-at}
 use Rattle.liveness.specs.Carried.{wantsOf}
 use borrow.Author.Needs.{needs}
 use Rattle.liveness.proofs.wants.wanted.Statement.{statement}
@@ -13,7 +14,7 @@ abbrev Inv-loop : tie.InvT-loop
 Inv-loop carried live found₀ x₀ found x = Gathering (reachedIn (wantsOf carried)) live found x
 
 abbrev μ-loop : tie.MeasureT-loop
-μ-loop carried live found₀ x₀ found x = 65 - x
+μ-loop carried live found₀ x₀ found x = places - x
 
 after-requires : tie.Need-after-requires Inv-loop μ-loop
 after-requires c κs = search needs
@@ -56,7 +57,7 @@ union-requires-2 c κs = search needs
 
 returns : tie.Need-returns Inv-loop μ-loop
 unfolding wantedIn
-returns c = c .union2 .ensures ∙ ap₂ _∪_ (c .before .loaded2 .ensures ∙ ap loaded (sym (wants-at _ 65))) (gather-last _ _ (c .before .before .before .before .loop .inv) (c .before .before .before .loop-test .left))
+returns c = c .union2 .ensures ∙ ap₂ _∪_ (c .before .loaded2 .ensures ∙ ap loaded (sym (wants-at _ wantsKept))) (gather-last _ _ (c .before .before .before .before .loop .inv) (c .before .before .before .loop-test .left))
 
 pub wanted-spec : {M : Type 1} → statement M
 wanted-spec =

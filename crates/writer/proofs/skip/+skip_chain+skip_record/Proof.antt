@@ -2,6 +2,7 @@
 use borrow.Author.Needs.{needs}
 use native.Mathlib.Omega.{arith}
 use Rattle.language.specs.File.{recordCount}
+use Rattle.records.specs.Sizes.{recordWords}
 use Rattle.chains.specs.Formed.{ahead}
 use Rattle.writer.specs.Leads.{told}
 use Rattle.writer.specs.Skips.{Skipping, skipping-first, skipping-last, skipping-less, skipping-falls, skipping-next, Passing, passing-first, passing-plain, passing-below, passing-falls, passing-leads, passing-done}
@@ -93,7 +94,7 @@ skip-record-Inv-loop file i first kind at₀ k₀ at k =
 
 abbrev skip-record-μ-loop : skip-record-lts.MeasureT-loop
 skip-record-μ-loop file i first kind at₀ k₀ at k =
-    8 - k
+    recordWords - k
 
 skip-record-word-requires : (t : ℕ) → skip-record-lts.Need-word-requires (skip-record-calls t) (skip-record-at t) skip-record.Post skip-record-Inv-loop skip-record-μ-loop
 skip-record-word-requires t c κs =

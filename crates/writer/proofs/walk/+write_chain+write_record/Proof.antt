@@ -3,6 +3,7 @@ use borrow.Author.Needs.{needs}
 use mathlib.Core.Path.{_∙_}
 use native.Mathlib.Omega.{arith}
 use Rattle.language.specs.File.{recordCount}
+use Rattle.records.specs.Sizes.{recordWords}
 use Rattle.chains.specs.Formed.{ahead}
 use Rattle.writer.specs.Laid.{linked-small}
 use Rattle.writer.specs.Leads.{told}
@@ -105,7 +106,7 @@ write-record-Inv-loop file out₀ i on at kind end₀ k₀ out end k =
 
 abbrev write-record-μ-loop : write-record-lts.MeasureT-loop
 write-record-μ-loop file out₀ i on at kind end₀ k₀ out end k =
-    8 - k
+    recordWords - k
 
 write-record-word-requires : (t : ℕ) → write-record-lts.Need-word-requires (write-record-calls t) (write-record-at t) write-record.Post write-record-Inv-loop write-record-μ-loop
 write-record-word-requires t c κs =
