@@ -19,3 +19,6 @@ unfoldable pub use Rattle.layout.specs.Sizes.{signatureSize, proceduresSize}
 pub use Rattle.layout.specs.Sizes.{chain-size, goalsSize, program-records}
 pub use Rattle.layout.specs.Bytes.{Eights}
 pub use Rattle.layout.specs.Lists.{hits, hits-suc, hits-zero}
+pub use Rattle.layout.specs.Bytes.{written-length}
+pub use Rattle.layout.specs.Programs.{length-of-program}
+pub use Rattle.layout.specs.ProgramFits.{program-fits}
