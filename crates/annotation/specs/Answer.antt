@@ -21,7 +21,7 @@ use Rattle.language.specs.Records.{programTree}
 use Rattle.language.specs.Annotation.{annotate}
 use Rattle.language.specs.Answers.{Stage, stage, lowest, program, fileOf, roomOk, fileStages, annotatorStages, AnnotatorAnswer, refuses, writes, writesUnless, annotated, annotatorMemory}
 use Rattle.records.specs.Verdicts.{formStages, after, lowest-append}
-use Rattle.layout.specs.Programs.{length-of-program}
+use Rattle.chains.specs.Layout.{length-of-program}
 use Rattle.rules.specs.Stages.{typingStages}
 use Rattle.annotation.specs.declared.Annotated.{Annotated}
 use Rattle.annotation.specs.declared.Annotated.the-variants.{Refused as NotAnnotated, Written}

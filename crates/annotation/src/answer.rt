@@ -23,7 +23,7 @@ ghost use Rattle.language.specs.Typing.{typingOk};
 ghost use Rattle.language.specs.Answers.{program, annotated};
 ghost use Rattle.chains.specs.Formed.{Formed};
 ghost use Rattle.liveness.specs.Points.{pointWords};
-ghost use Rattle.insertion.specs.Procedures.{Given};
+ghost use Rattle.insertion.specs.Procedures.{Unrefused};
 ghost use Rattle.annotation.specs.Answer.{Annotates, RoomIn, roomAnswer, typedAnswer};
 
 // Number 9, "annotated file over 4,096 records or longer than the memory lent", before the first byte is written; then the file. It is laid into memory of
@@ -36,7 +36,7 @@ fn write_annotated(
     out: &mut [u8],
     room: usize,
 ) -> Annotated
-    requires { ⌜ Given (now file) (now table) (now rows) ⌝ }
+    requires { ⌜ Unrefused (now file) (now table) (now rows) ⌝ }
     requires { ⌜ length (now points) ≡ pointWords ⌝ }
     requires { ⌜ RoomIn room (length (now out)) ⌝ }
     ensures { λ r. ⌜ Annotates (roomAnswer (now (file .entry)) (length (now (out .entry)))) (now (out .entry)) (now (out .exit)) r ⌝ }

@@ -20,14 +20,14 @@ use Rattle.values.specs.Walk.{outcome, goesOn, Walker, walkGoals, chain-stop, c
 use Rattle.values.specs.Along.{GoalsWalked, none-walked, switch-stops, switch-walked, if-unread, if-unread-2, if-then-stops, if-else-stops, if-walked, arms-none-walked, arm-stops, arm-last, arm-rest-stops, arms-walked}
 use Rattle.tables.specs.Rows.{givesIn}
 use Rattle.tables.specs.Filled.{Belongs}
-use Rattle.checking.specs.Checker.{State, carrying, checker}
+use Rattle.checking.specs.Checker.{CheckState, carrying, checker}
 use Rattle.checking.specs.Carried.{heldIn, soundIn, state}
-use Rattle.checking.specs.Sound.{Reached}
+use Rattle.checking.specs.Sound.{ReachesAll}
 use Rattle.checking.specs.Rules.{StepChecked}
 use Rattle.checking.specs.Ready.{Ready, GoalsChecked, GoalChecked, ArmsChecked}
 
 -- the walk of procedure q's goals
-abbrev walker : List ℕ → ℕ → Walker State
+abbrev walker : List ℕ → ℕ → Walker CheckState
 walker f q = checker (program f) (signatureOf (program f) q)
 
 -- what a test of a sound variable says
@@ -134,7 +134,7 @@ pub arms-none-checked : (f rows own : List ℕ) (i : ℕ) (c : List ℕ) → i �
 arms-none-checked f rows own i c z o q y p = arms-none-walked (walker f q) f (state c) z
 
 module _ {f : List ℕ} (rows own : List ℕ) (i : ℕ) (c : List ℕ) (F : Formed f) (st : Stands f arms i) (z : i ≡ 0 → ⊥) (c₁ : List ℕ) (eh : heldIn c₁ ≡ heldIn c)
-    (es : (S : Signature) → Reached S own → soundIn c₁ ≡ soundGiven S (givesIn rows i) (heldIn c) (soundIn c))
+    (es : (S : Signature) → ReachesAll S own → soundIn c₁ ≡ soundGiven S (givesIn rows i) (heldIn c) (soundIn c))
     {g : ℕ} (eg : g ≡ word f i armGoals) (c₂ : List ℕ) (a₁ : Bool) (m₁ : GoalsChecked f rows own g c₁ a₁ c₂) where
   module _ (o : ℕ → ℕ) (q : ℕ) (y : Ready f rows own o q) where
     entered : outcome true (state c₁) ≡ walker f q .enter (fourAt f i) (state c)

@@ -11,7 +11,7 @@ use Rattle.sets.specs.declared.Set.{Set}
 use Rattle.language.specs.Program.{Signature, Program}
 use Rattle.records.specs.Blank.{walkWords}
 use Rattle.values.specs.Walk.{outcome, goesOn, require}
-use Rattle.checking.specs.Checker.{State, carrying, checker}
+use Rattle.checking.specs.Checker.{CheckState, carrying, checker}
 
 -- the two words
 abbrev pub heldPlace : ℕ
@@ -27,7 +27,7 @@ unfoldable pub soundIn : List ℕ → Set
 soundIn c = loaded (getD c soundPlace 0)
 
 -- what is carried then
-abbrev pub state : List ℕ → State
+abbrev pub state : List ℕ → CheckState
 state c = carrying (heldIn c) (soundIn c)
 
 -- what is put there is found there

@@ -13,11 +13,11 @@ use Rattle.language.specs.Checking.{broken, carries, requireRule, soundGiven, s
 use Rattle.language.specs.Answers.{program}
 use Rattle.tables.specs.Window.{Window, keptPlace, setIn}
 use Rattle.tables.specs.Rows.{readsIn, givesIn, needsIn, bearsIn, endsIn, markIn}
-use Rattle.tables.specs.Filled.{StepAt, Accessed, Effected}
+use Rattle.tables.specs.Filled.{GoalIsStep, Accessed, Effected}
 use Rattle.values.specs.Walk.{outcome, goesOn}
 use Rattle.checking.specs.Checker.{carrying, asOutcome, checker}
 use Rattle.checking.specs.Carried.{heldIn, soundIn, state}
-use Rattle.checking.specs.Sound.{Reached}
+use Rattle.checking.specs.Sound.{ReachesAll}
 
 unfoldable pub rulesAt : List ℕ → List ℕ → ℕ → Set → Set → Bool
 rulesAt rows own i held sound =
@@ -64,7 +64,7 @@ module _ (rows own : List ℕ) (i : ℕ) (held sound : Set) {r : Set} {a : Bool}
 
 -- ---- they are the definition's: the step at record i, of procedure q
 module _ {f rows own : List ℕ} {o : ℕ → ℕ} {q i : ℕ} {g : Step} (A : Accessed f rows) (E : Effected f o rows)
-    (W : Window f (signatureOf (program f) q) own) (at : StepAt f i g) (h : o i ≡ q) where
+    (W : Window f (signatureOf (program f) q) own) (at : GoalIsStep f i g) (h : o i ≡ q) where
   abbrev S : Signature
   S = signatureOf (program f) q
 
@@ -86,7 +86,7 @@ module _ {f rows own : List ℕ} {o : ℕ → ℕ} {q i : ℕ} {g : Step} (A : A
 -- what `step` answers
 abbrev pub StepChecked : List ℕ → List ℕ → ℕ → List ℕ → Bool → List ℕ → Type 0
 StepChecked rows own i c b c′ =
-    (f : List ℕ) (o : ℕ → ℕ) (q : ℕ) (g : Step) → Accessed f rows → Effected f o rows → Window f (signatureOf (program f) q) own → StepAt f i g → o i ≡ q
+    (f : List ℕ) (o : ℕ → ℕ) (q : ℕ) (g : Step) → Accessed f rows → Effected f o rows → Window f (signatureOf (program f) q) own → GoalIsStep f i g → o i ≡ q
     → outcome b (state c′) ≡ checker (program f) (signatureOf (program f) q) .atStep g (state c)
 
 -- .. from the code's own values
@@ -99,7 +99,7 @@ module _ (rows own : List ℕ) (i : ℕ) (c : List ℕ) {held sound : Set} (eh :
   step-stops d p f o q g A E W at h = ap asOutcome (step-broken A E W at h (heldIn c) (soundIn c) rule p)
 
   pub step-goes : (d : List ℕ) {e r u after still w s : Set} → b ≡ true → e ≡ endsIn rows i → r ≡ held ∖ e → u ≡ bearsIn rows i → after ≡ r ∪ u
-      → ((S : Signature) → Reached S own → still ≡ soundWithout S e sound) → w ≡ givesIn rows i → ((S : Signature) → Reached S own → s ≡ soundGiven S w after still)
+      → ((S : Signature) → ReachesAll S own → still ≡ soundWithout S e sound) → w ≡ givesIn rows i → ((S : Signature) → ReachesAll S own → s ≡ soundGiven S w after still)
       → heldIn d ≡ after → soundIn d ≡ s → StepChecked rows own i c true d
   unfolding outcome checker asOutcome
   step-goes d {e} p ee er eu ea ew eg ex jh js f o q g A E W at h =
@@ -111,9 +111,9 @@ module _ (rows own : List ℕ) (i : ℕ) (c : List ℕ) {held sound : Set} (eh :
 -- ---- where an arm's goals start: its arguments have been given their values
 abbrev pub Entered : List ℕ → List ℕ → ℕ → List ℕ → List ℕ → Type 0
 Entered rows own i c c′ =
-    (heldIn c′ ≡ heldIn c) × ((S : Signature) → Reached S own → soundIn c′ ≡ soundGiven S (givesIn rows i) (heldIn c) (soundIn c))
+    (heldIn c′ ≡ heldIn c) × ((S : Signature) → ReachesAll S own → soundIn c′ ≡ soundGiven S (givesIn rows i) (heldIn c) (soundIn c))
 
-pub entered : (S : Signature) (rows own : List ℕ) (i : ℕ) (c : List ℕ) {given held sound r : Set} → Reached S own
-    → ((S : Signature) → Reached S own → r ≡ soundGiven S given held sound) → given ≡ givesIn rows i → held ≡ heldIn c → sound ≡ soundIn c
+pub entered : (S : Signature) (rows own : List ℕ) (i : ℕ) (c : List ℕ) {given held sound r : Set} → ReachesAll S own
+    → ((S : Signature) → ReachesAll S own → r ≡ soundGiven S given held sound) → given ≡ givesIn rows i → held ≡ heldIn c → sound ≡ soundIn c
     → r ≡ soundGiven S (givesIn rows i) (heldIn c) (soundIn c)
 entered S rows own i c w h eg eh es = rw (eg, eh, es) at (h S w)

@@ -17,8 +17,8 @@ use Rattle.tables.specs.Window.{reachIn}
 use Rattle.tables.specs.Walks.{next-ends}
 
 -- the window has what each variable reaches
-abbrev pub Reached : Signature → List ℕ → Type 0
-Reached S t = (x : ℕ) → reachIn t x ≡ reach S x
+abbrev pub ReachesAll : Signature → List ℕ → Type 0
+ReachesAll S t = (x : ℕ) → reachIn t x ≡ reach S x
 
 -- x is the next member, or 65
 pub record Keeping (p : ℕ → Bool) (s found : Set) (x : ℕ) : Type 0 where
@@ -62,7 +62,7 @@ module _ (t : List ℕ) where
   pub held-here : (held : Set) (x : ℕ) {r : Set} {b : Bool} → r ≡ reachIn t x → b ≡ subset r held → b ≡ reachHeld held x
   held-here held x e g = g ∙ ap (λ (y : Set). subset y held) e
 
-  module _ (S : Signature) (w : Reached S t) where
+  module _ (S : Signature) (w : ReachesAll S t) where
     pub given-is : (given held sound : Set) {found rest r : Set} → found ≡ keep (reachHeld held) given → rest ≡ sound ∖ given → r ≡ rest ∪ found
         → r ≡ soundGiven S given held sound
     unfolding soundGiven

@@ -5,11 +5,11 @@ use tables::reach;
 ghost use mathlib.Core.Path.{_≡_};
 ghost use Rattle.language.specs.Program.{Signature};
 ghost use Rattle.language.specs.Checking.{soundGiven, soundWithout};
-ghost use Rattle.checking.specs.Sound.{Reached};
+ghost use Rattle.checking.specs.Sound.{ReachesAll};
 
 // "A variable given a value is sound if its whole reach is then held."
 pub fn sound_given(own: &[u64], given: Set, held: Set, sound: Set) -> Set
-    ensures { λ r. ⌜ ((S : Signature) → Reached S (now (own .entry)) → r ≡ soundGiven S given held sound) ⌝ }
+    ensures { λ r. ⌜ ((S : Signature) → ReachesAll S (now (own .entry)) → r ≡ soundGiven S given held sound) ⌝ }
 {
     let mut found = Set::EMPTY;
     let mut x = given.after(0);
@@ -24,7 +24,7 @@ pub fn sound_given(own: &[u64], given: Set, held: Set, sound: Set) -> Set
 
 // "variables reaching it stop being sound": those that reach none of the regions `gone` stay.
 pub fn sound_without(own: &[u64], gone: Set, sound: Set) -> Set
-    ensures { λ r. ⌜ ((S : Signature) → Reached S (now (own .entry)) → r ≡ soundWithout S gone sound) ⌝ }
+    ensures { λ r. ⌜ ((S : Signature) → ReachesAll S (now (own .entry)) → r ≡ soundWithout S gone sound) ⌝ }
 {
     if gone.same(Set::EMPTY) {
         return sound;
@@ -33,7 +33,7 @@ pub fn sound_without(own: &[u64], gone: Set, sound: Set) -> Set
 }
 
 fn without_some(own: &[u64], gone: Set, sound: Set) -> Set
-    ensures { λ r. ⌜ ((S : Signature) → Reached S (now (own .entry)) → r ≡ soundWithout S gone sound) ⌝ }
+    ensures { λ r. ⌜ ((S : Signature) → ReachesAll S (now (own .entry)) → r ≡ soundWithout S gone sound) ⌝ }
 {
     let mut found = Set::EMPTY;
     let mut x = sound.after(0);

@@ -25,7 +25,7 @@ use Rattle.chains.specs.Elements.{functors-count, procedures-count}
 use Rattle.chains.specs.Reached.{stands-nth, stands-nth1, type-functors, place-below, place-past}
 use Rattle.chains.specs.Lookups.{functors-of, functor-of, procedure-of}
 use Rattle.declarations.specs.Functors.{functorAtRecord, functor-same}
-use Rattle.declarations.specs.Parameters.{Parameter}
+use Rattle.declarations.specs.Parameters.{ParameterFrom}
 use Rattle.declarations.specs.Places.{functorIn, procedureIn}
 
 -- the first functor of type ty
@@ -37,7 +37,7 @@ pub record Declares (f t : List ℕ) : Type 0 where
   pub types-ok : typesOk (program f .types) ≡ true
   pub functors : (ty n : ℕ) → functorIn t ty n ≡ nth 0 (chainRecords f (typeStart f ty)) n
   pub procedures : (q : ℕ) → procedureIn t q ≡ nth 0 (chainRecords f (word f 0 headerProcedures)) q
-  pub parameters : (v : ℕ) → Stands f variables v → Parameter f v (getD t v 0)
+  pub parameters : (v : ℕ) → Stands f variables v → ParameterFrom f v (getD t v 0)
 
 -- ---- the types of the file
 module _ {f : List ℕ} (F : Formed f) (ty : ℕ) where

@@ -22,7 +22,7 @@ use Rattle.chains.specs.Elements.{procedures-count, variables-count, regions-co
 use Rattle.chains.specs.Is.{procedure-is}
 use Rattle.chains.specs.Declared.{procedure-at}
 use Rattle.declarations.specs.Places.{procedurePlaces, functorPlaces, filePlaces, placeIn, place-past, place-there, place-same, functorIn, functor-past, functor-there, functor-same, regionPlaces, ownPlaces, variableIn, regionIn}
-use Rattle.declarations.specs.Listing.{Lists, lists-entry, lists-place, Left, blank-at}
+use Rattle.declarations.specs.Listing.{Lists, lists-entry, lists-place, ChainLeft, blank-at}
 use Rattle.declarations.specs.Parameters.{Linked}
 use Rattle.declarations.specs.Declares.{typeStart, functors-length, few-functors, first-record, Declares}
 use Rattle.declarations.specs.Functors.{stands-same}
@@ -47,7 +47,7 @@ module _ {f : List ℕ} (F : Formed f) (ok : typesOk (program f .types) ≡ true
   types-few : length (chainRecords f (word f 0 headerTypes)) ≤ maxTypes
   types-few = omega (arith, type-count f (word f 0 headerTypes) F refl refl, few-types (program f .types) ok)
 
-  pub type-room : {n i : ℕ} → Left f (word f 0 headerTypes) n i → (i ≡ 0 → ⊥) → i < recordCount f → n < maxTypes
+  pub type-room : {n i : ℕ} → ChainLeft f (word f 0 headerTypes) n i → (i ≡ 0 → ⊥) → i < recordCount f → n < maxTypes
   type-room {i = i} L z b = omega (arith, types-few, L .count, ap length (records-step {w = word f i nextWord} F z b refl))
 
   -- and each has at most 32 functors

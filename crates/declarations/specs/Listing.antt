@@ -22,14 +22,14 @@ pub record Lists (f : List ℕ) (start at : ℕ) (t u : List ℕ) : Type 0 where
   pub other : (k : ℕ) → (k < at) ⊎ (at + length (chainRecords f start) ≤ k) → getD u k 0 ≡ getD t k 0
 
 -- the chain at record i is what is left of the chain at record start after n records
-pub record Left (f : List ℕ) (start n i : ℕ) : Type 0 where
+pub record ChainLeft (f : List ℕ) (start n i : ℕ) : Type 0 where
   pub rest : (m : ℕ) → nth 0 (chainRecords f start) (n + m) ≡ nth 0 (chainRecords f i) m
   pub count : n + length (chainRecords f i) ≡ length (chainRecords f start)
 
-pub left-all : (f : List ℕ) (start : ℕ) → Left f start 0 start
+pub left-all : (f : List ℕ) (start : ℕ) → ChainLeft f start 0 start
 left-all f start = record { rest = λ m. ap (nth 0 (chainRecords f start)) (omega arith); count = omega arith }
 
-module _ {f : List ℕ} {start n i : ℕ} (L : Left f start n i) where
+module _ {f : List ℕ} {start n i : ℕ} (L : ChainLeft f start n i) where
   module _ (F : Formed f) (z : i ≡ 0 → ⊥) (b : i < recordCount f) where
     pub left-here : nth 0 (chainRecords f start) n ≡ i
     unfolding nth
@@ -39,7 +39,7 @@ module _ {f : List ℕ} {start n i : ℕ} (L : Left f start n i) where
     pub left-room : n < length (chainRecords f start)
     left-room = omega (arith, L .count, ap length (records-step {w = word f i nextWord} F z b refl))
 
-    pub left-next : {w m : ℕ} → w ≡ word f i nextWord → m ≡ suc n → Left f start m w
+    pub left-next : {w m : ℕ} → w ≡ word f i nextWord → m ≡ suc n → ChainLeft f start m w
     unfolding nth
     left-next {w} ew em = record {
       rest = λ k. ap (nth 0 (chainRecords f start)) (omega arith) ∙ L .rest (suc k) ∙ ap (λ xs. nth 0 xs (suc k)) (records-step F z b ew);

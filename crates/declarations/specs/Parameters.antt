@@ -29,7 +29,7 @@ takenTypes [] = []
 takenTypes (v ∷ vs) = takes (v .mode) (v .type) (takenTypes vs)
 
 -- u is the first in or out variable from v on
-pub record Parameter (f : List ℕ) (v u : ℕ) : Type 0 where
+pub record ParameterFrom (f : List ℕ) (v u : ℕ) : Type 0 where
   pub stands : Stands f variables u
   pub falls : ahead f u ≤ ahead f v
   pub passes : (u ≡ 0 → ⊥) → word f u variableMode ≡ 0 → ⊥
@@ -75,17 +75,17 @@ module _ {f : List ℕ} (F : Formed f) (v : ℕ) (s : Stands f variables v) (z :
 -- ---- what the code computes, from table t: u has the links of the records from i on, and is as t where no record's place is
 pub record Linked (f t u : List ℕ) (i : ℕ) : Type 0 where
   pub kept : length u ≡ length t
-  pub right : (v : ℕ) → (v ≡ 0) ⊎ (i ≤ v) → Stands f variables v → Parameter f v (getD u v 0)
+  pub right : (v : ℕ) → (v ≡ 0) ⊎ (i ≤ v) → Stands f variables v → ParameterFrom f v (getD u v 0)
   pub other : (k : ℕ) → maxRecords ≤ k → getD u k 0 ≡ getD t k 0
 
 module _ {f : List ℕ} (F : Formed f) where
-  parameter-none : {v u : ℕ} → v ≡ 0 → u ≡ 0 → Parameter f v u
+  parameter-none : {v u : ℕ} → v ≡ 0 → u ≡ 0 → ParameterFrom f v u
   parameter-none e d = record { stands = stands-none F d; falls = rw (d, e) (omega arith); passes = λ n m. n d; same = rw (d, e) }
 
   pub linked-none : {t : List ℕ} {i : ℕ} → i ≡ recordCount f → getD t 0 0 ≡ 0 → Linked f t t i
   linked-none {t} {i} e h = record { kept = refl; right = at; other = λ k l. refl }
     where
-      at : (v : ℕ) → (v ≡ 0) ⊎ (i ≤ v) → Stands f variables v → Parameter f v (getD t v 0)
+      at : (v : ℕ) → (v ≡ 0) ⊎ (i ≤ v) → Stands f variables v → ParameterFrom f v (getD t v 0)
       at v (inl d) s = rw d (parameter-none refl h)
       at v (inr l) s = absurd (omega (arith, s .below))
 
@@ -94,7 +94,7 @@ module _ {f : List ℕ} (F : Formed f) where
     pub linked-other : (word f j kindWord ≡ variableKind → ⊥) → Linked f t u j
     linked-other n = record { kept = L .kept; right = at; other = L .other }
       where
-        at : (v : ℕ) → (v ≡ 0) ⊎ (j ≤ v) → Stands f variables v → Parameter f v (getD u v 0)
+        at : (v : ℕ) → (v ≡ 0) ⊎ (j ≤ v) → Stands f variables v → ParameterFrom f v (getD u v 0)
         at v (inl d) s = L .right v (inl d) s
         at v (inr l) s =
             elim (decLt j v) [
@@ -102,7 +102,7 @@ module _ {f : List ℕ} (F : Formed f) where
               | no m ↦ let d : v ≡ j = omega arith in absurd (n (rw (sym d) (variable-number s λ y. z (sym d ∙ y))))
             ]
 
-    parameter-here : Stands f variables j → Parameter f j (linkOf f u j)
+    parameter-here : Stands f variables j → ParameterFrom f j (linkOf f u j)
     unfolding linkOf
     parameter-here s =
         elim (ℕ-discrete (word f j variableMode) 0) [
@@ -113,10 +113,10 @@ module _ {f : List ℕ} (F : Formed f) where
               rw (sym (link-local f u j n)) (record { stands = k .stands; falls = omega (arith, k .falls, o .falls); passes = k .passes; same = k .same ∙ sym (taken-local F j s z n) })
         ]
 
-    linked-next : j < maxRecords → filePlaces ≤ length t → {w : ℕ} → (Stands f variables j → Parameter f j w) → Linked f t (set u j w) j
+    linked-next : j < maxRecords → filePlaces ≤ length t → {w : ℕ} → (Stands f variables j → ParameterFrom f j w) → Linked f t (set u j w) j
     linked-next b h {w} p = record { kept = simp length-set (L .kept); right = at; other = λ k l. getD-set-other u j k w 0 (λ q. omega arith) ∙ L .other k l }
       where
-        at : (v : ℕ) → (v ≡ 0) ⊎ (j ≤ v) → Stands f variables v → Parameter f v (getD (set u j w) v 0)
+        at : (v : ℕ) → (v ≡ 0) ⊎ (j ≤ v) → Stands f variables v → ParameterFrom f v (getD (set u j w) v 0)
         at v (inl d) s = rw (getD-set-other u j v w 0 (λ q. z (sym q ∙ d))) (L .right v (inl d) s)
         at v (inr l) s =
             elim (decLt j v) [

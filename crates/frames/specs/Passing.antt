@@ -28,14 +28,14 @@ passedOut plan i at fw = copied (λ w. at + givenOf w) (λ w. at + frameWords + 
 
 -- ---- words are copied along links: record a is reached, w is its link, and `all` is what the copies come to
 module _ (to from link : ℕ → ℕ) where
-  pub record Along (all : List ℕ) (a w : ℕ) (fw : List ℕ) : Type 0 where
+  pub record CopiedAlong (all : List ℕ) (a w : ℕ) (fw : List ℕ) : Type 0 where
     pub fuel : ℕ
     pub enough : maxRecords ≤ fuel + a
     pub here : a < maxRecords
     pub word : w ≡ link a
     pub rest : copied to from (linked link fuel a) fw ≡ all
 
-  pub along-first : (i : ℕ) (fw : List ℕ) → i < maxRecords → Along (copied to from (linked link (maxRecords - i) i) fw) i (link i) fw
+  pub along-first : (i : ℕ) (fw : List ℕ) → i < maxRecords → CopiedAlong (copied to from (linked link (maxRecords - i) i) fw) i (link i) fw
   along-first i fw l = record { fuel = maxRecords - i; enough = omega arith; here = l; word = refl; rest = refl }
 
   more : (fuel a n : ℕ) (fw fx : List ℕ) → n ≡ link a / linkUnit → a < n → fx ≡ set fw (to (link n)) (getD fw (from (link n)) 0)
@@ -44,11 +44,11 @@ module _ (to from link : ℕ → ℕ) where
   more fuel a n fw fx en l ex = rw (← en, lt-ltb a n l, ex)
 
   -- the link leads on to record n
-  pub along-next : (all : List ℕ) (a w n v : ℕ) (fw fx : List ℕ) → Along all a w fw → n ≡ w / linkUnit → a < n → n < maxRecords → v ≡ link n
-      → fx ≡ set fw (to v) (getD fw (from v) 0) → Along all n v fx
+  pub along-next : (all : List ℕ) (a w n v : ℕ) (fw fx : List ℕ) → CopiedAlong all a w fw → n ≡ w / linkUnit → a < n → n < maxRecords → v ≡ link n
+      → fx ≡ set fw (to v) (getD fw (from v) 0) → CopiedAlong all n v fx
   along-next all a w n v fw fx A en l q ev ex = go (A .fuel) (A .enough) (A .rest)
     where
-      go : (fuel : ℕ) → maxRecords ≤ fuel + a → copied to from (linked link fuel a) fw ≡ all → Along all n v fx
+      go : (fuel : ℕ) → maxRecords ≤ fuel + a → copied to from (linked link fuel a) fw ≡ all → CopiedAlong all n v fx
       go zero e r = absurd (omega (arith, A .here))
       go (suc m) e r = record {
         fuel = m;
@@ -64,7 +64,7 @@ module _ (to from link : ℕ → ℕ) where
   ended (suc fuel) a fw l = rw (le-ltb a (link a / linkUnit) l)
 
   -- it does not
-  pub along-last : (all : List ℕ) (a w : ℕ) (fw : List ℕ) → Along all a w fw → w / linkUnit ≤ a → fw ≡ all
+  pub along-last : (all : List ℕ) (a w : ℕ) (fw : List ℕ) → CopiedAlong all a w fw → w / linkUnit ≤ a → fw ≡ all
   along-last all a w fw A l = ended (A .fuel) a fw (rw (← A .word) l) ∙ A .rest
 
 -- ---- the machine's, for frame k at its place

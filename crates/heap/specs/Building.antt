@@ -21,7 +21,7 @@ use Rattle.memory.specs.declared.Made.{Made}
 use Rattle.memory.specs.declared.Made.the-variants.{At, NoRoom}
 use Rattle.memory.specs.Memory.{cellWords, cellNext, cellWord, first, built, builtCells, builtRegions}
 use Rattle.heap.specs.Labels.{Labels, busy, having, Vacant, vacant-busy}
-use Rattle.heap.specs.Words.{argumentWords, wordsOf, arguments-same, Filled}
+use Rattle.heap.specs.Words.{argumentWords, wordsOf, arguments-same, FilledCell}
 use Rattle.heap.specs.Counts.{cellsIn, within, held-built, in-built, in-other}
 use Rattle.heap.specs.Labelled.{Labelled}
 use Rattle.heap.specs.LabelledBuild as B
@@ -53,7 +53,7 @@ module _ {k : Room} {h : Heap} {m rs : List ℕ} {M : Memory} {ρ χ : ℕ → �
   longer = built-length M new
 
   module _ (x : ℕ) (h′ : Heap) (m′ rs′ : List ℕ) (vacant : Vacant (R .own x)) (ec : h′ .cells .limit ≡ h .cells .limit)
-      (es : h′ .regions .limit ≡ h .regions .limit) (full : Filled m′ x c (first rs (ρ r)))
+      (es : h′ .regions .limit ≡ h .regions .limit) (full : FilledCell m′ x c (first rs (ρ r)))
       (others : (y i : ℕ) → i < cellWords → y ≢ x → cellWord m′ y i ≡ cellWord m y i)
       (L : Labelled h′ m′ rs′ (put (R .own) x (busy (ρ r) size)) (put (R .reg) (ρ r) (having (suc size))) (suc (cellsHeld (M .alive) (M .cells))) (regionsHeld M)) where
     abbrev own1 : Labels
@@ -127,7 +127,7 @@ module _ {k : Room} {h : Heap} {m rs : List ℕ} {M : Memory} {ρ χ : ℕ → �
     }
 
   -- ---- the answer
-  build-by : (o : Made) (m′ rs′ : List ℕ) → B.Builds (R .labelled) (ρ r) size (R .lives r er) c o m′ rs′ → Builds k m rs M ρ χ r (new .cell) o m′ rs′
+  build-by : (o : Made) (m′ rs′ : List ℕ) → B.LabelledBuilds (R .labelled) (ρ r) size (R .lives r er) c o m′ rs′ → Builds k m rs M ρ χ r (new .cell) o m′ rs′
   build-by NoRoom m rs (B.no-place e) = stops-11 (le-ltb (cellsHeld (M .alive) (M .cells)) (k .cells) (omega (arith, R .cellRoom)))
   build-by (At x h′) m′ rs′ (B.new-cell l vacant ec es full others L) =
       builds (lt-ltb (cellsHeld (M .alive) (M .cells)) (k .cells) (omega (arith, R .cellRoom))) (represents-built x h′ m′ rs′ vacant ec es full others L)

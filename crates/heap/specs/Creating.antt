@@ -116,7 +116,7 @@ module _ {k : Room} {h : Heap} {m rs : List ℕ} {M : Memory} {ρ χ : ℕ → �
     }
 
   -- ---- the answer
-  create-by : (o : Made) (rs′ : List ℕ) → C.Creates (R .labelled) o rs′ → Creates k m rs M ρ χ o rs′
+  create-by : (o : Made) (rs′ : List ℕ) → C.LabelledCreates (R .labelled) o rs′ → Creates k m rs M ρ χ o rs′
   create-by NoRoom rs (C.no-place e) = stops-12 (le-ltb (regionsHeld M) (k .regions) (omega (arith, R .regionRoom)))
   create-by (At p h′) rs′ (C.new-region l vacant ec er L) =
       creates (lt-ltb (regionsHeld M) (k .regions) (omega (arith, R .regionRoom))) (represents-created p h′ rs′ vacant ec er L)

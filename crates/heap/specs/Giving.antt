@@ -13,7 +13,7 @@ abbrev pub Source : Labels → ℕ → (ℕ → ℕ → Type 0) → ℕ → ℕ 
 Source own f G y i = (own y ≡ free i) ⊎ ((j : ℕ) × G y j × (i ≡ j + f))
 
 -- suc k places are given back: G y j says that y is one of them, with j of them behind it. f were free
-pub record Gives (own own′ : Labels) (next next′ : ℕ → ℕ) (p : Pool) (f : ℕ) (G : ℕ → ℕ → Type 0) (first k : ℕ) : Type 0 where
+pub record GivenBack (own own′ : Labels) (next next′ : ℕ → ℕ) (p : Pool) (f : ℕ) (G : ℕ → ℕ → Type 0) (first k : ℕ) : Type 0 where
   pub front : G first k
   pub step : (y j : ℕ) → G y (suc j) → G (next′ y) j
   pub final : (y : ℕ) → G y 0 → next′ y ≡ p .head
@@ -26,7 +26,7 @@ pub record Gives (own own′ : Labels) (next next′ : ℕ → ℕ) (p : Pool) (
   pub whence : (y i : ℕ) → own′ y ≡ free i → Source own f G y i
 
 module _ {own own′ : Labels} {next next′ : ℕ → ℕ} {p : Pool} {f : ℕ} {G : ℕ → ℕ → Type 0} {first k : ℕ}
-    (P : PoolOk own next p f) (W : Gives own own′ next next′ p f G first k) where
+    (P : PoolOk own next p f) (W : GivenBack own own′ next next′ p f G first k) where
   -- behind the last one given stand those that were free
   behind : (y i : ℕ) → G y 0 → suc i ≡ f → own′ (next′ y) ≡ free i
   behind y i g e = ap own′ (W .final y g) ∙ W .frees (p .head) i (head f P e)

@@ -17,8 +17,8 @@ use Rattle.memory.specs.declared.Made.{Made}
 use Rattle.memory.specs.declared.Made.the-variants.{At, NoRoom}
 use Rattle.memory.specs.Memory.{cellWords, regionWords, cellNext, cellWord, link, first, last, cellTaken, filled, hung, built, builtOf, builtCells, builtCellsOf, builtRegions, builtRegionsOf}
 use Rattle.heap.specs.Labels.{busy, having, Labels, Vacant, vacant-busy, busy-region, busy-height}
-use Rattle.heap.specs.Pools.{Used, Gave, Takes, full, gave, take-ok, stays-ok}
-use Rattle.heap.specs.Words.{Filled, filled-length, filled-here, filled-other, Hung, hung-ok}
+use Rattle.heap.specs.Pools.{NowBusy, Gave, Takes, full, gave, take-ok, stays-ok}
+use Rattle.heap.specs.Words.{FilledCell, filled-length, filled-here, filled-other, HungCell, hung-ok}
 use Rattle.heap.specs.Labelled.{Ends, Labelled, having-size, ends-kept, cell-low, region-low, height-low}
 
 -- region r has s cells; the new one is to hold c
@@ -27,12 +27,12 @@ module _ {h : Heap} {m rs : List ℕ} {own reg : Labels} {cells regions : ℕ} (
   abbrev reg1 : Labels
   reg1 = put reg r (having (suc s))
 
-  pub data Builds : Made → List ℕ → List ℕ → Type 0 where
-    no-place : cells ≡ h .cells .limit → Builds NoRoom m rs
+  pub data LabelledBuilds : Made → List ℕ → List ℕ → Type 0 where
+    no-place : cells ≡ h .cells .limit → LabelledBuilds NoRoom m rs
     new-cell : {x : ℕ} {h′ : Heap} {m′ rs′ : List ℕ} → cells < h .cells .limit → Vacant (own x) → h′ .cells .limit ≡ h .cells .limit
-        → h′ .regions .limit ≡ h .regions .limit → Filled m′ x c (first rs r)
+        → h′ .regions .limit ≡ h .regions .limit → FilledCell m′ x c (first rs r)
         → ((y k : ℕ) → k < cellWords → y ≢ x → cellWord m′ y k ≡ cellWord m y k)
-        → Labelled h′ m′ rs′ (put own x (busy r s)) reg1 (suc cells) regions → Builds (At x h′) m′ rs′
+        → Labelled h′ m′ rs′ (put own x (busy r s)) reg1 (suc cells) regions → LabelledBuilds (At x h′) m′ rs′
 
   module _ (x : ℕ) (p : Pool) (G : Gave own (link m) (h .cells) (H .freeCells) x p) where
     abbrev m1 : List ℕ
@@ -44,10 +44,10 @@ module _ {h : Heap} {m rs : List ℕ} {own reg : Labels} {cells regions : ℕ} (
     abbrev own1 : Labels
     own1 = put own x (busy r s)
 
-    hang : Hung rs r x (h .cells .limit) rs1
+    hang : HungCell rs r x (h .cells .limit) rs1
     hang = hung-ok rs r x (h .cells .limit)
 
-    new : Filled m1 x c (first rs r)
+    new : FilledCell m1 x c (first rs r)
     new = filled-here m x c (first rs r) (omega (arith, H .cellsFit, G .low))
 
     others : (y k : ℕ) → k < cellWords → y ≢ x → cellWord m1 y k ≡ cellWord m y k
@@ -126,7 +126,7 @@ module _ {h : Heap} {m rs : List ℕ} {own reg : Labels} {cells regions : ℕ} (
           (H .ends q t (sym (put-other reg r (having (suc s)) q ne) ∙ e))
     ]
 
-    used-cell : Used own own1 (link m) (link m1) x
+    used-cell : NowBusy own own1 (link m) (link m1) x
     used-cell = record {
       a = r;
       b = s;
@@ -135,7 +135,7 @@ module _ {h : Heap} {m rs : List ℕ} {own reg : Labels} {cells regions : ℕ} (
       links = λ y ne. others y cellNext (omega arith) ne;
     }
 
-    used-region : Used reg reg1 (first rs) (first rs1) r
+    used-region : NowBusy reg reg1 (first rs) (first rs1) r
     used-region = record {
       a = suc s;
       b = 0;
@@ -160,15 +160,15 @@ module _ {h : Heap} {m rs : List ℕ} {own reg : Labels} {cells regions : ℕ} (
       ends = rw (G .same) built-ends;
     }
 
-    new-built : Builds (At x (record { cells = p; regions = h .regions })) m1 rs1
+    new-built : LabelledBuilds (At x (record { cells = p; regions = h .regions })) m1 rs1
     new-built = new-cell (omega (arith, H .cellCount, G .count, G .high)) (G .vacant) (G .same) refl new others built-labelled
 
   build-by : (t : Taken) → Takes own (link m) (h .cells) (H .freeCells) t
-      → Builds (builtOf h t) (builtCellsOf m rs r c t) (builtRegionsOf h rs r t)
+      → LabelledBuilds (builtOf h t) (builtCellsOf m rs r c t) (builtRegionsOf h rs r t)
   unfolding builtOf builtCellsOf builtRegionsOf
   build-by Full (full e g) = no-place (omega (arith, H .cellCount))
   build-by (Place x p) (gave G) = new-built x p G
 
-  pub builds : Builds (built h m) (builtCells h m rs r c) (builtRegions h m rs r)
+  pub builds : LabelledBuilds (built h m) (builtCells h m rs r c) (builtRegions h m rs r)
   unfolding built builtCells builtRegions
   builds = build-by (cellTaken h m) (take-ok (H .freeCells) (H .cellPool))

@@ -20,10 +20,10 @@ use Rattle.heap.specs.Words.{first-last, last-here, last-other}
 use Rattle.heap.specs.Labelled.{Ends, Labelled, having-size, ends-kept}
 
 module _ {h : Heap} {m rs : List ℕ} {own reg : Labels} {cells regions : ℕ} (H : Labelled h m rs own reg cells regions) where
-  pub data Creates : Made → List ℕ → Type 0 where
-    no-place : regions ≡ h .regions .limit → Creates NoRoom rs
+  pub data LabelledCreates : Made → List ℕ → Type 0 where
+    no-place : regions ≡ h .regions .limit → LabelledCreates NoRoom rs
     new-region : {r : ℕ} {h′ : Heap} {rs′ : List ℕ} → regions < h .regions .limit → Vacant (reg r) → h′ .cells .limit ≡ h .cells .limit
-        → h′ .regions .limit ≡ h .regions .limit → Labelled h′ m rs′ own (put reg r (having 0)) cells (suc regions) → Creates (At r h′) rs′
+        → h′ .regions .limit ≡ h .regions .limit → Labelled h′ m rs′ own (put reg r (having 0)) cells (suc regions) → LabelledCreates (At r h′) rs′
 
   module _ (r : ℕ) (p : Pool) (G : Gave reg (first rs) (h .regions) (H .freeRegions) r p) where
     abbrev rs1 : List ℕ
@@ -68,12 +68,12 @@ module _ {h : Heap} {m rs : List ℕ} {own reg : Labels} {cells regions : ℕ} (
       ends = created-ends;
     }
 
-  create-by : (t : Taken) → Takes reg (first rs) (h .regions) (H .freeRegions) t → Creates (createdOf h t) (createdRegionsOf h rs t)
+  create-by : (t : Taken) → Takes reg (first rs) (h .regions) (H .freeRegions) t → LabelledCreates (createdOf h t) (createdRegionsOf h rs t)
   unfolding createdOf createdRegionsOf
   create-by Full (full e d) = no-place (omega (arith, H .regionCount))
   create-by (Place r p) (gave G) =
       new-region (omega (arith, H .regionCount, G .count, G .high)) (G .vacant) refl (G .same) (created-labelled r p G)
 
-  pub creates : Creates (created h rs) (createdRegions h rs)
+  pub creates : LabelledCreates (created h rs) (createdRegions h rs)
   unfolding created createdRegions
   creates = create-by (regionTaken h rs) (take-ok (H .freeRegions) (H .regionPool))

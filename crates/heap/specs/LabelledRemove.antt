@@ -15,7 +15,7 @@ use Rattle.memory.specs.Memory.{cellWords, regionWords, cellNext, cellWord, wit
 use Rattle.memory.specs.Laws.{remove-empty, remove-some}
 use Rattle.heap.specs.Labels.{Label, free, busy, having, Labels, Vacant, was-fresh, was-free, free-busy, vacant-busy, free-height, busy-region, busy-height, joined, joined-fresh, joined-free, joined-in, joined-out, joined-same, Came, was, came, from-free, from-busy}
 use Rattle.heap.specs.Pools.{PoolOk}
-use Rattle.heap.specs.Giving.{Source, Gives, give-ok}
+use Rattle.heap.specs.Giving.{Source, GivenBack, give-ok}
 use Rattle.heap.specs.Words.{word-here, word-beside, word-other, first-here, first-other, last-first}
 use Rattle.heap.specs.Labelled.{Ends, Labelled, ends-kept, cell-low, region-low, height-low}
 
@@ -48,7 +48,7 @@ module _ {h : Heap} {m rs : List ℕ} {own reg : Labels} {cells regions : ℕ} (
     | no ne ↦ inl (sym (put-other reg r (free (H .freeRegions)) y ne) ∙ e)
   ]
 
-  gives-region : Gives reg regionsLeft (first rs) (first rs1) (h .regions) (H .freeRegions) Own r 0
+  gives-region : GivenBack reg regionsLeft (first rs) (first rs1) (h .regions) (H .freeRegions) Own r 0
   gives-region = record {
     front = (refl, refl);
     step = λ y j e. absurd (omega (arith, e .1));
@@ -135,7 +135,7 @@ module _ {h : Heap} {m rs : List ℕ} {own reg : Labels} {cells regions : ℕ} (
     cell-whence y i (was q) = inl q
     cell-whence y i (came j q z) = inr (j, q, z)
 
-    gives-cells : Gives own cellsLeft (link m) (link m1) (h .cells) (H .freeCells) (λ y j. own y ≡ busy r j) (first rs r) k
+    gives-cells : GivenBack own cellsLeft (link m) (link m1) (h .cells) (H .freeCells) (λ y j. own y ≡ busy r j) (first rs r) k
     gives-cells = record {
       front = ef;
       step = λ y j d. ap own (links-kept y (apart d (λ z b. omega arith))) ∙ H .step y r j d;

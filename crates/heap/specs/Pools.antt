@@ -12,15 +12,15 @@ use Rattle.memory.specs.Laws.{take-full, take-top, take-link}
 use Rattle.heap.specs.Labels.{fresh, free, busy, Labels, Vacant, was-fresh, was-free, fresh-free, free-busy, vacant-busy, free-height}
 
 -- the front of a chain of f free places that ends at top
-abbrev pub Front : Labels → ℕ → ℕ → ℕ → Type 0
-Front own head top zero = head ≡ top
-Front own head top (suc k) = own head ≡ free k
+abbrev pub FreeFront : Labels → ℕ → ℕ → ℕ → Type 0
+FreeFront own head top zero = head ≡ top
+FreeFront own head top (suc k) = own head ≡ free k
 
 -- the labels say truly which places of pool p are free: f on the chain along `next`, and all from its top on, never used
 pub record PoolOk (own : Labels) (next : ℕ → ℕ) (p : Pool) (f : ℕ) : Type 0 where
   pub high : p .top ≤ p .limit
   pub above : (x : ℕ) → p .top ≤ x → own x ≡ fresh
-  pub front : Front own (p .head) (p .top) f
+  pub front : FreeFront own (p .head) (p .top) f
   pub final : (x : ℕ) → own x ≡ free 0 → next x ≡ p .top
   pub step : (x k : ℕ) → own x ≡ free (suc k) → own (next x) ≡ free k
   pub small : (x k : ℕ) → own x ≡ free k → k < f
@@ -43,14 +43,14 @@ start-pool n next = record {
 }
 
 -- other words and labels that agree with these but for place x, which is busy now
-pub record Used (own own′ : Labels) (next next′ : ℕ → ℕ) (x : ℕ) : Type 0 where
+pub record NowBusy (own own′ : Labels) (next next′ : ℕ → ℕ) (x : ℕ) : Type 0 where
   pub a : ℕ
   pub b : ℕ
   pub here : own′ x ≡ busy a b
   pub labels : (y : ℕ) → y ≢ x → own′ y ≡ own y
   pub links : (y : ℕ) → y ≢ x → next′ y ≡ next y
 
-module _ {own own′ : Labels} {next next′ : ℕ → ℕ} {x : ℕ} (U : Used own own′ next next′ x) where
+module _ {own own′ : Labels} {next next′ : ℕ → ℕ} {x : ℕ} (U : NowBusy own own′ next next′ x) where
   free-not : {y k : ℕ} → own′ y ≡ free k → y ≢ x
   free-not e q = free-busy (sym e ∙ ap own′ q ∙ U .here)
 
@@ -65,7 +65,7 @@ pub record Gave (own : Labels) (next : ℕ → ℕ) (p : Pool) (f x : ℕ) (p′
   pub high : p′ .top ≤ p .limit
   pub same : p′ .limit ≡ p .limit
   pub count : suc (left + p .top) ≡ f + p′ .top
-  pub ok : (own′ : Labels) (next′ : ℕ → ℕ) → Used own own′ next next′ x → PoolOk own′ next′ p′ left
+  pub ok : (own′ : Labels) (next′ : ℕ → ℕ) → NowBusy own own′ next next′ x → PoolOk own′ next′ p′ left
 
 pub data Takes (own : Labels) (next : ℕ → ℕ) (p : Pool) (f : ℕ) : Taken → Type 0 where
   full : f ≡ 0 → p .top ≡ p .limit → Takes own next p f Full
@@ -73,7 +73,7 @@ pub data Takes (own : Labels) (next : ℕ → ℕ) (p : Pool) (f : ℕ) : Taken 
 
 module _ {own : Labels} {next : ℕ → ℕ} {p : Pool} where
   -- the head of the chain is taken
-  module _ (k : ℕ) (P : PoolOk own next p (suc k)) {own′ : Labels} {next′ : ℕ → ℕ} (U : Used own own′ next next′ (p .head)) where
+  module _ (k : ℕ) (P : PoolOk own next p (suc k)) {own′ : Labels} {next′ : ℕ → ℕ} (U : NowBusy own own′ next next′ (p .head)) where
     -- the free ones that are left stand lower
     lower : (x j : ℕ) → own′ x ≡ free j → j < k
     lower x j e =
@@ -99,12 +99,12 @@ module _ {own : Labels} {next : ℕ → ℕ} {p : Pool} where
     }
       where
         front : (k : ℕ) → (P : PoolOk own next p (suc k)) → ((y j : ℕ) → own y ≡ free j → j < k → own′ y ≡ free j)
-            → Front own′ (next (p .head)) (p .top) k
+            → FreeFront own′ (next (p .head)) (p .top) k
         front zero P g = P .final (p .head) (P .front)
         front (suc j) P g = g (next (p .head)) j (P .step (p .head) j (P .front)) (omega arith)
 
   -- the chain is empty: the first place that was never used is taken
-  took-top : PoolOk own next p 0 → p .top < p .limit → {own′ : Labels} {next′ : ℕ → ℕ} → Used own own′ next next′ (p .head)
+  took-top : PoolOk own next p 0 → p .top < p .limit → {own′ : Labels} {next′ : ℕ → ℕ} → NowBusy own own′ next next′ (p .head)
       → PoolOk own′ next′ (raised p) 0
   took-top P h {own′} U = record {
     high = omega (arith, P .front);
@@ -152,7 +152,7 @@ module _ {own : Labels} {next : ℕ → ℕ} {p : Pool} where
 
 -- ---- a busy place that stays busy is none of the pool's
 module _ {own own′ : Labels} {next next′ : ℕ → ℕ} {p : Pool} {f x a b : ℕ} (P : PoolOk own next p f) (e : own x ≡ busy a b)
-    (U : Used own own′ next next′ x) where
+    (U : NowBusy own own′ next next′ x) where
   still : (y k : ℕ) → own y ≡ free k → own′ y ≡ free k
   still y k d = U .labels y (λ q. free-busy (sym d ∙ ap own q ∙ e)) ∙ d
 
@@ -167,6 +167,6 @@ module _ {own own′ : Labels} {next next′ : ℕ → ℕ} {p : Pool} {f x a b 
     inj = λ y z k d g. P .inj y z k (free-was U d) (free-was U g);
   }
     where
-      front : (f : ℕ) → PoolOk own next p f → Front own′ (p .head) (p .top) f
+      front : (f : ℕ) → PoolOk own next p f → FreeFront own′ (p .head) (p .top) f
       front zero P = P .front
       front (suc k) P = still (p .head) k (P .front)

@@ -17,7 +17,7 @@ use Rattle.memory.specs.declared.Heap.{Heap}
 use Rattle.memory.specs.Memory.{cellWords, regionWords, unused, emptyHeap}
 use Rattle.heap.specs.Labels.{fresh}
 use Rattle.heap.specs.Labelled.{start-labelled}
-use Rattle.heap.specs.Standing.{Stands}
+use Rattle.heap.specs.Standing.{StandsFor}
 use Rattle.heap.specs.Represents.{numbered, Represents, Reads}
 
 -- ---- whatever stands in the lent words, an empty heap in them stands for the memory of a run's start
@@ -52,9 +52,9 @@ module _ {k : Room} {h : Heap} {m rs : List ℕ} {M : Memory} {ρ χ : ℕ → �
   read-cell : (j : ℕ) → M .alive (numbered (M .cells) j .region) ≡ true → Reads m χ (length (M .cells)) (χ j) (numbered (M .cells) j .cell)
   read-cell j e = R .spots j (cell-made j e) e .says
 
-  pub reads : (w : ℕ) (x : Value) → Stands χ (length (M .cells)) w x → M .alive (liesIn (M .cells) x) ≡ true
+  pub reads : (w : ℕ) (x : Value) → StandsFor χ (length (M .cells)) w x → M .alive (liesIn (M .cells) x) ≡ true
       → Reads m χ (length (M .cells)) w (cellIn (map cellOf (M .cells)) x)
-  unfolding Stands liesIn cellIn cellOf
+  unfolding StandsFor liesIn cellIn cellOf
   reads w (numeral z) s e = absurd (alive-made 0 e refl)
   reads w (cellAt j) s e = rw (s .0, nth-map cellOf (record { cell = noCell; region = 0 }) (M .cells) j) (read-cell j e)
 

@@ -16,20 +16,20 @@ use Rattle.language.specs.AcceptedRun.{RegionCell, Memory, withCell}
 use Rattle.laws.specs.Choices.{put-same, put-other}
 
 -- word w stands for a value; n cells are made so far, and `place` has the place of each by its number
-unfoldable pub Stands : (ℕ → ℕ) → ℕ → ℕ → Value → Type 0
-Stands place n w (numeral z) = toZ w32 w ≡ z
-Stands place n w (cellAt j) = (w ≡ place j) × (j < n)
+unfoldable pub StandsFor : (ℕ → ℕ) → ℕ → ℕ → Value → Type 0
+StandsFor place n w (numeral z) = toZ w32 w ≡ z
+StandsFor place n w (cellAt j) = (w ≡ place j) × (j < n)
 
 -- the first words stand for the values in turn
 unfoldable pub StandEach : (ℕ → ℕ) → ℕ → List ℕ → List Value → Type 0
 StandEach place n ws [] = Unit {0}
 StandEach place n [] (v ∷ vs) = ⊥
-StandEach place n (w ∷ ws) (v ∷ vs) = Stands place n w v × StandEach place n ws vs
+StandEach place n (w ∷ ws) (v ∷ vs) = StandsFor place n w v × StandEach place n ws vs
 
 -- ---- when more cells are made, words stand for what they stood for
 module _ (place place′ : ℕ → ℕ) (n n′ : ℕ) (e : (j : ℕ) → j < n → place′ j ≡ place j) (l : n ≤ n′) where
-  pub stands-more : (w : ℕ) (v : Value) → Stands place n w v → Stands place′ n′ w v
-  unfolding Stands
+  pub stands-more : (w : ℕ) (v : Value) → StandsFor place n w v → StandsFor place′ n′ w v
+  unfolding StandsFor
   stands-more w (numeral z) s = s
   stands-more w (cellAt j) s = (s .0 ∙ sym (e j (s .1)), omega (arith, s .1))
 
@@ -53,14 +53,14 @@ module _ (M : Memory) (c : RegionCell) (place : ℕ → ℕ) (x : ℕ) where
   each-built = each-more place (put place (length (M .cells)) x) (length (M .cells)) (length (withCell M c .cells)) built-place (omega (arith, built-length M c))
 
   -- the place stands for the new cell
-  pub stands-new : Stands (put place (length (M .cells)) x) (length (withCell M c .cells)) x (cellAt (length (M .cells)))
-  unfolding Stands
+  pub stands-new : StandsFor (put place (length (M .cells)) x) (length (withCell M c .cells)) x (cellAt (length (M .cells)))
+  unfolding StandsFor
   stands-new = (sym (put-same place (length (M .cells)) x), omega (arith, built-length M c))
 
 -- ---- the words of a construct's variables stand for its arguments' values if each argument's does
 module _ (place : ℕ → ℕ) (n : ℕ) (word : ℕ → ℕ) (values : ℕ → Value) where
-  each-onto : (y : ℕ) (ys zs : List ℕ) → ((x : ℕ) → inList x (trimOnto y zs) ≡ true → Stands place n (word x) (values x))
-      → (((x : ℕ) → inList x zs ≡ true → Stands place n (word x) (values x)) → StandEach place n (map word ys) (map values zs))
+  each-onto : (y : ℕ) (ys zs : List ℕ) → ((x : ℕ) → inList x (trimOnto y zs) ≡ true → StandsFor place n (word x) (values x))
+      → (((x : ℕ) → inList x zs ≡ true → StandsFor place n (word x) (values x)) → StandEach place n (map word ys) (map values zs))
       → StandEach place n (map word (y ∷ ys)) (map values (trimOnto y zs))
   unfolding trimOnto StandEach
   each-onto zero ys [] h rest = tt
@@ -69,13 +69,13 @@ module _ (place : ℕ → ℕ) (n : ℕ) (word : ℕ → ℕ) (values : ℕ → 
   each-onto (suc y) ys zs h rest =
       (h (suc y) (cons-here (suc y) (suc y) zs refl), rest (λ x i. h x (cons-later x (suc y) zs i)))
 
-  each-trimmed : (ys : List ℕ) → ((x : ℕ) → inList x (trimmed ys) ≡ true → Stands place n (word x) (values x))
+  each-trimmed : (ys : List ℕ) → ((x : ℕ) → inList x (trimmed ys) ≡ true → StandsFor place n (word x) (values x))
       → StandEach place n (map word ys) (map values (trimmed ys))
   unfolding trimmed StandEach
   each-trimmed [] h = tt
   each-trimmed (y ∷ ys) h = each-onto y ys (trimmed ys) h (each-trimmed ys)
 
-  pub each-argument : (ws : Four) → ((x : ℕ) → inList x (argumentsOf ws) ≡ true → Stands place n (word x) (values x))
+  pub each-argument : (ws : Four) → ((x : ℕ) → inList x (argumentsOf ws) ≡ true → StandsFor place n (word x) (values x))
       → StandEach place n (map word (fourWords ws)) (map values (argumentsOf ws))
   unfolding argumentsOf
   each-argument ws h = each-trimmed (fourWords ws) h

@@ -41,7 +41,7 @@ unfolding argumentWords
 arguments-are m x = refl
 
 -- ---- a cell that is filled
-pub record Filled (m : List ℕ) (x : ℕ) (c : Contents) (n : ℕ) : Type 0 where
+pub record FilledCell (m : List ℕ) (x : ℕ) (c : Contents) (n : ℕ) : Type 0 where
   pub functor : cellWord m x 0 ≡ c .functor
   pub arguments : argumentWords m x ≡ wordsOf c
   pub next : link m x ≡ n
@@ -82,7 +82,7 @@ module _ (m : List ℕ) (x : ℕ) (c : Contents) (n : ℕ) where
   from1 : (k : ℕ) → k < 1 → cellWord (withWord m5 x cellNext n) x k ≡ cellWord m1 x k
   from1 k h = from2 k (omega arith) ∙ word-beside m1 x 1 (c .a) x k (λ e. omega arith) (omega arith) (omega arith)
 
-  pub filled-here : cellWords * x + cellWords ≤ length m → Filled (filled m x c n) x c n
+  pub filled-here : cellWords * x + cellWords ≤ length m → FilledCell (filled m x c n) x c n
   unfolding filled argumentWords
   filled-here h =
       let e1 = from2 1 (omega arith) ∙ word-here m1 x 1 (c .a) (simp length-set (omega arith)) in
@@ -127,7 +127,7 @@ module _ (rs : List ℕ) (r v : ℕ) where
 
 -- ---- cell x becomes the first of region r's; n is no cell's place
 module _ (rs : List ℕ) (r x n : ℕ) where
-  pub record Hung (rs′ : List ℕ) : Type 0 where
+  pub record HungCell (rs′ : List ℕ) : Type 0 where
     pub size : length rs′ ≡ length rs
     pub front : regionWords * r + regionWords ≤ length rs → first rs′ r ≡ x
     pub firsts : (q : ℕ) → q ≢ r → first rs′ q ≡ first rs q
@@ -138,7 +138,7 @@ module _ (rs : List ℕ) (r x n : ℕ) where
   abbrev rs1 : List ℕ
   rs1 = set rs (regionWords * r) x
 
-  hung-first : n ≤ last rs r → Hung (set rs1 (regionWords * r + regionLast) x)
+  hung-first : n ≤ last rs r → HungCell (set rs1 (regionWords * r + regionLast) x)
   hung-first h = record {
     size = simp length-set;
     front = λ b. first-last rs1 r x r ∙ first-here rs r x b;
@@ -148,7 +148,7 @@ module _ (rs : List ℕ) (r x n : ℕ) where
     kept = λ g. absurd (omega arith);
   }
 
-  hung-more : last rs r < n → Hung rs1
+  hung-more : last rs r < n → HungCell rs1
   hung-more h = record {
     size = simp length-set;
     front = λ b. first-here rs r x b;
@@ -158,7 +158,7 @@ module _ (rs : List ℕ) (r x n : ℕ) where
     kept = λ g. last-first rs r x r;
   }
 
-  pub hung-ok : Hung (hung rs r x n)
+  pub hung-ok : HungCell (hung rs r x n)
   hung-ok = elim (decLe n (last rs r)) [
     | yes h ↦ rw (← hang-first rs r x n (last rs r) refl rs1 refl h _ refl) (hung-first h)
     | no h ↦ rw (← hang-more rs r x n (last rs r) refl rs1 refl (omega arith)) (hung-more (omega arith))

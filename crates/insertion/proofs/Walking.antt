@@ -25,19 +25,19 @@ use Rattle.liveness.specs.Counts.{goalsCount, goalCount, armsCount}
 use Rattle.liveness.specs.Table.{beforeAt, afterAt}
 use Rattle.writer.specs.Laid.{linked}
 use Rattle.writer.specs.Skips.{Behind}
-use Rattle.laying.specs.Lays.{Lays, Goes, lays-end}
+use Rattle.laying.specs.Lays.{Lays, GoesOn, lays-end}
 use Rattle.laying.specs.Marks.{marks}
 use Rattle.insertion.specs.Chains.{Fronts, fronts-head, chain-goes, lays-part}
-use Rattle.insertion.specs.Wants.{Wants, goal-wants, start-wants, switch-wants, branches-want, arms-want}
+use Rattle.insertion.specs.Wants.{WantedFrom, goal-wants, start-wants, switch-wants, branches-want, arms-want}
 use Rattle.laying.specs.Heads.{SwitchStored, IfStored, ArmStored, switch-head, if-head, arm-front}
 use Rattle.insertion.specs.Cursor.{recordIn, pointIn}
-use Rattle.insertion.specs.Along.{Along, along-next, along-on}
+use Rattle.insertion.specs.Along.{LaidAlong, along-next, along-on}
 use Rattle.insertion.specs.Done.{partOf, GoalsLaid, GoalLaid, PartLaid, ArmsLaid}
 
 -- ---- a turn along a chain: a goal with parts, then the steps behind it
-module _ {f rows t : List ℕ} {start at₀ : ℕ} {a b e g : List ℕ} {first i at c w u r j p s : ℕ} (G : Along f rows t start at₀ a b first i at c) where
-  pub along-turn : Formed f → (i ≡ 0 → ⊥) → w ≡ word f i nextWord → Along f rows t w u e g r j p s → GoalLaid f rows t i at b e c r u
-      → Along f rows t start at₀ a g first j p s
+module _ {f rows t : List ℕ} {start at₀ : ℕ} {a b e g : List ℕ} {first i at c w u r j p s : ℕ} (G : LaidAlong f rows t start at₀ a b first i at c) where
+  pub along-turn : Formed f → (i ≡ 0 → ⊥) → w ≡ word f i nextWord → LaidAlong f rows t w u e g r j p s → GoalLaid f rows t i at b e c r u
+      → LaidAlong f rows t start at₀ a g first j p s
   along-turn F z n H m = along-on (along-next G F z m n) H
 
 pub goal-moved : {f rows : List ℕ} (t : List ℕ) {i : ℕ} (at : ℕ) {a b g d h : List ℕ} {c : ℕ} → b ≡ g → d ≡ h → GoalLaid f rows t i at a g c (recordIn h) (pointIn h)
@@ -47,7 +47,7 @@ goal-moved t at p q m = rw (p, q) m
 -- ---- a part
 removed-is : {f : List ℕ} (t : List ℕ) {i : ℕ} (at whole : ℕ) → Formed f → Stands f goals i → (q : ℕ) (after : Set) {rs : Set} → (i ≡ 0 → rs ≡ beforeAt t whole ∖ afterAt t whole)
     → ((i ≡ 0 → ⊥) → rs ≡ beforeAt t whole ∖ beforeAt t at) → afterAt t whole ≡ wanted (signatureOf (program f) q) after
-    → Wants (signatureOf (program f) q) t at (points (program f) (goalsAt f i) after)
+    → WantedFrom (signatureOf (program f) q) t at (points (program f) (goalsAt f i) after)
     → rs ≡ beforeAt t whole ∖ wanted (signatureOf (program f) q) (live (program f) (goalsAt f i) after)
 unfolding live
 removed-is {f} t {i} at whole F st q after {rs} p n ea W = go (ℕ-discrete i 0)
@@ -82,7 +82,7 @@ module _ {f : List ℕ} (rows t : List ℕ) (i at : ℕ) (F : Formed f) where
         let E = switch-here F refl k in
         let g : goalAt f i ≡ switch (word f i goalX) (armsAt f w) = rw ew (E .goal) in
         let X = goal-wants P S t at (switch (word f i goalX) (armsAt f w)) after (rw g at W) in
-        let Y : Wants S t u (armsPoints P (armsAt f w) after) = rw (eu (X .short)) (switch-wants P S t (at + 2) after refl (X .parts)) in
+        let Y : WantedFrom S t u (armsPoints P (armsAt f w) after) = rw (eu (X .short)) (switch-wants P S t (at + 2) after refl (X .parts)) in
         let L = A .1 o q after R (λ v. R .owning .to-arms i k w ew v ∙ h) (X .after-is) Y in
         let cs = localArms P S (armsAt f w) after (beforeAt t at) in
         let K : Fronts a d c e (switch (word f i goalX) cs then _) (word f i nextWord) =
@@ -119,7 +119,7 @@ module _ {f : List ℕ} (rows t : List ℕ) (i at : ℕ) (F : Formed f) where
 
 -- ---- arms
 arms-goes : {f : List ℕ} → Formed f → (t : List ℕ) (w whole q : ℕ) (after : Set) → Stands f arms w
-    → Goes w (armsTree (localArms (program f) (signatureOf (program f) q) (armsAt f w) after (beforeAt t whole)))
+    → GoesOn w (armsTree (localArms (program f) (signatureOf (program f) q) (armsAt f w) after (beforeAt t whole)))
 unfolding armsTree localArms linked reference
 arms-goes {f} F t zero whole q after st c = rw (arms-none f refl) refl
 arms-goes {f} F t (suc w) whole q after st c = rw (arm-here F (λ e. omega arith) st .view) refl
@@ -142,7 +142,7 @@ arms-laid {f} rows t {i} at whole {a} {b} {d} {e} {c} {s} {m} {v} {r} {p} {x} {y
       let L = A .1 o q after R (λ n. R .owning .arm-goals i st z x ex n ∙ h z) ea (U .0) in
       let M = D .1 o q after R (λ n. R .owning .arm-next i st z y ey n ∙ h z) ea (rw (L .1) (U .1)) in
       let N : armsCount (armsAt f i) ≡ goalsCount (goalsAt f x) + armsCount (armsAt f y) = ap armsCount k in
-      let g : Goes (word f i nextWord) (armsTree (localArms P S (armsAt f y) after (beforeAt t whole))) =
+      let g : GoesOn (word f i nextWord) (armsTree (localArms P S (armsAt f y) after (beforeAt t whole))) =
       λ j. rw (sym ey) (arms-goes F t y whole q after (chain-next F st z ey .stands) j) in
       let K = arm-front B (goalsTree (partOf f t whole q x after)) (armsTree (localArms P S (armsAt f y) after (beforeAt t whole))) g (L .0) (M .0) H in
       (rw k K, omega (arith, L .1, M .1, N)),

@@ -22,34 +22,34 @@ use Rattle.tables.specs.Filled.{Owned, Belongs}
 use Rattle.laying.specs.Lays.{Lays, lays-end}
 use Rattle.insertion.specs.Chains.{Fronts, chain-goes, lays-first}
 use Rattle.insertion.specs.Cursor.{recordIn, pointIn}
-use Rattle.insertion.specs.Wants.{Wants, first-wants}
+use Rattle.insertion.specs.Wants.{WantedFrom, first-wants}
 use Rattle.insertion.specs.Done.{GoalsLaid, GoalLaid}
 
 -- the goal at record i has parts, where there is one
-abbrev pub Parted : List ℕ → ℕ → Type 0
-Parted f i = (i ≡ 0 → ⊥) → (IsSwitch f i → ⊥) → IsIf f i
+abbrev pub HasParts : List ℕ → ℕ → Type 0
+HasParts f i = (i ≡ 0 → ⊥) → (IsSwitch f i → ⊥) → IsIf f i
 
 -- the goals from record start on were to be laid from place first on; what is left are those from record i on, from place c on
 module _ (f rows t : List ℕ) (start at₀ : ℕ) (a b : List ℕ) (first i at c : ℕ) where
   record Left (o : ℕ → ℕ) (q : ℕ) (after : Set) : Type 0 where
     belongs : Belongs o q i
-    wants : Wants (signatureOf (program f) q) t at (points (program f) (goalsAt f i) after)
+    wants : WantedFrom (signatureOf (program f) q) t at (points (program f) (goalsAt f i) after)
     count : at + 2 * goalsCount (goalsAt f i) ≡ at₀ + 2 * goalsCount (goalsAt f start)
     laid : (d : List ℕ) (e : ℕ) → Lays b d c e (lay (goalsTree (localGoals (program f) (signatureOf (program f) q) (goalsAt f i) after)) c)
         → Lays a d first e (lay (goalsTree (localGoals (program f) (signatureOf (program f) q) (goalsAt f start) after)) first)
 
-  pub record Along : Type 0 where
+  pub record LaidAlong : Type 0 where
     pub stands : Stands f goals i
     pub near : ahead f i ≤ ahead f start
     pub same : length b ≡ length a
     rest : (o : ℕ → ℕ) (q : ℕ) (after : Set) → Owned f rows o → Belongs o q start
-        → Wants (signatureOf (program f) q) t at₀ (points (program f) (goalsAt f start) after) → Left o q after
+        → WantedFrom (signatureOf (program f) q) t at₀ (points (program f) (goalsAt f start) after) → Left o q after
 
 -- the same as the contract says it, where the walk stands at `c` before and at `d` behind
 abbrev pub LaysAlong : (f rows t : List ℕ) (start i : ℕ) (a b c d : List ℕ) → Type 0
-LaysAlong f rows t start i a b c d = Along f rows t start (pointIn c) a b (recordIn c) i (pointIn d) (recordIn d)
+LaysAlong f rows t start i a b c d = LaidAlong f rows t start (pointIn c) a b (recordIn c) i (pointIn d) (recordIn d)
 
-pub along-first : (f rows t : List ℕ) (start at : ℕ) (a : List ℕ) (first : ℕ) → Stands f goals start → Along f rows t start at a a first start at first
+pub along-first : (f rows t : List ℕ) (start at : ℕ) (a : List ℕ) (first : ℕ) → Stands f goals start → LaidAlong f rows t start at a a first start at first
 along-first f rows t start at a first st = record {
   stands = st;
   near = omega arith;
@@ -57,7 +57,7 @@ along-first f rows t start at a first st = record {
   rest = λ o q after R B W. record { belongs = B; wants = W; count = refl; laid = λ d e L. L };
 }
 
-module _ {f rows t : List ℕ} {start at₀ : ℕ} {a b : List ℕ} {first i at c : ℕ} (G : Along f rows t start at₀ a b first i at c) where
+module _ {f rows t : List ℕ} {start at₀ : ℕ} {a b : List ℕ} {first i at c : ℕ} (G : LaidAlong f rows t start at₀ a b first i at c) where
   pub along-last : i ≡ 0 → GoalsLaid f rows t start at₀ a b first c at
   unfolding goalsTree localGoals goalsCount
   along-last z = (
@@ -72,7 +72,7 @@ module _ {f rows t : List ℕ} {start at₀ : ℕ} {a b : List ℕ} {first i at 
     pub along-onward : {w : ℕ} → w ≡ word f i nextWord → Onward f goals i w
     along-onward e = chain-next F (G .stands) z e
 
-    pub along-next : {d : List ℕ} {r p w : ℕ} → GoalLaid f rows t i at b d c r p → w ≡ word f i nextWord → Along f rows t start at₀ a d first w p r
+    pub along-next : {d : List ℕ} {r p w : ℕ} → GoalLaid f rows t i at b d c r p → w ≡ word f i nextWord → LaidAlong f rows t start at₀ a d first w p r
     unfolding goalsCount
     along-next {d} {r} {p} {w} m e =
         let u = along-onward e in
@@ -98,8 +98,8 @@ module _ {f rows t : List ℕ} {start at₀ : ℕ} {a b : List ℕ} {first i at 
         }
 
 -- one stretch of the chain behind another
-pub along-on : {f rows t : List ℕ} {start at₀ : ℕ} {a b e : List ℕ} {first i at c j p r : ℕ} → Along f rows t start at₀ a b first i at c → Along f rows t i at b e c j p r
-    → Along f rows t start at₀ a e first j p r
+pub along-on : {f rows t : List ℕ} {start at₀ : ℕ} {a b e : List ℕ} {first i at c j p r : ℕ} → LaidAlong f rows t start at₀ a b first i at c → LaidAlong f rows t i at b e c j p r
+    → LaidAlong f rows t start at₀ a e first j p r
 along-on G H = record {
   stands = H .stands;
   near = omega (arith, G .near, H .near);
@@ -111,7 +111,7 @@ along-on G H = record {
 }
 
 -- and all goals that are left behind it
-pub along-rest : {f rows t : List ℕ} {start at₀ : ℕ} {a b e : List ℕ} {first i at c p r : ℕ} → Along f rows t start at₀ a b first i at c → GoalsLaid f rows t i at b e c r p
+pub along-rest : {f rows t : List ℕ} {start at₀ : ℕ} {a b e : List ℕ} {first i at c p r : ℕ} → LaidAlong f rows t start at₀ a b first i at c → GoalsLaid f rows t i at b e c r p
     → GoalsLaid f rows t start at₀ a e first r p
 along-rest {e = e} {r = r} G H = (
   H .0 ∙ G .same,

@@ -25,7 +25,7 @@ use Rattle.liveness.specs.Done.{ListDone}
 use Rattle.laying.specs.Lays.{Lays}
 use Rattle.laying.specs.Marks.{marks}
 use Rattle.insertion.specs.Chains.{chain-goes, lays-part}
-use Rattle.insertion.specs.Wants.{Wants, Turned, turned-wants}
+use Rattle.insertion.specs.Wants.{WantedFrom, Turned, turned-wants}
 use Rattle.insertion.specs.Done.{GoalsLaid}
 
 -- from place s on the table has what is wanted at the points of the procedure's goals; l is live before them
@@ -33,7 +33,7 @@ abbrev pub PointsFilled : List ℕ → List ℕ → List ℕ → ℕ → Set →
 PointsFilled f own u s l =
     (length u ≡ pointWords)
     × ((S : Signature) → Window f S own
-    → (l ≡ live (program f) (goalsAt f (getD own bodyPlace 0)) (outsOf S)) × Wants S u s (points (program f) (goalsAt f (getD own bodyPlace 0)) (outsOf S)))
+    → (l ≡ live (program f) (goalsAt f (getD own bodyPlace 0)) (outsOf S)) × WantedFrom S u s (points (program f) (goalsAt f (getD own bodyPlace 0)) (outsOf S)))
 
 -- the placement of the goals from record i on, as those of a procedure that declares S
 unfoldable pub bodyOf : List ℕ → Signature → ℕ → Goals
@@ -58,7 +58,7 @@ module _ (f own t u : List ℕ) (body s : ℕ) (outs l : Set) (n : length u ≡ 
     λ S W.
         let e : outs ≡ outsOf S = eo ∙ W .outs in
         let k : l ≡ live (program f) (goalsAt f (getD own bodyPlace 0)) (outsOf S) = rw (eb, e) at (D .0) in
-        let h : Wants S v s (points (program f) (goalsAt f body) outs) = turned-wants T n S W _ s (omega arith) (written-holds (D .1)) in
+        let h : WantedFrom S v s (points (program f) (goalsAt f body) outs) = turned-wants T n S W _ s (omega arith) (written-holds (D .1)) in
         (k, rw (eb, e) at h),
   )
 

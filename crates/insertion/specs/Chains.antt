@@ -22,7 +22,7 @@ use Rattle.chains.specs.Is.{goals-step}
 use Rattle.writer.specs.Laid.{linked}
 use Rattle.writer.specs.Ready.{treeAt, wordsAt, frontTo, tree-is}
 use Rattle.writer.specs.Trees.{goals-tree}
-use Rattle.laying.specs.Lays.{Lays, Goes, headOf, lays-node}
+use Rattle.laying.specs.Lays.{Lays, GoesOn, headOf, lays-node}
 use Rattle.laying.specs.Marks.{moreOf, marks, marksTree, marks-goes, lays-marks}
 
 -- goals in front of a tree
@@ -44,7 +44,7 @@ onto-before (g then gs) hs t = ap (goalTree g) (onto-before gs hs t)
 -- make one chain
 pub record Fronts (a b : List ℕ) (c r : ℕ) (gs : Goals) (on : ℕ) : Type 0 where
   pub same : length b ≡ length a
-  pub joined : (t : Tree) → Goes on t → (d : List ℕ) (e : ℕ) → Lays b d r e (lay t r) → Lays a d c e (lay (onto gs t) c)
+  pub joined : (t : Tree) → GoesOn on t → (d : List ℕ) (e : ℕ) → Lays b d r e (lay t r) → Lays a d c e (lay (onto gs t) c)
 
 -- a goal that is one node whatever follows it
 pub fronts-head : {a b : List ℕ} {c r : ℕ} (g : Goal) (k : Kind) (on : ℕ) (ws : Words) → ((t : Tree) → goalTree g t ≡ node k t ws)
@@ -73,7 +73,7 @@ module _ {a b : List ℕ} {c r : ℕ} (xs : List ℕ) (on : ℕ) where
   fronts-removes p = record { same = p .same; joined = λ t o d e q. rw (removes-tree xs t) (lays-marks (kGoal kRemove) xs on t o p q) }
 
 -- one behind the other
-pub fronts-then : {a b d : List ℕ} {c m r : ℕ} (gs hs : Goals) (mid on : ℕ) → ((t : Tree) → Goes on t → Goes mid (onto hs t)) → Fronts a b c m gs mid
+pub fronts-then : {a b d : List ℕ} {c m r : ℕ} (gs hs : Goals) (mid on : ℕ) → ((t : Tree) → GoesOn on t → GoesOn mid (onto hs t)) → Fronts a b c m gs mid
     → Fronts b d m r hs on → Fronts a d c r (gs before hs) on
 fronts-then {c = c} gs hs mid on g p q = record {
   same = q .same ∙ p .same;
@@ -81,7 +81,7 @@ fronts-then {c = c} gs hs mid on g p q = record {
 }
 
 -- and the rest of the chain behind them
-pub fronts-rest : {a b d : List ℕ} {c m r : ℕ} (gs hs : Goals) (on : ℕ) → Goes on (goalsTree hs) → Fronts a b c m gs on → Lays b d m r (lay (goalsTree hs) m)
+pub fronts-rest : {a b d : List ℕ} {c m r : ℕ} (gs hs : Goals) (on : ℕ) → GoesOn on (goalsTree hs) → Fronts a b c m gs on → Lays b d m r (lay (goalsTree hs) m)
     → Lays a d c r (lay (goalsTree (gs before hs)) c)
 fronts-rest {d = d} {r = r} gs hs on o p q = rw (onto-goals gs hs) (p .joined (goalsTree hs) o d r q)
 
@@ -103,7 +103,7 @@ goal-rehung (step (remove r)) u t = refl
 goal-rehung (switch x cs) u t = refl
 goal-rehung (ifLess y z a b) u t = refl
 
-pub goal-goes : (g : Goal) (t : Tree) → Goes 1 (goalTree g t)
+pub goal-goes : (g : Goal) (t : Tree) → GoesOn 1 (goalTree g t)
 unfolding goalTree stepTree linked reference
 goal-goes (step (literal x v)) t c = refl
 goal-goes (step (sum x o y z)) t c = refl
@@ -116,7 +116,7 @@ goal-goes (step (remove r)) t c = refl
 goal-goes (switch x cs) t c = refl
 goal-goes (ifLess y z a b) t c = refl
 
-pub done-goes : Goes 0 (goalsTree done)
+pub done-goes : GoesOn 0 (goalsTree done)
 unfolding goalsTree linked reference
 done-goes c = refl
 
@@ -150,25 +150,25 @@ module _ (P : Program) (S : Signature) where
       (fronts-then (creates (members cs)) (step s then removes (members rs)) 1 next (λ t g. goal-goes (step s) _) (fronts-creates (members cs) 1 k) G)
 
   -- it has a goal where there was one
-  created-goes : (xs : List ℕ) (g : Goal) (gs hs : Goals) → Goes 1 (goalsTree ((creates xs before g then gs) before hs))
+  created-goes : (xs : List ℕ) (g : Goal) (gs hs : Goals) → GoesOn 1 (goalsTree ((creates xs before g then gs) before hs))
   unfolding creates _before_ goalsTree
   created-goes [] g gs hs = goal-goes g _
   created-goes (x ∷ xs) g gs hs = goal-goes (step (create x)) _
 
-  local-goes : (g : Goal) (after : Set) (hs : Goals) → Goes 1 (goalsTree (localGoal P S g after before hs))
+  local-goes : (g : Goal) (after : Set) (hs : Goals) → GoesOn 1 (goalsTree (localGoal P S g after before hs))
   unfolding localGoal _before_ goalsTree goalTree linked reference
   local-goes (step s) after hs c = created-goes (members (createdFor P S s after)) (step s) _ hs c
   local-goes (switch x cs) after hs c = refl
   local-goes (ifLess y z a b) after hs c = refl
 
-  pub chain-goes : {f : List ℕ} → Formed f → (w : ℕ) (after : Set) → Stands f goals w → Goes w (goalsTree (localGoals P S (goalsAt f w) after))
+  pub chain-goes : {f : List ℕ} → Formed f → (w : ℕ) (after : Set) → Stands f goals w → GoesOn w (goalsTree (localGoals P S (goalsAt f w) after))
   unfolding localGoals linked
   chain-goes {f} F zero after st c = rw (goals-none f refl) (done-goes c)
   chain-goes {f} F (suc w) after st c =
       rw (goals-step F st (λ e. omega arith) refl) (local-goes (goalAt f (suc w)) (live P (goalsAt f (word f (suc w) 1)) after) _ c)
 
   -- the first goal of a chain, then the rest
-  pub lays-first : {a b d : List ℕ} {c m r : ℕ} {gs hs : Goals} {g : Goal} (after : Set) (on : ℕ) → gs ≡ g then hs → Goes on (goalsTree (localGoals P S hs after))
+  pub lays-first : {a b d : List ℕ} {c m r : ℕ} {gs hs : Goals} {g : Goal} (after : Set) (on : ℕ) → gs ≡ g then hs → GoesOn on (goalsTree (localGoals P S hs after))
       → Fronts a b c m (localGoal P S g (live P hs after)) on → Lays b d m r (lay (goalsTree (localGoals P S hs after)) m)
       → Lays a d c r (lay (goalsTree (localGoals P S gs after)) c)
   unfolding localGoals
@@ -176,7 +176,7 @@ module _ (P : Program) (S : Signature) where
 
   -- the start of a part: removes, then its goals
   pub lays-part : {a b d : List ℕ} {c m r : ℕ} (gs : Goals) (after held : Set) {rs : Set} (on : ℕ) → rs ≡ held ∖ wanted S (live P gs after)
-      → Goes on (goalsTree (localGoals P S gs after)) → Lays a b c m (marks removeKind (members rs) on c)
+      → GoesOn on (goalsTree (localGoals P S gs after)) → Lays a b c m (marks removeKind (members rs) on c)
       → Lays b d m r (lay (goalsTree (localGoals P S gs after)) m)
       → Lays a d c r (lay (goalsTree (removesTo S held (live P gs after) before localGoals P S gs after)) c)
   unfolding removesTo

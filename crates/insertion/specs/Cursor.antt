@@ -21,11 +21,11 @@ recordIn c = getD c recordPlace 0
 unfoldable pub pointIn : List ℕ → ℕ
 pointIn c = getD c pointPlace 0
 
-pub record At (c : List ℕ) (r p : ℕ) : Type 0 where
+pub record CursorAt (c : List ℕ) (r p : ℕ) : Type 0 where
   pub record-is : recordIn c ≡ r
   pub point-is : pointIn c ≡ p
 
-pub at-put : (c : List ℕ) → cursorWords ≤ length c → (r p : ℕ) → At (set (set c recordPlace r) pointPlace p) r p
+pub at-put : (c : List ℕ) → cursorWords ≤ length c → (r p : ℕ) → CursorAt (set (set c recordPlace r) pointPlace p) r p
 unfolding recordIn pointIn
 at-put c l r p = record {
   record-is = getD-set-other (set c recordPlace r) pointPlace recordPlace p 0 (λ z. omega arith) ∙ getD-set-same c recordPlace r 0 (omega arith);

@@ -20,7 +20,7 @@ use Rattle.tables.specs.Filled.{Owned, Belongs}
 use Rattle.laying.specs.Lays.{Lays}
 use Rattle.insertion.specs.Chains.{Fronts}
 use Rattle.insertion.specs.Cursor.{recordIn, pointIn}
-use Rattle.insertion.specs.Wants.{Wants}
+use Rattle.insertion.specs.Wants.{WantedFrom}
 
 -- a part of the goal whose point is at `whole`: the removes at its start, then its goals
 unfoldable pub partOf : List ℕ → List ℕ → ℕ → ℕ → ℕ → Set → Goals
@@ -33,14 +33,14 @@ module _ (f rows t : List ℕ) (i at : ℕ) (a b : List ℕ) (c r p : ℕ) where
   abbrev pub GoalsLaid : Type 0
   GoalsLaid =
       (length b ≡ length a)
-      × ((o : ℕ → ℕ) (q : ℕ) (after : Set) → Owned f rows o → Belongs o q i → Wants (signatureOf (program f) q) t at (points (program f) (goalsAt f i) after)
+      × ((o : ℕ → ℕ) (q : ℕ) (after : Set) → Owned f rows o → Belongs o q i → WantedFrom (signatureOf (program f) q) t at (points (program f) (goalsAt f i) after)
       → Lays a b c r (lay (goalsTree (localGoals (program f) (signatureOf (program f) q) (goalsAt f i) after)) c) × (p ≡ at + 2 * goalsCount (goalsAt f i)))
 
   -- the goal at record i
   abbrev pub GoalLaid : Type 0
   GoalLaid =
       (length b ≡ length a)
-      × ((o : ℕ → ℕ) (q : ℕ) (after : Set) → Owned f rows o → o i ≡ q → Wants (signatureOf (program f) q) t at (goalPoints (program f) (goalAt f i) after)
+      × ((o : ℕ → ℕ) (q : ℕ) (after : Set) → Owned f rows o → o i ≡ q → WantedFrom (signatureOf (program f) q) t at (goalPoints (program f) (goalAt f i) after)
       → Fronts a b c r (localGoal (program f) (signatureOf (program f) q) (goalAt f i) after) (word f i nextWord) × (p ≡ at + 2 * goalCount (goalAt f i)))
 
   -- the goals from record i on, as a part of the goal whose point is at `whole`
@@ -48,7 +48,7 @@ module _ (f rows t : List ℕ) (i at : ℕ) (a b : List ℕ) (c r p : ℕ) where
   PartLaid whole =
       (length b ≡ length a)
       × ((o : ℕ → ℕ) (q : ℕ) (after : Set) → Owned f rows o → Belongs o q i → afterAt t whole ≡ wanted (signatureOf (program f) q) after
-      → Wants (signatureOf (program f) q) t at (points (program f) (goalsAt f i) after)
+      → WantedFrom (signatureOf (program f) q) t at (points (program f) (goalsAt f i) after)
       → Lays a b c r (lay (goalsTree (partOf f t whole q i after)) c) × (p ≡ at + 2 * goalsCount (goalsAt f i)))
 
   -- the arms from record i on
@@ -56,7 +56,7 @@ module _ (f rows t : List ℕ) (i at : ℕ) (a b : List ℕ) (c r p : ℕ) where
   ArmsLaid whole =
       (length b ≡ length a)
       × ((o : ℕ → ℕ) (q : ℕ) (after : Set) → Owned f rows o → Belongs o q i → afterAt t whole ≡ wanted (signatureOf (program f) q) after
-      → Wants (signatureOf (program f) q) t at (armsPoints (program f) (armsAt f i) after)
+      → WantedFrom (signatureOf (program f) q) t at (armsPoints (program f) (armsAt f i) after)
       → Lays a b c r (lay (armsTree (localArms (program f) (signatureOf (program f) q) (armsAt f i) after (beforeAt t whole))) c)
       × (p ≡ at + 2 * armsCount (armsAt f i)))
 

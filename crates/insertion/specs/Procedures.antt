@@ -24,12 +24,12 @@ use Rattle.writer.specs.Laid.{linked}
 use Rattle.writer.specs.Ready.{treeAt}
 use Rattle.writer.specs.Skips.{Behind}
 use Rattle.writer.specs.Trees.{variables-tree, regions-tree}
-use Rattle.laying.specs.Lays.{Lays, Goes, headOf, lays-end, lays-node}
+use Rattle.laying.specs.Lays.{Lays, GoesOn, headOf, lays-end, lays-node}
 use Rattle.laying.specs.Heads.{ProcedureStored, procedure-head}
 use Rattle.insertion.specs.Bodies.{bodyOf, BodyLaid}
 
 -- a file that the annotator does not refuse, with its tables
-pub record Given (f table rows : List ℕ) : Type 0 where
+pub record Unrefused (f table rows : List ℕ) : Type 0 where
   pub formed : Formed f
   pub prepared : Prepared f table rows
   pub annotatable : Annotatable (program f)
@@ -47,7 +47,7 @@ unfoldable pub proceduresTree : Program → List Procedure → Tree
 proceduresTree P ps = chainOf kProcedure procedureWords (map (annotateProcedure P) ps)
 
 -- ---- the goals of procedure q
-module _ {f table rows : List ℕ} (G : Given f table rows) {q : ℕ} (l : q < length (program f .procedures)) {s : ℕ} (e : s ≡ startIn table q) where
+module _ {f table rows : List ℕ} (G : Unrefused f table rows) {q : ℕ} (l : q < length (program f .procedures)) {s : ℕ} (e : s ≡ startIn table q) where
   body-is : bodyOf f (signatureOf (program f) q) (getD (windowIn table q) bodyPlace 0) ≡ placedBody (program f) q
   unfolding bodyOf placedBody annotateProcedure signatureOf
   body-is = rw (window-here (G .prepared .windows) l .body) (sym (procedure-local (program f) (G .annotatable) q))
@@ -84,7 +84,7 @@ module _ {f : List ℕ} {i q : ℕ} (F : Formed f) (T : Turn f i q) (z : i ≡ 0
 
 -- ---- all of them
 -- whether the chain of procedures goes on at record w
-chain-goes : {f : List ℕ} → Formed f → (P : Program) (w : ℕ) → Stands f procedures w → Goes w (proceduresTree P (proceduresAt f w))
+chain-goes : {f : List ℕ} → Formed f → (P : Program) (w : ℕ) → Stands f procedures w → GoesOn w (proceduresTree P (proceduresAt f w))
 unfolding proceduresTree chainOf linked reference
 chain-goes {f} F P zero st c = rw (procedures-none f refl) refl
 chain-goes {f} F P (suc w) st c = rw (procedure-at F refl (procedure-is st (λ e. omega arith)) .view) refl

@@ -16,7 +16,7 @@ use Rattle.placement.specs.Local.{heldPast}
 use Rattle.chains.specs.Formed.{Formed, Stands, goalAt, firstGoal}
 use Rattle.chains.specs.Shapes.{IsSwitch, IsIf, step-here}
 use Rattle.tables.specs.Rows.{needsIn, bearsIn, endsIn}
-use Rattle.tables.specs.Filled.{StepAt}
+use Rattle.tables.specs.Filled.{GoalIsStep}
 use Rattle.liveness.specs.Counts.{goalCount}
 use Rattle.liveness.specs.Table.{beforeAt, afterAt}
 use Rattle.liveness.specs.Points.{pointWords}
@@ -59,7 +59,7 @@ module _ {f : List ℕ} (rows t : List ℕ) {i : ℕ} (at : ℕ) (F : Formed f) 
         let H = step-here F st z refl p q in
         let s = H .one in
         let view : goalAt f i ≡ step s = ap firstGoal (H .view) in
-        let at-step : StepAt f i s = record { stands = st; some = z; view = view } in
+        let at-step : GoalIsStep f i s = record { stands = st; some = z; view = view } in
         let X = goal-wants P S t at (step s) after (rw view at W) in
         let E = R .effected in
         let fc : cs ≡ createdFor P S s after =

@@ -17,18 +17,18 @@ use Rattle.liveness.specs.Table.{beforeAt, afterAt}
 use Rattle.liveness.specs.Holds.{Holds, holds-before, holds-after, holds-behind}
 
 -- from that place on the table has what is wanted at the points ps
-unfoldable pub Wants : Signature → List ℕ → ℕ → List Point → Type 0
-Wants S t at [] = Unit {0}
-Wants S t at (p ∷ ps) = (at < pointWords) × ((beforeAt t at ≡ wanted S (p .earlier)) × ((afterAt t at ≡ wanted S (p .later)) × Wants S t (at + 2) ps))
+unfoldable pub WantedFrom : Signature → List ℕ → ℕ → List Point → Type 0
+WantedFrom S t at [] = Unit {0}
+WantedFrom S t at (p ∷ ps) = (at < pointWords) × ((beforeAt t at ≡ wanted S (p .earlier)) × ((afterAt t at ≡ wanted S (p .later)) × WantedFrom S t (at + 2) ps))
 
 module _ (S : Signature) (t : List ℕ) where
-  pub wants-front : (at : ℕ) (ps qs : List Point) → Wants S t at (ps ++ qs) → Wants S t at ps
-  unfolding Wants
+  pub wants-front : (at : ℕ) (ps qs : List Point) → WantedFrom S t at (ps ++ qs) → WantedFrom S t at ps
+  unfolding WantedFrom
   wants-front at [] qs h = tt
   wants-front at (p ∷ ps) qs h = (h .0, (h .1 .0, (h .1 .1 .0, wants-front (at + 2) ps qs (h .1 .1 .1))))
 
-  pub wants-behind : (at : ℕ) (ps qs : List Point) {n : ℕ} → Wants S t at (ps ++ qs) → length ps ≡ n → Wants S t (at + 2 * n) qs
-  unfolding Wants
+  pub wants-behind : (at : ℕ) (ps qs : List Point) {n : ℕ} → WantedFrom S t at (ps ++ qs) → length ps ≡ n → WantedFrom S t (at + 2 * n) qs
+  unfolding WantedFrom
   wants-behind at [] qs {n} h e = let z : at ≡ at + 2 * n = omega arith in rw z at h
   wants-behind at (p ∷ ps) qs {n} h e =
       let z : at + 2 + 2 * length ps ≡ at + 2 * n = omega arith in
@@ -41,43 +41,43 @@ module _ (P : Program) (S : Signature) (t : List ℕ) (at : ℕ) where
     pub short : at < pointWords
     pub before-is : beforeAt t at ≡ wanted S (liveGoal P g after)
     pub after-is : afterAt t at ≡ wanted S after
-    pub parts : Wants S t (at + 2) (partPoints P g after)
+    pub parts : WantedFrom S t (at + 2) (partPoints P g after)
 
-  pub goal-wants : (g : Goal) (after : Set) → Wants S t at (goalPoints P g after) → PointWants g after
-  unfolding goalPoints point Wants
+  pub goal-wants : (g : Goal) (after : Set) → WantedFrom S t at (goalPoints P g after) → PointWants g after
+  unfolding goalPoints point WantedFrom
   goal-wants g after h = record { short = h .0; before-is = h .1 .0; after-is = h .1 .1 .0; parts = h .1 .1 .1 }
 
   -- the first goal of a chain, and the rest
-  pub first-wants : {gs hs : Goals} {g : Goal} (after : Set) → gs ≡ g then hs → Wants S t at (points P gs after)
-      → Wants S t at (goalPoints P g (live P hs after)) × Wants S t (at + 2 * goalCount g) (points P hs after)
+  pub first-wants : {gs hs : Goals} {g : Goal} (after : Set) → gs ≡ g then hs → WantedFrom S t at (points P gs after)
+      → WantedFrom S t at (goalPoints P g (live P hs after)) × WantedFrom S t (at + 2 * goalCount g) (points P hs after)
   unfolding points goalPoints
   first-wants {hs = hs} {g = g} after e h =
-      let k : Wants S t at (points P (g then hs) after) = rw e at h in (
+      let k : WantedFrom S t at (points P (g then hs) after) = rw e at h in (
         wants-front S t at (goalPoints P g (live P hs after)) (points P hs after) k,
         wants-behind S t at (goalPoints P g (live P hs after)) (points P hs after) k (parts-count P g (live P hs after)),
       )
 
   -- what is wanted where goals start
-  pub start-wants : {gs hs : Goals} {g : Goal} (after : Set) → gs ≡ g then hs → Wants S t at (points P gs after) → beforeAt t at ≡ wanted S (live P gs after)
-  unfolding points point live Wants
-  start-wants {hs = hs} {g = g} after e h = let k : Wants S t at (points P (g then hs) after) = rw e at h in rw e (k .1 .0)
+  pub start-wants : {gs hs : Goals} {g : Goal} (after : Set) → gs ≡ g then hs → WantedFrom S t at (points P gs after) → beforeAt t at ≡ wanted S (live P gs after)
+  unfolding points point live WantedFrom
+  start-wants {hs = hs} {g = g} after e h = let k : WantedFrom S t at (points P (g then hs) after) = rw e at h in rw e (k .1 .0)
 
-  pub switch-wants : {g : Goal} {x : ℕ} {cs : Arms} (after : Set) → g ≡ switch x cs → Wants S t at (partPoints P g after) → Wants S t at (armsPoints P cs after)
+  pub switch-wants : {g : Goal} {x : ℕ} {cs : Arms} (after : Set) → g ≡ switch x cs → WantedFrom S t at (partPoints P g after) → WantedFrom S t at (armsPoints P cs after)
   unfolding partPoints
   switch-wants after e h = rw e at h
 
-  pub branches-want : {g : Goal} {y z : ℕ} {a b : Goals} (after : Set) → g ≡ ifLess y z a b → Wants S t at (partPoints P g after)
-      → Wants S t at (points P a after) × Wants S t (at + 2 * goalsCount a) (points P b after)
+  pub branches-want : {g : Goal} {y z : ℕ} {a b : Goals} (after : Set) → g ≡ ifLess y z a b → WantedFrom S t at (partPoints P g after)
+      → WantedFrom S t at (points P a after) × WantedFrom S t (at + 2 * goalsCount a) (points P b after)
   unfolding partPoints
   branches-want {a = a} {b = b} after e h =
-      let k : Wants S t at (points P a after ++ points P b after) = rw e at h in
+      let k : WantedFrom S t at (points P a after ++ points P b after) = rw e at h in
       (wants-front S t at (points P a after) (points P b after) k, wants-behind S t at (points P a after) (points P b after) k (points-count P a after))
 
-  pub arms-want : {ds cs : Arms} {f : ℕ} {ys : Four} {gs : Goals} (after : Set) → ds ≡ arm f ys gs cs → Wants S t at (armsPoints P ds after)
-      → Wants S t at (points P gs after) × Wants S t (at + 2 * goalsCount gs) (armsPoints P cs after)
+  pub arms-want : {ds cs : Arms} {f : ℕ} {ys : Four} {gs : Goals} (after : Set) → ds ≡ arm f ys gs cs → WantedFrom S t at (armsPoints P ds after)
+      → WantedFrom S t at (points P gs after) × WantedFrom S t (at + 2 * goalsCount gs) (armsPoints P cs after)
   unfolding armsPoints
   arms-want {cs = cs} {gs = gs} after e h =
-      let k : Wants S t at (points P gs after ++ armsPoints P cs after) = rw e at h in
+      let k : WantedFrom S t at (points P gs after ++ armsPoints P cs after) = rw e at h in
       (wants-front S t at (points P gs after) (armsPoints P cs after) k, wants-behind S t at (points P gs after) (armsPoints P cs after) k (points-count P gs after))
 
 -- ---- from what is live to what is wanted
@@ -116,8 +116,8 @@ holds-short {t} {at} {p} {ps} h =
     omega (arith, length-drop at t, e, length-append (words ps) (h .behind))
 
 pub turned-wants : {own t u : List ℕ} {start : ℕ} → Turned own t u start pointWords → length t ≡ pointWords → {f : List ℕ} (S : Signature) → Window f S own
-    → (ps : List Point) (at : ℕ) → start ≤ at → Holds t at ps → Wants S u at ps
-unfolding Wants afterAt
+    → (ps : List Point) (at : ℕ) → start ≤ at → Holds t at ps → WantedFrom S u at ps
+unfolding WantedFrom afterAt
 turned-wants T n S W [] at l h = tt
 turned-wants {own} {t} {u} {start} T n {f} S W (p ∷ ps) at l h =
     let s = holds-short h in (

@@ -14,9 +14,7 @@ use Rattle.language.specs.Layout.{size, sizeWords, reference, wordList, lay, la
 use Rattle.language.specs.Records.{zeros, chainOf, typeWords, headed, programTree}
 use Rattle.language.specs.Annotation.{annotate}
 use Rattle.language.specs.Answers.{program, fileOf}
-use Rattle.layout.specs.Bytes.{written-length}
-use Rattle.layout.specs.Programs.{length-of-program}
-use Rattle.layout.specs.ProgramFits.{program-fits}
+use Rattle.chains.specs.Layout.{written-length, length-of-program, program-fits}
 use Rattle.records.specs.Sizes.{byteEnd}
 use Rattle.chains.specs.Layout.{all-rows, lay-length, layWords-length}
 use Rattle.chains.specs.Formed.{Formed, types-stand, program-types}
@@ -25,7 +23,7 @@ use Rattle.writer.specs.Ready.{treeAt}
 use Rattle.writer.specs.Skips.{Behind}
 use Rattle.writer.specs.Trees.{types-tree}
 use Rattle.writer.specs.Whole.{laid-written}
-use Rattle.laying.specs.Lays.{Lays, lays-then, Stored, lays-before, lays-number, lays-leads, Refers, Spans, lays-span}
+use Rattle.laying.specs.Lays.{Lays, lays-then, Stored, lays-before, lays-number, lays-leads, RefersTo, Spans, lays-span}
 use Rattle.laying.specs.Heads.{lays-low, lays-zeros}
 use Rattle.insertion.specs.Procedures.{proceduresTree}
 
@@ -36,7 +34,7 @@ pub record HeaderStored (a b : List ℕ) (m e : ℕ) : Type 0 where
   pub total : ℕ
   pub first-spans : Spans m e first-link
   pub second-spans : Spans 1 m second-link
-  pub counts : Refers 1 e total
+  pub counts : RefersTo 1 e total
   pub stored : Stored a b 0 (headerKind ∷ first-link ∷ second-link ∷ total ∷ 0 ∷ 0 ∷ 0 ∷ 0 ∷ [])
 
 behind-header : Behind 0 1 1

@@ -5,7 +5,7 @@ use crate::RECORD;
 ghost use mathlib.Core.Path.{_≡_};
 ghost use Prim.Native.Nat.{_≤_};
 ghost use lib.ListN.{length};
-ghost use Rattle.insertion.specs.Cursor.{recordIn, pointIn, cursorWords, At};
+ghost use Rattle.insertion.specs.Cursor.{recordIn, pointIn, cursorWords, CursorAt};
 
 pub fn record_in(at: &[usize; CURSOR]) -> usize
     ensures { λ r. ⌜ r ≡ recordIn (now (at .entry)) ⌝ }
@@ -21,14 +21,14 @@ pub fn point_in(at: &[usize; CURSOR]) -> usize
 
 pub fn put(at: &mut [usize], next: usize, point: usize)
     requires { ⌜ cursorWords ≤ length (now at) ⌝ }
-    ensures { λ _. ⌜ At (now (at .exit)) next point ⌝ }
+    ensures { λ _. ⌜ CursorAt (now (at .exit)) next point ⌝ }
 {
     at[RECORD] = next;
     at[POINT] = point;
 }
 
 pub fn cursor(next: usize, point: usize) -> [usize; CURSOR]
-    ensures { λ r. ⌜ At r next point ⌝ }
+    ensures { λ r. ⌜ CursorAt r next point ⌝ }
 {
     [next, point]
 }

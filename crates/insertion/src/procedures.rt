@@ -22,7 +22,7 @@ ghost use Rattle.language.specs.Answers.{program};
 ghost use Rattle.chains.specs.Turns.{Turn};
 ghost use Rattle.liveness.specs.Points.{pointWords};
 ghost use Rattle.laying.specs.Lays.{Lays};
-ghost use Rattle.insertion.specs.Procedures.{Given, placedBody, procedureHead, proceduresTree};
+ghost use Rattle.insertion.specs.Procedures.{Unrefused, placedBody, procedureHead, proceduresTree};
 
 // Lays the goals of procedure q.
 fn lay_goals(
@@ -34,7 +34,7 @@ fn lay_goals(
     q: usize,
     first: usize,
 ) -> usize
-    requires { ⌜ Given (now file) (now table) (now rows) ⌝ }
+    requires { ⌜ Unrefused (now file) (now table) (now rows) ⌝ }
     requires { ⌜ q < length (program (now file) .procedures) ⌝ }
     requires { ⌜ length (now points) ≡ pointWords ⌝ }
     ensures { λ _. ⌜ length (now (points .exit)) ≡ pointWords ⌝ }
@@ -55,7 +55,7 @@ fn lay_procedure(
     q: usize,
     first: usize,
 ) -> usize
-    requires { ⌜ Given (now file) (now table) (now rows) ⌝ }
+    requires { ⌜ Unrefused (now file) (now table) (now rows) ⌝ }
     requires { ⌜ Turn (now file) i q × (i ≡ 0 → ⊥) ⌝ }
     requires { ⌜ length (now points) ≡ pointWords ⌝ }
     ensures { λ _. ⌜ length (now (points .exit)) ≡ pointWords ⌝ }
@@ -79,7 +79,7 @@ pub fn lay_procedures(
     out: &mut [u8; MAX_BYTES],
     first: usize,
 ) -> usize
-    requires { ⌜ Given (now file) (now table) (now rows) ⌝ }
+    requires { ⌜ Unrefused (now file) (now table) (now rows) ⌝ }
     requires { ⌜ length (now points) ≡ pointWords ⌝ }
     ensures { λ _. ⌜ length (now (points .exit)) ≡ pointWords ⌝ }
     ensures { λ r. ⌜ Lays (now (out .entry)) (now (out .exit)) first r (lay (proceduresTree (program (now (file .entry))) (program (now (file .entry)) .procedures)) first) ⌝ }

@@ -30,7 +30,7 @@ ghost use Rattle.language.specs.File;
 ghost use Rattle.chains.specs.Formed.{Formed, Stands};
 ghost use Rattle.chains.specs.Shapes.{IsSwitch, IsIf};
 ghost use Rattle.insertion.specs.Done.{LaysGoal};
-ghost use Rattle.insertion.specs.Along.{LaysAlong, Parted};
+ghost use Rattle.insertion.specs.Along.{LaysAlong, HasParts};
 ghost use Rattle.insertion.specs.Steps.{createdIn, removedIn};
 
 // What is created before the step at record i, whose point is at that place.
@@ -93,7 +93,7 @@ pub fn steps(
     requires { ⌜ Formed (now (now file)) ⌝ }
     requires { ⌜ Stands (now (now file)) File.goals start ⌝ }
     ensures { λ r. ⌜ LaysAlong (now (now (file .entry))) (now (rows .entry)) (now (points .entry)) start r (now (out .entry)) (now (out .exit)) (now (at .entry)) (now (at .exit)) ⌝ }
-    ensures { λ r. ⌜ Parted (now (now (file .entry))) r ⌝ }
+    ensures { λ r. ⌜ HasParts (now (now (file .entry))) r ⌝ }
 {
     let mut i = start;
     while i != 0 {

@@ -28,7 +28,7 @@ ghost use Rattle.language.specs.File;
 ghost use Rattle.chains.specs.Formed.{Formed, Stands};
 ghost use Rattle.chains.specs.Shapes.{IsSwitch, IsIf};
 ghost use Rattle.insertion.specs.Done.{LaysGoals, LaysGoal, LaysPart, LaysArms};
-ghost use Rattle.insertion.specs.Along.{Parted};
+ghost use Rattle.insertion.specs.Along.{HasParts};
 
 // The goals from record start on, which is a goal with parts.
 pub fn goals(
@@ -40,7 +40,7 @@ pub fn goals(
     start: usize,
 )
     requires { ⌜ Formed (now (now file)) ⌝ }
-    requires { ⌜ Stands (now (now file)) File.goals start × Parted (now (now file)) start ⌝ }
+    requires { ⌜ Stands (now (now file)) File.goals start × HasParts (now (now file)) start ⌝ }
     ensures { λ _. ⌜ LaysGoals (now (now (file .entry))) (now (rows .entry)) (now (points .entry)) start (now (out .entry)) (now (out .exit)) (now (at .entry)) (now (at .exit)) ⌝ }
 {
     let mut i = start;

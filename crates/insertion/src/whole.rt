@@ -23,7 +23,7 @@ ghost use Rattle.language.specs.Answers.{program, fileOf};
 ghost use Rattle.records.specs.Sizes.{byteEnd};
 ghost use Rattle.liveness.specs.Points.{pointWords};
 ghost use Rattle.laying.specs.Lays.{Lays};
-ghost use Rattle.insertion.specs.Procedures.{Given};
+ghost use Rattle.insertion.specs.Procedures.{Unrefused};
 ghost use Rattle.insertion.specs.Whole.{HeaderStored};
 
 // Stores the header: the types were laid from 1 to procedures, the procedures from there to end.
@@ -44,7 +44,7 @@ fn lay_file(
     points: &mut [u64; POINTS],
     out: &mut [u8; MAX_BYTES],
 ) -> usize
-    requires { ⌜ Given (now file) (now table) (now rows) ⌝ }
+    requires { ⌜ Unrefused (now file) (now table) (now rows) ⌝ }
     requires { ⌜ length (now points) ≡ pointWords ⌝ }
     ensures { λ _. ⌜ length (now (points .exit)) ≡ pointWords ⌝ }
     ensures { λ r. ⌜ Lays (now (out .entry)) (now (out .exit)) 0 r (lay (programTree (annotate (program (now (file .entry))))) 0) ⌝ }
@@ -80,7 +80,7 @@ pub fn measure(
     points: &mut [u64; POINTS],
     laid: &mut [u8; MAX_BYTES],
 ) -> usize
-    requires { ⌜ Given (now file) (now table) (now rows) ⌝ }
+    requires { ⌜ Unrefused (now file) (now table) (now rows) ⌝ }
     requires { ⌜ length (now points) ≡ pointWords ⌝ }
     requires { ⌜ maxBytes ≡ length (now laid) ⌝ }
     ensures { λ _. ⌜ length (now (points .exit)) ≡ pointWords ⌝ }

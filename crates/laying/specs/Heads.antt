@@ -13,7 +13,7 @@ use Rattle.language.specs.Records.{zeros, fourPlain}
 use Rattle.chains.specs.Layout.{all-rows}
 use Rattle.chains.specs.Parts.{fourAt}
 use Rattle.writer.specs.Skips.{Behind}
-use Rattle.laying.specs.Lays.{Lays, lays-none, Stored, Goes, headOf, lays-number, lays-no-words, lays-leads, lays-head, lays-front, Refers, Spans, lays-span}
+use Rattle.laying.specs.Lays.{Lays, lays-none, Stored, GoesOn, headOf, lays-number, lays-no-words, lays-leads, lays-head, lays-front, RefersTo, Spans, lays-span}
 
 -- what ends below 4,096 starts there
 pub lays-low : {a b : List ℕ} {c r : ℕ} {rs : List (List ℕ)} → Lays a b c r rs → r ≤ maxRecords → c ≤ maxRecords
@@ -37,7 +37,7 @@ module _ (f : List ℕ) (i : ℕ) (a b : List ℕ) (c : ℕ) where
   pub record SwitchStored (s e : ℕ) : Type 0 where
     pub next : ℕ
     pub link : ℕ
-    pub refers : Refers (word f i nextWord) e next
+    pub refers : RefersTo (word f i nextWord) e next
     pub spans : Spans s e link
     pub stored : Stored a b c (switchKind ∷ next ∷ word f i goalX ∷ link ∷ 0 ∷ 0 ∷ 0 ∷ 0 ∷ [])
 
@@ -46,7 +46,7 @@ module _ (f : List ℕ) (i : ℕ) (a b : List ℕ) (c : ℕ) where
     pub next : ℕ
     pub yes-link : ℕ
     pub no-link : ℕ
-    pub refers : Refers (word f i nextWord) e next
+    pub refers : RefersTo (word f i nextWord) e next
     pub yes-spans : Spans s m yes-link
     pub no-spans : Spans m e no-link
     pub stored : Stored a b c (ifKind ∷ next ∷ word f i ifY ∷ word f i ifZ ∷ yes-link ∷ no-link ∷ 0 ∷ 0 ∷ [])
@@ -55,7 +55,7 @@ module _ (f : List ℕ) (i : ℕ) (a b : List ℕ) (c : ℕ) where
   pub record ArmStored (s e : ℕ) : Type 0 where
     pub next : ℕ
     pub link : ℕ
-    pub refers : Refers (word f i nextWord) e next
+    pub refers : RefersTo (word f i nextWord) e next
     pub spans : Spans s e link
     pub stored : Stored a b c (armKind ∷ next ∷ link ∷ termWords f i)
 
@@ -65,15 +65,15 @@ module _ (f : List ℕ) (i : ℕ) (a b : List ℕ) (c : ℕ) where
     pub first-link : ℕ
     pub second-link : ℕ
     pub third-link : ℕ
-    pub refers : Refers (word f i nextWord) e next
+    pub refers : RefersTo (word f i nextWord) e next
     pub first-spans : Spans s m first-link
     pub second-spans : Spans m n second-link
     pub third-spans : Spans n e third-link
     pub stored : Stored a b c (procedureKind ∷ next ∷ first-link ∷ second-link ∷ third-link ∷ 0 ∷ 0 ∷ 0 ∷ [])
 
 -- ---- as the code stores them
-module _ (f : List ℕ) (i : ℕ) {e w x : ℕ} (ew : w ≡ word f i nextWord) (R : Refers w e x) where
-  refers-next : Refers (word f i nextWord) e x
+module _ (f : List ℕ) (i : ℕ) {e w x : ℕ} (ew : w ≡ word f i nextWord) (R : RefersTo w e x) where
+  refers-next : RefersTo (word f i nextWord) e x
   refers-next = rw ew at R
 
   pub switch-stored : {a b : List ℕ} {c s y l : ℕ} → y ≡ word f i goalX → Spans s e l → Stored a b c (switchKind ∷ x ∷ y ∷ l ∷ 0 ∷ 0 ∷ 0 ∷ 0 ∷ [])
@@ -118,7 +118,7 @@ module _ {f : List ℕ} {i : ℕ} {a b d g : List ℕ} {c s m e : ℕ} (B : Behi
       rw (sym (p .1)) (ap₂ (λ v w. ifKind ∷ v ∷ word f i ifY ∷ word f i ifZ ∷ w) (H .refers .is l) (ap₂ (λ v w. v ∷ w ∷ 0 ∷ 0 ∷ []) (p .0) (q .0))))
 
   -- an arm, stored when the later arms are laid
-  pub arm-front : (t u : Tree) → Goes (word f i nextWord) u → Lays a b s m (lay t s) → Lays b d m e (lay u m) → ArmStored f i d g c s m
+  pub arm-front : (t u : Tree) → GoesOn (word f i nextWord) u → Lays a b s m (lay t s) → Lays b d m e (lay u m) → ArmStored f i d g c s m
       → Lays a g c e (lay (node kArm u (leads t (plain (word f i termFunctor) (fourPlain (fourAt f i) noWords)))) c)
   unfolding all-rows wordList fourPlain layWords
   arm-front t u o L K H =

@@ -93,8 +93,8 @@ lays-before {a} {b} {d} {c} {m} {r} {v} w ys B p S e = go (decLt maxRecords (suc
 
 -- ---- trees
 -- whatever place it is, a chain that goes on where w is not 0 is referred to as the tree t is
-abbrev pub Goes : ℕ → Tree → Type 0
-Goes w t = (c : ℕ) → linked w c ≡ reference c t
+abbrev pub GoesOn : ℕ → Tree → Type 0
+GoesOn w t = (c : ℕ) → linked w c ≡ reference c t
 
 -- the record of a node, where its chain goes on if `on` is not 0, and what its words lead to
 unfoldable pub headOf : Kind → ℕ → Words → ℕ → List (List ℕ)
@@ -134,7 +134,7 @@ lays-head {c = c} {m = m} {r = r} k on ws B p S e =
     rw (sym h, sym n) (e (omega arith) n))
 
 -- a node's record with its parts, then the rest of its chain
-pub lays-node : {a b d : List ℕ} {c m r : ℕ} (k : Kind) (on : ℕ) (t : Tree) (ws : Words) → Goes on t → Lays a b c m (headOf k on ws c) → Lays b d m r (lay t m)
+pub lays-node : {a b d : List ℕ} {c m r : ℕ} (k : Kind) (on : ℕ) (t : Tree) (ws : Words) → GoesOn on t → Lays a b c m (headOf k on ws c) → Lays b d m r (lay t m)
     → Lays a d c r (lay (node k t ws) c)
 unfolding headOf lay
 lays-node {a} {b} {d} {c} {m} {r} k on t ws g p q =
@@ -143,7 +143,7 @@ lays-node {a} {b} {d} {c} {m} {r} k on t ws g p q =
     rw (sym (g (suc c + sizeWords ws))) u
 
 -- the parts, the rest of its chain, then the record in front of all that
-pub lays-front : {a b d e : List ℕ} {c m n r : ℕ} {v : List ℕ} (k : Kind) (on : ℕ) (t : Tree) (ws : Words) → Goes on t → Behind c 1 m
+pub lays-front : {a b d e : List ℕ} {c m n r : ℕ} {v : List ℕ} (k : Kind) (on : ℕ) (t : Tree) (ws : Words) → GoesOn on t → Behind c 1 m
     → Lays a b m n (layWords ws m) → Lays b d n r (lay t n) → Stored d e c v → (n ≤ maxRecords → m ≡ suc c → v ≡ row k .kind ∷ linked on n ∷ wordList m ws)
     → Lays a e c r (lay (node k t ws) c)
 unfolding lay
@@ -160,7 +160,7 @@ lays-front {a} {b} {d} {e} {c} {m} {n} {r} {v} k on t ws g B p q S h =
 
 -- ---- references that the code makes, which fit in a word
 -- x refers to place c, if w is not 0
-pub record Refers (w c x : ℕ) : Type 0 where
+pub record RefersTo (w c x : ℕ) : Type 0 where
   pub small : x ≤ maxRecords
   pub is : c ≤ maxRecords → x ≡ linked w c
 

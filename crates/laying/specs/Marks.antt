@@ -16,7 +16,7 @@ use Rattle.language.specs.Records.{zeros}
 use Rattle.tables.specs.Walks.{next-ends}
 use Rattle.writer.specs.Laid.{linked}
 use Rattle.writer.specs.Skips.{Behind}
-use Rattle.laying.specs.Lays.{Lays, lays-none, lays-then, Stored, lays-one, Goes, Refers}
+use Rattle.laying.specs.Lays.{Lays, lays-none, lays-then, Stored, lays-one, GoesOn, RefersTo}
 
 -- more records of that kind follow, or the chain goes on where `on` is not 0
 unfoldable pub moreOf : List ℕ → ℕ → ℕ
@@ -36,12 +36,12 @@ unfoldable pub marksTree : Kind → List ℕ → Tree → Tree
 marksTree k [] t = t
 marksTree k (x ∷ xs) t = node k (marksTree k xs t) (plain x (zeros 5))
 
-pub marks-goes : (k : Kind) (xs : List ℕ) (on : ℕ) (t : Tree) → Goes on t → Goes (moreOf xs on) (marksTree k xs t)
+pub marks-goes : (k : Kind) (xs : List ℕ) (on : ℕ) (t : Tree) → GoesOn on t → GoesOn (moreOf xs on) (marksTree k xs t)
 unfolding moreOf marksTree linked reference
 marks-goes k [] on t g c = g c
 marks-goes k (x ∷ xs) on t g c = refl
 
-pub marks-lay : (k : Kind) (xs : List ℕ) (on : ℕ) (t : Tree) (c : ℕ) → Goes on t
+pub marks-lay : (k : Kind) (xs : List ℕ) (on : ℕ) (t : Tree) (c : ℕ) → GoesOn on t
     → lay (marksTree k xs t) c ≡ marks (row k .kind) xs on c ++ lay t (c + length (marks (row k .kind) xs on c))
 unfolding marksTree marks markWords lay layWords wordList sizeWords zeros
 marks-lay k [] on t c g = let z : c ≡ c + 0 = omega arith in ap (lay t) z
@@ -52,7 +52,7 @@ marks-lay k (x ∷ xs) on t c g =
     (marks-lay k xs on t (suc c) g ∙ ap (λ m. marks (row k .kind) xs on (suc c) ++ lay t m) n))
 
 -- laid, and then what follows
-pub lays-marks : {a b d : List ℕ} {c m r : ℕ} (k : Kind) (xs : List ℕ) (on : ℕ) (t : Tree) → Goes on t → Lays a b c m (marks (row k .kind) xs on c) → Lays b d m r (lay t m)
+pub lays-marks : {a b d : List ℕ} {c m r : ℕ} (k : Kind) (xs : List ℕ) (on : ℕ) (t : Tree) → GoesOn on t → Lays a b c m (marks (row k .kind) xs on c) → Lays b d m r (lay t m)
     → Lays a d c r (lay (marksTree k xs t) c)
 lays-marks {c = c} k xs on t g p q = rw (marks-lay k xs on t c g) (lays-then (marks (row k .kind) xs on c) (lay t) p q)
 
@@ -81,7 +81,7 @@ module _ {a b : List ℕ} {k : ℕ} {s : Set} {on first r c : ℕ} (G : Marking 
   unfolding marks
   marking-last h = G .rest b c (rw (above-end s (G .done) (next-ends s (G .done) (G .next) h)) (lays-none b c))
 
-  pub marking-next : {d : List ℕ} {n m e w : ℕ} → r < places → n ≡ nextMember s r → (n < places → m ≡ 1) → (places ≤ n → m ≡ on) → Behind c 1 e → Refers m e w
+  pub marking-next : {d : List ℕ} {n m e w : ℕ} → r < places → n ≡ nextMember s r → (n < places → m ≡ 1) → (places ≤ n → m ≡ on) → Behind c 1 e → RefersTo m e w
       → Stored b d c (k ∷ w ∷ r ∷ 0 ∷ 0 ∷ 0 ∷ 0 ∷ 0 ∷ []) → Marking a d k s on first n e
   unfolding marks markWords
   marking-next {d} {n} {m} {e} {w} l q i j B R S = record {

@@ -3,12 +3,12 @@ use language::format::MAX_RECORDS;
 use language::format::RECORD_BYTES;
 use writer::put_record;
 ghost use mathlib.Core.List.{[], _∷_};
-ghost use Rattle.writer.specs.Laid.{Small};
-ghost use Rattle.laying.specs.Lays.{Refers, Spans, Stored};
+ghost use Rattle.writer.specs.Laid.{SmallWords};
+ghost use Rattle.laying.specs.Lays.{RefersTo, Spans, Stored};
 
 // A word that refers to place c, or 0 where w is 0.
 pub fn refer(w: usize, c: usize) -> usize
-    ensures { λ r. ⌜ Refers w c r ⌝ }
+    ensures { λ r. ⌜ RefersTo w c r ⌝ }
 {
     if w == 0 {
         return 0;
@@ -45,7 +45,7 @@ pub fn store(
     w6: usize,
     w7: usize,
 )
-    requires { ⌜ Small (w0 ∷ w1 ∷ w2 ∷ w3 ∷ w4 ∷ w5 ∷ w6 ∷ w7 ∷ []) ⌝ }
+    requires { ⌜ SmallWords (w0 ∷ w1 ∷ w2 ∷ w3 ∷ w4 ∷ w5 ∷ w6 ∷ w7 ∷ []) ⌝ }
     ensures { λ _. ⌜ Stored (now (out .entry)) (now (out .exit)) at (w0 ∷ w1 ∷ w2 ∷ w3 ∷ w4 ∷ w5 ∷ w6 ∷ w7 ∷ []) ⌝ }
 {
     if at < out.len() / RECORD_BYTES {

@@ -16,8 +16,8 @@ use Rattle.language.specs.Answers.{program}
 use Rattle.chains.specs.Formed.{Formed, Stands, Onward, goalsAt, goalAt, firstGoal, armsAt, goals-none, arms-none}
 use Rattle.chains.specs.Parts.{SwitchAt, IfAt, fourAt}
 use Rattle.chains.specs.Is.{chain-next, goals-step}
-use Rattle.chains.specs.Shapes.{IsSwitch, IsIf, StepAt as Stepped, step-here, switch-here, if-here, arm-here}
-use Rattle.tables.specs.Filled.{StepAt, Accessed}
+use Rattle.chains.specs.Shapes.{IsSwitch, IsIf, StepAt, step-here, switch-here, if-here, arm-here}
+use Rattle.tables.specs.Filled.{GoalIsStep, Accessed}
 use Rattle.liveness.specs.Points.{Point, point, points, partPoints, goalPoints, armsPoints, pointWords}
 use Rattle.liveness.specs.Table.{Fills, fills-none, fills-more}
 use Rattle.liveness.specs.Carried.{liveIn, placeIn, classesIn, wantsOf, Carries}
@@ -166,14 +166,14 @@ module _ (f rows : List ℕ) where
 
   -- ---- a step
   module _ (i : ℕ) (F : Formed f) (S : Stands f goals i) (z : i ≡ 0 → ⊥) (p : IsSwitch f i → ⊥) (q : IsIf f i → ⊥) where
-    step-at : Stepped f i
+    step-at : StepAt f i
     step-at = step-here F S z refl p q
 
     step-goal : goalAt f i ≡ step (step-at .one)
     unfolding goalAt firstGoal
     step-goal = ap firstGoal (step-at .view)
 
-    step-stands : StepAt f i (step-at .one)
+    step-stands : GoalIsStep f i (step-at .one)
     step-stands = record { stands = S; some = z; view = step-goal }
 
     pub step-done : (c : List ℕ) {t d u : List ℕ} → Accessed f rows → StepNoted rows i c t d u → GoalDone f rows i c t d u

@@ -15,7 +15,7 @@ use Rattle.chains.specs.Formed.{goalsAt, goalAt, armsAt}
 use Rattle.tables.specs.Window.{Window}
 use Rattle.tables.specs.Filled.{Effected, Owning, Belongs, Owned}
 use Rattle.liveness.specs.Points.{pointWords, points, goalPoints, armsPoints}
-use Rattle.liveness.specs.Table.{Written, Fills}
+use Rattle.liveness.specs.Table.{PointsWritten, Fills}
 use Rattle.liveness.specs.Carried.{liveIn, placeIn, classesIn, wantsOf, carriedWords}
 use Rattle.liveness.specs.Wants.{wantedIn}
 
@@ -67,7 +67,7 @@ module _ (f rows : List ℕ) (i : ℕ) (c t d u : List ℕ) where
 
 -- the points of a procedure's goals, from record i on, stand at the end of the table; every other place is as it was
 abbrev pub ListDone : List ℕ → ℕ → Set → List ℕ → List ℕ → ℕ → Set → Type 0
-ListDone f i after t u s r = (r ≡ live (program f) (goalsAt f i) after) × Written t u s pointWords (points (program f) (goalsAt f i) after)
+ListDone f i after t u s r = (r ≡ live (program f) (goalsAt f i) after) × PointsWritten t u s pointWords (points (program f) (goalsAt f i) after)
 
 -- b is number 7 of its steps, where own is its window
 abbrev pub ListClasses : List ℕ → List ℕ → List ℕ → ℕ → Set → Bool → Type 0

@@ -7,14 +7,14 @@ use lib.ListN.{length, getD, drop}
 use lib.Seq.{getD-drop, drop-drop, drop-at}
 use Rattle.sets.specs.Sets.{stored, loaded, loaded-stored}
 use Rattle.liveness.specs.Points.{Point, words, words-append, words-length}
-use Rattle.liveness.specs.Table.{Written, beforeAt, afterAt}
+use Rattle.liveness.specs.Table.{PointsWritten, beforeAt, afterAt}
 
 -- from that place on the table has the points ps
 pub record Holds (t : List ℕ) (at : ℕ) (ps : List Point) : Type 0 where
   pub behind : List ℕ
   pub view : drop at t ≡ words ps ++ behind
 
-pub written-holds : {t u : List ℕ} {start end : ℕ} {ps : List Point} → Written t u start end ps → Holds u start ps
+pub written-holds : {t u : List ℕ} {start end : ℕ} {ps : List Point} → PointsWritten t u start end ps → Holds u start ps
 written-holds {t} {end = end} h = record { behind = drop end t; view = h .above }
 
 -- ---- those in front, those behind

@@ -10,7 +10,7 @@ use Rattle.language.specs.Program.{Step, signatureOf}
 use Rattle.language.specs.Lifetimes.{wanted, liveStep, stepClasses}
 use Rattle.language.specs.Answers.{program}
 use Rattle.tables.specs.Rows.{readsIn, givesIn, bearsIn, endsIn, markIn}
-use Rattle.tables.specs.Filled.{StepAt, Accessed, Effected}
+use Rattle.tables.specs.Filled.{GoalIsStep, Accessed, Effected}
 use Rattle.liveness.specs.Carried.{liveIn, placeIn, classesIn, wantsOf, Carries}
 use Rattle.liveness.specs.Noted.{Noted}
 use Rattle.liveness.specs.Wants.{wantedIn}
@@ -82,7 +82,7 @@ module _ (rows : List ℕ) (i : ℕ) (c : List ℕ) {before after : Set} (ea : a
   }
 
 -- ---- they are the definition's
-module _ {f rows : List ℕ} {i : ℕ} {g : Step} (A : Accessed f rows) (at : StepAt f i g) where
+module _ {f rows : List ℕ} {i : ℕ} {g : Step} (A : Accessed f rows) (at : GoalIsStep f i g) where
   pub live-is : (after : Set) → liveAt rows i after ≡ liveStep (program f) g after
   unfolding liveAt liveStep
   live-is after = rw (A .gives i g at, A .reads i g at) refl

@@ -10,7 +10,7 @@ use Rattle.sets.specs.declared.Set.{Set}
 use Rattle.liveness.specs.Points.{Point, point, words, words-append}
 
 -- the points ps were written in front of place end, from place start on; every other place is as it was
-pub record Written (t u : List ℕ) (start end : ℕ) (ps : List Point) : Type 0 where
+pub record PointsWritten (t u : List ℕ) (start end : ℕ) (ps : List Point) : Type 0 where
   pub place : start + 2 * length ps ≡ end
   pub below : take start u ≡ take start t
   pub above : drop start u ≡ words ps ++ drop end t
@@ -18,7 +18,7 @@ pub record Written (t u : List ℕ) (start end : ℕ) (ps : List Point) : Type 0
 -- so they were, if there was room
 pub record Fills (t u : List ℕ) (start end : ℕ) (ps : List Point) : Type 0 where
   pub same : length u ≡ length t
-  pub room : 2 * length ps ≤ end → end ≤ length t → Written t u start end ps
+  pub room : 2 * length ps ≤ end → end ≤ length t → PointsWritten t u start end ps
 
 pub fills-none : (t : List ℕ) (end : ℕ) → Fills t t end end []
 unfolding words

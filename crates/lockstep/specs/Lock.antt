@@ -12,7 +12,7 @@ use Rattle.language.specs.AcceptedRun.{RegionFrame, Memory, stepOf, steps}
 use Rattle.lockstep.specs.Counted.{isPlain, price, priceOf, nextGoal, spends, spent, Safe}
 use Rattle.lockstep.specs.Erase.{eraseFrames, erase, erase-start}
 use Rattle.lockstep.specs.Ready.{ready-steps, toDo}
-use Rattle.lockstep.specs.Turn.{Turn, quiet, plain, turn, over-erased, seen-end}
+use Rattle.lockstep.specs.Turn.{StepTurn, quiet, plain, turn, over-erased, seen-end}
 
 -- ---- counting
 price-most : (gs : List Goal) → priceOf gs ≤ 1
@@ -45,7 +45,7 @@ module _ (P : Program) where
   erased-printed (f ∷ fs) m = refl
 
 module _ (P : Program) (safe : Safe P) where
-  turns : (n : ℕ) → Turn P (steps P n)
+  turns : (n : ℕ) → StepTurn P (steps P n)
   turns n = turn P (steps P n) (ready-steps P n) (safe n)
 
   -- 1. lock step: what the plain run sees of the state after n steps is its own state after the plain ones of them
@@ -54,7 +54,7 @@ module _ (P : Program) (safe : Safe P) where
   lock zero = erase-start P
   lock (suc n) = go (turns n) (lock n)
     where
-      go : Turn P (steps P n) → erase P (steps P n) ≡ plainSteps (stripped P) (n - spent P n) →
+      go : StepTurn P (steps P n) → erase P (steps P n) ≡ plainSteps (stripped P) (n - spent P n) →
           erase P (stepOf P (steps P n)) ≡ plainSteps (stripped P) (suc n - spent P (suc n))
       go (quiet z e d) i = e ∙ i ∙ ap (plainSteps (stripped P)) (sym (after-quiet P n z))
       go (plain z e) i = e ∙ ap (plainStepOf (stripped P)) i ∙ ap (plainSteps (stripped P)) (sym (after-plain P n z))
@@ -72,12 +72,12 @@ module _ (P : Program) (safe : Safe P) where
   unfolding steps
   settles zero n l = go (turns n)
     where
-      go : Turn P (steps P n) → Settles n
+      go : StepTurn P (steps P n) → Settles n
       go (quiet z e d) = absurd (omega arith)
       go (plain z e) = (n, refl, z)
   settles (suc t) n l = go (turns n) (λ q. settles t (suc n) q)
     where
-      go : Turn P (steps P n) → (toDo (stepOf P (steps P n) .frames) ≤ t → Settles (suc n)) → Settles n
+      go : StepTurn P (steps P n) → (toDo (stepOf P (steps P n) .frames) ≤ t → Settles (suc n)) → Settles n
       go (quiet z e d) later = let s = later (omega arith) in (s .0, s .1 ∙ after-quiet P n z, s .2)
       go (plain z e) later = (n, refl, z)
 

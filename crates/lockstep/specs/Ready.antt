@@ -12,29 +12,29 @@ use Rattle.language.specs.AcceptedRun.{RegionFrame, Memory, State, withFrame, r
 use Rattle.lockstep.specs.Counted.{isPlain, firstGoal, nextIn, nextGoal, price, priceOf, spends}
 
 -- ---- a state of the run has ended, or its newest frame has a next goal
-pub data Ready (l : List RegionFrame) : Type 0 where
-  over : l ≡ [] → Ready l
-  ready : (f : RegionFrame) (fs : List RegionFrame) (g : Goal) (gs : Goals) → l ≡ f ∷ fs → f .frame .goals ≡ (g then gs) → Ready l
+pub data EndedOrNext (l : List RegionFrame) : Type 0 where
+  over : l ≡ [] → EndedOrNext l
+  ready : (f : RegionFrame) (fs : List RegionFrame) (g : Goal) (gs : Goals) → l ≡ f ∷ fs → f .frame .goals ≡ (g then gs) → EndedOrNext l
 
-ready-choose : (b : Bool) (s t : State) → Ready (s .frames) → Ready (t .frames) → Ready (choose b s t .frames)
+ready-choose : (b : Bool) (s t : State) → EndedOrNext (s .frames) → EndedOrNext (t .frames) → EndedOrNext (choose b s t .frames)
 unfolding choose
 ready-choose true s t p q = p
 ready-choose false s t p q = q
 
 module _ (P : Program) where
   ready-settle : (fs : List RegionFrame) (f : RegionFrame) (gs : Goals) → f .frame .goals ≡ gs →
-      Ready (settle (λ e. e .frame .goals) (returningRegions P) fs f gs)
+      EndedOrNext (settle (λ e. e .frame .goals) (returningRegions P) fs f gs)
   unfolding settle returningRegions returning
   ready-settle [] f done e = over refl
   ready-settle [] f (g then gs) e = ready f [] g gs refl e
   ready-settle (h ∷ fs) f done e = ready-settle fs (returningRegions P f h) (h .frame .goals) refl
   ready-settle (h ∷ fs) f (g then gs) e = ready f (h ∷ fs) g gs refl e
 
-  ready-state : (f : RegionFrame) (fs : List RegionFrame) (m : Memory) → Ready (state P f fs m .frames)
+  ready-state : (f : RegionFrame) (fs : List RegionFrame) (m : Memory) → EndedOrNext (state P f fs m .frames)
   unfolding state
   ready-state f fs m = ready-settle fs f (f .frame .goals) refl
 
-  ready-take : (g : Goal) (f : RegionFrame) (fs : List RegionFrame) (m : Memory) → Ready (take P g f fs m .frames)
+  ready-take : (g : Goal) (f : RegionFrame) (fs : List RegionFrame) (m : Memory) → EndedOrNext (take P g f fs m .frames)
   unfolding take
   ready-take (step (literal x v)) f fs m = ready-state _ _ _
   ready-take (step (sum x o y z)) f fs m = ready-state _ _ _
@@ -47,17 +47,17 @@ module _ (P : Program) where
   ready-take (switch x cs) f fs m = ready-state _ _ _
   ready-take (ifLess y z gs hs) f fs m = ready-state _ _ _
 
-  ready-next : (gs : Goals) (f : RegionFrame) (fs : List RegionFrame) (s : State) → Ready (s .frames) → Ready (next P gs f fs s .frames)
+  ready-next : (gs : Goals) (f : RegionFrame) (fs : List RegionFrame) (s : State) → EndedOrNext (s .frames) → EndedOrNext (next P gs f fs s .frames)
   unfolding next
   ready-next done f fs s r = r
   ready-next (g then gs) f fs s r = ready-choose _ _ s (ready-take g _ fs _) r
 
-  ready-step : (fs : List RegionFrame) (s : State) → Ready (s .frames) → Ready (stepFrom P fs s .frames)
+  ready-step : (fs : List RegionFrame) (s : State) → EndedOrNext (s .frames) → EndedOrNext (stepFrom P fs s .frames)
   unfolding stepFrom
   ready-step [] s r = r
   ready-step (f ∷ fs) s r = ready-next (f .frame .goals) f fs s r
 
-  pub ready-steps : (n : ℕ) → Ready (steps P n .frames)
+  pub ready-steps : (n : ℕ) → EndedOrNext (steps P n .frames)
   unfolding steps start stepOf
   ready-steps zero = ready-state _ _ _
   ready-steps (suc n) = ready-step (steps P n .frames) (steps P n) (ready-steps n)

@@ -12,11 +12,11 @@ use Rattle.language.specs.AcceptedRun.{RegionFrame, State, cellOf, withFrame, a
 use Rattle.lockstep.specs.Counted.{Free, isPlain, nextIn, nextGoal, price, priceOf, spends}
 use Rattle.lockstep.specs.Strip.{strippedGoal, strip-goal}
 use Rattle.lockstep.specs.Erase.{eraseFrame, eraseFrames, erase, erase-take, Same}
-use Rattle.lockstep.specs.Ready.{Ready, over, ready, toDo, rest, ready-spends, taken, falls}
+use Rattle.lockstep.specs.Ready.{EndedOrNext, over, ready, toDo, rest, ready-spends, taken, falls}
 
-pub data Turn (P : Program) (s : State) : Type 0 where
-  quiet : spends P s ≡ 1 → erase P (stepOf P s) ≡ erase P s → suc (toDo (stepOf P s .frames)) ≡ toDo (s .frames) → Turn P s
-  plain : spends P s ≡ 0 → erase P (stepOf P s) ≡ plainStepOf (stripped P) (erase P s) → Turn P s
+pub data StepTurn (P : Program) (s : State) : Type 0 where
+  quiet : spends P s ≡ 1 → erase P (stepOf P s) ≡ erase P s → suc (toDo (stepOf P s .frames)) ≡ toDo (s .frames) → StepTurn P s
+  plain : spends P s ≡ 0 → erase P (stepOf P s) ≡ plainStepOf (stripped P) (erase P s) → StepTurn P s
 
 -- ---- the plain run's step from a newest frame with goals
 settle-then : {F : Type 0} (goalsIn : F → Goals) (into : F → F → F) (fs : List F) (f : F) (g : Goal) (gs : Goals) →
@@ -41,7 +41,7 @@ module _ (P : Program) (s : State) where
     unfolding erase eraseFrames
     over-erased = rw e
 
-    over-turn : Turn P s
+    over-turn : StepTurn P s
     unfolding spends nextGoal nextIn priceOf stepOf stepFrom plainStepOf plainFrom
     over-turn = plain (rw e) (ap (λ l. erase P (stepFrom P l s)) e ∙ sym (ap (λ l. plainFrom (stripped P) l (erase P s)) over-erased))
 
@@ -62,7 +62,7 @@ module _ (P : Program) (s : State) where
     unfolding thenIf
     erased-quiet p = rw p at erased
 
-    ready-turn : (b : Bool) → isPlain g ≡ b → Same P b g (rest f gs) fs (s .memory) → allowed P g f (s .memory) ≡ true → Turn P s
+    ready-turn : (b : Bool) → isPlain g ≡ b → Same P b g (rest f gs) fs (s .memory) → allowed P g f (s .memory) ≡ true → StepTurn P s
     unfolding price eraseFrame withFrame withGoals
     ready-turn true p t a =
         plain (ready-spends P s f fs g gs e h ∙ ap price p)
@@ -77,11 +77,11 @@ module _ (P : Program) (s : State) where
     ready-seen true p z q = cc (ap (λ t. t .frames) (erased-plain p) ∙ plain-frames (stripped P) (f .frame) _ _ _ _ _)
     ready-seen false p z q = absurd (omega (arith, ready-spends P s f fs g gs e h ∙ ap price p))
 
-  pub turn : Ready (s .frames) → Free P s → Turn P s
+  pub turn : EndedOrNext (s .frames) → Free P s → StepTurn P s
   turn (over e) free = over-turn e
   turn (ready f fs g gs e h) free = ready-turn f fs g gs e h (isPlain g) refl (erase-take P g _ fs _) (free f fs g gs e h)
 
   -- where the plain run sees the end and no create or remove comes next, the run has ended
-  pub seen-end : Ready (s .frames) → spends P s ≡ 0 → erase P s .frames ≡ [] → s .frames ≡ []
+  pub seen-end : EndedOrNext (s .frames) → spends P s ≡ 0 → erase P s .frames ≡ [] → s .frames ≡ []
   seen-end (over e) z q = e
   seen-end (ready f fs g gs e h) z q = ready-seen f fs g gs e h (isPlain g) refl z q

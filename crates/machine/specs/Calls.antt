@@ -19,7 +19,7 @@ use Rattle.frames.specs.Passing.{passedIn, passedOut, passed-in, passed-out}
 use Rattle.frames.specs.Naming.{Pictured, namedIn, namedOut, named-in, named-out}
 use Rattle.word_machine.specs.Tables.{Tables}
 use Rattle.word_machine.specs.Copies.{copied-length}
-use Rattle.word_machine.specs.Machine.{Words, frameWords, callFrom, callPlace, cleared, blocks, calleeWords, regionsIn, valuesOut, regionsOut, returnWords, returned, settledFrom, settled}
+use Rattle.word_machine.specs.Machine.{MachineWords, frameWords, callFrom, callPlace, cleared, blocks, calleeWords, regionsIn, valuesOut, regionsOut, returnWords, returned, settledFrom, settled}
 use Rattle.machine.specs.Words.{wordsOf}
 
 -- P is the place of the caller's first word: the two words that a call keeps
@@ -99,7 +99,7 @@ pictured N i l = record { fits = omega (arith, N .sides i l, N .long); low = N .
 
 -- ---- "Whenever the newest frame has no goals left, it goes at once"
 module _ (f : List ℕ) (T : Tables) (h : Heap) (m rs ps : List ℕ) (printed : ℕ) where
-  abbrev at : ℕ → ℕ → ℕ → List ℕ → Words
+  abbrev at : ℕ → ℕ → ℕ → List ℕ → MachineWords
   at a k i fw = wordsOf h m rs fw ps (record { top = k; at = a; goal = i; printed = printed })
 
   pub settle-entry : (a k i : ℕ) (fw : List ℕ) → k ≡ 0 → at a k i fw ≡ settledFrom f T k i (at a k i fw)

@@ -19,14 +19,14 @@ use Rattle.memory.specs.Memory.{cellWords, regionWords, emptyHeap}
 use Rattle.frames.specs.Strays.{past-word}
 use Rattle.plans.specs.Plan.{calleeWord, calleeBody}
 use Rattle.word_machine.specs.Tables.{Tables}
-use Rattle.word_machine.specs.Machine.{printWords, Words, went, stops, frameWords, Outcome, endedWith, afterStep, cleared, blocks, steps, settledFrom, settled, settledIf, stepped, runOn, runFrom, startWords, noFrame, lentWords, wordRun}
+use Rattle.word_machine.specs.Machine.{printWords, MachineWords, went, stops, frameWords, Outcome, endedWith, afterStep, cleared, blocks, steps, settledFrom, settled, settledIf, stepped, runOn, runFrom, startWords, noFrame, lentWords, wordRun}
 use Rattle.machine.specs.declared.State.{State}
 use Rattle.machine.specs.declared.Kept.{Kept}
 use Rattle.machine.specs.declared.Kept.the-variants.{Left, Lacks}
 use Rattle.machine.specs.declared.Step.{Step}
 use Rattle.machine.specs.declared.Step.the-variants.{Went as WentTo, Stops}
 use Rattle.machine.specs.declared.Outcome.{Outcome as Answer}
-use Rattle.machine.specs.Words.{Placed, wordsOf, onwardTo, onward-placed, cameTo, keptTo, Goes, Keeps}
+use Rattle.machine.specs.Words.{FramePlaced, wordsOf, onwardTo, onward-placed, cameTo, keptTo, Goes, Keeps}
 
 -- What a run gives: its ending, its steps, how many numbers are printed, and every lent word afterwards.
 pub record Ran (o : Outcome) (r : Answer) (m rs fw ps : List ℕ) : Type 0 where
@@ -51,12 +51,12 @@ ran-as : (e : Ending) (n : ℕ) (h : Heap) (m rs fw ps : List ℕ) (s : State) (
 ran-as e n h m rs fw ps s o r eo er = rw (← eo, er) (ended-ran e n h m rs fw ps s)
 
 -- a record that the file does not have is no goal
-past-step : (f : List ℕ) (T : Tables) (k : Room) (W : Words) (i : ℕ) → Formed f → recordCount f ≤ i → steps f T k i (recordAt f i) W ≡ went W
+past-step : (f : List ℕ) (T : Tables) (k : Room) (W : MachineWords) (i : ℕ) → Formed f → recordCount f ≤ i → steps f T k i (recordAt f i) W ≡ went W
 unfolding steps kindOf kinds nth
 past-step f T k W i F l = rw (record-as f i (ap kindOf (past-word F i 0 l)))
 
-module _ (f : List ℕ) (T : Tables) (k : Room) (W : Words) where
-  turned : (v : Words) (n j i : ℕ) → (i ≡ 0 → ⊥) → steps f T k i (recordAt f i) W ≡ went v → runOn f T k (suc j) i n W ≡ runOn f T k j (settled f T v .goal) (suc n) (settled f T v)
+module _ (f : List ℕ) (T : Tables) (k : Room) (W : MachineWords) where
+  turned : (v : MachineWords) (n j i : ℕ) → (i ≡ 0 → ⊥) → steps f T k i (recordAt f i) W ≡ went v → runOn f T k (suc j) i n W ≡ runOn f T k j (settled f T v .goal) (suc n) (settled f T v)
   unfolding runOn stepped settledIf afterStep
   turned v n j zero z e = absurd (z refl)
   turned v n j (suc i) z e = rw e
@@ -85,7 +85,7 @@ pub record Going (f : List ℕ) (T : Tables) (l : ℕ) (m₀ rs₀ fw₀ ps₀ :
   pub regions : length rs ≡ length rs₀
   pub frames : length fw ≡ length fw₀
   pub prints : length ps ≡ length ps₀
-  pub placed : Placed s (length fw)
+  pub placed : FramePlaced s (length fw)
 
 -- .. and after they went
 pub record Settled (f : List ℕ) (T : Tables) (l : ℕ) (m₀ rs₀ fw₀ ps₀ : List ℕ) (o : Outcome) (n : ℕ) (h : Heap) (m rs fw ps : List ℕ) (s : State) : Type 0 where
@@ -95,7 +95,7 @@ pub record Settled (f : List ℕ) (T : Tables) (l : ℕ) (m₀ rs₀ fw₀ ps₀
   pub regions : length rs ≡ length rs₀
   pub frames : length fw ≡ length fw₀
   pub prints : length ps ≡ length ps₀
-  pub placed : Placed s (length fw)
+  pub placed : FramePlaced s (length fw)
 
 -- what a run comes to from a first state on
 unfoldable pub runFirst : List ℕ → Tables → ℕ → Heap → List ℕ → List ℕ → List ℕ → List ℕ → State → Outcome
@@ -172,11 +172,11 @@ module _ (f : List ℕ) (T : Tables) (l : ℕ) (m₀ rs₀ fw₀ ps₀ : List �
   abbrev K : Room
   K = roomIn (lentWords m₀ rs₀ fw₀ ps₀ l)
 
-  arrived : (n : ℕ) (W U : Words) → U ≡ settled f T W → runOn f T K n (settled f T W .goal) (l - n) (settled f T W) ≡ o → runOn f T K n (U .goal) (l - n) U ≡ o
+  arrived : (n : ℕ) (W U : MachineWords) → U ≡ settled f T W → runOn f T K n (settled f T W .goal) (l - n) (settled f T W) ≡ o → runOn f T K n (U .goal) (l - n) U ≡ o
   arrived n W U e g = rw e g
 
   pub arrives : (n : ℕ) (h : Heap) (m rs fw fy ps : List ℕ) (s u : State) → Going f T l m₀ rs₀ fw₀ ps₀ o n h m rs fw ps s
-      → ((h : Heap) (m rs ps : List ℕ) → wordsOf h m rs fy ps u ≡ settled f T (wordsOf h m rs fw ps s)) → Placed u (length fy) → length fy ≡ length fw
+      → ((h : Heap) (m rs ps : List ℕ) → wordsOf h m rs fy ps u ≡ settled f T (wordsOf h m rs fw ps s)) → FramePlaced u (length fy) → length fy ≡ length fw
       → Settled f T l m₀ rs₀ fw₀ ps₀ o n h m rs fy ps u
   unfolding wordsOf
   arrives n h m rs fw fy ps s u G e d lf = record {
@@ -191,10 +191,10 @@ module _ (f : List ℕ) (T : Tables) (l : ℕ) (m₀ rs₀ fw₀ ps₀ : List �
 
   -- ---- one turn
   module _ (n : ℕ) (h : Heap) (m rs fw ps : List ℕ) (s : State) (G : Settled f T l m₀ rs₀ fw₀ ps₀ o n h m rs fw ps s) where
-    abbrev W : Words
+    abbrev W : MachineWords
     W = wordsOf h m rs fw ps s
 
-    on : (X : Words) → (s .goal ≡ 0 → ⊥) → 0 < n → steps f T K (s .goal) (recordAt f (s .goal)) W ≡ went X
+    on : (X : MachineWords) → (s .goal ≡ 0 → ⊥) → 0 < n → steps f T K (s .goal) (recordAt f (s .goal)) W ≡ went X
         → runOn f T K (n - 1) (settled f T X .goal) (l - (n - 1)) (settled f T X) ≡ o
     on X z q es =
         let a : suc (n - 1) ≡ n = omega arith in
@@ -220,7 +220,7 @@ module _ (f : List ℕ) (T : Tables) (l : ℕ) (m₀ rs₀ fw₀ ps₀ : List �
       regions = G .regions;
       frames = lf ∙ G .frames;
       prints = lp ∙ G .prints;
-      placed = subst (Placed v) (sym lf) (g .stays v er);
+      placed = subst (FramePlaced v) (sym lf) (g .stays v er);
     }
 
     -- a goal that changes it
@@ -236,7 +236,7 @@ module _ (f : List ℕ) (T : Tables) (l : ℕ) (m₀ rs₀ fw₀ ps₀ : List �
       regions = lr ∙ G .regions;
       frames = lf ∙ G .frames;
       prints = G .prints;
-      placed = subst (Placed v) (sym lf) (rw ev (onward-placed next (G .placed)));
+      placed = subst (FramePlaced v) (sym lf) (rw ev (onward-placed next (G .placed)));
     }
 
     -- no goal

@@ -24,7 +24,7 @@ use Rattle.word_machine.specs.Machine
 use Rattle.machine.specs.declared.State.{State}
 use Rattle.machine.specs.declared.Step.{Step}
 use Rattle.machine.specs.declared.Step.the-variants.{Went as WentTo, Stops}
-use Rattle.machine.specs.Words.{Placed, wordsOf, cameTo, onwardTo, onward-placed, Goes}
+use Rattle.machine.specs.Words.{FramePlaced, wordsOf, cameTo, onwardTo, onward-placed, Goes}
 use Rattle.machine.specs.Places.{valueIn, argumentsFrom, wordsFrom, armFor, armValues}
 
 -- ---- the record by the number of its kind, w
@@ -94,7 +94,7 @@ unfolding holds
 room-for n k l = omega arith
 
 -- .. and the callee's, if there is room for one frame more
-pub step-fits : (s : State) (n limit : ℕ) → Placed s n → limit ≡ holds n frameWords → suc (s .top) < limit → s .at + 2 * frameWords ≤ n
+pub step-fits : (s : State) (n limit : ℕ) → FramePlaced s n → limit ≡ holds n frameWords → suc (s .top) < limit → s .at + 2 * frameWords ≤ n
 step-fits s n limit D e l = omega (arith, D .place, room-for n (suc (s .top)) (rw (← e) l))
 
 module _ (f : List ℕ) (T : Tables) (s : State) (m fw ps : List ℕ) where
@@ -102,13 +102,13 @@ module _ (f : List ℕ) (T : Tables) (s : State) (m fw ps : List ℕ) where
   pub goes-same : (u v : State) (fx px : List ℕ) → u ≡ v → Goes f T s m fw ps (WentTo v) fx px → Goes f T s m fw ps (WentTo u) fx px
   goes-same u v fx px e g = rw e g
 
-module _ (f : List ℕ) (T : Tables) (s : State) (m fw ps : List ℕ) (D : Placed s (length fw)) where
+module _ (f : List ℕ) (T : Tables) (s : State) (m fw ps : List ℕ) (D : FramePlaced s (length fw)) where
   abbrev Steps : Room → Heap → List ℕ → Went
   Steps k h rs = steps f T k (s .goal) (recordAt f (s .goal)) (wordsOf h m rs fw ps s)
 
   -- it went on, whatever the heap is
   pub goes-on : (v : State) (fx px : List ℕ) → ((k : Room) (h : Heap) (rs : List ℕ) → went (wordsOf h m rs fx px v) ≡ Steps k h rs)
-      → Placed v (length fw) → Goes f T s m fw ps (WentTo v) fx px
+      → FramePlaced v (length fw) → Goes f T s m fw ps (WentTo v) fx px
   unfolding cameTo
   goes-on v fx px e d = record { comes = λ k h rs a b. e k h rs; kept = λ c z. absurd (stopped-not v c z); stays = λ t z. rw (← went-same v t z) d }
 

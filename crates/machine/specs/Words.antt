@@ -11,7 +11,7 @@ use Rattle.language.specs.Machine.{Room, holds}
 use Rattle.memory.specs.declared.Heap.{Heap}
 use Rattle.records.specs.Records.{recordAt}
 use Rattle.word_machine.specs.Tables.{Tables}
-use Rattle.word_machine.specs.Machine.{printWords, Words, Went, went, stops, frameWords, steps}
+use Rattle.word_machine.specs.Machine.{printWords, MachineWords, Went, went, stops, frameWords, steps}
 use Rattle.machine.specs.declared.State.{State}
 use Rattle.machine.specs.declared.Kept.{Kept}
 use Rattle.machine.specs.declared.Kept.the-variants.{Left, Lacks}
@@ -19,12 +19,12 @@ use Rattle.machine.specs.declared.Step.{Step}
 use Rattle.machine.specs.declared.Step.the-variants.{Went as WentTo, Stops}
 
 -- the newest frame's words start at their place, and n words have them all
-pub record Placed (s : State) (n : ℕ) : Type 0 where
+pub record FramePlaced (s : State) (n : ℕ) : Type 0 where
   pub place : s .at ≡ frameWords * s .top
   pub fits : s .at + frameWords ≤ n
 
 -- h is the heap; m, rs, fw and ps are the words lent for cells, regions, frames and printed numbers
-unfoldable pub wordsOf : Heap → List ℕ → List ℕ → List ℕ → List ℕ → State → Words
+unfoldable pub wordsOf : Heap → List ℕ → List ℕ → List ℕ → List ℕ → State → MachineWords
 wordsOf h m rs fw ps s = record { heap = h; cells = m; regions = rs; frames = fw; prints = ps; top = s .top; goal = s .goal; printed = s .printed }
 
 -- what an answer stands for
@@ -38,7 +38,7 @@ pub record Goes (f : List ℕ) (T : Tables) (s : State) (m fw ps : List ℕ) (r 
   pub comes : (k : Room) (h : Heap) (rs : List ℕ) → k .frames ≡ holds (length fw) frameWords → k .prints ≡ holds (length ps) printWords
       → cameTo r h m rs fx px ≡ steps f T k (s .goal) (recordAt f (s .goal)) (wordsOf h m rs fw ps s)
   pub kept : (c : Stop) → r ≡ Stops c → (fx ≡ fw) × (px ≡ ps)
-  pub stays : (v : State) → r ≡ WentTo v → Placed v (length fw)
+  pub stays : (v : State) → r ≡ WentTo v → FramePlaced v (length fw)
 
 -- whether the goals of the kind w change the heap: constructs, creates and removes
 abbrev pub Changes : ℕ → Bool → Type 0
@@ -61,5 +61,5 @@ pub record Keeps (f : List ℕ) (T : Tables) (s : State) (h : Heap) (m rs fw : L
       → keptTo r m₁ rs₁ fw₁ ps (onwardTo s next) ≡ steps f T k (s .goal) (recordAt f (s .goal)) (wordsOf h m rs fw ps s)
   pub kept : (c : Stop) → r ≡ Lacks c → (m₁ ≡ m) × (rs₁ ≡ rs) × (fw₁ ≡ fw)
 
-pub onward-placed : {s : State} {n : ℕ} (i : ℕ) → Placed s n → Placed (onwardTo s i) n
+pub onward-placed : {s : State} {n : ℕ} (i : ℕ) → FramePlaced s n → FramePlaced (onwardTo s i) n
 onward-placed i D = record { place = D .place; fits = D .fits }

@@ -32,7 +32,7 @@ ghost use Rattle.memory.specs.declared.Heap.{Heap};
 ghost use Rattle.chains.specs.Formed.{Formed};
 ghost use Rattle.plans.specs.Plan.{calleeWord, calleeBody, calleeSize, calleeBorn, Narrow, tablesIn};
 ghost use Rattle.word_machine.specs.Machine.{frameWords, callPlace, calleeWords, returnWords, settled};
-ghost use Rattle.machine.specs.Words.{Placed, wordsOf};
+ghost use Rattle.machine.specs.Words.{FramePlaced, wordsOf};
 ghost use Rattle.machine.specs.Calls.{marked};
 
 // Word k of what a call reads of procedure q.
@@ -139,12 +139,12 @@ pub fn settle(
     state: State,
     frames: &mut [u32],
 ) -> State
-    requires { ⌜ Formed (now file) × Placed state (length (now frames)) ⌝ }
+    requires { ⌜ Formed (now file) × FramePlaced state (length (now frames)) ⌝ }
     requires { ⌜ Narrow (now plan) (now images) ⌝ }
     ensures { λ r. ⌜ ((h : Heap) (m rs ps : List ℕ) → wordsOf h m rs (now (frames .exit)) ps r
         ≡ settled (now (file .entry)) (tablesIn (now (plan .entry)) (now (images .entry)) (now (callees .entry)))
         (wordsOf h m rs (now (frames .entry)) ps state)) ⌝ }
-    ensures { λ r. ⌜ Placed r (length (now (frames .exit))) ⌝ }
+    ensures { λ r. ⌜ FramePlaced r (length (now (frames .exit))) ⌝ }
 {
     let printed = state.printed;
     let mut top = state.top;

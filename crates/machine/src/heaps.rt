@@ -22,7 +22,7 @@ ghost use Rattle.language.specs.Format.{kindWord};
 ghost use Rattle.chains.specs.Formed.{Formed};
 ghost use Rattle.chains.specs.Shapes.{IsConstruct, IsCreate};
 ghost use Rattle.plans.specs.Plan.{Numbered, tablesIn};
-ghost use Rattle.machine.specs.Words.{Placed, Changes, Keeps};
+ghost use Rattle.machine.specs.Words.{FramePlaced, Changes, Keeps};
 
 // Whether goals of a kind change the heap.
 pub fn changes_heap(kind: usize) -> bool
@@ -47,7 +47,7 @@ fn construct_step(
     frames: &mut [u32],
 ) -> Kept
     requires { ⌜ Formed (now file) × Numbered (now file) (now plan) ⌝ }
-    requires { ⌜ (state .goal < recordCount (now file)) × IsConstruct (now file) (state .goal) × Placed state (length (now frames)) ⌝ }
+    requires { ⌜ (state .goal < recordCount (now file)) × IsConstruct (now file) (state .goal) × FramePlaced state (length (now frames)) ⌝ }
     ensures { λ r. ⌜ ((images callees : List ℕ) → Keeps (now (file .entry)) (tablesIn (now (plan .entry)) images callees) state heap
         (now (cells .entry)) (now (regions .entry)) (now (frames .entry)) r (now (cells .exit)) (now (regions .exit)) (now (frames .exit))) ⌝ }
 {
@@ -79,7 +79,7 @@ fn create_step(
     frames: &mut [u32],
 ) -> Kept
     requires { ⌜ Formed (now file) × Numbered (now file) (now plan) ⌝ }
-    requires { ⌜ (state .goal < recordCount (now file)) × IsCreate (now file) (state .goal) × Placed state (length (now frames)) ⌝ }
+    requires { ⌜ (state .goal < recordCount (now file)) × IsCreate (now file) (state .goal) × FramePlaced state (length (now frames)) ⌝ }
     ensures { λ r. ⌜ ((images callees m : List ℕ) → Keeps (now (file .entry)) (tablesIn (now (plan .entry)) images callees) state heap
         m (now (regions .entry)) (now (frames .entry)) r m (now (regions .exit)) (now (frames .exit))) ⌝ }
 {
@@ -103,7 +103,7 @@ pub fn keep(
     frames: &mut [u32],
 ) -> Kept
     requires { ⌜ Formed (now file) × Numbered (now file) (now plan) ⌝ }
-    requires { ⌜ (state .goal < recordCount (now file)) × Placed state (length (now frames)) ⌝ }
+    requires { ⌜ (state .goal < recordCount (now file)) × FramePlaced state (length (now frames)) ⌝ }
     requires { ⌜ Changes (word (now file) (state .goal) kindWord) true ⌝ }
     ensures { λ r. ⌜ ((images callees : List ℕ) → Keeps (now (file .entry)) (tablesIn (now (plan .entry)) images callees) state heap
         (now (cells .entry)) (now (regions .entry)) (now (frames .entry)) r (now (cells .exit)) (now (regions .exit)) (now (frames .exit))) ⌝ }

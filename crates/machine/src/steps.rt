@@ -36,7 +36,7 @@ ghost use mathlib.Core.Bool.{false};
 ghost use Rattle.chains.specs.Formed.{Formed};
 ghost use Rattle.chains.specs.Shapes.{IsCall, IsIf, IsPrint, IsSwitch};
 ghost use Rattle.plans.specs.Plan.{Narrow, Numbered, tablesIn};
-ghost use Rattle.machine.specs.Words.{Placed, Changes, onwardTo, Goes};
+ghost use Rattle.machine.specs.Words.{FramePlaced, Changes, onwardTo, Goes};
 
 // "1 a printed number".
 const PRINT_WORDS: usize = 1;
@@ -64,7 +64,7 @@ fn call_step(
 ) -> Step
     requires { ⌜ Formed (now file) ⌝ }
     requires { ⌜ Narrow (now plan) (now images) ⌝ }
-    requires { ⌜ (state .goal < recordCount (now file)) × IsCall (now file) (state .goal) × Placed state (length (now frames)) ⌝ }
+    requires { ⌜ (state .goal < recordCount (now file)) × IsCall (now file) (state .goal) × FramePlaced state (length (now frames)) ⌝ }
     ensures { λ r. ⌜ ((m ps : List ℕ) → Goes (now (file .entry)) (tablesIn (now (plan .entry)) (now (images .entry)) (now (callees .entry)))
         state m (now (frames .entry)) ps r (now (frames .exit)) ps) ⌝ }
 {
@@ -95,7 +95,7 @@ fn print_step(
     prints: &mut [u32],
 ) -> Step
     requires { ⌜ Formed (now file) × Numbered (now file) (now plan) ⌝ }
-    requires { ⌜ (state .goal < recordCount (now file)) × IsPrint (now file) (state .goal) × Placed state (length (now frames)) ⌝ }
+    requires { ⌜ (state .goal < recordCount (now file)) × IsPrint (now file) (state .goal) × FramePlaced state (length (now frames)) ⌝ }
     ensures { λ r. ⌜ ((images callees m : List ℕ) → Goes (now (file .entry)) (tablesIn (now (plan .entry)) images callees)
         state m (now (frames .entry)) (now (prints .entry)) r (now (frames .entry)) (now (prints .exit))) ⌝ }
 {
@@ -126,7 +126,7 @@ fn switch_step(
     frames: &mut [u32],
 ) -> Step
     requires { ⌜ Formed (now file) × Numbered (now file) (now plan) ⌝ }
-    requires { ⌜ (state .goal < recordCount (now file)) × IsSwitch (now file) (state .goal) × Placed state (length (now frames)) ⌝ }
+    requires { ⌜ (state .goal < recordCount (now file)) × IsSwitch (now file) (state .goal) × FramePlaced state (length (now frames)) ⌝ }
     ensures { λ r. ⌜ ((images callees ps : List ℕ) → Goes (now (file .entry)) (tablesIn (now (plan .entry)) images callees)
         state (now (cells .entry)) (now (frames .entry)) ps r (now (frames .exit)) ps) ⌝ }
 {
@@ -139,7 +139,7 @@ fn switch_step(
 // An if.
 fn if_step(file: &[u8], plan: &[usize; PLAN], state: State, frames: &[u32]) -> Step
     requires { ⌜ Formed (now file) × Numbered (now file) (now plan) ⌝ }
-    requires { ⌜ (state .goal < recordCount (now file)) × IsIf (now file) (state .goal) × Placed state (length (now frames)) ⌝ }
+    requires { ⌜ (state .goal < recordCount (now file)) × IsIf (now file) (state .goal) × FramePlaced state (length (now frames)) ⌝ }
     ensures { λ r. ⌜ ((images callees m ps : List ℕ) → Goes (now (file .entry)) (tablesIn (now (plan .entry)) images callees)
         state m (now (frames .entry)) ps r (now (frames .entry)) ps) ⌝ }
 {
@@ -162,7 +162,7 @@ pub fn go(
 ) -> Step
     requires { ⌜ Formed (now file) × Numbered (now file) (now plan) ⌝ }
     requires { ⌜ Narrow (now plan) (now images) ⌝ }
-    requires { ⌜ (state .goal < recordCount (now file)) × Placed state (length (now frames)) ⌝ }
+    requires { ⌜ (state .goal < recordCount (now file)) × FramePlaced state (length (now frames)) ⌝ }
     requires { ⌜ Changes (word (now file) (state .goal) kindWord) false ⌝ }
     ensures { λ r. ⌜ Goes (now (file .entry)) (tablesIn (now (plan .entry)) (now (images .entry)) (now (callees .entry))) state
         (now (cells .entry)) (now (frames .entry)) (now (prints .entry)) r (now (frames .exit)) (now (prints .exit)) ⌝ }

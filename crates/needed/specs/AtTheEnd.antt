@@ -21,7 +21,7 @@ use Rattle.language.specs.Checking.{Carried, broken, carries, stepRules, checkG
 use Rattle.language.specs.Answers.{program, fileStages, checkerStages, checked}
 use Rattle.region_graph.specs.Parameters.{ins-top}
 use Rattle.needed.specs.Without.{Rule, endKept, endBorn, number, leftOut, unless, withBorn, withKept, endHeld, endAsks, goalsWithout, procedureWithout, rulesWithout, checkedWithout}
-use Rattle.needed.specs.Carrying.{After, Invariant, after-goals}
+use Rattle.needed.specs.Carrying.{CarriedAfter, Invariant, after-goals}
 use Rattle.needed.specs.NoneLeftOut.{onTheWay, path-same}
 use Rattle.needed.specs.SoundReach.{stays-held, ReachHeld, reach-invariant}
 use Rattle.needed.specs.Passing.{all-from, last-test}
@@ -55,7 +55,7 @@ module _ (P : Program) (S : Signature) where
   unfolding KeptHeld
   kept-invariant = record { stepKeeps = kept-step; armKeeps = λ xs held sound k. k; meetKeeps = λ held s t a b. a }
 
-  kept-stays : (gs : Goals) → After KeptHeld (checkGoals P S gs (startHeld S) (insOf S))
+  kept-stays : (gs : Goals) → CarriedAfter KeptHeld (checkGoals P S gs (startHeld S) (insOf S))
   unfolding KeptHeld
   kept-stays gs = after-goals kept-invariant gs (startHeld S) (insOf S) kept-start
 
@@ -64,12 +64,12 @@ module _ (P : Program) (S : Signature) where
   unfolding ReachHeld inputs reachAll
   start-reach x r m a b = absurd (clash (unionOver-mk (reach S) (insOf S) x r m (ins-top S x m) a) b)
 
-  reach-stays : (gs : Goals) → After (ReachHeld S (inputs S)) (checkGoals P S gs (startHeld S) (insOf S))
+  reach-stays : (gs : Goals) → CarriedAfter (ReachHeld S (inputs S)) (checkGoals P S gs (startHeld S) (insOf S))
   reach-stays gs = after-goals (reach-invariant P S (inputs S)) gs (startHeld S) (insOf S) start-reach
 
   -- ---- so the end's rules hold
-  end-kept : (c : Carried) → After KeptHeld c → endAsks (endKept ∷ []) S c ≡ true → endRules S c ≡ true
-  unfolding number leftOut _or_ unless choose endAsks withBorn withKept endHeld endRules After KeptHeld
+  end-kept : (c : Carried) → CarriedAfter KeptHeld c → endAsks (endKept ∷ []) S c ≡ true → endRules S c ≡ true
+  unfolding number leftOut _or_ unless choose endAsks withBorn withKept endHeld endRules CarriedAfter KeptHeld
   end-kept broken k e = e
   end-kept (carries held sound) k e = rw (union-comm held (kept S), union-subset (kept S) held k) at e
 
@@ -84,8 +84,8 @@ module _ (P : Program) (S : Signature) where
           let q = unionOver-in (reach S) (outsOf S) r (p .0) in
           i (q .0) r (subset-in (outsOf S) sound e (q .0) (q .1)) (q .2) (p .1)
 
-  end-born : classesOk S ≡ true → (c : Carried) → After (ReachHeld S (inputs S)) c → endAsks (endBorn ∷ []) S c ≡ true → endRules S c ≡ true
-  unfolding number leftOut _or_ unless choose endAsks withBorn withKept endHeld endRules After
+  end-born : classesOk S ≡ true → (c : Carried) → CarriedAfter (ReachHeld S (inputs S)) c → endAsks (endBorn ∷ []) S c ≡ true → endRules S c ≡ true
+  unfolding number leftOut _or_ unless choose endAsks withBorn withKept endHeld endRules CarriedAfter
   end-born o broken i e = e
   end-born o (carries held sound) i e =
       rw (union-comm held (born S), union-subset (born S) held (born-reached o held sound i (and-true e .1))) at e

@@ -15,9 +15,9 @@ use Rattle.language.specs.Checking.{Carried, broken, carries, requireRule, carr
 use Rattle.needed.specs.Without.{Rule, readSound, reachHeld, armsEqual, everyArm, leftOut, unless, armsJoined, givenSound, stepWithout, goalsWithout, goalWithout, armsWithout}
 
 -- what is carried, if anything is, has I
-unfoldable pub After : (Set → Set → Type 0) → Carried → Type 0
-After I broken = Unit {0}
-After I (carries h s) = I h s
+unfoldable pub CarriedAfter : (Set → Set → Type 0) → Carried → Type 0
+CarriedAfter I broken = Unit {0}
+CarriedAfter I (carries h s) = I h s
 
 pub unless-in : {A : Type 0} (out : List Rule) (r : Rule) → leftOut out r ≡ false → (i a : A) → unless out r i a ≡ a
 unfolding unless choose
@@ -31,38 +31,38 @@ pub record Invariant (P : Program) (S : Signature) (I : Set → Set → Type 0) 
   pub meetKeeps : (held s t : Set) → I held s → I held t → I held (s ∩ t)
 
 module _ {P : Program} {S : Signature} {I : Set → Set → Type 0} (inv : Invariant P S I) where
-  after-require : (b : Bool) (c : Carried) → (b ≡ true → After I c) → After I (requireRule b c)
-  unfolding requireRule After
+  after-require : (b : Bool) (c : Carried) → (b ≡ true → CarriedAfter I c) → CarriedAfter I (requireRule b c)
+  unfolding requireRule CarriedAfter
   after-require true c f = f refl
   after-require false c f = tt
 
-  after-on : (c : Carried) (f : Set → Set → Carried) → After I c → ((h s : Set) → I h s → After I (f h s)) → After I (carryOn c f)
-  unfolding carryOn After
+  after-on : (c : Carried) (f : Set → Set → Carried) → CarriedAfter I c → ((h s : Set) → I h s → CarriedAfter I (f h s)) → CarriedAfter I (carryOn c f)
+  unfolding carryOn CarriedAfter
   after-on broken f a k = tt
   after-on (carries h s) f a k = k h s a
 
-  after-join : (c d : Carried) → After I c → After I d → After I (joinArms c d)
-  unfolding joinArms After
+  after-join : (c d : Carried) → CarriedAfter I c → CarriedAfter I d → CarriedAfter I (joinArms c d)
+  unfolding joinArms CarriedAfter
   after-join broken d a b = tt
   after-join (carries h s) broken a b = tt
   after-join (carries h s) (carries k t) a b =
       after-require (sameSet h k) (carries h (s ∩ t)) (λ e. inv .meetKeeps h s t a (rw (same-eq h k e) b))
 
   mutual
-    unfolding checkGoals checkGoal checkArms checkStep After
+    unfolding checkGoals checkGoal checkArms checkStep CarriedAfter
 
-    pub after-goals : (gs : Goals) (held sound : Set) → I held sound → After I (checkGoals P S gs held sound)
+    pub after-goals : (gs : Goals) (held sound : Set) → I held sound → CarriedAfter I (checkGoals P S gs held sound)
     after-goals done held sound i = i
     after-goals (g then gs) held sound i = after-on (checkGoal P S g held sound) _ (after-goal g held sound i) (after-goals gs)
 
-    after-goal : (g : Goal) (held sound : Set) → I held sound → After I (checkGoal P S g held sound)
+    after-goal : (g : Goal) (held sound : Set) → I held sound → CarriedAfter I (checkGoal P S g held sound)
     after-goal (step g) held sound i = after-require (stepRules P S g held sound) _ (λ e. inv .stepKeeps g held sound e i)
     after-goal (switch x cs) held sound i = after-require (member sound x) _ (λ e. after-arms cs held sound i)
     after-goal (ifLess y z a b) held sound i =
         after-require (member sound y & member sound z) _
         (λ e. after-join (checkGoals P S a held sound) (checkGoals P S b held sound) (after-goals a held sound i) (after-goals b held sound i))
 
-    after-arms : (cs : Arms) (held sound : Set) → I held sound → After I (checkArms P S cs held sound)
+    after-arms : (cs : Arms) (held sound : Set) → I held sound → CarriedAfter I (checkArms P S cs held sound)
     after-arms noArms held sound i = i
     after-arms (arm f ys gs noArms) held sound i = after-goals gs held _ (inv .armKeeps (setOf (argumentsOf ys)) held sound i)
     after-arms (arm f ys gs (arm e zs hs cs)) held sound i =
@@ -70,16 +70,16 @@ module _ {P : Program} {S : Signature} {I : Set → Set → Type 0} (inv : Invar
         (after-goals gs held _ (inv .armKeeps (setOf (argumentsOf ys)) held sound i)) (after-arms (arm e zs hs cs) held sound i)
 
 -- where `out` leaves out none of the rules that concern more than one step, and the steps agree
-pub record Agrees (P : Program) (S : Signature) (I : Set → Set → Type 0) (out : List Rule) : Type 0 where
+pub record StepsAgree (P : Program) (S : Signature) (I : Set → Set → Type 0) (out : List Rule) : Type 0 where
   pub reading : leftOut out readSound ≡ false
   pub giving : leftOut out reachHeld ≡ false
   pub equal : leftOut out armsEqual ≡ false
   pub every : leftOut out everyArm ≡ false
   pub steps : (g : Step) (held sound : Set) → I held sound → stepWithout out P S g held sound ≡ checkStep P S g held sound
 
-module _ {P : Program} {S : Signature} {I : Set → Set → Type 0} {out : List Rule} (inv : Invariant P S I) (agrees : Agrees P S I out) where
-  on-same : (c : Carried) (f k : Set → Set → Carried) → After I c → ((h s : Set) → I h s → f h s ≡ k h s) → carryOn c f ≡ carryOn c k
-  unfolding carryOn After
+module _ {P : Program} {S : Signature} {I : Set → Set → Type 0} {out : List Rule} (inv : Invariant P S I) (agrees : StepsAgree P S I out) where
+  on-same : (c : Carried) (f k : Set → Set → Carried) → CarriedAfter I c → ((h s : Set) → I h s → f h s ≡ k h s) → carryOn c f ≡ carryOn c k
+  unfolding carryOn CarriedAfter
   on-same broken f k a e = refl
   on-same (carries h s) f k a e = e h s a
 

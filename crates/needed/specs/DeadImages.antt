@@ -22,7 +22,7 @@ use Rattle.language.specs.Checking.{Carried, broken, carries, requireRule, step
 use Rattle.language.specs.Answers.{program, fileStages, checkerStages, checked}
 use Rattle.region_graph.specs.Parameters.{ins-top}
 use Rattle.needed.specs.Without.{deadHeld, number, leftOut, unless, asked, allAsked, callAsks, withBorn, withKept, endHeld, endAsks, givenSound, asks, stepAsks, holdsAfter, stepWithout, goalsWithout, procedureWithout, rulesWithout, checkedWithout}
-use Rattle.needed.specs.Carrying.{Agrees, goals-same}
+use Rattle.needed.specs.Carrying.{StepsAgree, goals-same}
 use Rattle.needed.specs.SoundReach.{ReachHeld, reach-invariant}
 use Rattle.needed.specs.Passing.{all-from, last-test, typed}
 use Rattle.region_graph.specs.Typed.{signature-typed, signature-classed}
@@ -99,7 +99,7 @@ module _ (P : Program) (S : Signature) (ok : signatureOk (P .types) S ≡ true) 
   step-same (create r) held sound i = refl
   step-same (remove r) held sound i = refl
 
-  agrees : Agrees P S (ReachHeld S emptySet) (deadHeld ∷ [])
+  agrees : StepsAgree P S (ReachHeld S emptySet) (deadHeld ∷ [])
   unfolding number leftOut _or_
   agrees = record { reading = refl; giving = refl; equal = refl; every = refl; steps = step-same }
 

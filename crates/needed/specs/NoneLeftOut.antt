@@ -13,7 +13,7 @@ use Rattle.language.specs.Checking.{Carried, broken, carries, stepRules, checkS
 use Rattle.language.specs.Answers.{program, checkerStages, checked}
 use Rattle.laws.specs.Lists.{all-same}
 use Rattle.needed.specs.Without.{Rule, createNotHeld, removeHeld, removeNotKept, removeUnsound, readSound, constructHeld, deadHeld, keptHeld, deadNotKept, bornNotHeld, deadUnshared, bornUnshared, deadGone, deadUnsound, bornThenHeld, reachHeld, armsEqual, everyArm, number, leftOut, allAsked, unless, asked, callAsks, withBorn, withKept, endHeld, endAsks, givenSound, asks, holdsAfter, stepAsks, stepWithout, goalsWithout, procedureWithout, rulesWithout, checkedWithout}
-use Rattle.needed.specs.Carrying.{unless-in, Invariant, Agrees, goals-same}
+use Rattle.needed.specs.Carrying.{unless-in, Invariant, StepsAgree, goals-same}
 
 -- the rules along a path, before the end
 unfoldable pub onTheWay : Rule → Bool
@@ -49,7 +49,7 @@ module _ (out : List Rule) (inner : (r : Rule) → onTheWay r ≡ true → leftO
     unfolding Any
     anything = record { stepKeeps = λ g held sound e i. tt; armKeeps = λ xs held sound i. tt; meetKeeps = λ held s t i j. tt }
 
-    path-agrees : Agrees P S Any out
+    path-agrees : StepsAgree P S Any out
     unfolding onTheWay number
     path-agrees = record {
       reading = inner readSound refl;

@@ -93,7 +93,7 @@ up-to-low f (suc m) k =
     (omega (arith, up-to-low f m m)) k
 
 -- ---- the invariant: t is the table, n how many records there are, `behind` the places behind theirs
-pub record Passed (f behind t : List ℕ) (n i : ℕ) : Type 0 where
+pub record OwnersFilled (f behind t : List ℕ) (n i : ℕ) : Type 0 where
   pub count : n ≡ recordCount f
   pub most : i ≤ n
   pub table : t ≡ ownersUpTo f i ++ behind
@@ -104,11 +104,11 @@ behind-same n d e =
     let z : length {A = ℕ} (replicate n 0) ≡ n = length-replicate n 0 in
     ap (drop n) e ∙ rw z at (drop-append-seam (replicate n 0) (drop n d))
 
-pub first : {f t : List ℕ} (n : ℕ) (d : List ℕ) → n ≡ recordCount f → t ≡ replicate n 0 ++ drop n d → Passed f (drop n t) t n 0
+pub first : {f t : List ℕ} (n : ℕ) (d : List ℕ) → n ≡ recordCount f → t ≡ replicate n 0 ++ drop n d → OwnersFilled f (drop n t) t n 0
 unfolding ownersUpTo
 first {f} {t} n d e g = record { count = e; most = omega arith; table = g ∙ rw (behind-same n d g, e) }
 
-module _ {f behind t : List ℕ} {n i : ℕ} (F : Formed f) (h : Passed f behind t n i) where
+module _ {f behind t : List ℕ} {n i : ℕ} (F : Formed f) (h : OwnersFilled f behind t n i) where
   -- what `hand_on` asks
   pub asks : i < n → (i < length t) × (getD t i 0 + 1 < wordEnd)
   asks l =
@@ -117,7 +117,7 @@ module _ {f behind t : List ℕ} {n i : ℕ} (F : Formed f) (h : Passed f behind
         rw (h .table, List·getD-append (ownersUpTo f i) behind 0 i a) (omega (arith, up-to-low f i i, counted F .most, h .count)),
       )
 
-  pub next : {u : List ℕ} → i < n → u ≡ handOn f i t → Passed f behind u n (i + 1)
+  pub next : {u : List ℕ} → i < n → u ≡ handOn f i t → OwnersFilled f behind u n (i + 1)
   unfolding ownersUpTo
   next l e =
       let z : i + 1 ≡ suc i = omega arith in
@@ -131,7 +131,7 @@ module _ {f behind t : List ℕ} {n i : ℕ} (F : Formed f) (h : Passed f behind
             ∙ on-append f i (ownersUpTo f i) behind (omega (arith, up-to-length f i, h .count)) (b (word f i nextWord) (omega (arith, hit-same (word f i nextWord)))) (λ w c. b w (omega arith)));
       }
 
-pub last : {f u t : List ℕ} {n i : ℕ} (d : List ℕ) → Passed f (drop n u) t n i → u ≡ replicate n 0 ++ drop n d → n ≤ i
+pub last : {f u t : List ℕ} {n i : ℕ} (d : List ℕ) → OwnersFilled f (drop n u) t n i → u ≡ replicate n 0 ++ drop n d → n ≤ i
     → t ≡ ownersOf f ++ drop (recordCount f) d
 unfolding ownersOf
 last {n = n} {i = i} d h e l = let z : i ≡ n = omega (arith, h .most) in h .table ∙ rw (z, behind-same n d e, h .count)

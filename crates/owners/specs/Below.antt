@@ -16,7 +16,7 @@ use Rattle.chains.specs.Kinds.{same-read}
 use Rattle.chains.specs.Declared.{procedure-at}
 use Rattle.owners.specs.Referred.{sortOf, usesOf, Each, EachOf, header-uses, outward}
 use Rattle.owners.specs.Owner.{ownerOf}
-use Rattle.owners.specs.Owners.{Belongs, first-owner, goal-next, switch-arms, arm-next, arm-goals, if-then, if-else, procedure-next, procedure-goals, procedure-variables, procedure-regions, variable-next, region-next, region-edges, edge-next, call-arguments, argument-next}
+use Rattle.owners.specs.Owners.{OwnedBy, first-owner, goal-next, switch-arms, arm-next, arm-goals, if-then, if-else, procedure-next, procedure-goals, procedure-variables, procedure-regions, variable-next, region-next, region-edges, edge-next, call-arguments, argument-next}
 
 -- of m procedures: what is known of the entry of record i, in a chain of the sort c
 module _ (f : List ℕ) (m : ℕ) where
@@ -35,7 +35,7 @@ module _ (f : List ℕ) (m : ℕ) where
   Few arms i = Low i
   Few arguments i = Low i
 
-  low-on : {o w : ℕ} → o < m → Belongs f o w → Low w
+  low-on : {o w : ℕ} → o < m → OwnedBy f o w → Low w
   low-on l b z = omega (arith, b z)
 
   module _ (F : Formed f) (i : ℕ) (p : 0 < i) (q : i < recordCount f) where

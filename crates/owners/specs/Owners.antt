@@ -29,8 +29,8 @@ use Rattle.owners.specs.Owner.{partWords, nextMore, kindHere, partsHere,
 use Rattle.owners.specs.Handing.{hands-few, on-next, on-part, up-to-length, stays}
 
 -- record w, where it is one, belongs to procedure q
-abbrev pub Belongs : List ℕ → ℕ → ℕ → Type 0
-Belongs f q w = (w ≡ 0 → ⊥) → ownerOf f w ≡ q
+abbrev pub OwnedBy : List ℕ → ℕ → ℕ → Type 0
+OwnedBy f q w = (w ≡ 0 → ⊥) → ownerOf f w ≡ q
 
 module _ {f : List ℕ} (F : Formed f) where
   not-back : (l i : ℕ) → i ≤ l → l < recordCount f → 0 < i → times f l i ≡ 0
@@ -51,7 +51,7 @@ module _ {f : List ℕ} (F : Formed f) where
       let b = refers-up F p (times-refers j i q h .2) .below in
       stays f (suc j) i (omega arith) (λ l a c s. times-other F j l i p b q c (λ e. omega arith) h)
 
-  pub next-owner : (j : ℕ) → j < recordCount f → Belongs f (ownerOf f j + nextMore (kindHere f j)) (word f j nextWord)
+  pub next-owner : (j : ℕ) → j < recordCount f → OwnedBy f (ownerOf f j + nextMore (kindHere f j)) (word f j nextWord)
   next-owner j q z =
       let i = word f j nextWord in
       let h : 0 < times f j i = omega (arith, hands-few f j i, hit-same i) in
@@ -60,7 +60,7 @@ module _ {f : List ℕ} (F : Formed f) where
       ∙ on-next f j i (ownersUpTo f j) (omega (arith, z)) (omega (arith, up-to-length f j)) (times-one F j i (omega (arith, z)) b q) refl
       ∙ ap (λ o. o + nextMore (kindHere f j)) (sym (settled j q))
 
-  part-owner : (j i : ℕ) → j < recordCount f → 0 < count i (partsHere f j) → Belongs f (ownerOf f j) i
+  part-owner : (j i : ℕ) → j < recordCount f → 0 < count i (partsHere f j) → OwnedBy f (ownerOf f j) i
   part-owner j i q c z =
       let h : 0 < times f j i = omega (arith, hands-few f j i) in
       let b = refers-up F {i = i} (omega (arith, z)) (times-refers j i q h .2) .below in
@@ -82,102 +82,102 @@ pub count-later : (w v : ℕ) (ws : List ℕ) → 0 < count w ws → 0 < count w
 count-later w v ws h = omega (arith, count-cons w v ws)
 
 module _ {f : List ℕ} (F : Formed f) (i : ℕ) (q : i < recordCount f) where
-  next-of : (k : Kind) (m : ℕ) → kindOf (word f i kindWord) ≡ k → nextMore k ≡ m → Belongs f (ownerOf f i + m) (word f i nextWord)
+  next-of : (k : Kind) (m : ℕ) → kindOf (word f i kindWord) ≡ k → nextMore k ≡ m → OwnedBy f (ownerOf f i + m) (word f i nextWord)
   unfolding kindHere
   next-of k m e n z = next-owner F i q z ∙ ap (λ x. ownerOf f i + x) (ap nextMore e ∙ n)
 
-  next-same : (k : Kind) → kindOf (word f i kindWord) ≡ k → nextMore k ≡ 0 → Belongs f (ownerOf f i) (word f i nextWord)
+  next-same : (k : Kind) → kindOf (word f i kindWord) ≡ k → nextMore k ≡ 0 → OwnedBy f (ownerOf f i) (word f i nextWord)
   next-same k e n z = omega (arith, next-of k 0 e n z)
 
-  part-of : (k : Kind) → kindOf (word f i kindWord) ≡ k → (w : ℕ) → 0 < count w (map (word f i) (partWords k)) → Belongs f (ownerOf f i) w
+  part-of : (k : Kind) → kindOf (word f i kindWord) ≡ k → (w : ℕ) → 0 < count w (map (word f i) (partWords k)) → OwnedBy f (ownerOf f i) w
   unfolding partsHere kindHere
   part-of k e w h z = part-owner F i w q (rw e h) z
 
-  pub goal-next : (g : GoalKind) → kindOf (word f i kindWord) ≡ kGoal g → Belongs f (ownerOf f i) (word f i nextWord)
+  pub goal-next : (g : GoalKind) → kindOf (word f i kindWord) ≡ kGoal g → OwnedBy f (ownerOf f i) (word f i nextWord)
   unfolding nextMore
   goal-next g e = next-same (kGoal g) e refl
 
-  pub switch-arms : kindOf (word f i kindWord) ≡ kGoal kSwitch → Belongs f (ownerOf f i) (word f i switchArms)
+  pub switch-arms : kindOf (word f i kindWord) ≡ kGoal kSwitch → OwnedBy f (ownerOf f i) (word f i switchArms)
   unfolding partWords
   switch-arms e = part-of (kGoal kSwitch) e (word f i switchArms) (count-first _ [])
 
-  pub arm-next : kindOf (word f i kindWord) ≡ kArm → Belongs f (ownerOf f i) (word f i nextWord)
+  pub arm-next : kindOf (word f i kindWord) ≡ kArm → OwnedBy f (ownerOf f i) (word f i nextWord)
   unfolding nextMore
   arm-next e = next-same kArm e refl
 
-  pub arm-goals : kindOf (word f i kindWord) ≡ kArm → Belongs f (ownerOf f i) (word f i armGoals)
+  pub arm-goals : kindOf (word f i kindWord) ≡ kArm → OwnedBy f (ownerOf f i) (word f i armGoals)
   unfolding partWords
   arm-goals e = part-of kArm e (word f i armGoals) (count-first _ [])
 
-  pub if-then : kindOf (word f i kindWord) ≡ kGoal kIf → Belongs f (ownerOf f i) (word f i ifThen)
+  pub if-then : kindOf (word f i kindWord) ≡ kGoal kIf → OwnedBy f (ownerOf f i) (word f i ifThen)
   unfolding partWords
   if-then e = part-of (kGoal kIf) e (word f i ifThen) (count-first _ (word f i ifElse ∷ []))
 
-  pub if-else : kindOf (word f i kindWord) ≡ kGoal kIf → Belongs f (ownerOf f i) (word f i ifElse)
+  pub if-else : kindOf (word f i kindWord) ≡ kGoal kIf → OwnedBy f (ownerOf f i) (word f i ifElse)
   unfolding partWords
   if-else e = part-of (kGoal kIf) e (word f i ifElse) (count-later _ (word f i ifThen) _ (count-first _ []))
 
   -- "procedures [are numbered] from 0 .. in chain order"
-  pub procedure-next : kindOf (word f i kindWord) ≡ kProcedure → Belongs f (ownerOf f i + 1) (word f i nextWord)
+  pub procedure-next : kindOf (word f i kindWord) ≡ kProcedure → OwnedBy f (ownerOf f i + 1) (word f i nextWord)
   unfolding nextMore
   procedure-next e = next-of kProcedure 1 e refl
 
-  pub procedure-goals : kindOf (word f i kindWord) ≡ kProcedure → Belongs f (ownerOf f i) (word f i procedureGoals)
+  pub procedure-goals : kindOf (word f i kindWord) ≡ kProcedure → OwnedBy f (ownerOf f i) (word f i procedureGoals)
   unfolding partWords
   procedure-goals e =
       part-of kProcedure e (word f i procedureGoals) (count-later _ (word f i procedureVariables) _ (count-later _ (word f i procedureRegions) _ (count-first _ [])))
 
   -- the same of what a procedure declares, and of arguments
-  pub procedure-variables : kindOf (word f i kindWord) ≡ kProcedure → Belongs f (ownerOf f i) (word f i procedureVariables)
+  pub procedure-variables : kindOf (word f i kindWord) ≡ kProcedure → OwnedBy f (ownerOf f i) (word f i procedureVariables)
   unfolding partWords
   procedure-variables e = part-of kProcedure e (word f i procedureVariables) (count-first _ (word f i procedureRegions ∷ word f i procedureGoals ∷ []))
 
-  pub procedure-regions : kindOf (word f i kindWord) ≡ kProcedure → Belongs f (ownerOf f i) (word f i procedureRegions)
+  pub procedure-regions : kindOf (word f i kindWord) ≡ kProcedure → OwnedBy f (ownerOf f i) (word f i procedureRegions)
   unfolding partWords
   procedure-regions e =
       part-of kProcedure e (word f i procedureRegions) (count-later _ (word f i procedureVariables) _ (count-first _ (word f i procedureGoals ∷ [])))
 
-  pub variable-next : kindOf (word f i kindWord) ≡ kVariable → Belongs f (ownerOf f i) (word f i nextWord)
+  pub variable-next : kindOf (word f i kindWord) ≡ kVariable → OwnedBy f (ownerOf f i) (word f i nextWord)
   unfolding nextMore
   variable-next e = next-same kVariable e refl
 
-  pub region-next : kindOf (word f i kindWord) ≡ kRegion → Belongs f (ownerOf f i) (word f i nextWord)
+  pub region-next : kindOf (word f i kindWord) ≡ kRegion → OwnedBy f (ownerOf f i) (word f i nextWord)
   unfolding nextMore
   region-next e = next-same kRegion e refl
 
-  pub region-edges : kindOf (word f i kindWord) ≡ kRegion → Belongs f (ownerOf f i) (word f i regionEdges)
+  pub region-edges : kindOf (word f i kindWord) ≡ kRegion → OwnedBy f (ownerOf f i) (word f i regionEdges)
   unfolding partWords
   region-edges e = part-of kRegion e (word f i regionEdges) (count-first _ [])
 
-  pub edge-next : kindOf (word f i kindWord) ≡ kEdge → Belongs f (ownerOf f i) (word f i nextWord)
+  pub edge-next : kindOf (word f i kindWord) ≡ kEdge → OwnedBy f (ownerOf f i) (word f i nextWord)
   unfolding nextMore
   edge-next e = next-same kEdge e refl
 
-  pub call-arguments : kindOf (word f i kindWord) ≡ kGoal kCall → Belongs f (ownerOf f i) (word f i callArguments)
+  pub call-arguments : kindOf (word f i kindWord) ≡ kGoal kCall → OwnedBy f (ownerOf f i) (word f i callArguments)
   unfolding partWords
   call-arguments e = part-of (kGoal kCall) e (word f i callArguments) (count-first _ [])
 
-  pub argument-next : kindOf (word f i kindWord) ≡ kArgument → Belongs f (ownerOf f i) (word f i nextWord)
+  pub argument-next : kindOf (word f i kindWord) ≡ kArgument → OwnedBy f (ownerOf f i) (word f i nextWord)
   unfolding nextMore
   argument-next e = next-same kArgument e refl
 
 -- ---- of a record that the code has read
 pub record SwitchOwned (f : List ℕ) (i next cs : ℕ) : Type 0 where
-  pub to-next : Belongs f (ownerOf f i) next
-  pub to-arms : Belongs f (ownerOf f i) cs
+  pub to-next : OwnedBy f (ownerOf f i) next
+  pub to-arms : OwnedBy f (ownerOf f i) cs
 
 pub record ArmOwned (f : List ℕ) (i next gs : ℕ) : Type 0 where
-  pub to-next : Belongs f (ownerOf f i) next
-  pub to-goals : Belongs f (ownerOf f i) gs
+  pub to-next : OwnedBy f (ownerOf f i) next
+  pub to-goals : OwnedBy f (ownerOf f i) gs
 
 pub record IfOwned (f : List ℕ) (i next gs hs : ℕ) : Type 0 where
-  pub to-next : Belongs f (ownerOf f i) next
-  pub to-then : Belongs f (ownerOf f i) gs
-  pub to-else : Belongs f (ownerOf f i) hs
+  pub to-next : OwnedBy f (ownerOf f i) next
+  pub to-then : OwnedBy f (ownerOf f i) gs
+  pub to-else : OwnedBy f (ownerOf f i) hs
 
 pub record ProcedureOwned (f : List ℕ) (i next gs : ℕ) : Type 0 where
-  pub to-next : Belongs f (ownerOf f i + 1) next
-  pub to-goals : Belongs f (ownerOf f i) gs
+  pub to-next : OwnedBy f (ownerOf f i + 1) next
+  pub to-goals : OwnedBy f (ownerOf f i) gs
 
 module _ {f : List ℕ} {i : ℕ} {r : Record} (F : Formed f) (e : r ≡ recordAt f i) where
   pub switch-owned : {next x cs : ℕ} → r ≡ Switch next x cs → SwitchOwned f i next cs
@@ -230,7 +230,7 @@ pub kind-goals : {f : List ℕ} {i : ℕ} → i < recordCount f → (g : GoalKin
 kind-goals q g e = record { below = q; sort = inr (ap (λ (k : Kind). row k .chain) e ∙ goals-chain g) }
 
 -- on along a chain of goals, whatever the goal
-pub goals-owned : {f : List ℕ} {i w : ℕ} → Formed f → Stands f goals i → (i ≡ 0 → ⊥) → w ≡ word f i nextWord → Belongs f (ownerOf f i) w
+pub goals-owned : {f : List ℕ} {i w : ℕ} → Formed f → Stands f goals i → (i ≡ 0 → ⊥) → w ≡ word f i nextWord → OwnedBy f (ownerOf f i) w
 goals-owned {f} {i} F s z e = let k = goal-kind s z in rw e (goal-next F i (s .below) (k .0) (k .1))
 
 -- ---- procedures by their numbers
@@ -238,7 +238,7 @@ pub owner-none : {f : List ℕ} → Formed f → ownerOf f 0 ≡ 0
 unfolding ownersUpTo
 owner-none {f} F = settled F 0 (counted F .some) ∙ getD-replicate (recordCount f) 0 0 0 (counted F .some)
 
-pub first-owner : {f : List ℕ} → Formed f → Belongs f 0 (word f 0 headerProcedures)
+pub first-owner : {f : List ℕ} → Formed f → OwnedBy f 0 (word f 0 headerProcedures)
 unfolding nextMore
 first-owner {f} F z = next-of F 0 (counted F .some) kHeader 0 (header-kind f (F .header) (F .form)) refl z ∙ omega (arith, owner-none F)
 
@@ -282,7 +282,7 @@ module _ {f : List ℕ} (F : Formed f) where
         (stands-nth F procedures refl (word f 0 headerProcedures) (procedures-stand F) q, λ e. omega (arith, place-past xs (records-some f (word f 0 headerProcedures)) q e, count-records))
 
     -- its first goal
-    pub procedure-first : Belongs f q (word f (procedureRecord f q) procedureGoals)
+    pub procedure-first : OwnedBy f q (word f (procedureRecord f q) procedureGoals)
     procedure-first z =
         let s = procedure-stands in
         procedure-owned F refl (procedure-is (s .0) (s .1)) .to-goals z ∙ procedure-owner

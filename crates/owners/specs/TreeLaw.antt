@@ -21,7 +21,7 @@ use Rattle.chains.specs.Parts.{switch-at, arm-at, if-at, call-at}
 use Rattle.chains.specs.Declared.{procedure-at}
 use Rattle.owners.specs.Referred.{sortOf, usesOf, Each, EachOf, header-uses, outward, inward, each-later}
 use Rattle.owners.specs.Owner.{ownerOf}
-use Rattle.owners.specs.Owners.{Belongs, goal-next, switch-arms, arm-next, arm-goals, if-then, if-else, procedure-next, procedure-goals, first-owner}
+use Rattle.owners.specs.Owners.{OwnedBy, goal-next, switch-arms, arm-next, arm-goals, if-then, if-else, procedure-next, procedure-goals, first-owner}
 use Rattle.owners.specs.Everywhere.{allGoals, allArms, allFrom, everyGoal, ifGoal, recordTest, everyRecord}
 
 -- ---- tests, in another order
@@ -89,7 +89,7 @@ module _ (L : ℕ → Goal → Bool) (f : List ℕ) where
   each-words w (first c ∷ us) k e = true-and (e .0) (each-words w us (suc k) (e .1))
 
   -- ---- the test of a chain that belongs to procedure q
-  module _ {q w : ℕ} (b : Belongs f q w) where
+  module _ {q w : ℕ} (b : OwnedBy f q w) where
     owned-goals : allGoals (L q) (goalsAt f w) ≡ chainTest goals w
     unfolding chainTest allGoals
     owned-goals = elim (ℕ-discrete w 0) [ yes z ↦ rw (goals-none f z) | no z ↦ rw (b z) ]
@@ -121,21 +121,21 @@ module _ (L : ℕ → Goal → Bool) {f : List ℕ} (F : Formed f) (i : ℕ) (q 
   here = L (ownerOf f i) (goalAt f i)
 
   -- a goal without parts
-  plain-goal : {s : Step} → goalsAt f i ≡ step s then goalsAt f (word f i nextWord) → goalAt f i ≡ step s → Belongs f (ownerOf f i) (word f i nextWord)
+  plain-goal : {s : Step} → goalsAt f i ≡ step s then goalsAt f (word f i nextWord) → goalAt f i ≡ step s → OwnedBy f (ownerOf f i) (word f i nextWord)
       → chainTest L f goals i ≡ (here & (chainTest L f goals (word f i nextWord) & true))
   unfolding chainTest allGoals
   plain-goal v g b = rw (v, g, owned-goals L f b) (one-swap _ _)
 
   switch-goal : {x : ℕ} → goalsAt f i ≡ switch x (armsAt f (word f i switchArms)) then goalsAt f (word f i nextWord)
       → goalAt f i ≡ switch x (armsAt f (word f i switchArms))
-      → Belongs f (ownerOf f i) (word f i nextWord) → Belongs f (ownerOf f i) (word f i switchArms)
+      → OwnedBy f (ownerOf f i) (word f i nextWord) → OwnedBy f (ownerOf f i) (word f i switchArms)
       → chainTest L f goals i ≡ (here & (chainTest L f goals (word f i nextWord) & (chainTest L f arms (word f i switchArms) & true)))
   unfolding chainTest allGoals
   switch-goal v g b c = rw (v, g, owned-goals L f b, owned-arms L f c) (three-swap _ _ _)
 
   if-goal : {y z : ℕ} → goalsAt f i ≡ ifLess y z (goalsAt f (word f i ifThen)) (goalsAt f (word f i ifElse)) then goalsAt f (word f i nextWord)
       → goalAt f i ≡ ifLess y z (goalsAt f (word f i ifThen)) (goalsAt f (word f i ifElse))
-      → Belongs f (ownerOf f i) (word f i nextWord) → Belongs f (ownerOf f i) (word f i ifThen) → Belongs f (ownerOf f i) (word f i ifElse)
+      → OwnedBy f (ownerOf f i) (word f i nextWord) → OwnedBy f (ownerOf f i) (word f i ifThen) → OwnedBy f (ownerOf f i) (word f i ifElse)
       → chainTest L f goals i ≡ (here & (chainTest L f goals (word f i nextWord) & (chainTest L f goals (word f i ifThen) & (chainTest L f goals (word f i ifElse) & true))))
   unfolding chainTest allGoals
   if-goal v g b c d = rw (v, g, owned-goals L f b, owned-goals L f c, owned-goals L f d) (four-swap _ _ _ _)

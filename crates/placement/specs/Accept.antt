@@ -20,7 +20,7 @@ use Rattle.region_graph.specs.Laws.{Declared}
 use Rattle.placement.specs.Given.{small-liveStep, small-live, small-liveGoal}
 use Rattle.placement.specs.Wanted.{kept-wanted, reach-wanted, Within, wanted-within, within-small}
 use Rattle.placement.specs.Effects.{FitsStep}
-use Rattle.placement.specs.Fits.{ArmStart, Fits, fits-done, fits-then, FitsGoal, fits-step, fits-switch, fits-if, FitsArms, fits-last, fits-more}
+use Rattle.placement.specs.Fits.{ArmStart, GoalsFit, fits-done, fits-then, FitsGoal, fits-step, fits-switch, fits-if, FitsArms, fits-last, fits-more}
 use Rattle.placement.specs.Held.{removed-held, removed-wants, removed-within, ends-apart, bears-apart, created-mk, step-wants, goal-wants, then-wants, else-wants, arms-held, then-held, created-within, goal-within}
 use Rattle.placement.specs.Passes.{Passes, passes-by, passes-on, check-before, step-passes, removing-passes, creating-passes}
 
@@ -132,7 +132,7 @@ module _ (P : Program) (S : Signature) (D : Declared (P .types) S) where
     unfolding placeGoals placeGoal placeArms goingOn placedIf placedSwitch placedArm live liveGoal checkGoals checkGoal checkArms
 
     -- THE INDUCTION: placed goals pass, and end with exactly what is wanted held and all that is live sound
-    pub placed-passes : {gs : Goals} {after : Set} → Fits P S gs after → (held sound : Set) → Small after
+    pub placed-passes : {gs : Goals} {after : Set} → GoalsFit P S gs after → (held sound : Set) → Small after
         → subset (wanted S (live P gs after)) held ≡ true → Within S held → subset (live P gs after) sound ≡ true
         → Passes after (wanted S after) (checkGoals P S (placeGoals P S gs after held .goals) held sound)
     placed-passes (fits-done {after = after}) held sound t h W c =

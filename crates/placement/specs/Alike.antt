@@ -16,12 +16,12 @@ use Rattle.language.specs.Annotation.{annotate, annotateProcedure}
 use Rattle.language.specs.PlainRun.{stripped, stripProcedure}
 use Rattle.placement.specs.Combine.{after-same, carry-same}
 
-pub record Alike (P R : Program) : Type 0 where
+pub record AlikePrograms (P R : Program) : Type 0 where
   pub types : P .types ≡ R .types
   pub count : length (P .procedures) ≡ length (R .procedures)
   pub signatures : (p : ℕ) → signatureOf P p ≡ signatureOf R p
 
-module _ (P R : Program) (A : Alike P R) where
+module _ (P R : Program) (A : AlikePrograms P R) where
   -- ---- steps
   pub alike-access : (g : Step) → access P g ≡ access R g
   unfolding access
@@ -179,7 +179,7 @@ signature-map f d h (p ∷ ps) zero = sym (h p)
 signature-map f d h (p ∷ ps) (suc n) = signature-map f d h ps n
 
 rebuilt : (P : Program) (f : Procedure → Procedure) → ((p : Procedure) → f p .signature ≡ p .signature)
-    → Alike P (record { types = P .types; procedures = map f (P .procedures) })
+    → AlikePrograms P (record { types = P .types; procedures = map f (P .procedures) })
 unfolding signatureOf procedureAt
 rebuilt P f h = record {
   types = refl;
@@ -187,11 +187,11 @@ rebuilt P f h = record {
   signatures = signature-map f _ h (P .procedures);
 }
 
-pub alike-annotated : (P : Program) → Alike P (annotate P)
+pub alike-annotated : (P : Program) → AlikePrograms P (annotate P)
 unfolding annotate annotateProcedure
 alike-annotated P = rebuilt P (annotateProcedure P) (λ p. refl)
 
-pub alike-stripped : (P : Program) → Alike P (stripped P)
+pub alike-stripped : (P : Program) → AlikePrograms P (stripped P)
 unfolding stripped stripProcedure
 alike-stripped P = rebuilt P stripProcedure (λ p. refl)
 

@@ -1,4 +1,4 @@
--- What the placement relies on, point by point, in goals that pass numbers 3, 5 and 7: `Fits`. Everything about placed goals goes by it.
+-- What the placement relies on, point by point, in goals that pass numbers 3, 5 and 7: `GoalsFit`. Everything about placed goals goes by it.
 use Prim.Native.Nat.{ℕ, suc, _≤_}
 use mathlib.Core.Path.{_≡_, refl, sym, ap, _∙_}
 use mathlib.Core.Bool.{true, false, false≢true}
@@ -28,22 +28,22 @@ pub record ArmStart (S : Signature) (l b : Set) (ys : Four) : Type 0 where
   pub wants : subset (wanted S b) (wanted S l) ≡ true
 
 mutual
-  pub data Fits (P : Program) (S : Signature) : Goals → Set → Type 0 where
-    fits-done : {after : Set} → Fits P S done after
-    fits-then : {g : Goal} {gs : Goals} {after : Set} → FitsGoal P S g (live P gs after) → Fits P S gs after → Fits P S (g then gs) after
+  pub data GoalsFit (P : Program) (S : Signature) : Goals → Set → Type 0 where
+    fits-done : {after : Set} → GoalsFit P S done after
+    fits-then : {g : Goal} {gs : Goals} {after : Set} → FitsGoal P S g (live P gs after) → GoalsFit P S gs after → GoalsFit P S (g then gs) after
 
   pub data FitsGoal (P : Program) (S : Signature) : Goal → Set → Type 0 where
     fits-step : {g : Step} {after : Set} → FitsStep P S g after → FitsGoal P S (step g) after
     fits-switch : {x : ℕ} {cs : Arms} {after : Set} → member (liveGoal P (switch x cs) after) x ≡ true
         → FitsArms P S (liveGoal P (switch x cs) after) cs after → FitsGoal P S (switch x cs) after
     fits-if : {y z : ℕ} {a b : Goals} {after : Set} → member (liveGoal P (ifLess y z a b) after) y ≡ true
-        → member (liveGoal P (ifLess y z a b) after) z ≡ true → Fits P S a after → Fits P S b after → FitsGoal P S (ifLess y z a b) after
+        → member (liveGoal P (ifLess y z a b) after) z ≡ true → GoalsFit P S a after → GoalsFit P S b after → FitsGoal P S (ifLess y z a b) after
 
   -- arms of a switch before which l is live; there is one
   pub data FitsArms (P : Program) (S : Signature) : Set → Arms → Set → Type 0 where
-    fits-last : {l : Set} {f : ℕ} {ys : Four} {gs : Goals} {after : Set} → ArmStart S l (live P gs after) ys → Fits P S gs after
+    fits-last : {l : Set} {f : ℕ} {ys : Four} {gs : Goals} {after : Set} → ArmStart S l (live P gs after) ys → GoalsFit P S gs after
         → FitsArms P S l (arm f ys gs noArms) after
-    fits-more : {l : Set} {f k : ℕ} {ys zs : Four} {gs hs : Goals} {cs : Arms} {after : Set} → ArmStart S l (live P gs after) ys → Fits P S gs after
+    fits-more : {l : Set} {f k : ℕ} {ys zs : Four} {gs hs : Goals} {cs : Arms} {after : Set} → ArmStart S l (live P gs after) ys → GoalsFit P S gs after
         → FitsArms P S l (arm k zs hs cs) after → FitsArms P S l (arm f ys gs (arm k zs hs cs)) after
 
 -- ---- the arguments of an arm lie in the targets of edges
@@ -93,7 +93,7 @@ module _ (P : Program) (S : Signature) (H : Home P S) where
     unfolding goalsOk goalOk armsOk goalsRegions goalRegions armsRegions goalsClasses goalClasses armsClasses someArm liveGoal liveArms
 
     -- goals that pass numbers 3, 5 and 7
-    pub fits : (gs : Goals) (after : Set) → goalsOk P S gs ≡ true → goalsRegions P S gs ≡ true → goalsClasses P S gs after ≡ true → Fits P S gs after
+    pub fits : (gs : Goals) (after : Set) → goalsOk P S gs ≡ true → goalsRegions P S gs ≡ true → goalsClasses P S gs after ≡ true → GoalsFit P S gs after
     fits done after t r c = fits-done
     fits (g then gs) after t r c =
         fits-then (goal-fits g (live P gs after) (and-true t .0) (and-true r .0) (and-true c .0))

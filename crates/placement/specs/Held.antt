@@ -15,7 +15,7 @@ use Rattle.laws.specs.MoreSets.{intersection-whole}
 use Rattle.region_graph.specs.Laws.{Declared}
 use Rattle.placement.specs.Wanted.{wanted-mono, Within, within-union, within-difference, within-intersection, wanted-within}
 use Rattle.placement.specs.Effects.{FitsStep}
-use Rattle.placement.specs.Fits.{Fits, fits-done, fits-then, FitsGoal, fits-step, fits-switch, fits-if, FitsArms, fits-last, fits-more}
+use Rattle.placement.specs.Fits.{GoalsFit, fits-done, fits-then, FitsGoal, fits-step, fits-switch, fits-if, FitsArms, fits-last, fits-more}
 
 -- after the removes, what is wanted is held and nothing else
 pub removed-held : (S : Signature) (held l : Set) → subset (wanted S l) held ≡ true → removing held (wanted S l) .held ≡ wanted S l
@@ -85,7 +85,7 @@ module _ (P : Program) (S : Signature) where
     unfolding placeGoals placeGoal placeArms goingOn placedIf placedSwitch placedArm live liveGoal liveArms
 
     -- THE INVARIANT: goals that are met with all that is wanted there end with exactly what is wanted after them
-    pub goals-held : {gs : Goals} {after : Set} → Fits P S gs after → (held : Set) → subset (wanted S (live P gs after)) held ≡ true
+    pub goals-held : {gs : Goals} {after : Set} → GoalsFit P S gs after → (held : Set) → subset (wanted S (live P gs after)) held ≡ true
         → placeGoals P S gs after held .held ≡ wanted S after
     goals-held (fits-done {after = after}) held h = removed-held S held after h
     goals-held (fits-then {g = g} {gs = gs} {after = after} F G) held h =
@@ -112,12 +112,12 @@ module _ (P : Program) (S : Signature) where
     arms-held A h = first-held after held A (arms-alike A held h)
 
     -- and so do those of an if
-    pub then-held : (y z : ℕ) (a b : Goals) → Fits P S a after → subset (wanted S (liveGoal P (ifLess y z a b) after)) held ≡ true
+    pub then-held : (y z : ℕ) (a b : Goals) → GoalsFit P S a after → subset (wanted S (liveGoal P (ifLess y z a b) after)) held ≡ true
         → placeGoals P S a after held .held ≡ wanted S after
     unfolding liveGoal
     then-held y z a b F h = goals-held F held (subset-trans _ _ held (then-wants S y z (live P a after) (live P b after)) h)
 
-    pub else-held : (y z : ℕ) (a b : Goals) → Fits P S b after → subset (wanted S (liveGoal P (ifLess y z a b) after)) held ≡ true
+    pub else-held : (y z : ℕ) (a b : Goals) → GoalsFit P S b after → subset (wanted S (liveGoal P (ifLess y z a b) after)) held ≡ true
         → placeGoals P S b after held .held ≡ wanted S after
     unfolding liveGoal
     else-held y z a b F h = goals-held F held (subset-trans _ _ held (else-wants S y z (live P a after) (live P b after)) h)

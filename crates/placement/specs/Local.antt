@@ -10,7 +10,7 @@ use Rattle.language.specs.Lifetimes.{wanted, liveStep, live, liveGoal, heldAfte
 use Rattle.language.specs.Annotation.{creates, removes, goingOn, removing, placedIf, placedSwitch, placedArm, createdFor, placeStep, placeGoals, placeGoal, placeArms}
 use Rattle.laws.specs.MoreSets.{difference-self, members-empty}
 use Rattle.laws.specs.Goals.{before-done, before-assoc}
-use Rattle.placement.specs.Fits.{Fits, fits-done, fits-then, FitsGoal, fits-step, fits-switch, fits-if, FitsArms, fits-last, fits-more}
+use Rattle.placement.specs.Fits.{GoalsFit, fits-done, fits-then, FitsGoal, fits-step, fits-switch, fits-if, FitsArms, fits-last, fits-more}
 use Rattle.placement.specs.Held.{removed-held, removed-wants, goal-wants, then-wants, else-wants, arms-held, then-held}
 
 -- removes from `held` to what is wanted where l is live
@@ -67,7 +67,7 @@ module _ (P : Program) (S : Signature) where
     unfolding placeGoals placeGoal placeArms goingOn removing placedIf placedSwitch placedArm live liveGoal localGoals removesTo withRemoves
 
     -- THE LOCAL FORM: the annotated goals do not depend on how `held` is carried
-    pub placed-local : {gs : Goals} {after : Set} → Fits P S gs after → (held : Set) → subset (wanted S (live P gs after)) held ≡ true
+    pub placed-local : {gs : Goals} {after : Set} → GoalsFit P S gs after → (held : Set) → subset (wanted S (live P gs after)) held ≡ true
         → placeGoals P S gs after held .goals ≡ removesTo S held (live P gs after) before localGoals gs after
     placed-local (fits-done {after = after}) held h = sym (before-done _)
     placed-local (fits-then {g = g} {gs = gs} {after = after} F G) held h =

@@ -17,7 +17,7 @@ use Rattle.laws.specs.Tests.{and-assoc, yes-and, and-yes}
 use Rattle.region_graph.specs.Laws.{Declared}
 use Rattle.placement.specs.Wanted.{Within, within-difference}
 use Rattle.placement.specs.Effects.{FitsStep}
-use Rattle.placement.specs.Fits.{Fits, fits-done, fits-then, FitsGoal, fits-step, fits-switch, fits-if, FitsArms, fits-last, fits-more}
+use Rattle.placement.specs.Fits.{GoalsFit, fits-done, fits-then, FitsGoal, fits-step, fits-switch, fits-if, FitsArms, fits-last, fits-more}
 use Rattle.placement.specs.Held.{removed-wants, removed-within, goal-wants, then-wants, else-wants, created-within, goal-within}
 
 module _ (P : Program) (S : Signature) where
@@ -62,7 +62,7 @@ module _ (P : Program) (S : Signature) where
       unfolding placeGoals placeGoal placeArms goingOn placedIf placedSwitch placedArm goalsOk goalOk armsOk live liveGoal
 
       -- placed goals pass number 3 where the input's do
-      pub placed-typed : {gs : Goals} {after : Set} → Fits P S gs after → (held : Set) → subset (wanted S (live P gs after)) held ≡ true
+      pub placed-typed : {gs : Goals} {after : Set} → GoalsFit P S gs after → (held : Set) → subset (wanted S (live P gs after)) held ≡ true
           → Within S held → goalsOk P S (placeGoals P S gs after held .goals) ≡ goalsOk P S gs
       placed-typed (fits-done {after = after}) held h W = ok-removing held (wanted S after) W
       placed-typed (fits-then {g = g} {gs = gs} {after = after} F G) held h W =

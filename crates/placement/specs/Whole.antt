@@ -25,7 +25,7 @@ use Rattle.placement.specs.Marks.{all-annotated, annotated-values, annot
 use Rattle.placement.specs.Given.{start-live}
 use Rattle.placement.specs.Wanted.{Within, start-within, start-wanted, end-wanted}
 use Rattle.placement.specs.Effects.{Home}
-use Rattle.placement.specs.Fits.{Fits, fits}
+use Rattle.placement.specs.Fits.{GoalsFit, fits}
 use Rattle.placement.specs.Held.{goals-held}
 use Rattle.placement.specs.Local.{removesTo, localGoals, placed-local}
 use Rattle.placement.specs.Typed.{placed-typed}
@@ -78,7 +78,7 @@ module _ (P : Program) (A : Annotatable P) where
       functors = functors-some (P .types) S (signature-typed P (A .typing) p) (types-typed P (A .typing));
     }
 
-    pub procedure-fits : Fits P S goals outs
+    pub procedure-fits : GoalsFit P S goals outs
     procedure-fits =
         fits P S procedure-home goals outs (goals-typed P (A .typing) p) (goals-regioned P (A .regions) p) (goals-classed P (A .calls) p)
 

@@ -38,14 +38,14 @@ module _ (step : ℕ → List ℕ → List ℕ) (owner : ℕ → ℕ) (top : ℕ
   down-above (suc n) l t p h = down-above n (omega arith) (step n t) p (omega arith) ∙ own n (omega arith) t p (λ e. omega arith)
 
   -- the table u that the step of record i finds: later records are done
-  pub record Found (n i : ℕ) (t u : List ℕ) : Type 0 where
+  pub record StepFinds (n i : ℕ) (t u : List ℕ) : Type 0 where
     pub here : (p : ℕ) → owner p ≡ i → getD (eachDown step n t) p 0 ≡ getD (step i u) p 0
     pub low : (p : ℕ) → owner p ≤ i → getD u p 0 ≡ getD t p 0
     pub high : (p : ℕ) → i < owner p → getD u p 0 ≡ getD (eachDown step n t) p 0
     pub long : length u ≡ length t
 
   module _ (same : (i : ℕ) (t : List ℕ) → length (step i t) ≡ length t) where
-    found-first : (n : ℕ) → suc n ≤ top → (t : List ℕ) → Found (suc n) n t t
+    found-first : (n : ℕ) → suc n ≤ top → (t : List ℕ) → StepFinds (suc n) n t t
     unfolding eachDown
     found-first n l t = record {
       here = λ p o. down-above n (omega arith) (step n t) p (omega arith);
@@ -54,7 +54,7 @@ module _ (step : ℕ → List ℕ → List ℕ) (owner : ℕ → ℕ) (top : ℕ
       long = refl;
     }
 
-    found-later : (n i : ℕ) → suc n ≤ top → i < n → (t u : List ℕ) → Found n i (step n t) u → Found (suc n) i t u
+    found-later : (n i : ℕ) → suc n ≤ top → i < n → (t u : List ℕ) → StepFinds n i (step n t) u → StepFinds (suc n) i t u
     unfolding eachDown
     found-later n i l h t u R = record {
       here = R .here;
@@ -63,7 +63,7 @@ module _ (step : ℕ → List ℕ → List ℕ) (owner : ℕ → ℕ) (top : ℕ
       long = R .long ∙ same n t;
     }
 
-    pub found : (n i : ℕ) → n ≤ top → i < n → (t : List ℕ) → (u : List ℕ) × Found n i t u
+    pub found : (n i : ℕ) → n ≤ top → i < n → (t : List ℕ) → (u : List ℕ) × StepFinds n i t u
     found zero i l h t = absurd (omega arith)
     found (suc n) i l h t = elim (ℕ-discrete i n) [
       | yes e ↦ rw e (t, found-first n l t)

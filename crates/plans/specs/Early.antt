@@ -35,13 +35,13 @@ use Rattle.plans.specs.Turns.{call-record}
 use Rattle.plans.specs.Links.{Joinable, small-ok}
 
 -- the word v at place p of the plan leads to a record, or to images
-pub record Reaches (p v : ℕ) : Type 0 where
+pub record LeadsOn (p v : ℕ) : Type 0 where
   pub goal : p < insFrom → v < maxRecords
   pub side : sidesFrom ≤ p → v + maxRegions < imageBytes
 
 -- .. and what an argument matches is a number of a variable; if it matches anything, so is what it gives
 pub record Early (f : List ℕ) (p v : ℕ) : Type 0 where
-  pub reaches : Reaches p v
+  pub reaches : LeadsOn p v
   pub small : insFrom ≤ p → v ≤ maxVariables
   pub given : (a : ℕ) → p ≡ modesFrom + a → (v ≡ 0 → ⊥) → word f a argumentVariable ≤ maxVariables
 

@@ -35,7 +35,7 @@ pub record CallImages (f : List ℕ) (i : ℕ) (t : List ℕ) : Type 0 where
   pub at : (r : ℕ) → getD t r 0 ≡ imageOf f i r
 
 -- .. of the last call, at record j; there is none before the first
-pub record Found (f : List ℕ) (j : ℕ) (t : List ℕ) : Type 0 where
+pub record LastCall (f : List ℕ) (j : ℕ) (t : List ℕ) : Type 0 where
   pub below : j < recordCount f
   pub regions : Regions t
   pub call : IsCall f j → CallImages f j t
@@ -69,7 +69,7 @@ blank-regions : {t : List ℕ} → Blank t → Regions t
 blank-regions B = record { room = B .room; below = λ r. let h = B .none r in omega arith }
 
 -- before the first call
-pub found-none : {f t : List ℕ} → Formed f → t ≡ replicate places 0 → Found f 0 t
+pub found-none : {f t : List ℕ} → Formed f → t ≡ replicate places 0 → LastCall f 0 t
 unfolding kindOf kinds nth
 found-none {f} F e = record {
   below = counted F .some;
@@ -113,11 +113,11 @@ again : (f : List ℕ) (i j : ℕ) → ownerOf f i ≡ ownerOf f j → word f i 
 unfolding imageOf
 again f i j o c m r = rw (← o, ← c) (ap (λ (x : Mapping). imageIn x r) (sym m))
 
-pub found-call : {f : List ℕ} {i : ℕ} {t : List ℕ} → i < recordCount f → CallImages f i t → Found f i t
+pub found-call : {f : List ℕ} {i : ℕ} {t : List ℕ} → i < recordCount f → CallImages f i t → LastCall f i t
 found-call l C = record { below = l; regions = C .regions; call = λ k. C }
 
 -- a call that repeats the last one has its images
-pub found-again : {f table owners own : List ℕ} → Given f table owners → {i j : ℕ} → Here f own i → {t : List ℕ} → Found f j t → Repeats f own owners j i → Found f i t
+pub found-again : {f table owners own : List ℕ} → Given f table owners → {i j : ℕ} → Here f own i → {t : List ℕ} → LastCall f j t → Repeats f own owners j i → LastCall f i t
 found-again {f} G {i} {j} H {t} D R = found-call (H .below) (record { regions = D .regions; at = λ r. D .call (R .kind) .at r ∙ equal r })
   where
     owner : ownerOf f i ≡ ownerOf f j

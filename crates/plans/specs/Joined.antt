@@ -10,11 +10,11 @@ use Rattle.language.specs.Lists.{choose}
 use Rattle.language.specs.File.{word, recordCount}
 use Rattle.language.specs.Format.{maxRecords, nextWord, armGoals, callArguments, argumentKind, armKind, callKind}
 use Rattle.chains.specs.Formed.{Formed, counted}
-use Rattle.word_machine.specs.Tables.{linkUnit, Passed, onto}
+use Rattle.word_machine.specs.Tables.{linkUnit, PassingMode, onto}
 use Rattle.word_machine.specs.Passing.{packed}
 use Rattle.plans.specs.Plan.{linksFrom, planWords}
 use Rattle.plans.specs.Passes.{slotsFrom, modesFrom, isKind, firstIn, goalOf, argumentLink, linkOf, joinedAt, joining}
-use Rattle.plans.specs.Down.{Found, found}
+use Rattle.plans.specs.Down.{StepFinds, found}
 use Rattle.plans.specs.Links.{Joinable, by-mode, firstBy, first-by, call-at-test, argument-at-test, joined-length, joined-own, joined-goal, joined-ins, joined-outs, joinable-down}
 
 first-none : (m : ℕ) (t : List ℕ) → getD t (linksFrom m + 0) 0 / linkUnit ≡ 0 → firstIn m 0 t ≡ 0
@@ -28,7 +28,7 @@ first-same m a t u e = ap (firstBy a) e
 links-whose : (m a : ℕ) → a < maxRecords → (linksFrom m + a) % maxRecords ≡ a
 links-whose m a l = by-mode (λ s. (s + a) % maxRecords ≡ a) m (omega arith) (omega arith)
 
-joined-link : (f : List ℕ) (i : ℕ) → i < maxRecords → (t : List ℕ) → length t ≡ planWords → (m : ℕ) → Passed m
+joined-link : (f : List ℕ) (i : ℕ) → i < maxRecords → (t : List ℕ) → length t ≡ planWords → (m : ℕ) → PassingMode m
     → getD (joinedAt f i t) (linksFrom m + i) 0 ≡ linkOf f m i t t
 unfolding linksFrom choose
 joined-link f i l t h m (inl e) = rw e (joined-ins f i l t h)
@@ -46,7 +46,7 @@ module _ {f : List ℕ} (F : Formed f) (t : List ℕ) (J : Joinable f (recordCou
   joining-ok = joinable-down F (recordCount f) t J
 
   -- the table that the step of record i finds
-  here : (i : ℕ) → i < recordCount f → (u : List ℕ) × Found (joinedAt f) (λ p. p % maxRecords) maxRecords (λ j l v p. joined-own f j l v p) (recordCount f) i t u
+  here : (i : ℕ) → i < recordCount f → (u : List ℕ) × StepFinds (joinedAt f) (λ p. p % maxRecords) maxRecords (λ j l v p. joined-own f j l v p) (recordCount f) i t u
   here i l = found (joinedAt f) (λ p. p % maxRecords) maxRecords (λ j h v p. joined-own f j h v p) (joined-length f) (recordCount f) i few l t
 
   pub goal-read : (i : ℕ) → i < recordCount f → getD (joining f t) i 0 ≡ goalOf f i t
@@ -67,7 +67,7 @@ module _ {f : List ℕ} (F : Formed f) (t : List ℕ) (J : Joinable f (recordCou
       go false true p q = absurd (let z = argument-at-test F 0 q .some in omega arith)
       go false false p q = refl
 
-  module _ (m : ℕ) (p : Passed m) where
+  module _ (m : ℕ) (p : PassingMode m) where
     zero-link : getD (joining f t) (linksFrom m + 0) 0 ≡ 0
     unfolding joining
     zero-link =

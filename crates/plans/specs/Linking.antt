@@ -22,7 +22,7 @@ use Rattle.chains.specs.Kinds.{kindIn, kind-read}
 use Rattle.chains.specs.Parts.{call-at}
 use Rattle.chains.specs.Records.{chainRecords, records-none, records-step, along}
 use Rattle.chains.specs.Shapes.{kind-number}
-use Rattle.word_machine.specs.Tables.{linkUnit, Passed, slotOf}
+use Rattle.word_machine.specs.Tables.{linkUnit, PassingMode, slotOf}
 use Rattle.word_machine.specs.Passing.{packed, packed-slot, ofMode}
 use Rattle.plans.specs.Plan.{linksFrom, linked}
 use Rattle.plans.specs.Passes.{slotsFrom, modesFrom, isKind, firstIn, argumentLink, linkOf, joining}
@@ -41,7 +41,7 @@ linked-more : (link : ℕ → ℕ) (n x a : ℕ) → x < a → link x / linkUnit
 unfolding linked choose
 linked-more link n x a l e = rw (e, lt-ltb x a l) refl
 
-module _ {f : List ℕ} (F : Formed f) (t : List ℕ) (J : Joinable f (recordCount f) t) (m : ℕ) (p : Passed m) (slot mode link : ℕ → ℕ)
+module _ {f : List ℕ} (F : Formed f) (t : List ℕ) (J : Joinable f (recordCount f) t) (m : ℕ) (p : PassingMode m) (slot mode link : ℕ → ℕ)
     (slot-is : (a : ℕ) → a < recordCount f → getD t (slotsFrom + a) 0 ≡ slot a) (mode-is : (a : ℕ) → a < recordCount f → getD t (modesFrom + a) 0 ≡ mode a)
     (link-is : (a : ℕ) → a < recordCount f → link a ≡ getD (joining f t) (linksFrom m + a) 0) where
   -- what an argument of the mode passes

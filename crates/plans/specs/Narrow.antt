@@ -24,7 +24,7 @@ use Rattle.plans.specs.Tests.{kind-is}
 use Rattle.plans.specs.Kept.{Every, set-keeps, each-keeps, down-keeps}
 use Rattle.plans.specs.Pictures.{siding-low, before-few}
 use Rattle.plans.specs.Joined.{joining-ok}
-use Rattle.plans.specs.Early.{Reaches, onto-few, matchedPlan, early-matched, matched-joinable}
+use Rattle.plans.specs.Early.{LeadsOn, onto-few, matchedPlan, early-matched, matched-joinable}
 
 -- the region of a variable, 0 or one of the procedure's
 pub home-few : (T : List (List Functor)) (S : Signature) → signatureOk T S ≡ true → (x : ℕ) → regionOf S x ≤ maxRegions
@@ -37,15 +37,15 @@ module _ {f : List ℕ} (F : Formed f) where
   word-few i l true e = arm-at F refl (by-number f i kArm refl (kind-is f i armKind e)) .to-goals .stands .below
   word-few i l false e = elim (next-leads (word f) (recordCount f) (F .form) i l) [ inl z ↦ omega (arith, counted F .some) | inr u ↦ u .1 ]
 
-  joined-reaches : (i : ℕ) → i < recordCount f → (t : List ℕ) → Every Reaches t → Every Reaches (joinedAt f i t)
+  joined-reaches : (i : ℕ) → i < recordCount f → (t : List ℕ) → Every LeadsOn t → Every LeadsOn (joinedAt f i t)
   unfolding joinedAt goalOf
   joined-reaches i l t h =
       let m = counted F .most in
       let g = onto-few (word f i (choose (isKind f armKind i) armGoals nextWord)) (getD t i 0) (omega (arith, word-few i l (isKind f armKind i) refl)) (h i .goal (omega arith)) in
-      set-keeps Reaches (set (set t i (goalOf f i t)) (insFrom + i) (linkOf f inMode i t t)) (outsFrom + i) (linkOf f outMode i t t)
+      set-keeps LeadsOn (set (set t i (goalOf f i t)) (insFrom + i) (linkOf f inMode i t t)) (outsFrom + i) (linkOf f outMode i t t)
       (record { goal = λ k. absurd (omega arith); side = λ k. absurd (omega arith) })
-      (set-keeps Reaches (set t i (goalOf f i t)) (insFrom + i) (linkOf f inMode i t t) (record { goal = λ k. absurd (omega arith); side = λ k. absurd (omega arith) })
-      (set-keeps Reaches t i (goalOf f i t) (record { goal = λ k. g; side = λ k. absurd (omega arith) }) h))
+      (set-keeps LeadsOn (set t i (goalOf f i t)) (insFrom + i) (linkOf f inMode i t t) (record { goal = λ k. absurd (omega arith); side = λ k. absurd (omega arith) })
+      (set-keeps LeadsOn t i (goalOf f i t) (record { goal = λ k. g; side = λ k. absurd (omega arith) }) h))
 
   module _ (ok : typingOk (program f) ≡ true) where
     -- ---- sides
@@ -62,14 +62,14 @@ module _ {f : List ℕ} (F : Formed f) where
         go false false = omega arith
 
     module _ (t : List ℕ) (zeros : t ≡ replicate planWords 0) where
-      plan-reaches : Every Reaches (planOf f t)
+      plan-reaches : Every LeadsOn (planOf f t)
       unfolding planOf joining siding sidedAt
       plan-reaches =
-          each-keeps Reaches (sidedAt f) (recordCount f - 1) 1
-          (λ i l u v h. set-keeps Reaches v (sidesFrom + i) (sideAt f (imagesBefore f i) i)
+          each-keeps LeadsOn (sidedAt f) (recordCount f - 1) 1
+          (λ i l u v h. set-keeps LeadsOn v (sidesFrom + i) (sideAt f (imagesBefore f i) i)
           (record { goal = λ k. absurd (omega arith); side = λ k. side-few i (omega (arith, counted F .some)) }) h)
           (joining f (matchedPlan F ok t zeros))
-          (down-keeps Reaches (joinedAt f) (recordCount f) joined-reaches (matchedPlan F ok t zeros) (λ p. early-matched F ok t zeros p .reaches))
+          (down-keeps LeadsOn (joinedAt f) (recordCount f) joined-reaches (matchedPlan F ok t zeros) (λ p. early-matched F ok t zeros p .reaches))
 
       -- whatever names they have
       pub filled-narrow : {plan images : List ℕ} → plan ≡ planOf f t → ((p : ℕ) → getD images p 0 < places) → imageBytes ≤ length images → Narrow plan images

@@ -33,7 +33,7 @@ abbrev pub modesFrom : ℕ
 modesFrom = outsFrom
 
 -- the file passes numbers 1 to 3, and its table is filled
-pub record Ready (f table : List ℕ) : Type 0 where
+pub record TypedAndFilled (f table : List ℕ) : Type 0 where
   pub formed : Formed f
   pub typed : typingOk (program f) ≡ true
   pub windows : FileTable f table

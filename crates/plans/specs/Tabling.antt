@@ -33,13 +33,13 @@ use Rattle.chains.specs.Shapes.{goal-number}
 use Rattle.owners.specs.Owner.{ownerOf}
 use Rattle.owners.specs.Owners.{goal-kind, goals-owned, switch-owned, if-owned, arm-owned, procedureRecord, procedure-first, procedure-stands}
 use Rattle.tables.specs.Starts.{window-here, body-here}
-use Rattle.word_machine.specs.Tables.{Tables, Passed, slotOf, givenOf, Starts, bodyRecord, Tabled}
+use Rattle.word_machine.specs.Tables.{Tables, PassingMode, slotOf, givenOf, Continues, bodyRecord, Tabled}
 use Rattle.word_machine.specs.Filling.{slots, modes, tablesOf}
 use Rattle.word_machine.specs.Arguments.{given-small, slot-small, slots-passed, givens-passed}
 use Rattle.word_machine.specs.Tabling.{argument-matches, tabled}
 use Rattle.word_machine.specs.Passing.{ofMode}
 use Rattle.plans.specs.Plan.{sidesFrom, linksFrom, planWords, imageBytes, calleesWords, tablesIn, Numbered}
-use Rattle.plans.specs.Passes.{Ready, callerOf, joining, imageCount, imagesBefore, imageOf, sideAt, picturing, planOf, imagesOf, calleesOf}
+use Rattle.plans.specs.Passes.{TypedAndFilled, callerOf, joining, imageCount, imagesBefore, imageOf, sideAt, picturing, planOf, imagesOf, calleesOf}
 use Rattle.plans.specs.Tests.{kind-yes, kind-no}
 use Rattle.plans.specs.Pictures.{count-few, before-few, picturing-here}
 use Rattle.plans.specs.Turns.{call-is}
@@ -78,7 +78,7 @@ unfolding startHeld
 held-region T Q ok r h = region-in Q r (⊎-elim (λ s. ⊎-elim (λ d. dead-in Q r d .0) (kept-ranged T Q (declared T Q ok) r) (union-in (dead Q) (kept Q) r s)) (λ b. born-in Q r b .0) h)
 
 -- ---- all tables
-module _ {f table : List ℕ} (R : Ready f table) (plan₀ : List ℕ) (zeros : plan₀ ≡ replicate planWords 0) (images₀ : List ℕ) (room : imageBytes ≤ length images₀)
+module _ {f table : List ℕ} (R : TypedAndFilled f table) (plan₀ : List ℕ) (zeros : plan₀ ≡ replicate planWords 0) (images₀ : List ℕ) (room : imageBytes ≤ length images₀)
     (callees₀ : List ℕ) (long : length callees₀ ≡ calleesWords) where
   abbrev F : Formed f
   F = R .formed
@@ -102,7 +102,7 @@ module _ {f table : List ℕ} (R : Ready f table) (plan₀ : List ℕ) (zeros : 
   entry-same i s z = plan-goal F ok plan₀ zeros i (s .below) ∙ rw (is-arm f i s z) refl
 
   -- ---- what calls pass
-  module _ (i m q ys k : ℕ) (e : recordAt f i ≡ Call m q ys) (p : Passed k) where
+  module _ (i m q ys k : ℕ) (e : recordAt f i ≡ Call m q ys) (p : PassingMode k) where
     abbrev slot : ℕ → ℕ
     slot a = getD (slots f) a 0
 
@@ -227,7 +227,7 @@ module _ {f table : List ℕ} (R : Ready f table) (plan₀ : List ℕ) (zeros : 
       kind : (i : ℕ) → kindOf (word f i kindWord) ≡ kindIn (recordAt f i)
       kind i = sym (kind-read f i refl)
 
-      bodies : (p : ℕ) → p < length (program f .procedures) → Starts (O .onward) (ownerOf f) (T .body p) 0 p
+      bodies : (p : ℕ) → p < length (program f .procedures) → Continues (O .onward) (ownerOf f) (T .body p) 0 p
       bodies p l y =
           let same = sym (O .body p l) in
           let b = body-is p l ∙ same in

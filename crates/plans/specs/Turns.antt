@@ -26,9 +26,9 @@ use Rattle.tables.specs.Window.{Window, homeIn, firstPlace, regionsPlace}
 use Rattle.tables.specs.Starts.{windowIn}
 use Rattle.word_machine.specs.Filling.{onwardWords, filled}
 use Rattle.plans.specs.Plan.{sidesFrom}
-use Rattle.plans.specs.Passes.{Ready, eachFrom, isKind, calleeOf, placed, placedAt, placing, joining, imageCount, imagesBefore, imageOf, sideAt, sidedAt, siding, copied, picturedAt, picturing, planOf, imagesOf}
+use Rattle.plans.specs.Passes.{TypedAndFilled, eachFrom, isKind, calleeOf, placed, placedAt, placing, joining, imageCount, imagesBefore, imageOf, sideAt, sidedAt, siding, copied, picturedAt, picturing, planOf, imagesOf}
 use Rattle.plans.specs.Tests.{kind-is, kind-yes, kind-no}
-use Rattle.plans.specs.Images.{kind-differs, CallImages, Found}
+use Rattle.plans.specs.Images.{kind-differs, CallImages, LastCall}
 
 -- ---- a pass: record i is next
 module _ (step : ℕ → List ℕ → List ℕ) where
@@ -94,17 +94,17 @@ unfolding all-rows
 call-record f i e = by-number f i (kGoal kCall) refl (kind-is f i callKind e)
 
 -- ---- the table of owners
-pub owners-given : {f table owners : List ℕ} (behind : List ℕ) → Ready f table → owners ≡ ownersOf f ++ behind → Given f table owners
+pub owners-given : {f table owners : List ℕ} (behind : List ℕ) → TypedAndFilled f table → owners ≡ ownersOf f ++ behind → Given f table owners
 owners-given {f} behind R e = record { formed = R .formed; typed = R .typed; windows = R .windows; owned = λ i l. listed-owner f i behind e l }
 
 pub owners-fit : {f t : List ℕ} → Formed f → t ≡ replicate maxRecords 0 → recordCount f ≤ length t
 owners-fit {f} {t} F e = let n = counted F in omega (arith, ap length e, length-replicate {A = ℕ} maxRecords 0)
 
 -- ---- a call, by the window of its callee
-pub given-ready : {f table owners : List ℕ} → Given f table owners → Ready f table
+pub given-ready : {f table owners : List ℕ} → Given f table owners → TypedAndFilled f table
 given-ready G = record { formed = G .formed; typed = G .typed; windows = G .windows }
 
-module _ {f table : List ℕ} (R : Ready f table) (i : ℕ) (p : 0 < i) (q : i < recordCount f) {w : ℕ} (e : w ≡ word f i kindWord) (k : w ≡ callKind) {n : ℕ}
+module _ {f table : List ℕ} (R : TypedAndFilled f table) (i : ℕ) (p : 0 < i) (q : i < recordCount f) {w : ℕ} (e : w ≡ word f i kindWord) (k : w ≡ callKind) {n : ℕ}
     (g : n ≡ word f i callProcedure) {theirs : List ℕ} (h : theirs ≡ windowIn table n) where
   is-call : IsCall f i
   is-call = sym e ∙ k
@@ -165,7 +165,7 @@ pictured-call f i e k en ea {found} m t eu =
     rw (kind-yes f i callKind e k, ← en, ← ea, ← d) eu
 
 -- .. at any record: no other has images
-pub pictured-next : {f : List ℕ} {i j : ℕ} {found : List ℕ} → Found f j found → (IsCall f i → j ≡ i) → {n at : ℕ} → n ≡ imageCount f i → at ≡ imagesBefore f i → (t : List ℕ)
+pub pictured-next : {f : List ℕ} {i j : ℕ} {found : List ℕ} → LastCall f j found → (IsCall f i → j ≡ i) → {n at : ℕ} → n ≡ imageCount f i → at ≡ imagesBefore f i → (t : List ℕ)
     {u : List ℕ} → u ≡ copied (λ r. getD found r 0) n at t → u ≡ picturedAt f i t
 pictured-next {f} {i} {j} {found} D h {n} {at} en ea t {u} eu = go (ℕ-discrete (word f i kindWord) callKind)
   where

@@ -17,7 +17,7 @@ ghost use Rattle.language.specs.Program.{parametersFrom};
 ghost use Rattle.chains.specs.Formed.{Formed, Stands, variablesAt};
 ghost use Rattle.chains.specs.Records.{chainRecords};
 ghost use Rattle.tables.specs.Window.{firstPlace};
-ghost use Rattle.plans.specs.Passes.{Ready, slotsFrom, modesFrom, placed, placedAt, placing};
+ghost use Rattle.plans.specs.Passes.{TypedAndFilled, slotsFrom, modesFrom, placed, placedAt, placing};
 
 // Where the variables and the modes of arguments stand in the plan, before the links replace them.
 pub const SLOTS: usize = INS;
@@ -60,7 +60,7 @@ fn match_call(file: &[u8], callee: &[u64], arguments: usize, plan: &mut [usize; 
 
 // Record i, if it is a call.
 fn match_record(file: &[u8], table: &[u64], i: usize, plan: &mut [usize; PLAN])
-    requires { ⌜ Ready (now file) (now table) ⌝ }
+    requires { ⌜ TypedAndFilled (now file) (now table) ⌝ }
     requires { ⌜ (0 < i) × (i < recordCount (now file)) ⌝ }
     ensures { λ _. ⌜ now (plan .exit) ≡ placedAt (now (file .entry)) i (now (plan .entry)) ⌝ }
 {
@@ -74,7 +74,7 @@ fn match_record(file: &[u8], table: &[u64], i: usize, plan: &mut [usize; PLAN])
 
 // The arguments of all calls.
 pub fn match_calls(file: &[u8], table: &[u64], plan: &mut [usize; PLAN])
-    requires { ⌜ Ready (now file) (now table) ⌝ }
+    requires { ⌜ TypedAndFilled (now file) (now table) ⌝ }
     ensures { λ _. ⌜ now (plan .exit) ≡ placing (now (file .entry)) (recordCount (now (file .entry)) - 1) 1 (now (plan .entry)) ⌝ }
 {
     let n = word(file, 0, format::HEADER_COUNT);

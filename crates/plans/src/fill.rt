@@ -15,7 +15,7 @@ ghost use mathlib.Core.Path.{_≡_};
 ghost use lib.ListN.{length, replicate};
 ghost use Rattle.word_machine.specs.Tables.{Tabled};
 ghost use Rattle.plans.specs.Plan.{planWords, imageBytes, calleesWords, tablesIn, Narrow, Numbered};
-ghost use Rattle.plans.specs.Passes.{Ready, planOf, imagesOf, calleesOf};
+ghost use Rattle.plans.specs.Passes.{TypedAndFilled, planOf, imagesOf, calleesOf};
 
 // Fills the plan and the images, which have zeros before, and the callees of a file that passed numbers 1 to 3, by the file's table.
 pub fn fill_plan(
@@ -25,7 +25,7 @@ pub fn fill_plan(
     images: &mut [u8; IMAGES],
     callees: &mut [u64; CALLEES],
 )
-    requires { ⌜ Ready (now file) (now table) ⌝ }
+    requires { ⌜ TypedAndFilled (now file) (now table) ⌝ }
     requires { ⌜ now plan ≡ replicate planWords 0 ⌝ }
     requires { ⌜ now images ≡ replicate imageBytes 0 ⌝ }
     requires { ⌜ length (now callees) ≡ calleesWords ⌝ }

@@ -20,7 +20,7 @@ ghost use Rattle.regions.specs.CallMap.{Blank};
 ghost use Rattle.regions.specs.CallEffect.{CallHere};
 ghost use Rattle.plans.specs.Plan.{imageBytes};
 ghost use Rattle.plans.specs.Passes.{Regional, copied, picturing};
-ghost use Rattle.plans.specs.Images.{CallImages, Found};
+ghost use Rattle.plans.specs.Images.{CallImages, LastCall};
 
 // Zeros in every place.
 fn clear(found: &mut [usize; PLACES])
@@ -59,8 +59,8 @@ fn next_images(
 ) -> usize
     requires { ⌜ Given (now file) (now table) (now owners) ⌝ }
     requires { ⌜ (0 < i) × (i < recordCount (now file)) ⌝ }
-    requires { ⌜ Found (now file) last (now found) ⌝ }
-    ensures { λ r. ⌜ Found (now (file .entry)) r (now (found .exit)) ⌝ }
+    requires { ⌜ LastCall (now file) last (now found) ⌝ }
+    ensures { λ r. ⌜ LastCall (now (file .entry)) r (now (found .exit)) ⌝ }
     ensures { λ r. ⌜ (IsCall (now (file .entry)) i → r ≡ i) ⌝ }
 {
     if word(file, i, format::KIND) != format::CALL {

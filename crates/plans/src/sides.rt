@@ -12,11 +12,11 @@ ghost use mathlib.Core.Path.{_≡_};
 ghost use Prim.Native.Nat.{_-_, _<_};
 ghost use Rattle.language.specs.File.{recordCount};
 ghost use Rattle.regions.specs.Here.{Given};
-ghost use Rattle.plans.specs.Passes.{Ready, imageCount, sideAt, siding};
+ghost use Rattle.plans.specs.Passes.{TypedAndFilled, imageCount, sideAt, siding};
 
 // How many images record i has: a call has one for each region of its callee.
 pub fn image_count(file: &[u8], table: &[u64], i: usize) -> usize
-    requires { ⌜ Ready (now file) (now table) ⌝ }
+    requires { ⌜ TypedAndFilled (now file) (now table) ⌝ }
     requires { ⌜ (0 < i) × (i < recordCount (now file)) ⌝ }
     ensures { λ r. ⌜ r ≡ imageCount (now (file .entry)) i ⌝ }
 {

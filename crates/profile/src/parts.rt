@@ -14,7 +14,7 @@ ghost use lib.ListN.{length};
 ghost use Rattle.plans.specs.Plan.{tablesIn, Narrow, Numbered};
 ghost use Rattle.running.specs.Lent.{stepsLent};
 ghost use Rattle.profiling.specs.Text.{lineBytes};
-ghost use Rattle.profiling.specs.Moving.{Stands};
+ghost use Rattle.profiling.specs.Moving.{RunStands};
 
 // Writes bytes; where they cannot be written, a message to standard error.
 pub fn print(bytes: &[u8]) {
@@ -46,7 +46,7 @@ pub fn print_parts(
 )
     requires { ⌜ Narrow (now plan) (now images) × Numbered (now file) (now plan) ⌝ }
     requires { ⌜ lineBytes ≤ length (now out) ⌝ }
-    requires { ⌜ Stands (now file) (tablesIn (now plan) (now images) (now callees)) stepsLent (now cells) (now regions) (now frames) (now prints) first ⌝ }
+    requires { ⌜ RunStands (now file) (tablesIn (now plan) (now images) (now callees)) stepsLent (now cells) (now regions) (now frames) (now prints) first ⌝ }
 {
     let mut point = first;
     loop {

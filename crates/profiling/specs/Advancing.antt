@@ -13,34 +13,34 @@ use Rattle.profiling.specs.Text.{lineBytes}
 use Rattle.profiling.specs.declared.Point.{Point}
 use Rattle.profiling.specs.declared.Part.{Part}
 use Rattle.profiling.specs.declared.Part.the-variants.{More, Last}
-use Rattle.profiling.specs.Standing.{At, at-as, heldBy}
-use Rattle.profiling.specs.Parts.{Written, written-none, written-same, written-more}
-use Rattle.profiling.specs.Moving.{Stands, EndsAfter, Onward, lent-same}
+use Rattle.profiling.specs.Standing.{StandsAfter, at-as, heldBy}
+use Rattle.profiling.specs.Parts.{PartWritten, written-none, written-same, written-more}
+use Rattle.profiling.specs.Moving.{RunStands, EndsAfter, StepOnward, lent-same}
 use Rattle.profiling.specs.Noting.{heldAt, Notes, no-line, a-line, lineTo}
 
 -- From point p: the bytes at the front of `out₁` are the lines of the steps from p to where the run stands afterwards; or of all that were left, and
 -- so the run ended. The words with ₁ are those afterwards.
 pub data Advances (f : List ℕ) (T : Tables) (l : ℕ) (m rs fw ps : List ℕ) (p : Point) (out m₁ rs₁ fw₁ ps₁ out₁ : List ℕ) : Part → Type 0 where
-  a-part : {at : ℕ} {q : Point} → Stands f T l m₁ rs₁ fw₁ ps₁ q → p .done < q .done → q .done ≤ l → Written f (p .done) (q .done) out out₁ at → at ≤ length out₁
+  a-part : {at : ℕ} {q : Point} → RunStands f T l m₁ rs₁ fw₁ ps₁ q → p .done < q .done → q .done ≤ l → PartWritten f (p .done) (q .done) out out₁ at → at ≤ length out₁
       → Advances f T l m rs fw ps p out m₁ rs₁ fw₁ ps₁ out₁ (More at q)
-  last-part : {at n : ℕ} {e : Ending} → EndsAfter f (lentWords m rs fw ps l) e n → Written f (p .done) n out out₁ at → at ≤ length out₁
+  last-part : {at n : ℕ} {e : Ending} → EndsAfter f (lentWords m rs fw ps l) e n → PartWritten f (p .done) n out out₁ at → at ≤ length out₁
       → Advances f T l m rs fw ps p out m₁ rs₁ fw₁ ps₁ out₁ (Last at e n)
 
 -- ---- the loop: what was at the entry has ₀
 pub record Under (f : List ℕ) (T : Tables) (l : ℕ) (m₀ rs₀ fw₀ ps₀ : List ℕ) (p₀ : Point) (out₀ m rs fw ps out : List ℕ) (p : Point) (at : ℕ) : Type 0 where
-  pub stands : Stands f T l m rs fw ps p
+  pub stands : RunStands f T l m rs fw ps p
   pub cells : length m ≡ length m₀
   pub regions : length rs ≡ length rs₀
   pub frames : length fw ≡ length fw₀
   pub prints : length ps ≡ length ps₀
   pub size : length out ≡ length out₀
-  pub written : Written f (p₀ .done) (p .done) out₀ out at
+  pub written : PartWritten f (p₀ .done) (p .done) out₀ out at
   pub fits : at ≤ length out
   pub low : p₀ .done ≤ p .done
   pub moved : p₀ .done < p .done → p .done ≤ l
   pub still : p .done ≡ p₀ .done → at ≡ 0
 
-pub under-first : {f : List ℕ} {T : Tables} {l : ℕ} {m rs fw ps : List ℕ} {p : Point} (out : List ℕ) → Stands f T l m rs fw ps p
+pub under-first : {f : List ℕ} {T : Tables} {l : ℕ} {m rs fw ps : List ℕ} {p : Point} (out : List ℕ) → RunStands f T l m rs fw ps p
     → Under f T l m rs fw ps p out m rs fw ps out p 0
 under-first {f} {p = p} out H = record {
   stands = H;
@@ -64,9 +64,9 @@ same-held p m rs fw ps = refl
 module _ {f : List ℕ} {T : Tables} {l : ℕ} {m₀ rs₀ fw₀ ps₀ : List ℕ} {p₀ : Point} {out₀ m rs fw ps out : List ℕ} {p : Point} {at : ℕ}
     (U : Under f T l m₀ rs₀ fw₀ ps₀ p₀ out₀ m rs fw ps out p at) where
   module _ {m₁ rs₁ fw₁ ps₁ : List ℕ} {q : Point} (lm : length m₁ ≡ length m) (lr : length rs₁ ≡ length rs) (lf : length fw₁ ≡ length fw) (lp : length ps₁ ≡ length ps)
-      (M : Onward f T l p m₁ rs₁ fw₁ ps₁ q) where
+      (M : StepOnward f T l p m₁ rs₁ fw₁ ps₁ q) where
     -- the next point, in the memory that was lent
-    later : At f T (lentWords m rs fw ps l) (suc (p .done)) (wordsOf (q .heap) m₁ rs₁ fw₁ ps₁ (q .state)) (q .counts)
+    later : StandsAfter f T (lentWords m rs fw ps l) (suc (p .done)) (wordsOf (q .heap) m₁ rs₁ fw₁ ps₁ (q .state)) (q .counts)
     later = at-as (sym (lent-same m m₁ rs rs₁ fw fw₁ ps ps₁ l lm lr lf lp)) (M .next) refl refl (M .stands .here)
 
     line-is : lineTo p q ≡ record { step = suc (p .done); held = heldBy (wordsOf (q .heap) m₁ rs₁ fw₁ ps₁ (q .state)) (q .counts); goal = p .state .goal }
@@ -74,7 +74,7 @@ module _ {f : List ℕ} {T : Tables} {l : ℕ} {m₀ rs₀ fw₀ ps₀ : List �
         ap (λ n. record { step = n; held = heldAt q; goal = p .state .goal }) (M .next)
         ∙ ap (λ h. record { step = suc (p .done); held = h; goal = p .state .goal }) (sym (same-held q m₁ rs₁ fw₁ ps₁))
 
-    wrote : {out₁ : List ℕ} {at₁ : ℕ} → Notes p q out at out₁ at₁ → Written f (p₀ .done) (suc (p .done)) out₀ out₁ at₁
+    wrote : {out₁ : List ℕ} {at₁ : ℕ} → Notes p q out at out₁ at₁ → PartWritten f (p₀ .done) (suc (p .done)) out₀ out₁ at₁
     unfolding wordsOf
     wrote (no-line e) = written-same (U .stands .here) later (U .written) (same-held q m₁ rs₁ fw₁ ps₁ ∙ e ∙ sym (same-held p m rs fw ps))
     wrote (a-line e t) =

@@ -14,13 +14,13 @@ use Rattle.language.specs.Machine as D
 use Rattle.language.specs.Answers.{program, checked}
 use Rattle.memory.specs.Memory.{most}
 use Rattle.word_machine.specs.Tables.{Tables, Tabled}
-use Rattle.word_machine.specs.Machine.{frameWords, Words, startWords, lentWords}
+use Rattle.word_machine.specs.Machine.{frameWords, MachineWords, startWords, lentWords}
 use Rattle.word_machine.specs.Theorem.{accepted-program, accepted-formed}
 use Rattle.word_machine.specs.Returns as R
 use Rattle.word_machine.specs.WholeRun.{Agrees, agrees, start-agrees}
 use Rattle.profiling.specs.declared.Counts.{Counts}
 use Rattle.profiling.specs.Counting.{countsIn}
-use Rattle.profiling.specs.Standing.{At}
+use Rattle.profiling.specs.Standing.{StandsAfter}
 
 -- ---- the entry's frame alone
 module _ {f : List ℕ} (e : checked f ≡ Accepted) {T : Tables} (B : Tabled f T) (m rs fw ps : List ℕ) (l : ℕ) (some : 0 < holds (length fw) frameWords) where
@@ -39,7 +39,7 @@ module _ {f : List ℕ} (e : checked f ≡ Accepted) {T : Tables} (B : Tabled f 
   unfolding roomIn lentWords
   room-some = some
 
-  pub stands-first : At f T lent 0 (startWords f T m rs fw ps) (record { cells = 0; regions = 0 })
+  pub stands-first : StandsAfter f T lent 0 (startWords f T m rs fw ps) (record { cells = 0; regions = 0 })
   stands-first = record {
     tabled = B;
     accepted = accepted-program f e;
@@ -51,7 +51,7 @@ module _ {f : List ℕ} (e : checked f ≡ Accepted) {T : Tables} (B : Tabled f 
   }
 
 -- ---- few of each are held
-module _ {f : List ℕ} {T : Tables} {lent : Lent} {n : ℕ} {w : Words} {c : Counts} (H : At f T lent n w c) where
+module _ {f : List ℕ} {T : Tables} {lent : Lent} {n : ℕ} {w : MachineWords} {c : Counts} (H : StandsAfter f T lent n w c) where
   pub few-held : (c .cells ≤ most) × (c .regions ≤ most)
   unfolding roomIn holds countsIn
   few-held = rw (H .counts) (few (H .words))

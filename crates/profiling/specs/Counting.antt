@@ -26,12 +26,12 @@ use Rattle.heap.specs.Represents.{Represents}
 use Rattle.heap.specs.Creating as Creating
 use Rattle.heap.specs.Removing as Removing
 use Rattle.word_machine.specs.Tables.{Tables, Tabled}
-use Rattle.word_machine.specs.Machine.{Words}
+use Rattle.word_machine.specs.Machine.{MachineWords}
 use Rattle.word_machine.specs.Machine as M
 use Rattle.word_machine.specs.GoalKinds.{goal-is}
 use Rattle.word_machine.specs.Premises.{next-typed, next-allowed}
-use Rattle.word_machine.specs.Successors.{Onward, todo-next}
-use Rattle.word_machine.specs.Relation.{whereIn, FrameOk, Waiting, Stored}
+use Rattle.word_machine.specs.Successors.{GoalOnward, todo-next}
+use Rattle.word_machine.specs.Relation.{whereIn, FrameOk, Waiting, MemoryStored}
 use Rattle.word_machine.specs.Stepping.{frame-goals}
 use Rattle.word_machine.specs.MemorySteps.{region-word}
 use Rattle.profiling.specs.declared.Counts.{Counts}
@@ -42,7 +42,7 @@ unfoldable pub countsIn : Memory → Counts
 countsIn m = record { cells = cellsHeld (m .alive) (m .cells); regions = regionsHeld m }
 
 -- the counts after the goal at a record, from those before it and the words before it
-unfoldable pub counted : Words → Record → Counts → Counts
+unfoldable pub counted : MachineWords → Record → Counts → Counts
 counted w (Construct n x t a b c d) k = record { cells = suc (k .cells); regions = k .regions }
 counted w (Create n r) k = record { cells = k .cells; regions = suc (k .regions) }
 counted w (Remove n r) k =
@@ -89,11 +89,11 @@ module _ {k : Room} {h : Heap} {ms rs : List ℕ} {m : Memory} {ρ χ : ℕ → 
       rw (e, s) (same-counts (omega (arith, a)) (omega (arith, b)))
 
 -- ---- whichever goal is next
-module _ {f : List ℕ} {T : Tables} (B : Tabled f T) (A : Accepted (program f)) (F : Formed f) (K : Room) (qs : List ℕ) (w : Words) (e : RegionFrame)
+module _ {f : List ℕ} {T : Tables} (B : Tabled f T) (A : Accepted (program f)) (F : Formed f) (K : Room) (qs : List ℕ) (w : MachineWords) (e : RegionFrame)
     (fs : List RegionFrame) (m : Memory) (ρ χ : ℕ → ℕ) (i : ℕ) (G : FrameOk B (w .frames) (w .top) (whereIn m ρ χ) i e)
-    (W : Waiting B (w .frames) (whereIn m ρ χ) (e .frame .procedure) (e .frame .arguments) (w .top) fs) (Q : Stored K qs w m ρ χ)
+    (W : Waiting B (w .frames) (whereIn m ρ χ) (e .frame .procedure) (e .frame .arguments) (w .top) fs) (Q : MemoryStored K qs w m ρ χ)
     (I : Inv (program f) e fs m) (g : Goal) (rest : Goals) (q : e .frame .goals ≡ g then rest) where
-  O : Onward B (e .frame .procedure) i g rest
+  O : GoalOnward B (e .frame .procedure) i g rest
   O = todo-next B (G .todo) g rest q
 
   abbrev u : RegionFrame

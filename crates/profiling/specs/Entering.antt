@@ -14,14 +14,14 @@ use Rattle.word_machine.specs.Tables.{Tables, Tabled}
 use Rattle.word_machine.specs.Machine.{frameWords, blocks, cleared, startWords}
 use Rattle.plans.specs.Plan.{tablesIn, calleeWord, calleeSize}
 use Rattle.machine.specs.declared.State.{State}
-use Rattle.machine.specs.Words.{Placed, wordsOf}
+use Rattle.machine.specs.Words.{FramePlaced, wordsOf}
 use Rattle.machine.specs.Runs.{firstState}
 use Rattle.profiling.specs.declared.Held.{Held}
 use Rattle.profiling.specs.declared.Point.{Point}
 use Rattle.profiling.specs.Statement.{heldAfter, lineText, entryLine}
 use Rattle.profiling.specs.Standing.{at-as, held-here}
 use Rattle.profiling.specs.Beginning.{stands-first}
-use Rattle.profiling.specs.Moving.{Stands, lent-same}
+use Rattle.profiling.specs.Moving.{RunStands, lent-same}
 use Rattle.profiling.specs.Noting.{heldAt}
 use Rattle.profiling.specs.Advancing.{same-held}
 
@@ -34,20 +34,20 @@ module _ (f plan images callees : List ℕ) (m rs fw fx ps : List ℕ) (l : ℕ)
   unfolding startWords wordsOf firstState tablesIn
   entered size s h ez ex es eh = rw (es, eh, ex, ez)
 
-  placed-first : (s : State) → s ≡ firstState callees → length fx ≡ length fw → 0 < holds (length fw) frameWords → Placed s (length fx)
+  placed-first : (s : State) → s ≡ firstState callees → length fx ≡ length fw → 0 < holds (length fw) frameWords → FramePlaced s (length fx)
   unfolding firstState holds
   placed-first s es lx some = rw es (record { place = omega arith; fits = omega (arith, lx) })
 
   pub begin-stands : (size : ℕ) (s : State) (h : Heap) → size ≡ calleeWord callees 0 calleeSize → fx ≡ cleared 1 (blocks size) fw → s ≡ firstState callees
       → h ≡ emptyHeap (holds (length m) cellWords) (holds (length rs) regionWords) → length fx ≡ length fw → checked f ≡ Accepted → Tabled f T → 0 < holds (length fw) frameWords
-      → Stands f T l m rs fx ps (record { state = s; heap = h; counts = record { cells = 0; regions = 0 }; done = 0 })
+      → RunStands f T l m rs fx ps (record { state = s; heap = h; counts = record { cells = 0; regions = 0 }; done = 0 })
   begin-stands size s h ez ex es eh lx e B some = record {
     here = at-as (lent-same m m rs rs fw fx ps ps l refl refl lx refl) refl (entered size s h ez ex es eh) refl (stands-first e B m rs fw ps l some);
     placed = placed-first s es lx some;
   }
 
 -- the line of the entry's frame
-module _ {f : List ℕ} {T : Tables} {l : ℕ} {m rs fw ps : List ℕ} {p : Point} (S : Stands f T l m rs fw ps p) (z : p .done ≡ 0) where
+module _ {f : List ℕ} {T : Tables} {l : ℕ} {m rs fw ps : List ℕ} {p : Point} (S : RunStands f T l m rs fw ps p) (z : p .done ≡ 0) where
   entry-is : (h : Held) → h ≡ heldAt p → record { step = 0; held = h; goal = 0 } ≡ entryLine f
   unfolding entryLine
   entry-is h e =

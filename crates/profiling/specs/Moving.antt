@@ -18,9 +18,9 @@ use Rattle.records.specs.Records.{recordAt}
 use Rattle.chains.specs.Formed.{Formed}
 use Rattle.memory.specs.declared.Heap.{Heap}
 use Rattle.word_machine.specs.Tables.{Tables}
-use Rattle.word_machine.specs.Machine.{Words, Went, went, stops, steps, settled, settledIf, stepped, lentWords}
+use Rattle.word_machine.specs.Machine.{MachineWords, Went, went, stops, steps, settled, settledIf, stepped, lentWords}
 use Rattle.machine.specs.declared.State.{State}
-use Rattle.machine.specs.Words.{Placed, wordsOf}
+use Rattle.machine.specs.Words.{FramePlaced, wordsOf}
 use Rattle.profiling.specs.declared.Counts.{Counts}
 use Rattle.profiling.specs.declared.Point.{Point}
 use Rattle.profiling.specs.declared.Turn.{Turn}
@@ -28,36 +28,36 @@ use Rattle.profiling.specs.declared.Turn.the-variants.{On as TurnOn, Lac
 use Rattle.profiling.specs.declared.Moved.{Moved}
 use Rattle.profiling.specs.declared.Moved.the-variants.{On, Ended}
 use Rattle.profiling.specs.Counting.{counted}
-use Rattle.profiling.specs.Standing.{At, at-as, goal-low, steps-on, stops-here, spent-here, finished-here}
+use Rattle.profiling.specs.Standing.{StandsAfter, at-as, goal-low, steps-on, stops-here, spent-here, finished-here}
 use Rattle.profiling.specs.Turning.{turnedTo, Turns}
 
 -- the words of point p; m, rs, fw and ps are the lent words
-abbrev pub wordsAt : Point → List ℕ → List ℕ → List ℕ → List ℕ → Words
+abbrev pub wordsAt : Point → List ℕ → List ℕ → List ℕ → List ℕ → MachineWords
 wordsAt p m rs fw ps = wordsOf (p .heap) m rs fw ps (p .state)
 
 -- point p and the lent words are what stands there after as many steps as p says, l steps being lent
-pub record Stands (f : List ℕ) (T : Tables) (l : ℕ) (m rs fw ps : List ℕ) (p : Point) : Type 0 where
-  pub here : At f T (lentWords m rs fw ps l) (p .done) (wordsAt p m rs fw ps) (p .counts)
-  pub placed : Placed (p .state) (length fw)
+pub record RunStands (f : List ℕ) (T : Tables) (l : ℕ) (m rs fw ps : List ℕ) (p : Point) : Type 0 where
+  pub here : StandsAfter f T (lentWords m rs fw ps l) (p .done) (wordsAt p m rs fw ps) (p .counts)
+  pub placed : FramePlaced (p .state) (length fw)
 
 -- the run of f in the lent memory ends so after n steps
 pub record EndsAfter (f : List ℕ) (lent : Lent) (e : Ending) (n : ℕ) : Type 0 where
   pub is : D.run (program f) lent ≡ D.endedWith e n (Run.steps (program f) n)
 
 -- point q stands one step behind point p
-pub record Onward (f : List ℕ) (T : Tables) (l : ℕ) (p : Point) (m rs fw ps : List ℕ) (q : Point) : Type 0 where
+pub record StepOnward (f : List ℕ) (T : Tables) (l : ℕ) (p : Point) (m rs fw ps : List ℕ) (q : Point) : Type 0 where
   pub next : q .done ≡ suc (p .done)
   pub low : p .done < l
   pub busy : p .state .goal ≡ 0 → ⊥
-  pub stands : Stands f T l m rs fw ps q
+  pub stands : RunStands f T l m rs fw ps q
 
 -- from point p a step leads to another, or the run ends there; the words with ₁ are those afterwards
 pub data Moves (f : List ℕ) (T : Tables) (l : ℕ) (m rs fw ps : List ℕ) (p : Point) (m₁ rs₁ fw₁ ps₁ : List ℕ) : Moved → Type 0 where
-  moves-to : {q : Point} → Onward f T l p m₁ rs₁ fw₁ ps₁ q → Moves f T l m rs fw ps p m₁ rs₁ fw₁ ps₁ (On q)
+  moves-to : {q : Point} → StepOnward f T l p m₁ rs₁ fw₁ ps₁ q → Moves f T l m rs fw ps p m₁ rs₁ fw₁ ps₁ (On q)
   ends : {e : Ending} → EndsAfter f (lentWords m rs fw ps l) e (p .done) → Moves f T l m rs fw ps p m₁ rs₁ fw₁ ps₁ (Ended e)
 
 module _ {f : List ℕ} {T : Tables} {l : ℕ} {m rs fw ps : List ℕ} {p : Point} {m₁ rs₁ fw₁ ps₁ : List ℕ} where
-  pub moved-on : {r : Moved} {q : Point} → Moves f T l m rs fw ps p m₁ rs₁ fw₁ ps₁ r → r ≡ On q → Onward f T l p m₁ rs₁ fw₁ ps₁ q
+  pub moved-on : {r : Moved} {q : Point} → Moves f T l m rs fw ps p m₁ rs₁ fw₁ ps₁ r → r ≡ On q → StepOnward f T l p m₁ rs₁ fw₁ ps₁ q
   moved-on {q = q} (moves-to {q = x} o) z = let a : x ≡ q = cc in rw a at o
   moved-on (ends e) z = let x : _≡_ {A = ℕ} 0 1 = cc in absurd (omega arith)
 
@@ -73,7 +73,7 @@ lent-same m m₁ rs rs₁ fw fw₁ ps ps₁ l a b c d = rw (a, b, c, d)
 
 -- ---- a step as it is before frames go
 module _ (f : List ℕ) (T : Tables) where
-  before-went : (x : Went) (w : Words) → went w ≡ settledIf f T x → (v : Words) × (x ≡ went v) × (w ≡ settled f T v)
+  before-went : (x : Went) (w : MachineWords) → went w ≡ settledIf f T x → (v : MachineWords) × (x ≡ went v) × (w ≡ settled f T v)
   unfolding settledIf
   before-went (went v) w e = (v, refl, cc)
   before-went (stops c) w e = let z : _≡_ {A = ℕ} 0 1 = cc in absurd (omega arith)
@@ -87,11 +87,11 @@ some : (i : ℕ) → (i ≡ 0 → ⊥) → (j : ℕ) × (i ≡ suc j)
 some zero z = absurd (z refl)
 some (suc j) z = (j, refl)
 
-module _ {f : List ℕ} {T : Tables} {l : ℕ} {m rs fw ps : List ℕ} {p : Point} (H : Stands f T l m rs fw ps p) where
+module _ {f : List ℕ} {T : Tables} {l : ℕ} {m rs fw ps : List ℕ} {p : Point} (H : RunStands f T l m rs fw ps p) where
   abbrev K : Room
   K = roomIn (lentWords m rs fw ps l)
 
-  abbrev W : Words
+  abbrev W : MachineWords
   W = wordsAt p m rs fw ps
 
   pub file-formed : Formed f

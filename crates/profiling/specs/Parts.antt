@@ -5,11 +5,11 @@ use mathlib.Core.List.{List, [], _∷_, _++_, append-assoc}
 use Rattle.lines.specs.Put.{Put, put-none, put-then}
 use Rattle.language.specs.Machine.{Lent}
 use Rattle.word_machine.specs.Tables.{Tables}
-use Rattle.word_machine.specs.Machine.{Words}
+use Rattle.word_machine.specs.Machine.{MachineWords}
 use Rattle.profiling.specs.declared.Counts.{Counts}
 use Rattle.profiling.specs.declared.Line.{Line}
-use Rattle.profiling.specs.Statement.{heldAfter, Carries, Lines, none, same, more, lineText, textOf}
-use Rattle.profiling.specs.Standing.{At, heldBy, held-here, carries-here}
+use Rattle.profiling.specs.Statement.{heldAfter, CarriesOut, Lines, none, same, more, lineText, textOf}
+use Rattle.profiling.specs.Standing.{StandsAfter, heldBy, held-here, carries-here}
 
 append-none : (xs : List Line) → xs ++ [] ≡ xs
 append-none [] = refl
@@ -36,26 +36,26 @@ text-more [] l = append-ℕ (lineText l)
 text-more (x ∷ xs) l = ap (λ t. lineText x ++ t) (text-more xs l) ∙ sym (append-assoc (lineText x) (textOf xs) (lineText l))
 
 -- ---- what a part writes at the front of a lent memory: the lines of the steps behind a up to n
-pub record Written (f : List ℕ) (a n : ℕ) (before after : List ℕ) (at : ℕ) : Type 0 where
+pub record PartWritten (f : List ℕ) (a n : ℕ) (before after : List ℕ) (at : ℕ) : Type 0 where
   pub lines : List Line
   pub every : Lines f a n lines
   pub put : Put before 0 (textOf lines) after at
 
-pub written-none : (f : List ℕ) (a : ℕ) (b : List ℕ) → Written f a a b b 0
+pub written-none : (f : List ℕ) (a : ℕ) (b : List ℕ) → PartWritten f a a b b 0
 unfolding textOf
 written-none f a b = record { lines = []; every = none; put = put-none b 0 }
 
-module _ {f : List ℕ} {T : Tables} {lent : Lent} {n : ℕ} {v w : Words} {c d : Counts} (H : At f T lent n v c) (G : At f T lent (suc n) w d)
-    {a at : ℕ} {b e : List ℕ} (W : Written f a n b e at) where
-  pub written-same : heldBy w d ≡ heldBy v c → Written f a (suc n) b e at
+module _ {f : List ℕ} {T : Tables} {lent : Lent} {n : ℕ} {v w : MachineWords} {c d : Counts} (H : StandsAfter f T lent n v c) (G : StandsAfter f T lent (suc n) w d)
+    {a at : ℕ} {b e : List ℕ} (W : PartWritten f a n b e at) where
+  pub written-same : heldBy w d ≡ heldBy v c → PartWritten f a (suc n) b e at
   written-same z = record { lines = W .lines; every = same (W .every) (held-here G ∙ z ∙ sym (held-here H)); put = W .put }
 
-  carried : (i : ℕ) → v .goal ≡ i → (i ≡ 0 → ⊥) → Carries f n i
+  carried : (i : ℕ) → v .goal ≡ i → (i ≡ 0 → ⊥) → CarriesOut f n i
   carried zero t z = absurd (z refl)
   carried (suc j) t z = carries-here H j t
 
   pub written-more : (heldBy w d ≡ heldBy v c → ⊥) → (i : ℕ) → v .goal ≡ i → (i ≡ 0 → ⊥) → {x : List ℕ} {k : ℕ}
-      → Put e at (lineText (record { step = suc n; held = heldBy w d; goal = i })) x k → Written f a (suc n) b x k
+      → Put e at (lineText (record { step = suc n; held = heldBy w d; goal = i })) x k → PartWritten f a (suc n) b x k
   written-more z i t o p = record {
     lines = W .lines ++ (record { step = suc n; held = heldAfter f (suc n); goal = i } ∷ []);
     every = more (W .every) (λ q. z (sym (held-here G) ∙ q ∙ held-here H)) (carried i t o);

@@ -20,19 +20,19 @@ use Rattle.chains.specs.Formed.{Formed}
 use Rattle.safety.specs.Premises.{Accepted}
 use Rattle.safety.specs.Safety.{steps-fine, taken, busy}
 use Rattle.word_machine.specs.Tables.{Tables, Tabled}
-use Rattle.word_machine.specs.Machine.{Words, Went, went, stops, settled, steps}
-use Rattle.word_machine.specs.Relation.{whereIn, Running, Stored, waiting-depth}
+use Rattle.word_machine.specs.Machine.{MachineWords, Went, went, stops, settled, steps}
+use Rattle.word_machine.specs.Relation.{whereIn, Running, MemoryStored, waiting-depth}
 use Rattle.word_machine.specs.Successors.{todo-next}
 use Rattle.word_machine.specs.Returns as R
 use Rattle.word_machine.specs.Steps.{After, onward, halts}
 use Rattle.word_machine.specs.WholeRun.{Agrees, agrees, settled-agrees, next-goal, fine-inv, outlook-over}
 use Rattle.profiling.specs.declared.Counts.{Counts}
 use Rattle.profiling.specs.declared.Held.{Held}
-use Rattle.profiling.specs.Statement.{heldIn, heldAfter, Carries}
+use Rattle.profiling.specs.Statement.{heldIn, heldAfter, CarriesOut}
 use Rattle.profiling.specs.Counting.{countsIn, counted, goal-counted}
 
 -- w and c are what stands there after n steps of the run of file f in lent memory, and that run has not ended before
-pub record At (f : List ℕ) (T : Tables) (lent : Lent) (n : ℕ) (w : Words) (c : Counts) : Type 0 where
+pub record StandsAfter (f : List ℕ) (T : Tables) (lent : Lent) (n : ℕ) (w : MachineWords) (c : Counts) : Type 0 where
   pub tabled : Tabled f T
   pub accepted : Accepted (program f)
   pub formed : Formed f
@@ -41,8 +41,8 @@ pub record At (f : List ℕ) (T : Tables) (lent : Lent) (n : ℕ) (w : Words) (c
   pub counts : c ≡ countsIn (Run.steps (program f) n .memory)
   pub whole : D.run (program f) lent ≡ D.runOn (program f) (roomIn lent) (lent .steps - n) (outlook (roomIn lent) (Run.steps (program f) n)) n (Run.steps (program f) n)
 
-pub at-as : {f : List ℕ} {T : Tables} {lent lent′ : Lent} {n n′ : ℕ} {w w′ : Words} {c c′ : Counts} → lent ≡ lent′ → n ≡ n′ → w ≡ w′ → c ≡ c′ → At f T lent n w c
-    → At f T lent′ n′ w′ c′
+pub at-as : {f : List ℕ} {T : Tables} {lent lent′ : Lent} {n n′ : ℕ} {w w′ : MachineWords} {c c′ : Counts} → lent ≡ lent′ → n ≡ n′ → w ≡ w′ → c ≡ c′ → StandsAfter f T lent n w c
+    → StandsAfter f T lent′ n′ w′ c′
 at-as a b d e H = rw (← a, ← b, ← d, ← e) H
 
 -- the frames of words whose next goal is at record i and whose newest frame is k: none once the run has ended
@@ -50,12 +50,12 @@ unfoldable pub framesIn : ℕ → ℕ → ℕ
 framesIn zero k = 0
 framesIn (suc i) k = suc k
 
-unfoldable pub heldBy : Words → Counts → Held
+unfoldable pub heldBy : MachineWords → Counts → Held
 heldBy w c = record { cells = c .cells; regions = c .regions; frames = framesIn (w .goal) (w .top) }
 
 -- ---- what a step comes to, taken apart
 module _ {f : List ℕ} {T : Tables} (B : Tabled f T) (A : Accepted (program f)) (F : Formed f) (K : Room) (qs : List ℕ) where
-  record Goes (g : Goal) (u : RegionFrame) (fs : List RegionFrame) (m : Memory) (o : Outlook) (v : Words) : Type 0 where
+  record Goes (g : Goal) (u : RegionFrame) (fs : List RegionFrame) (m : Memory) (o : Outlook) (v : MachineWords) : Type 0 where
     out : o ≡ goes
     newest : RegionFrame
     waiting : List RegionFrame
@@ -64,9 +64,9 @@ module _ {f : List ℕ} {T : Tables} (B : Tabled f T) (A : Accepted (program f))
     χ : ℕ → ℕ
     is : Run.take (program f) g u fs m ≡ state (program f) newest waiting memory
     running : Running B v (whereIn memory ρ χ) newest waiting
-    stored : Stored K qs v memory ρ χ
+    stored : MemoryStored K qs v memory ρ χ
 
-  after-went : {g : Goal} {u : RegionFrame} {fs : List RegionFrame} {m : Memory} {o : Outlook} {t : Went} {v : Words} → After B A F K qs g u fs m o t → t ≡ went v
+  after-went : {g : Goal} {u : RegionFrame} {fs : List RegionFrame} {m : Memory} {o : Outlook} {t : Went} {v : MachineWords} → After B A F K qs g u fs m o t → t ≡ went v
       → Goes g u fs m o v
   after-went {v = v} (onward {v = x} {e = e} {es = es} {n = n} {ρ = ρ} {χ = χ} q N S) z =
       let a : x ≡ v = cc in
@@ -79,20 +79,20 @@ module _ {f : List ℕ} {T : Tables} (B : Tabled f T) (A : Accepted (program f))
   after-stops {c = c} (halts {c = d}) z = let a : d ≡ c = cc in ap lacks a
 
   -- ---- the newest frame's next goal is at record suc j
-  record Next (n : ℕ) (w : Words) (j : ℕ) : Type 0 where
+  record Next (n : ℕ) (w : MachineWords) (j : ℕ) : Type 0 where
     ρ : ℕ → ℕ
     χ : ℕ → ℕ
     newest : RegionFrame
     waiting : List RegionFrame
     goal : Goal
     rest : Goals
-    stored : Stored K qs w (Run.steps (program f) n .memory) ρ χ
+    stored : MemoryStored K qs w (Run.steps (program f) n .memory) ρ χ
     frames : Run.steps (program f) n .frames ≡ newest ∷ waiting
     goals : newest .frame .goals ≡ goal then rest
     at : w .goal ≡ suc j
     running : Running B w (whereIn (Run.steps (program f) n .memory) ρ χ) newest waiting
 
-  module _ {n : ℕ} {w : Words} where
+  module _ {n : ℕ} {w : MachineWords} where
     next-in : (j : ℕ) → w .goal ≡ suc j → Agrees B A F K qs n w → Next n w j
     next-in j t (agrees (R.over p y) S) = let x : _≡_ {A = ℕ} 0 1 = omega (arith, t, y) in absurd (omega arith)
     next-in j t (agrees {ρ = ρ} {χ = χ} (R.runs {e = e} {fs = fs} {i = i} p y N) S) =
@@ -113,12 +113,12 @@ module _ {f : List ℕ} {T : Tables} (B : Tabled f T) (A : Accepted (program f))
           ∙ goal-counted B A F K qs w (N .newest) (N .waiting) (Run.steps (program f) n .memory) (N .ρ) (N .χ) (suc j) (rw (N .at) at (N .running .newest)) (N .running .waiting) (N .stored)
           (fine-inv (Run.steps (program f) n) (N .newest) (N .waiting) (steps-fine A n) (N .frames)) (N .goal) (N .rest) (N .goals)
 
-      next-agrees : (v : Words) → steps f T K (suc j) (recordAt f (suc j)) w ≡ went v → (outlook K (Run.steps (program f) n) ≡ goes) × Agrees B A F K qs (suc n) (settled f T v)
+      next-agrees : (v : MachineWords) → steps f T K (suc j) (recordAt f (suc j)) w ≡ went v → (outlook K (Run.steps (program f) n) ≡ goes) × Agrees B A F K qs (suc n) (settled f T v)
       next-agrees v e =
           let G = after-went after e in
           (G .out, settled-agrees B A F K qs (suc n) v (G .newest) (G .waiting) (G .memory) (took ∙ G .is) (G .running) (G .stored))
 
-      next-carries : Carries f n (suc j)
+      next-carries : CarriesOut f n (suc j)
       next-carries =
           let o = todo-next B (rw (N .at) at (N .running .newest .todo)) (N .goal) (N .rest) (N .goals) in
           record { newest = N .newest; waiting = N .waiting; rest = N .rest; frames = N .frames; goals = N .goals ∙ ap (λ g. g then N .rest) (o .is) }
@@ -137,7 +137,7 @@ module _ {f : List ℕ} {T : Tables} (B : Tabled f T) (A : Accepted (program f))
     ended-over z (agrees (R.runs p y N) S) = let x : _≡_ {A = ℕ} 0 1 = omega (arith, z, y) in absurd (omega arith)
 
 -- ---- from where a run stands
-module _ {f : List ℕ} {T : Tables} {lent : Lent} {n : ℕ} {w : Words} {c : Counts} (H : At f T lent n w c) where
+module _ {f : List ℕ} {T : Tables} {lent : Lent} {n : ℕ} {w : MachineWords} {c : Counts} (H : StandsAfter f T lent n w c) where
   abbrev P : Program
   P = program f
 
@@ -152,14 +152,14 @@ module _ {f : List ℕ} {T : Tables} {lent : Lent} {n : ℕ} {w : Words} {c : Co
     N : Next (H .tabled) (H .accepted) (H .formed) K (H .prints) n w j
     N = next-in (H .tabled) (H .accepted) (H .formed) K (H .prints) j t (H .words)
 
-    pub carries-here : Carries f n (suc j)
+    pub carries-here : CarriesOut f n (suc j)
     carries-here = next-carries (H .tabled) (H .accepted) (H .formed) K (H .prints) N
 
     pub goal-low : suc j < recordCount f
     goal-low = next-low (H .tabled) (H .accepted) (H .formed) K (H .prints) N
 
     -- the step is done
-    pub steps-on : (v : Words) → n < lent .steps → steps f T K (suc j) (recordAt f (suc j)) w ≡ went v → At f T lent (suc n) (settled f T v) (counted w (recordAt f (suc j)) c)
+    pub steps-on : (v : MachineWords) → n < lent .steps → steps f T K (suc j) (recordAt f (suc j)) w ≡ went v → StandsAfter f T lent (suc n) (settled f T v) (counted w (recordAt f (suc j)) c)
     unfolding D.runOn Run.steps
     steps-on v l e =
         let a = next-agrees (H .tabled) (H .accepted) (H .formed) K (H .prints) N v e in

@@ -22,7 +22,7 @@ unfoldable pub heldAfter : List ℕ → ℕ → Held
 heldAfter f n = heldIn (steps (program f) n)
 
 -- record i is that of the goal which the run carries out after n steps: the newest frame's next goal is the one read there
-pub record Carries (f : List ℕ) (n i : ℕ) : Type 0 where
+pub record CarriesOut (f : List ℕ) (n i : ℕ) : Type 0 where
   pub newest : RegionFrame
   pub waiting : List RegionFrame
   pub rest : Goals
@@ -38,7 +38,7 @@ entryLine f = record { step = 0; held = heldAfter f 0; goal = 0 }
 pub data Lines (f : List ℕ) (n : ℕ) : ℕ → List Line → Type 0 where
   none : Lines f n n []
   same : {k : ℕ} {ls : List Line} → Lines f n k ls → heldAfter f (suc k) ≡ heldAfter f k → Lines f n (suc k) ls
-  more : {k i : ℕ} {ls : List Line} → Lines f n k ls → (heldAfter f (suc k) ≡ heldAfter f k → ⊥) → Carries f k i
+  more : {k i : ℕ} {ls : List Line} → Lines f n k ls → (heldAfter f (suc k) ≡ heldAfter f k → ⊥) → CarriesOut f k i
       → Lines f n (suc k) (ls ++ (record { step = suc k; held = heldAfter f (suc k); goal = i } ∷ []))
 
 -- ---- what is written: "STEP CELLS REGIONS FRAMES RECORD"

@@ -14,7 +14,7 @@ use Rattle.machine.specs.declared.Kept.{Kept}
 use Rattle.machine.specs.declared.Kept.the-variants.{Left, Lacks as KeptLacks}
 use Rattle.machine.specs.declared.Step.{Step}
 use Rattle.machine.specs.declared.Step.the-variants.{Went as WentTo, Stops}
-use Rattle.machine.specs.Words.{Placed, wordsOf, onwardTo, onward-placed, cameTo, keptTo, Goes, Keeps}
+use Rattle.machine.specs.Words.{FramePlaced, wordsOf, onwardTo, onward-placed, cameTo, keptTo, Goes, Keeps}
 use Rattle.profiling.specs.declared.Turn.{Turn}
 use Rattle.profiling.specs.declared.Turn.the-variants.{On, Lacks}
 
@@ -27,19 +27,19 @@ turnedTo (Lacks c) m rs fw ps = stops c
 pub record Turns (f : List ℕ) (T : Tables) (s : State) (h : Heap) (m rs fw ps : List ℕ) (r : Turn) (m₁ rs₁ fw₁ ps₁ : List ℕ) : Type 0 where
   pub comes : (k : Room) → k .frames ≡ holds (length fw) frameWords → k .prints ≡ holds (length ps) printWords
       → turnedTo r m₁ rs₁ fw₁ ps₁ ≡ stepped f T k (s .goal) (wordsOf h m rs fw ps s)
-  pub stays : (v : State) (g : Heap) → r ≡ On v g → Placed v (length fw₁)
+  pub stays : (v : State) (g : Heap) → r ≡ On v g → FramePlaced v (length fw₁)
 
 -- the newest frame's words keep their place
-on-placed : {u : State} {h : Heap} {n : ℕ} → Placed u n → (v : State) (g : Heap) → On u h ≡ On v g → Placed v n
+on-placed : {u : State} {h : Heap} {n : ℕ} → FramePlaced u n → (v : State) (g : Heap) → On u h ≡ On v g → FramePlaced v n
 on-placed {u} P v g e = let a : u ≡ v = cc in rw a at P
 
-lacks-placed : {c : Stop} {n : ℕ} (v : State) (g : Heap) → Lacks c ≡ On v g → Placed v n
+lacks-placed : {c : Stop} {n : ℕ} (v : State) (g : Heap) → Lacks c ≡ On v g → FramePlaced v n
 lacks-placed v g e = let z : _≡_ {A = ℕ} 0 1 = cc in absurd (omega arith)
 
-pub placed-long : {s : State} {a b : ℕ} → b ≡ a → Placed s a → Placed s b
+pub placed-long : {s : State} {a b : ℕ} → b ≡ a → FramePlaced s a → FramePlaced s b
 placed-long e P = rw e P
 
-pub placed-onward : {s v : State} {a b : ℕ} (i : ℕ) → v ≡ onwardTo s i → b ≡ a → Placed s a → Placed v b
+pub placed-onward : {s v : State} {a b : ℕ} (i : ℕ) → v ≡ onwardTo s i → b ≡ a → FramePlaced s a → FramePlaced v b
 placed-onward i e l P = rw (e, l) (onward-placed i P)
 
 -- what `settle` promises: frames without goals have gone
@@ -50,7 +50,7 @@ module _ (f : List ℕ) (T : Tables) (s : State) (h : Heap) (m rs fw ps : List �
   -- ---- a goal that changes the heap
   module _ (r : Kept) (m₁ rs₁ fx : List ℕ) (g : Keeps f T s h m rs fw r m₁ rs₁ fx) where
     pub kept-turns : (h₁ : Heap) (next : ℕ) (v u : State) (fy : List ℕ) → r ≡ Left h₁ → next ≡ T .successor (s .goal) → v ≡ onwardTo s next → Settles f T v fx u fy
-        → Placed u (length fy) → Turns f T s h m rs fw ps (On u h₁) m₁ rs₁ fy ps
+        → FramePlaced u (length fy) → Turns f T s h m rs fw ps (On u h₁) m₁ rs₁ fy ps
     unfolding turnedTo stepped settledIf keptTo
     kept-turns h₁ next v u fy er en ev z pl = record {
       comes = λ k a b.
@@ -68,7 +68,7 @@ module _ (f : List ℕ) (T : Tables) (s : State) (h : Heap) (m rs fw ps : List �
 
   -- ---- a goal that leaves it alone
   module _ (r : Step) (fx px : List ℕ) (g : Goes f T s m fw ps r fx px) where
-    pub went-turns : (v u : State) (fy : List ℕ) → r ≡ WentTo v → Settles f T v fx u fy → Placed u (length fy) → Turns f T s h m rs fw ps (On u h) m rs fy px
+    pub went-turns : (v u : State) (fy : List ℕ) → r ≡ WentTo v → Settles f T v fx u fy → FramePlaced u (length fy) → Turns f T s h m rs fw ps (On u h) m rs fy px
     unfolding turnedTo stepped settledIf cameTo
     went-turns v u fy er z pl = record {
       comes = λ k a b. ap went (z h m rs px) ∙ ap (settledIf f T) (ap (λ t. cameTo t h m rs fx px) (sym er) ∙ g .comes k h rs a b);

@@ -61,20 +61,20 @@ module _ {k : Room} {h : Heap} {m rs : List ℕ} {M : Memory} {ρ χ : ℕ → �
   size-is = size-from (R .labelled) (ρ r) (cellsIn r (M .cells)) few (R .labelled .ends (ρ r) (cellsIn r (M .cells)) (R .lives r alive))
 
 -- ---- the loop: n cells are passed, y is next; the chain starts at a
-pub record Passed (m : List ℕ) (b limit a n y : ℕ) : Type 0 where
+pub record CellsPassed (m : List ℕ) (b limit a n y : ℕ) : Type 0 where
   pub low : n ≤ limit
   pub rest : n + walked m b (limit - n) y ≡ walked m b limit a
 
-pub passed-none : (m : List ℕ) (b limit a : ℕ) → Passed m b limit a 0 a
+pub passed-none : (m : List ℕ) (b limit a : ℕ) → CellsPassed m b limit a 0 a
 passed-none m b limit a = record { low = omega arith; rest = let z : limit - 0 ≡ limit = omega arith in rw z (omega arith) }
 
-module _ {m : List ℕ} {b limit a n y : ℕ} (P : Passed m b limit a n y) where
+module _ {m : List ℕ} {b limit a n y : ℕ} (P : CellsPassed m b limit a n y) where
   pub passed-last : n < limit → y ≡ b → n + 1 ≡ walked m b limit a
   passed-last l e =
       let z : limit - n ≡ suc (limit - (n + 1)) = omega arith in
       omega (arith, walk-ends m b (limit - (n + 1)) y e, rw z at (P .rest))
 
-  pub passed-more : n < limit → (y ≡ b → ⊥) → Passed m b limit a (n + 1) (link m y)
+  pub passed-more : n < limit → (y ≡ b → ⊥) → CellsPassed m b limit a (n + 1) (link m y)
   passed-more l e =
       let z : limit - n ≡ suc (limit - (n + 1)) = omega arith in
       record { low = omega arith; rest = omega (arith, walk-goes m b (limit - (n + 1)) y e, rw z at (P .rest)) }

@@ -14,13 +14,13 @@ use Rattle.language.specs.Output.{endingLine}
 use Rattle.lines.specs.Put.{put-front, put-length}
 use Rattle.profiling.specs.declared.Line.{Line}
 use Rattle.profiling.specs.Statement.{Lines, none, lineText, textOf, entryLine, Profile}
-use Rattle.profiling.specs.Parts.{Written, lines-join, text-join}
+use Rattle.profiling.specs.Parts.{PartWritten, lines-join, text-join}
 use Rattle.profiling.specs.Moving.{EndsAfter}
 
 -- the bytes of the parts so far, whose steps go up to n: each part is what stands at the front of a memory
 pub data PartsUpTo (f : List ℕ) : ℕ → List ℕ → Type 0 where
   no-part : PartsUpTo f 0 []
-  one-more : {a n at : ℕ} {text before after : List ℕ} → PartsUpTo f a text → Written f a n before after at → at ≤ length after
+  one-more : {a n at : ℕ} {text before after : List ℕ} → PartsUpTo f a text → PartWritten f a n before after at → at ≤ length after
       → PartsUpTo f n (text ++ take at after)
 
 -- they are the lines of the steps up to n

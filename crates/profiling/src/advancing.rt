@@ -11,7 +11,7 @@ ghost use Prim.Native.Nat.{_≤_};
 ghost use lib.ListN.{length};
 ghost use Rattle.plans.specs.Plan.{tablesIn, Narrow, Numbered};
 ghost use Rattle.profiling.specs.Text.{lineBytes};
-ghost use Rattle.profiling.specs.Moving.{Stands};
+ghost use Rattle.profiling.specs.Moving.{RunStands};
 ghost use Rattle.profiling.specs.Advancing.{Advances};
 
 // Steps from where the run stands until there may be no room for one more line, or until the run has ended. The lines of these steps stand at the
@@ -31,7 +31,7 @@ pub fn advance(
 ) -> Part
     requires { ⌜ Narrow (now plan) (now images) × Numbered (now file) (now plan) ⌝ }
     requires { ⌜ lineBytes ≤ length (now out) ⌝ }
-    requires { ⌜ Stands (now file) (tablesIn (now plan) (now images) (now callees)) steps (now cells) (now regions) (now frames) (now prints) point ⌝ }
+    requires { ⌜ RunStands (now file) (tablesIn (now plan) (now images) (now callees)) steps (now cells) (now regions) (now frames) (now prints) point ⌝ }
     ensures { λ r. ⌜ Advances (now (file .entry)) (tablesIn (now (plan .entry)) (now (images .entry)) (now (callees .entry))) steps
         (now (cells .entry)) (now (regions .entry)) (now (frames .entry)) (now (prints .entry)) point (now (out .entry))
         (now (cells .exit)) (now (regions .exit)) (now (frames .exit)) (now (prints .exit)) (now (out .exit)) r ⌝ }

@@ -22,14 +22,14 @@ ghost use Rattle.word_machine.specs.Tables.{Tables, Tabled};
 ghost use Rattle.plans.specs.Plan.{tablesIn};
 ghost use Rattle.profiling.specs.Statement.{lineText, entryLine};
 ghost use Rattle.profiling.specs.Text.{lineBytes};
-ghost use Rattle.profiling.specs.Moving.{Stands};
+ghost use Rattle.profiling.specs.Moving.{RunStands};
 
 // "The entry's frame is taken first."
 pub fn begin(callees: &[u64; CALLEES], cells: &[u32], regions: &[u32], frames: &mut [u32]) -> Point
     requires { ⌜ frameWords ≤ length (now frames) ⌝ }
     ensures { λ r. ⌜ ((f plan images ps : List ℕ) (l : ℕ) → checked f ≡ Accepted → Tabled f (tablesIn plan images (now (callees .entry)))
         → 0 < holds (length (now (frames .entry))) frameWords
-        → (r .done ≡ 0) × Stands f (tablesIn plan images (now (callees .entry))) l (now (cells .entry)) (now (regions .entry)) (now (frames .exit)) ps r) ⌝ }
+        → (r .done ≡ 0) × RunStands f (tablesIn plan images (now (callees .entry))) l (now (cells .entry)) (now (regions .entry)) (now (frames .exit)) ps r) ⌝ }
 {
     clear(frames, 1, size_of(callees, 0));
     Point {
@@ -46,7 +46,7 @@ pub fn begin(callees: &[u64; CALLEES], cells: &[u32], regions: &[u32], frames: &
 // The line of the entry's frame.
 pub fn put_entry(out: &mut [u8], point: Point) -> usize
     requires { ⌜ lineBytes ≤ length (now out) ⌝ }
-    ensures { λ k. ⌜ ((f : List ℕ) (T : Tables) (l : ℕ) (m rs fw ps : List ℕ) → Stands f T l m rs fw ps point → point .done ≡ 0
+    ensures { λ k. ⌜ ((f : List ℕ) (T : Tables) (l : ℕ) (m rs fw ps : List ℕ) → RunStands f T l m rs fw ps point → point .done ≡ 0
         → Put (now (out .entry)) 0 (lineText (entryLine f)) (now (out .exit)) k) ⌝ }
     ensures { λ k. ⌜ k ≤ length (now (out .exit)) ⌝ }
 {

@@ -9,7 +9,7 @@ use language::Stop;
 use plans::CALLEES;
 use plans::PLAN;
 ghost use Rattle.plans.specs.Plan.{tablesIn, Narrow, Numbered};
-ghost use Rattle.profiling.specs.Moving.{Stands, Moves};
+ghost use Rattle.profiling.specs.Moving.{RunStands, Moves};
 
 // "An ended run is finished before 10 is looked at."
 pub fn forward(
@@ -25,7 +25,7 @@ pub fn forward(
     steps: usize,
 ) -> Moved
     requires { ⌜ Narrow (now plan) (now images) × Numbered (now file) (now plan) ⌝ }
-    requires { ⌜ Stands (now file) (tablesIn (now plan) (now images) (now callees)) steps (now cells) (now regions) (now frames) (now prints) point ⌝ }
+    requires { ⌜ RunStands (now file) (tablesIn (now plan) (now images) (now callees)) steps (now cells) (now regions) (now frames) (now prints) point ⌝ }
     ensures { λ r. ⌜ Moves (now (file .entry)) (tablesIn (now (plan .entry)) (now (images .entry)) (now (callees .entry))) steps
         (now (cells .entry)) (now (regions .entry)) (now (frames .entry)) (now (prints .entry)) point
         (now (cells .exit)) (now (regions .exit)) (now (frames .exit)) (now (prints .exit)) r ⌝ }

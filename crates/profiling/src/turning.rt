@@ -19,7 +19,7 @@ ghost use lib.ListN.{length};
 ghost use Rattle.language.specs.File.{recordCount};
 ghost use Rattle.chains.specs.Formed.{Formed};
 ghost use Rattle.plans.specs.Plan.{tablesIn, Narrow, Numbered};
-ghost use Rattle.machine.specs.Words.{Placed};
+ghost use Rattle.machine.specs.Words.{FramePlaced};
 ghost use Rattle.profiling.specs.Turning.{Turns};
 
 // The newest frame's next goal is carried out, and frames without goals go.
@@ -37,7 +37,7 @@ pub fn step(
 ) -> Turn
     requires { ⌜ Formed (now file) ⌝ }
     requires { ⌜ Narrow (now plan) (now images) × Numbered (now file) (now plan) ⌝ }
-    requires { ⌜ (state .goal < recordCount (now file)) × Placed state (length (now frames)) ⌝ }
+    requires { ⌜ (state .goal < recordCount (now file)) × FramePlaced state (length (now frames)) ⌝ }
     ensures { λ r. ⌜ Turns (now (file .entry)) (tablesIn (now (plan .entry)) (now (images .entry)) (now (callees .entry))) state heap
         (now (cells .entry)) (now (regions .entry)) (now (frames .entry)) (now (prints .entry))
         r (now (cells .exit)) (now (regions .exit)) (now (frames .exit)) (now (prints .exit)) ⌝ }

@@ -20,7 +20,7 @@ use Rattle.region_graph.specs.Typed.{regions-few, signature-typed}
 use Rattle.region_graph.specs.Procedure.{declared}
 use Rattle.region_graph.specs.Shared.{region-top, reach-step, reach-from, shared-from}
 use Rattle.region_graph.specs.Alike.{parameterRegions, Paired, paired-nil, paired-cons, paired-map, Matched, Alike, region-some, targets-alike, targets-follow, arguments-alike}
-use Rattle.region_graph.specs.Mapping.{Due, Image, Outcome, none-mapped, mapping-outcome}
+use Rattle.region_graph.specs.Mapping.{Due, Image, MappingShown, none-mapped, mapping-outcome}
 
 -- ---- lists and their images
 pub regions-map : (S : Signature) (xs : List ℕ) → regionsOf S xs ≡ map (regionOf S) xs
@@ -55,7 +55,7 @@ pub record Complete (C Q : Signature) (ys : List ℕ) (m : ℕ → ℕ) : Type 0
   pub followed : (r : ℕ) → m r ≢ 0 → map m (targets Q r) ≡ targets C (m r)
 
 pub complete : (C Q : Signature) (Way : ℕ → ℕ → Type 0) (ys : List ℕ) (m : ℕ → ℕ)
-    → Outcome C Q Way (λ r. 0) (λ k. map k (parameterRegions Q) ≡ regionsOf C ys) (images m) → Complete C Q ys m
+    → MappingShown C Q Way (λ r. 0) (λ k. map k (parameterRegions Q) ≡ regionsOf C ys) (images m) → Complete C Q ys m
 complete C Q Way ys m o = record {
   arguments = o .1;
   nowhere = none-mapped C Q Way m (o .0 .good);
@@ -160,7 +160,7 @@ module _ (T : List (List Functor)) (C Q : Signature) (okC : signatureOk T C ≡ 
       along r u i = paired-map due (targets-alike T C Q okC okQ r u (i .matched))
 
       go : (a : Mapping) → mapping C Q ys ≡ a → oneWay a ≡ true
-          → Outcome C Q Anyway (λ r. 0) (λ k. map k (parameterRegions Q) ≡ regionsOf C ys) a → Called C Q ys
+          → MappingShown C Q Anyway (λ r. 0) (λ k. map k (parameterRegions Q) ≡ regionsOf C ys) a → Called C Q ys
       go twoWays e h o = absurd (false≢true h)
       go (images m) e h o = called-by m (complete C Q Anyway ys m o) e
 

@@ -45,9 +45,9 @@ module _ (C Q : Signature) (Way : ℕ → ℕ → Type 0) where
     pub followed : (q : ℕ) → k q ≢ 0 → (m q ≢ 0) ⊎ (map k (targets Q q) ≡ targets C (k q))
 
   -- what is to be shown of an answer, where `Reached` is what was wished of the images
-  abbrev pub Outcome : (ℕ → ℕ) → ((ℕ → ℕ) → Type 0) → Mapping → Type 0
-  Outcome m Reached twoWays = Dispute
-  Outcome m Reached (images k) = Extends m k × Reached k
+  abbrev pub MappingShown : (ℕ → ℕ) → ((ℕ → ℕ) → Type 0) → Mapping → Type 0
+  MappingShown m Reached twoWays = Dispute
+  MappingShown m Reached (images k) = Extends m k × Reached k
 
   -- ---- images that are kept
   pub none-mapped : (m : ℕ → ℕ) → Good m → m 0 ≡ 0
@@ -67,15 +67,15 @@ module _ (C Q : Signature) (Way : ℕ → ℕ → Type 0) where
   extends-refl m g = record { kept = λ q n. refl; good = g; followed = λ q n. inl n }
 
   -- ---- one answer after another
-  after : (m : ℕ → ℕ) (R W : (ℕ → ℕ) → Type 0) (a : Mapping) (next : (ℕ → ℕ) → Mapping) → Outcome m R a
-      → ((k : ℕ → ℕ) → Extends m k → R k → Outcome m W (next k)) → Outcome m W (afterMapping a next)
+  after : (m : ℕ → ℕ) (R W : (ℕ → ℕ) → Type 0) (a : Mapping) (next : (ℕ → ℕ) → Mapping) → MappingShown m R a
+      → ((k : ℕ → ℕ) → Extends m k → R k → MappingShown m W (next k)) → MappingShown m W (afterMapping a next)
   unfolding afterMapping
   after m R W twoWays next o h = o
   after m R W (images k) next o h = h k (o .0) (o .1)
 
   -- a region that has an image, or is none, is asked whether it agrees
   agrees : (m : ℕ → ℕ) → Good m → (r u : ℕ) → Due r u → (m r ≡ 0 → m r ≡ u) → (b : Bool) → eqb (m r) u ≡ b
-      → Outcome m (λ k. k r ≡ u) (agreeing b m)
+      → MappingShown m (λ k. k r ≡ u) (agreeing b m)
   unfolding agreeing
   agrees m g r u d h true e = (extends-refl m g, eqb-true (m r) u e)
   agrees m g r u d h false e =
@@ -83,8 +83,8 @@ module _ (C Q : Signature) (Way : ℕ → ℕ → Type 0) where
       (λ i. (r, m r, u, region-some Q r (i .matched .callee), i .way, d .way, eqb-false (m r) u e)) (g r)
 
   -- a region that has none yet goes on along its edges
-  visits : (m : ℕ → ℕ) → Good m → (r u : ℕ) → Due r u → r ≢ 0 → (onward : Mapping) → (m r ≡ 0 → Image r u → Outcome m (λ k. k r ≡ u) onward)
-      → (v : ℕ) → m r ≡ v → Outcome m (λ k. k r ≡ u) (visit v u m onward)
+  visits : (m : ℕ → ℕ) → Good m → (r u : ℕ) → Due r u → r ≢ 0 → (onward : Mapping) → (m r ≡ 0 → Image r u → MappingShown m (λ k. k r ≡ u) onward)
+      → (v : ℕ) → m r ≡ v → MappingShown m (λ k. k r ≡ u) (visit v u m onward)
   unfolding visit
   visits m g r u d n onward h zero e =
       h e (⊎-elim (λ p. absurd (n (p .0))) (λ i. record { matched = i; way = d .way }) (d .alike))
@@ -118,8 +118,8 @@ module _ (C Q : Signature) (Way : ℕ → ℕ → Type 0) where
       further : (q : ℕ) → k q ≢ 0 → (m q ≢ 0) ⊎ (map k (targets Q q) ≡ targets C (k q))
       further q i = ⊎-elim (newer q (ℕ-discrete r q)) (λ p. inr p) (x .followed q i)
 
-  first-outcome : (m : ℕ → ℕ) (r u : ℕ) → m r ≡ 0 → u ≢ 0 → (a : Mapping) → Outcome (put m r u) (λ k. map k (targets Q r) ≡ targets C u) a
-      → Outcome m (λ k. k r ≡ u) a
+  first-outcome : (m : ℕ → ℕ) (r u : ℕ) → m r ≡ 0 → u ≢ 0 → (a : Mapping) → MappingShown (put m r u) (λ k. map k (targets Q r) ≡ targets C u) a
+      → MappingShown m (λ k. k r ≡ u) a
   first-outcome m r u z n twoWays o = o
   first-outcome m r u z n (images k) o = first m r u z n k (o .0) (o .1)
 
@@ -144,18 +144,18 @@ module _ (C Q : Signature) (Way : ℕ → ℕ → Type 0) where
 
     -- what follows from k on follows from m on
     widen : (m k : ℕ → ℕ) (R W : (ℕ → ℕ) → Type 0) → Extends m k → ((l : ℕ → ℕ) → Extends k l → R l → W l)
-        → (a : Mapping) → Outcome k R a → Outcome m W a
+        → (a : Mapping) → MappingShown k R a → MappingShown m W a
     widen m k R W x h twoWays o = o
     widen m k R W x h (images l) o = (extends-trans m k l x (o .0), h l (o .0) (o .1))
 
     -- a mapping of one pair, for at most n unmapped regions
     abbrev Maker : ℕ → (ℕ → ℕ → (ℕ → ℕ) → Mapping) → Type 0
-    Maker n f = (r u : ℕ) (m : ℕ → ℕ) → Due r u → Good m → size (unmapped Q m) ≤ n → Outcome m (λ k. k r ≡ u) (f r u m)
+    Maker n f = (r u : ℕ) (m : ℕ → ℕ) → Due r u → Good m → size (unmapped Q m) ≤ n → MappingShown m (λ k. k r ≡ u) (f r u m)
 
     module _ (few : length (Q .regions) ≤ 64) where
       -- several pairs in turn
       each : (n : ℕ) (f : ℕ → ℕ → (ℕ → ℕ) → Mapping) → Maker n f → {rs us : List ℕ} → Paired Due rs us
-          → (m : ℕ → ℕ) → Good m → size (unmapped Q m) ≤ n → Outcome m (λ k. map k rs ≡ us) (mapEach f (pairs rs us) m)
+          → (m : ℕ → ℕ) → Good m → size (unmapped Q m) ≤ n → MappingShown m (λ k. map k rs ≡ us) (mapEach f (pairs rs us) m)
       unfolding mapEach pairs
       each n f s paired-nil m g l = (extends-refl m g, refl)
       each n f s (paired-cons {r = r} {u = u} {rs = rs} {us = us} d t) m g l =
@@ -165,10 +165,10 @@ module _ (C Q : Signature) (Way : ℕ → ℕ → Type 0) where
 
       -- a region with all that edges lead to from it
       onto : (n : ℕ) (f : ℕ → ℕ → (ℕ → ℕ) → Mapping) → Maker n f → (r u : ℕ) (m : ℕ → ℕ) → Due r u → Good m → size (unmapped Q m) ≤ suc n
-          → r ≢ 0 → Outcome m (λ k. k r ≡ u) (visit (m r) u m (mapEach f (pairs (targets Q r) (targets C u)) (put m r u)))
+          → r ≢ 0 → MappingShown m (λ k. k r ≡ u) (visit (m r) u m (mapEach f (pairs (targets Q r) (targets C u)) (put m r u)))
       onto n f s r u m d g l p = visits m g r u d p (mapEach f (pairs (targets Q r) (targets C u)) (put m r u)) fresh (m r) refl
         where
-          fresh : m r ≡ 0 → Image r u → Outcome m (λ k. k r ≡ u) (mapEach f (pairs (targets Q r) (targets C u)) (put m r u))
+          fresh : m r ≡ 0 → Image r u → MappingShown m (λ k. k r ≡ u) (mapEach f (pairs (targets Q r) (targets C u)) (put m r u))
           fresh z i =
               let some = region-some C u (i .matched .caller) in
               let falls = unmapped-falls Q few m r u (i .matched .callee) z some in
@@ -187,7 +187,7 @@ module _ (C Q : Signature) (Way : ℕ → ℕ → Type 0) where
 
       -- the mapping of a call, from pairs of arguments' regions
       pub mapping-outcome : (ys : List ℕ) → Paired Due (parameterRegions Q) (regionsOf C ys)
-          → Outcome (λ r. 0) (λ k. map k (parameterRegions Q) ≡ regionsOf C ys) (mapping C Q ys)
+          → MappingShown (λ r. 0) (λ k. map k (parameterRegions Q) ≡ regionsOf C ys) (mapping C Q ys)
       unfolding mapping
       mapping-outcome ys h =
           each (length (Q .regions)) (λ r u m. mapRegion C Q (length (Q .regions)) r u m) (region-outcome (length (Q .regions))) h (λ r. 0)

@@ -16,7 +16,7 @@ use Rattle.region_graph.specs.Typed.{regions-few, signature-typed}
 use Rattle.region_graph.specs.Procedure.{declared}
 use Rattle.region_graph.specs.Shared.{parameter-own, shared-closed}
 use Rattle.region_graph.specs.Alike.{parameterRegions, Paired, paired-nil, paired-cons, Alike, region-some, targets-alike, targets-follow}
-use Rattle.region_graph.specs.Mapping.{Due, Image, Dispute, Outcome, mapping-outcome}
+use Rattle.region_graph.specs.Mapping.{Due, Image, Dispute, MappingShown, mapping-outcome}
 use Rattle.region_graph.specs.Calls.{Complete, complete, arguments-paired}
 use Rattle.region_graph.specs.Maps.{Maps, argument, along, nth-map, none-region, none-target, nth-region, maps-targets, maps-arguments, maps-alike}
 
@@ -33,7 +33,7 @@ nth-listed (x ∷ xs) (suc i) = ⊎-elim (λ p. inl p) (λ q. inr (cons-later (n
 module _ (T : List (List Functor)) (C Q : Signature) (okC : signatureOk T C ≡ true) (okQ : signatureOk T Q ≡ true) (ys : List ℕ)
     (typed : haveTypes C (parameterTypes Q) ys ≡ true) where
   -- the mapping's answer, with what is mapped by the relation for each region and its image
-  ways : Outcome C Q (Maps C Q ys) (λ r. 0) (λ k. map k (parameterRegions Q) ≡ regionsOf C ys) (mapping C Q ys)
+  ways : MappingShown C Q (Maps C Q ys) (λ r. 0) (λ k. map k (parameterRegions Q) ≡ regionsOf C ys) (mapping C Q ys)
   ways =
       mapping-outcome C Q (Maps C Q ys) onward (regions-few T Q okQ) ys
       (paired-due (arguments-paired T C Q okC okQ ys typed) (maps-arguments T C Q okC okQ ys typed))

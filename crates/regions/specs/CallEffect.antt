@@ -23,7 +23,7 @@ use Rattle.region_graph.specs.Typed.{regions-few, signature-typed}
 use Rattle.region_graph.specs.Procedure.{declared}
 use Rattle.region_graph.specs.Shared.{region-top, shared-ranged, shared-closed, parameter-own}
 use Rattle.region_graph.specs.Alike.{parameterRegions, Paired, paired-nil, paired-cons, Alike, region-some, targets-alike}
-use Rattle.region_graph.specs.Mapping.{Due, Image, Outcome, mapping-outcome}
+use Rattle.region_graph.specs.Mapping.{Due, Image, MappingShown, mapping-outcome}
 use Rattle.region_graph.specs.Calls.{listed-image, regions-map, arguments-paired, called-typed}
 use Rattle.chains.specs.Formed.{Stands, argumentsAt}
 use Rattle.chains.specs.Shapes.{IsCall, call-here, to-arguments}
@@ -41,11 +41,11 @@ use Rattle.regions.specs.Effects.{EffectAt, effect-made}
 -- ---- only the callee's input and output regions have images
 module _ (T : List (List Functor)) (C Q : Signature) (okC : signatureOk T C ≡ true) (okQ : signatureOk T Q ≡ true) (ys : List ℕ)
     (typed : haveTypes C (parameterTypes Q) ys ≡ true) where
-  Passed : ℕ → ℕ → Type 0
-  Passed r u = (r ≡ 0) ⊎ shared Q r
+  NoneOrShared : ℕ → ℕ → Type 0
+  NoneOrShared r u = (r ≡ 0) ⊎ shared Q r
 
-  with-way : {rs us : List ℕ} → Paired (Alike C Q) rs us → ((r : ℕ) → inList r rs ≡ true → (r ≡ 0) ⊎ shared Q r) → Paired (Due C Q Passed) rs us
-  unfolding Passed
+  with-way : {rs us : List ℕ} → Paired (Alike C Q) rs us → ((r : ℕ) → inList r rs ≡ true → (r ≡ 0) ⊎ shared Q r) → Paired (Due C Q NoneOrShared) rs us
+  unfolding NoneOrShared
   with-way paired-nil h = paired-nil
   with-way (paired-cons {r = r} {u = u} {rs = rs} a t) h =
       paired-cons (record { alike = a; way = h r (cons-here r r rs refl) }) (with-way t (λ q i. h q (cons-later q r rs i)))
@@ -58,17 +58,17 @@ module _ (T : List (List Functor)) (C Q : Signature) (okC : signatureOk T C ≡ 
         | no z ↦ inr (rw (← x .2) (parameter-own T Q okQ (x .0) (x .1) (λ e. z (sym (x .2) ∙ e))))
       ]
 
-  passed-on : (r u : ℕ) → Image C Q Passed r u → Paired (Due C Q Passed) (targets Q r) (targets C u)
-  unfolding Passed
+  passed-on : (r u : ℕ) → Image C Q NoneOrShared r u → Paired (Due C Q NoneOrShared) (targets Q r) (targets C u)
+  unfolding NoneOrShared
   passed-on r u i =
       with-way (targets-alike T C Q okC okQ r u (i .matched))
       (λ t m. inr (shared-closed T Q (declared T Q okQ) r t (⊎-elim (λ z. absurd (region-some Q r (i .matched .callee) z)) (λ s. s) (i .way)) m))
 
   pub only-passed : (m : ℕ → ℕ) → mapping C Q ys ≡ images m → (r : ℕ) → 1 ≤ m r → shared Q r
-  unfolding Passed
+  unfolding NoneOrShared
   only-passed m e r l =
-      let o = mapping-outcome C Q Passed passed-on (regions-few T Q okQ) ys (with-way (arguments-paired T C Q okC okQ ys typed) passed-first) in
-      let x : Outcome C Q Passed (λ r. 0) (λ k. map k (parameterRegions Q) ≡ regionsOf C ys) (images m) = rw e at o in
+      let o = mapping-outcome C Q NoneOrShared passed-on (regions-few T Q okQ) ys (with-way (arguments-paired T C Q okC okQ ys typed) passed-first) in
+      let x : MappingShown C Q NoneOrShared (λ r. 0) (λ k. map k (parameterRegions Q) ≡ regionsOf C ys) (images m) = rw e at o in
       ⊎-elim (λ z. absurd (omega arith))
       (λ i. ⊎-elim (λ z. absurd (region-some Q r (i .matched .callee) z)) (λ s. s) (i .way)) (x .0 .good r)
 

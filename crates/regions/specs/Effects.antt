@@ -19,7 +19,7 @@ use Rattle.chains.specs.Parts.{switch-at, if-at}
 use Rattle.chains.specs.Shapes.{IsLiteral, IsSum, IsAssign, IsConstruct, IsSwitch, IsCall, IsPrint, IsCreate, IsRemove, goal-number, goal-kind, literal-here, sum-here, assign-here, construct-here, switch-here, call-here, print-here, create-here, remove-here}
 use Rattle.owners.specs.Owners.{kind-goals}
 use Rattle.tables.specs.Window.{homeIn}
-use Rattle.tables.specs.Filled.{StepAt}
+use Rattle.tables.specs.Filled.{GoalIsStep}
 use Rattle.tables.specs.declared.Effect.{Effect}
 use Rattle.regions.specs.Here.{signatureAt, Here, literal-kind, sum-kind, assign-kind, construct-kind, call-kind, print-kind, create-kind, remove-kind}
 
@@ -36,15 +36,15 @@ regionEffect n b e = record { needs = single n; bears = single b; ends = single 
 
 -- a step stands at record i, or none does
 abbrev pub SomeStep : List ℕ → ℕ → Type 0
-SomeStep f i = (g : Step) × StepAt f i g
+SomeStep f i = (g : Step) × GoalIsStep f i g
 
 abbrev pub NoStep : List ℕ → ℕ → Type 0
-NoStep f i = (g : Step) → StepAt f i g → ⊥
+NoStep f i = (g : Step) → GoalIsStep f i g → ⊥
 
 -- one does, and e is its effect
 pub record EffectAt (f : List ℕ) (i : ℕ) (e : Effect) : Type 0 where
   pub one : SomeStep f i
-  pub made : (g : Step) → StepAt f i g → Effects (program f) (signatureAt f i) g e
+  pub made : (g : Step) → GoalIsStep f i g → Effects (program f) (signatureAt f i) g e
 
 module _ (P : Program) (S : Signature) where
   construct-effect : (x f : ℕ) (ws : Four) {r : ℕ} → r ≡ regionOf S x → Effects P S (construct x f ws) (regionEffect r 0 0)
@@ -80,11 +80,11 @@ isStep (switch x cs) = false
 isStep (ifLess y z a b) = false
 
 module _ (f : List ℕ) (i : ℕ) {h : Step} (v : goalAt f i ≡ step h) where
-  same-step : {e : Effect} → Effects (program f) (signatureAt f i) h e → (g : Step) → StepAt f i g → Effects (program f) (signatureAt f i) g e
+  same-step : {e : Effect} → Effects (program f) (signatureAt f i) h e → (g : Step) → GoalIsStep f i g → Effects (program f) (signatureAt f i) g e
   unfolding stepIn
   same-step m g s = let same : g ≡ h = ap stepIn (sym (s .view) ∙ v) in rw same m
 
-  pub step-at : (k : GoalKind) → kindOf (word f i kindWord) ≡ kGoal k → 0 < i → i < recordCount f → StepAt f i h
+  pub step-at : (k : GoalKind) → kindOf (word f i kindWord) ≡ kGoal k → 0 < i → i < recordCount f → GoalIsStep f i h
   step-at k n p q = record {
     stands = kind-goals q k n;
     some = λ z. omega arith;
@@ -176,7 +176,7 @@ module _ {f own : List ℕ} {i : ℕ} (H : Here f own i) where
 
   module _ {w : ℕ} (e : w ≡ word f i kindWord) (n11 : w ≡ constructKind → ⊥) (n18 : w ≡ createKind → ⊥) (n19 : w ≡ removeKind → ⊥) (n15 : IsCall f i → ⊥)
       (one : SomeStep f i) where
-    none-at : (k : GoalKind) → kindOf (word f i kindWord) ≡ kGoal k → (g : Step) → StepAt f i g → Effects (program f) (signatureAt f i) g (regionEffect 0 0 0)
+    none-at : (k : GoalKind) → kindOf (word f i kindWord) ≡ kGoal k → (g : Step) → GoalIsStep f i g → Effects (program f) (signatureAt f i) g (regionEffect 0 0 0)
     unfolding effect all-rows isStep
     none-at kLiteral k g s = same-step f i (literal-at (H .formed) refl (same-read f i refl k) .goal) (none-effect (program f) (signatureAt f i) refl) g s
     none-at kSum k g s = same-step f i (sum-at (H .formed) refl (same-read f i refl k) .goal) (none-effect (program f) (signatureAt f i) refl) g s

@@ -133,7 +133,7 @@ unfolding targetsIn
 targets-here f i F s z e g = rw (e, g) (ap targetsIn (edge-here F z s .view))
 
 -- the table has room for each region, 0 has no image, and n bounds the callee's regions without one
-pub record Ready (Q : Signature) (t : List ℕ) (n : ℕ) : Type 0 where
+pub record ImageTable (Q : Signature) (t : List ℕ) (n : ℕ) : Type 0 where
   pub room : length t ≡ places
   pub first : getD t 0 0 ≡ 0
   pub few : size (unmapped Q (imagesIn t)) ≤ n
@@ -141,11 +141,11 @@ pub record Ready (Q : Signature) (t : List ℕ) (n : ℕ) : Type 0 where
 -- a mapping of one pair as the table has it afterwards, and of several in turn
 abbrev pub RegionMapped : List ℕ → List ℕ → List ℕ → ℕ → ℕ → List ℕ → Bool → List ℕ → Type 0
 RegionMapped f own theirs r u t b t′ =
-    (C Q : Signature) → Sides f C Q own theirs → Alike C Q r u → (n : ℕ) → Ready Q t n → mapRegion C Q n r u (imagesIn t) ≡ answer b t′
+    (C Q : Signature) → Sides f C Q own theirs → Alike C Q r u → (n : ℕ) → ImageTable Q t n → mapRegion C Q n r u (imagesIn t) ≡ answer b t′
 
 abbrev pub ListsMapped : List ℕ → List ℕ → List ℕ → List ℕ → List ℕ → List ℕ → Bool → List ℕ → Type 0
 ListsMapped f own theirs rs us t b t′ =
-    (C Q : Signature) → Sides f C Q own theirs → Paired (Alike C Q) rs us → (n : ℕ) → Ready Q t n
+    (C Q : Signature) → Sides f C Q own theirs → Paired (Alike C Q) rs us → (n : ℕ) → ImageTable Q t n
     → mapEach (λ q v k. mapRegion C Q n q v k) (pairs rs us) (imagesIn t) ≡ answer b t′
 
 -- .. of where two chains of edges lead, side by side
@@ -155,11 +155,11 @@ EdgesMapped f own theirs i j t b t′ = ListsMapped f own theirs (targetsIn (edg
 -- in a loop: from the rest rs, us and the table t on, the mapping is that of the whole
 abbrev pub RestMapped : List ℕ → List ℕ → List ℕ → List ℕ → List ℕ → List ℕ → List ℕ → List ℕ → List ℕ → Type 0
 RestMapped f own theirs rs₀ us₀ t₀ rs us t =
-    (C Q : Signature) → Sides f C Q own theirs → Paired (Alike C Q) rs₀ us₀ → (n : ℕ) → Ready Q t₀ n
-    → Paired (Alike C Q) rs us × Ready Q t n
+    (C Q : Signature) → Sides f C Q own theirs → Paired (Alike C Q) rs₀ us₀ → (n : ℕ) → ImageTable Q t₀ n
+    → Paired (Alike C Q) rs us × ImageTable Q t n
     × (mapEach (λ q v k. mapRegion C Q n q v k) (pairs rs us) (imagesIn t) ≡ mapEach (λ q v k. mapRegion C Q n q v k) (pairs rs₀ us₀) (imagesIn t₀))
 
-ready-grown : {Q : Signature} {t t′ : List ℕ} {n : ℕ} → length (Q .regions) ≤ maxRegions → length t′ ≡ length t → Grown t t′ → Ready Q t n → Ready Q t′ n
+ready-grown : {Q : Signature} {t t′ : List ℕ} {n : ℕ} → length (Q .regions) ≤ maxRegions → length t′ ≡ length t → Grown t t′ → ImageTable Q t n → ImageTable Q t′ n
 unfolding imagesIn
 ready-grown {Q} {t} {t′} few e g h = record {
   room = e ∙ h .room;
@@ -220,7 +220,7 @@ image-is t r = refl
 
 ready-set : (Q : Signature) (t : List ℕ) (r u n : ℕ) → length (Q .regions) ≤ maxRegions → isRegion Q r ≡ true → r ≢ 0 → u ≢ 0 → getD t r 0 ≡ 0
     → length t ≡ places
-    → getD t 0 0 ≡ 0 → r < length t → size (unmapped Q (imagesIn t)) ≤ suc n → Ready Q (set t r u) n
+    → getD t 0 0 ≡ 0 → r < length t → size (unmapped Q (imagesIn t)) ≤ suc n → ImageTable Q (set t r u) n
 ready-set Q t r u n few i p o z a b l g = record {
   room = length-set t r u ∙ a;
   first = grown-set t r u p z .first ∙ b;
@@ -273,12 +273,12 @@ module _ (f own theirs : List ℕ) where
       us : targetsIn (edgesAt f j) ≡ targets C u
       us = targets-same f own u y (s .atC)
 
-      onward : (n : ℕ) → Ready Q (set t r u) n
+      onward : (n : ℕ) → ImageTable Q (set t r u) n
           → mapEach (λ q v k. mapRegion C Q n q v k) (pairs (targets Q r) (targets C u)) (imagesIn (set t r u)) ≡ answer b t′
       onward n g =
           rw (rs, us) at (h C Q s (rw (rs, us) (targets-alike (s .types) C Q (s .okC) (s .okQ) r u m)) n g)
 
-      at : (n : ℕ) → Ready Q t n → mapRegion C Q n r u (imagesIn t) ≡ answer b t′
+      at : (n : ℕ) → ImageTable Q t n → mapRegion C Q n r u (imagesIn t) ≡ answer b t′
       at zero k = absurd (none-new Q t r few (m .callee) z (k .few))
       at (suc n) k =
           map-new C Q t n r u p z

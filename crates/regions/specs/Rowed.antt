@@ -21,7 +21,7 @@ use Rattle.chains.specs.Shapes.{IsCall, call-here}
 use Rattle.owners.specs.Owner.{ownerOf}
 use Rattle.owners.specs.Everywhere.{recordTest}
 use Rattle.tables.specs.Rows.{readsIn, givesIn, effectIn, putEffect, Still, StillAt, word-same, row-same, effect-length, effect-word, effect-still, effect-put}
-use Rattle.tables.specs.Filled.{StepAt, Accessed, Effected}
+use Rattle.tables.specs.Filled.{GoalIsStep, Accessed, Effected}
 use Rattle.tables.specs.declared.Effect.{Effect}
 use Rattle.tables.specs.Places.{givesPlace, needsPlace, readsPlace, rowPlace, rowSize}
 use Rattle.regions.specs.Single.{agrees, number-5}
@@ -44,7 +44,7 @@ pub record Rowed (f : List ℕ) (i : ℕ) (t : List ℕ) (b : Bool) (u : List �
   pub row : RowDone f i t b u
 
 -- after the pass
-pub record Passed (f t : List ℕ) (b : Bool) (u : List ℕ) : Type 0 where
+pub record AfterPass (f t : List ℕ) (b : Bool) (u : List ℕ) : Type 0 where
   pub size : length u ≡ length t
   pub apart : (i k : ℕ) → k < rowSize → Apart f i k → StillAt t u i k
   pub rows : (i : ℕ) → 0 < i → i < recordCount f → RowDone f i t b u
@@ -55,7 +55,7 @@ unfolding effectIn
 still-effect t u j h = let s = row-same t u j h in rw (s .needs, s .bears, s .ends, s .mark) refl
 
 -- what goals read and give is as it was
-pub passed-accessed : {f t u : List ℕ} {b : Bool} → Passed f t b u → Accessed f t → Accessed f u
+pub passed-accessed : {f t u : List ℕ} {b : Bool} → AfterPass f t b u → Accessed f t → Accessed f u
 unfolding readsIn givesIn
 passed-accessed {f} {t} {u} p a =
     let gives : (i : ℕ) → givesIn u i ≡ givesIn t i = λ i. word-same t u i givesPlace (p .apart i givesPlace (omega arith) (inl (omega arith))) in
@@ -82,10 +82,10 @@ row-false : {f : List ℕ} (t u : List ℕ) (i : ℕ) → RowDone f i t true u �
 row-false t u i = ⊎-elim (λ e. inl e) (λ d. inr (inl refl, d .1))
 
 -- every step has its effect, where the pass answers true
-pub passed-effected : {f t u : List ℕ} {b : Bool} → Passed f t b u → b ≡ true → Effected f (ownerOf f) u
+pub passed-effected : {f t u : List ℕ} {b : Bool} → AfterPass f t b u → b ≡ true → Effected f (ownerOf f) u
 unfolding effectIn
 passed-effected {f} {t} {u} {b} p y =
-    let at : (j : ℕ) (g : Step) → StepAt f j g → EffectAt f j (effectIn u j) =
+    let at : (j : ℕ) (g : Step) → GoalIsStep f j g → EffectAt f j (effectIn u j) =
     λ j g s. row-step t u j y (g, s) (p .rows j (omega (arith, s .some)) (s .stands .below)) in
     record {
       needs = λ j g s. at j g s .made g s .needs;
@@ -109,7 +109,7 @@ pub rowed-not : (f : List ℕ) (i : ℕ) (t : List ℕ) {b : Bool} → (b ≡ fa
 rowed-not f i t z = record { size = refl; access = λ k l. refl; others = λ j n k l. refl; row = inr (z, λ k l. refl) }
 
 -- ---- the loop: the records below i are done, and the rest decides
-pub record Going (f t₀ t : List ℕ) (n i : ℕ) : Type 0 where
+pub record RowsGoing (f t₀ t : List ℕ) (n i : ℕ) : Type 0 where
   pub count : n ≡ recordCount f
   pub some : 0 < i
   pub most : i ≤ n
@@ -120,7 +120,7 @@ pub record Going (f t₀ t : List ℕ) (n i : ℕ) : Type 0 where
   pub done : (j : ℕ) → 0 < j → j < i → RowDone f j t₀ true t
   pub passed : (j : ℕ) → 0 < j → j < i → true ≡ recordTest (agrees f) f j
 
-pub going-first : {f : List ℕ} (t : List ℕ) {n : ℕ} → Formed f → n ≡ recordCount f → Going f t t n 1
+pub going-first : {f : List ℕ} (t : List ℕ) {n : ℕ} → Formed f → n ≡ recordCount f → RowsGoing f t t n 1
 going-first t F e = record {
   count = e;
   some = omega arith;
@@ -133,7 +133,7 @@ going-first t F e = record {
   passed = λ j p l. absurd (omega arith);
 }
 
-module _ {f t₀ t : List ℕ} {n i : ℕ} (h : Going f t₀ t n i) where
+module _ {f t₀ t : List ℕ} {n i : ℕ} (h : RowsGoing f t₀ t n i) where
   here : i < n → regionsOk (program f) ≡ (recordTest (agrees f) f i & all (recordTest (agrees f) f) (upFrom (i + 1) (n - (i + 1))))
   unfolding all
   here l = h .rest ∙ ap (all (recordTest (agrees f) f)) (from-here n i l)
@@ -146,7 +146,7 @@ module _ {f t₀ t : List ℕ} {n i : ℕ} (h : Going f t₀ t n i) where
   unfolding all
   going-last l = sym (h .rest ∙ ap (all (recordTest (agrees f) f)) (from-end n i l))
 
-  pub going-passed : n ≤ i → Passed f t₀ true t
+  pub going-passed : n ≤ i → AfterPass f t₀ true t
   going-passed l = record { size = h .size; apart = h .apart; rows = λ j p m. h .done j p (omega (arith, h .count)) }
 
   -- record i is done
@@ -168,7 +168,7 @@ module _ {f t₀ t : List ℕ} {n i : ℕ} (h : Going f t₀ t n i) where
     row-here : RowDone f i t₀ b u
     row-here = row-since t₀ t u i (h .ahead i (omega arith)) (r .row)
 
-    pub going-stopped : b ≡ false → Passed f t₀ false u
+    pub going-stopped : b ≡ false → AfterPass f t₀ false u
     going-stopped z = record { size = r .size ∙ h .size; apart = apart-here; rows = λ j p m. row j p (ℕ-discrete j i) (decLt j i) }
       where
         row : (j : ℕ) → 0 < j → Dec (j ≡ i) → Dec (j < i) → RowDone f j t₀ false u
@@ -176,7 +176,7 @@ module _ {f t₀ t : List ℕ} {n i : ℕ} (h : Going f t₀ t n i) where
         row j p (no c) (yes d) = row-false t₀ u j (done-here j p d)
         row j p (no c) (no d) = inr (inl refl, ahead-here j (omega (arith, c, d)))
 
-    pub going-next : b ≡ recordTest (agrees f) f i → b ≡ true → Going f t₀ u n (i + 1)
+    pub going-next : b ≡ recordTest (agrees f) f i → b ≡ true → RowsGoing f t₀ u n (i + 1)
     unfolding _&_
     going-next e y = record {
       count = h .count;
@@ -196,7 +196,7 @@ pub record Before (f t : List ℕ) (j : ℕ) : Type 0 where
   pub made : IsCall f j → EffectAt f j (effectIn t j)
   pub agrees : IsCall f j → true ≡ recordTest (agrees f) f j
 
-pub going-before : {f t₀ t : List ℕ} {n i j : ℕ} → Going f t₀ t n i → Formed f → j < i → Before f t j
+pub going-before : {f t₀ t : List ℕ} {n i j : ℕ} → RowsGoing f t₀ t n i → Formed f → j < i → Before f t j
 going-before {f} {t₀} {t} {j = j} h F l = record {
   below = let m = h .most in omega (arith, h .count);
   made = λ k. row-step t₀ t j refl (call-step F k) (h .done j (call-here {f = f} {i = j} F refl k .some) l);

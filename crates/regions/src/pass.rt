@@ -36,7 +36,7 @@ ghost use Rattle.regions.specs.Single.{agrees};
 ghost use Rattle.regions.specs.Here.{Given, Here};
 ghost use Rattle.regions.specs.Effects.{SomeStep, regionEffect};
 ghost use Rattle.regions.specs.CallEffect.{CallHere};
-ghost use Rattle.regions.specs.Rowed.{Before, Rowed, Passed};
+ghost use Rattle.regions.specs.Rowed.{Before, Rowed, AfterPass};
 
 // The call at record i of the procedure with the window callee: it maps no region two ways.
 fn call_ok(file: &[u8], own: &[u64], callee: &[u64], i: usize, rows: &mut [u64; ROWS]) -> bool
@@ -203,7 +203,7 @@ pub fn regions_agree(file: &[u8], table: &[u64], owners: &[u16], rows: &mut [u64
     requires { ⌜ Given (now file) (now table) (now owners) ⌝ }
     requires { ⌜ rowWords ≤ length (now rows) ⌝ }
     ensures { λ b. ⌜ b ≡ regionsOk (program (now (file .entry))) ⌝ }
-    ensures { λ b. ⌜ Passed (now (file .entry)) (now (rows .entry)) b (now (rows .exit)) ⌝ }
+    ensures { λ b. ⌜ AfterPass (now (file .entry)) (now (rows .entry)) b (now (rows .exit)) ⌝ }
 {
     let n = record_count(file);
     let mut firsts = blank_places();

@@ -18,9 +18,9 @@ use Rattle.chains.specs.Is.{arm-is}
 use Rattle.chains.specs.Shapes.{by-number}
 use Rattle.owners.specs.Owner.{ownersOf, ownerOf}
 use Rattle.owners.specs.Owners.{listed-owner, goals-owned, switch-owned, if-owned, arm-owned, procedureRecord, procedure-first}
-use Rattle.values.specs.Noting.{Noted, noted-accessed}
+use Rattle.values.specs.Noting.{AllNoted, noted-accessed}
 use Rattle.regions.specs.Here.{Given}
-use Rattle.regions.specs.Rowed.{Passed, passed-accessed, passed-effected}
+use Rattle.regions.specs.Rowed.{AfterPass, passed-accessed, passed-effected}
 use Rattle.tables.specs.Window.{FileTable}
 use Rattle.tables.specs.Filled.{Owning, Prepared}
 
@@ -51,7 +51,7 @@ few-procedures : (f : List ℕ) → typingOk (program f) ≡ true → length (pr
 unfolding typingOk among
 few-procedures f e = leb-true _ _ (and-true (and-true (and-true e .1) .0) .1)
 
-pub prepared : {f table m rows : List ℕ} {b : Bool} → Formed f → typingOk (program f) ≡ true → FileTable f table → Noted f m → Passed f m b rows → b ≡ true
+pub prepared : {f table m rows : List ℕ} {b : Bool} → Formed f → typingOk (program f) ≡ true → FileTable f table → AllNoted f m → AfterPass f m b rows → b ≡ true
     → Prepared f table rows
 prepared {f} F t w n p y = record {
   owner = ownerOf f;

@@ -9,29 +9,29 @@ use Rattle.language.specs.declared.Verdict.{Verdict}
 use Rattle.language.specs.declared.Verdict.the-variants.{Refused}
 use Rattle.tables.specs.Window.{FileTable}
 use Rattle.windows.specs.Listing.{OnlyWindows}
-use Rattle.values.specs.Noting.{Noted, Kept}
-use Rattle.regions.specs.Rowed.{Passed}
+use Rattle.values.specs.Noting.{AllNoted, RowsKept}
+use Rattle.regions.specs.Rowed.{AfterPass}
 
 -- the rows u of the answer v, where number 4 leaves m: number 5 comes to them only where number 4 is passed, and fills them all where it is passed too
-abbrev pub Onward : List ℕ → List ℕ → Verdict → List ℕ → Type 0
-Onward f m v u = ((v ≡ Refused Values) × (u ≡ m)) ⊎ (((v ≡ Refused Regions) × Passed f m false u) ⊎ Passed f m true u)
+abbrev pub RowsOf : List ℕ → List ℕ → Verdict → List ℕ → Type 0
+RowsOf f m v u = ((v ≡ Refused Values) × (u ≡ m)) ⊎ (((v ≡ Refused Regions) × AfterPass f m false u) ⊎ AfterPass f m true u)
 
 -- the table t and the rows u, where t₀ and u₀ stood: every window, what every step and arm reads and gives, and of effects as much as is said above.
 -- All else is as it was.
-pub record Tabled (f t₀ u₀ : List ℕ) (v : Verdict) (t u : List ℕ) : Type 0 where
+pub record TablesAfter (f t₀ u₀ : List ℕ) (v : Verdict) (t u : List ℕ) : Type 0 where
   pub windows : FileTable f t
   pub only : OnlyWindows f t₀ t
   pub between : List ℕ
-  pub noted : Noted f between
-  pub kept : Kept f u₀ between
-  pub onward : Onward f between v u
+  pub noted : AllNoted f between
+  pub kept : RowsKept f u₀ between
+  pub onward : RowsOf f between v u
 
-module _ {f t₀ u₀ t m : List ℕ} (w : FileTable f t) (o : OnlyWindows f t₀ t) (n : Noted f m) (k : Kept f u₀ m) where
-  pub tabled-values : Tabled f t₀ u₀ (Refused Values) t m
+module _ {f t₀ u₀ t m : List ℕ} (w : FileTable f t) (o : OnlyWindows f t₀ t) (n : AllNoted f m) (k : RowsKept f u₀ m) where
+  pub tabled-values : TablesAfter f t₀ u₀ (Refused Values) t m
   tabled-values = record { windows = w; only = o; between = m; noted = n; kept = k; onward = inl (refl, refl) }
 
-  pub tabled-regions : {u : List ℕ} {b : Bool} → Passed f m b u → b ≡ false → Tabled f t₀ u₀ (Refused Regions) t u
+  pub tabled-regions : {u : List ℕ} {b : Bool} → AfterPass f m b u → b ≡ false → TablesAfter f t₀ u₀ (Refused Regions) t u
   tabled-regions p z = record { windows = w; only = o; between = m; noted = n; kept = k; onward = inr (inl (refl, rw z at p)) }
 
-  pub tabled-all : {v : Verdict} {u : List ℕ} {b : Bool} → Passed f m b u → b ≡ true → Tabled f t₀ u₀ v t u
+  pub tabled-all : {v : Verdict} {u : List ℕ} {b : Bool} → AfterPass f m b u → b ≡ true → TablesAfter f t₀ u₀ v t u
   tabled-all p y = record { windows = w; only = o; between = m; noted = n; kept = k; onward = inr (inr (rw y at p)) }

@@ -22,9 +22,9 @@ ghost use Rattle.records.specs.Blank.{fileWords, rowWords};
 ghost use Rattle.chains.specs.Formed.{Formed};
 ghost use Rattle.tables.specs.Window.{FileTable};
 ghost use Rattle.tables.specs.Filled.{Prepared};
-ghost use Rattle.regions.specs.Rowed.{Passed};
+ghost use Rattle.regions.specs.Rowed.{AfterPass};
 ghost use Rattle.rules.specs.Stages.{typingStages, tableStages};
-ghost use Rattle.rules.specs.Tabled.{Tabled};
+ghost use Rattle.rules.specs.Tabled.{TablesAfter};
 
 // Numbers 1 to 3.
 pub fn check_typing(file: &[u8]) -> Verdict
@@ -47,7 +47,7 @@ fn regions_ok(file: &[u8], table: &[u64; TABLE], rows: &mut [u64; ROWS]) -> bool
     requires { ⌜ FileTable (now file) (now table) ⌝ }
     requires { ⌜ rowWords ≤ length (now rows) ⌝ }
     ensures { λ b. ⌜ b ≡ regionsOk (program (now (file .entry))) ⌝ }
-    ensures { λ b. ⌜ Passed (now (file .entry)) (now (rows .entry)) b (now (rows .exit)) ⌝ }
+    ensures { λ b. ⌜ AfterPass (now (file .entry)) (now (rows .entry)) b (now (rows .exit)) ⌝ }
 {
     let mut owners = blank_owners();
     list_owners(file, &mut owners);
@@ -62,7 +62,7 @@ pub fn check_classes(file: &[u8], table: &mut [u64; TABLE], rows: &mut [u64; ROW
     requires { ⌜ (fileWords ≤ length (now table)) × (rowWords ≤ length (now rows)) ⌝ }
     ensures { λ r. ⌜ r ≡ lowest (tableStages (now (file .entry))) ⌝ }
     ensures { λ r. ⌜ (r ≡ Accepted → Prepared (now (file .entry)) (now (table .exit)) (now (rows .exit))) ⌝ }
-    ensures { λ r. ⌜ Tabled (now (file .entry)) (now (table .entry)) (now (rows .entry)) r (now (table .exit)) (now (rows .exit)) ⌝ }
+    ensures { λ r. ⌜ TablesAfter (now (file .entry)) (now (table .entry)) (now (rows .entry)) r (now (table .exit)) (now (rows .exit)) ⌝ }
 {
     let right = list_procedures(file, table);
     if !values_ok(file, table, rows) {

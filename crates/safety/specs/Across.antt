@@ -15,21 +15,21 @@ use Rattle.language.specs.AcceptedRun.{RegionCell}
 use Rattle.region_graph.specs.Laws.{shared, target, Declared, Called}
 use Rattle.region_graph.specs.Alike.{region-some}
 use Rattle.region_graph.specs.Shared.{target-known, target-reach}
-use Rattle.safety.specs.Signatures.{Known}
-use Rattle.safety.specs.Places.{cellOn, along, along-in, choices, width, Placed, is-number, is-cell, PlacedAll, placed-none, placed-more}
+use Rattle.safety.specs.Signatures.{KnownRegion}
+use Rattle.safety.specs.Places.{cellOn, along, along-in, choices, width, PlacedValue, is-number, is-cell, PlacedAll, placed-none, placed-more}
 
 -- what the values need of a call's mapping m
-pub record Along (C Q : Signature) (ys : List ℕ) (m : ℕ → ℕ) : Type 0 where
+pub record Across (C Q : Signature) (ys : List ℕ) (m : ℕ → ℕ) : Type 0 where
   pub nowhere : m 0 ≡ 0
   pub arguments : map m (regionsOf Q (parameterVariables (parametersOf Q))) ≡ regionsOf C ys
   pub region : (r : ℕ) → shared Q r → isRegion C (m r) ≡ true
   pub type : (r : ℕ) → shared Q r → regionAt C (m r) .type ≡ regionAt Q r .type
   pub follows : (r f k : ℕ) → shared Q r → target C (m r) f k ≡ m (target Q r f k)
 
-pub called-along : {C Q : Signature} {ys : List ℕ} → Called C Q ys → Along C Q ys (imageIn (mapping C Q ys))
+pub called-along : {C Q : Signature} {ys : List ℕ} → Called C Q ys → Across C Q ys (imageIn (mapping C Q ys))
 unfolding imageIn
 called-along {C} {Q} {ys} K =
-    subst (λ (m : ℕ → ℕ). Along C Q ys m) (sym (ap imageIn (K .mapped)))
+    subst (λ (m : ℕ → ℕ). Across C Q ys m) (sym (ap imageIn (K .mapped)))
     (record { nowhere = K .nowhere; arguments = K .arguments; region = K .region; type = K .type; follows = K .follows })
 
 -- what r reaches in the callee Q is shared with the caller, where it stands for what its image does
@@ -37,10 +37,10 @@ abbrev pub Comes : Signature → (ℕ → ℕ) → (ℕ → ℕ) → (ℕ → �
 Comes Q m ρ ρ′ r = (u : ℕ) → member (reachFrom Q r) u ≡ true → (shared Q u) × (ρ (m u) ≡ ρ′ u)
 
 abbrev pub ComesAll : Signature → (ℕ → ℕ) → (ℕ → ℕ) → (ℕ → ℕ) → List ℕ → Type 0
-ComesAll Q m ρ ρ′ rs = (t : ℕ) → inList t rs ≡ true → Known Q t × Comes Q m ρ ρ′ t
+ComesAll Q m ρ ρ′ rs = (t : ℕ) → inList t rs ≡ true → KnownRegion Q t × Comes Q m ρ ρ′ t
 
 module _ {T : List (List Functor)} {C Q : Signature} {ys : List ℕ} {m : ℕ → ℕ} (D : Declared T Q)
-    (A : Along C Q ys m) where
+    (A : Across C Q ys m) where
   -- ---- a region and its image have equal edges
   choices-same : (r : ℕ) → shared Q r → choices T C (m r) ≡ choices T Q r
   unfolding choices
@@ -63,18 +63,18 @@ module _ {T : List (List Functor)} {C Q : Signature} {ys : List ℕ} {m : ℕ �
       let j = along-in Q r f k n t e in
       (rw (j .1) at (target-known _ _ D r f (j .0) i), λ u x. g u (subset-in _ _ (target-reach _ _ D r f (j .0) (inr i)) u (rw (j .1) x)))
 
-  zero-back : (ρ ρ′ : ℕ → ℕ) (r : ℕ) → Known Q r → Comes Q m ρ ρ′ r → 0 ≡ m r → r ≡ 0
+  zero-back : (ρ ρ′ : ℕ → ℕ) (r : ℕ) → KnownRegion Q r → Comes Q m ρ ρ′ r → 0 ≡ m r → r ≡ 0
   zero-back ρ ρ′ r (inl z) g e = z
   zero-back ρ ρ′ r (inr i) g e = absurd (region-some C 0 (rw e (A .region r (g r (D .self r i) .0))) refl)
 
-  region-back : (r k : ℕ) → Known Q r → k ≡ m r → isRegion C k ≡ true → isRegion Q r ≡ true
+  region-back : (r k : ℕ) → KnownRegion Q r → k ≡ m r → isRegion C k ≡ true → isRegion Q r ≡ true
   region-back r k (inl z) e i = absurd (region-some C 0 (sym (ap (isRegion C) (e ∙ ap m z ∙ A .nowhere)) ∙ i) refl)
   region-back r k (inr j) e i = j
 
   module _ {ρ ρ′ : ℕ → ℕ} {H : List RegionCell} where
     -- ---- into the callee
     mutual
-      pub enter : {k : ℕ} {v : Value} → Placed T C ρ H k v → (r : ℕ) → k ≡ m r → Known Q r → Comes Q m ρ ρ′ r → Placed T Q ρ′ H r v
+      pub enter : {k : ℕ} {v : Value} → PlacedValue T C ρ H k v → (r : ℕ) → k ≡ m r → KnownRegion Q r → Comes Q m ρ ρ′ r → PlacedValue T Q ρ′ H r v
       enter is-number r e w g = rw (zero-back ρ ρ′ r w g e) is-number
       enter (is-cell {r = k} {c = c} {vs = vs} f i l t s p) r e w g =
           let j = region-back r k w e i in
@@ -94,7 +94,7 @@ module _ {T : List (List Functor)} {C Q : Signature} {ys : List ℕ} {m : ℕ �
 
     -- ---- back to the caller
     mutual
-      pub leave : {r : ℕ} {v : Value} → Placed T Q ρ′ H r v → Comes Q m ρ ρ′ r → Placed T C ρ H (m r) v
+      pub leave : {r : ℕ} {v : Value} → PlacedValue T Q ρ′ H r v → Comes Q m ρ ρ′ r → PlacedValue T C ρ H (m r) v
       leave is-number g = rw (A .nowhere) is-number
       leave (is-cell {r = r} {c = c} {vs = vs} f i l t s p) g =
           let b = g r (D .self r i) in

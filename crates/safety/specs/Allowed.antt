@@ -20,11 +20,11 @@ use Rattle.region_graph.specs.Typed.{functor-typed}
 use Rattle.region_graph.specs.Alike.{region-some}
 use Rattle.region_graph.specs.Procedure.{number-region, cell-region}
 use Rattle.safety.specs.Walks.{require-in}
-use Rattle.safety.specs.Doing.{Next}
+use Rattle.safety.specs.Doing.{NextGoal}
 use Rattle.region_graph.specs.Shared.{region-top}
 use Rattle.safety.specs.Signatures.{Fit, laws-of}
 use Rattle.safety.specs.Premises.{Accepted, fit}
-use Rattle.safety.specs.Places.{along, choices, width, Placed, is-number, PlacedAll, placed-none, placed-more, Lies, lies}
+use Rattle.safety.specs.Places.{along, choices, width, PlacedValue, is-number, PlacedAll, placed-none, placed-more, Lies, lies}
 use Rattle.safety.specs.Variables.{type-in, types-length, targets-along}
 use Rattle.safety.specs.Owners.{Owner}
 use Rattle.safety.specs.Invariant.{Now}
@@ -38,7 +38,7 @@ pub record Built (T : List (List Functor)) (S : Signature) (x k : ℕ) (ys : Lis
 
 module _ (P : Program) {S : Signature} (F : Fit (P .types) S) where
   number-lies : {ρ : ℕ → ℕ} {H : List RegionCell} (x : ℕ) (z : ℤ) → hasType S 0 x ≡ true
-      → Placed (P .types) S ρ H (regionOf S x) (numeral z)
+      → PlacedValue (P .types) S ρ H (regionOf S x) (numeral z)
   number-lies x z e = rw (number-region _ _ (F .typed) x (type-in S 0 x e .1)) is-number
 
   pub number-placed : {ρ : ℕ → ℕ} {H : List RegionCell} (x : ℕ) (z : ℤ) → hasType S 0 x ≡ true
@@ -95,7 +95,7 @@ module _ {P : Program} (A : Accepted P) (f : RegionFrame) (fs : List RegionFrame
       record { typed = functor-typed T (typeOf S x) k l; small = l; have = p .1 }
 
   -- ---- "A step that would build or read in a region never created or already removed, or remove such a one" never comes
-  pub allowed-ok : (g : Goal) (rest : Goals) → Next P S g rest h s → allowed P g f m ≡ true
+  pub allowed-ok : (g : Goal) (rest : Goals) → NextGoal P S g rest h s → allowed P g f m ≡ true
   unfolding allowed regionFor goalOk stepOk checkGoal effect
   allowed-ok (step (literal x v)) rest X = refl
   allowed-ok (step (sum x o y z)) rest X = refl

@@ -32,7 +32,7 @@ module _ (P : Program) (S : Signature) where
         → goalsRegions P S gs ≡ true → checkGoals P S gs h s ≡ carries k u → subset t u ≡ true → Doing rest k t → Doing goals h s
 
   -- the next goal, with the sound variables that it counts on
-  pub record Next (g : Goal) (rest : Goals) (h s : Set) : Type 0 where
+  pub record NextGoal (g : Goal) (rest : Goals) (h s : Set) : Type 0 where
     pub counted : Set
     pub fewer : subset counted s ≡ true
     pub typed : goalOk P S g ≡ true
@@ -45,7 +45,7 @@ module _ (P : Program) (S : Signature) where
   never-done : (g : Goal) (gs : Goals) → done ≡ g then gs → ⊥
   never-done g gs e = false≢true cc
 
-  next-same : {g : Goal} {rest : Goals} {h s k t u : Set} → k ≡ h → u ≡ s → subset t u ≡ true → Next g rest k t → Next g rest h s
+  next-same : {g : Goal} {rest : Goals} {h s k t u : Set} → k ≡ h → u ≡ s → subset t u ≡ true → NextGoal g rest k t → NextGoal g rest h s
   next-same {h = h} {s = s} {t = t} p q w n = record {
     counted = n .counted;
     fewer = subset-trans (n .counted) t s (n .fewer) (rw q at w);
@@ -57,7 +57,7 @@ module _ (P : Program) (S : Signature) where
     onward = n .onward;
   }
 
-  pub next-in : {goals : Goals} {h s : Set} → Doing goals h s → (g : Goal) (rest : Goals) → goals ≡ g then rest → Next g rest h s
+  pub next-in : {goals : Goals} {h s : Set} → Doing goals h s → (g : Goal) (rest : Goals) → goals ≡ g then rest → NextGoal g rest h s
   unfolding _before_ goalsOk goalsRegions checkGoals
   next-in (ends e) g rest q = absurd (never-done g rest q)
   next-in (segment done b o r c w d) g rest q = next-same (cc) (cc) w (next-in d g rest (b ∙ q))
@@ -91,7 +91,7 @@ module _ (P : Program) (S : Signature) where
   end-in (segment {rest = more} (a then gs) b o r c w d) q = absurd (never-done a (gs before more) (sym (b ∙ q)))
 
   -- the arm that functor k takes, f being what the type says of it
-  pub record Taken (cs : Arms) (r : ℕ) (f : Functor) (k : ℕ) (h s h₁ s₁ : Set) : Type 0 where
+  pub record ArmTaken (cs : Arms) (r : ℕ) (f : Functor) (k : ℕ) (h s h₁ s₁ : Set) : Type 0 where
     pub arguments : List ℕ
     pub goals : Goals
     pub after : Set
@@ -125,7 +125,7 @@ module _ (P : Program) (S : Signature) where
   none-left (arm g ys gs cs) fs n j q o l = false≢true (cc)
 
   pub arms-in : (cs : Arms) (fs : List Functor) (r n j k : ℕ) {h s h₁ s₁ : Set} → k ≡ n + j → j < length fs → armsOk P S cs fs n ≡ true
-      → armsRegions P S cs r ≡ true → checkArms P S cs h s ≡ carries h₁ s₁ → Taken cs r (functorAt fs j) k h s h₁ s₁
+      → armsRegions P S cs r ≡ true → checkArms P S cs h s ≡ carries h₁ s₁ → ArmTaken cs r (functorAt fs j) k h s h₁ s₁
   unfolding armsOk armsRegions argumentsOk pick functorAt nth
   arms-in noArms [] r n j k q l o w e = absurd (omega arith)
   arms-in noArms (f ∷ fs) r n j k q l o w e = absurd (false≢true o)
@@ -159,8 +159,8 @@ module _ (P : Program) (S : Signature) where
     where
       later : g ≡ n → armsOk P S cs fs (suc n) ≡ true
           → (cs ≡ noArms) ⊎ ((t : Set) × (checkArms P S cs h s ≡ carries h₁ t) × (subset s₁ t ≡ true))
-          → ((t : Set) → checkArms P S cs h s ≡ carries h₁ t → Taken cs r (functorAt fs j) k h s h₁ t)
-          → Taken (arm g ys gs cs) r (functorAt (f ∷ fs) (suc j)) k h s h₁ s₁
+          → ((t : Set) → checkArms P S cs h s ≡ carries h₁ t → ArmTaken cs r (functorAt fs j) k h s h₁ t)
+          → ArmTaken (arm g ys gs cs) r (functorAt (f ∷ fs) (suc j)) k h s h₁ s₁
       later t o′ (inl z) ih = absurd (none-left cs fs (suc n) j z o′ (omega arith))
       later t o′ (inr z) ih =
           let y = ih (z .0) (z .1) in

@@ -60,14 +60,14 @@ module _ (T : List (List Functor)) where
 
   module _ (S : Signature) (ρ : ℕ → ℕ) (H : List RegionCell) where
     mutual
-      pub data Placed : ℕ → Value → Type 0 where
-        is-number : {z : ℤ} → Placed 0 (numeral z)
+      pub data PlacedValue : ℕ → Value → Type 0 where
+        is-number : {z : ℤ} → PlacedValue 0 (numeral z)
         is-cell : {r c : ℕ} {vs : List Value} (f : ℕ) → isRegion S r ≡ true → c < length H → cellNo H c ≡ cellOn (ρ r) f vs
-            → f < choices S r → PlacedAll (along S r f 1 (width S r f)) vs → Placed r (cellAt c)
+            → f < choices S r → PlacedAll (along S r f 1 (width S r f)) vs → PlacedValue r (cellAt c)
 
       pub data PlacedAll : List ℕ → List Value → Type 0 where
         placed-none : PlacedAll [] []
-        placed-more : {r : ℕ} {v : Value} {rs : List ℕ} {vs : List Value} → Placed r v → PlacedAll rs vs → PlacedAll (r ∷ rs) (v ∷ vs)
+        placed-more : {r : ℕ} {v : Value} {rs : List ℕ} {vs : List Value} → PlacedValue r v → PlacedAll rs vs → PlacedAll (r ∷ rs) (v ∷ vs)
 
     -- a value that lies in a region is a cell there
     pub record Lies (r : ℕ) (v : Value) : Type 0 where
@@ -79,7 +79,7 @@ module _ (T : List (List Functor)) where
       pub small : functor < choices S r
       pub inside : PlacedAll (along S r functor 1 (width S r functor)) contents
 
-pub lies : {T : List (List Functor)} {S : Signature} {ρ : ℕ → ℕ} {H : List RegionCell} {r : ℕ} {v : Value} → Placed T S ρ H r v → r ≢ 0
+pub lies : {T : List (List Functor)} {S : Signature} {ρ : ℕ → ℕ} {H : List RegionCell} {r : ℕ} {v : Value} → PlacedValue T S ρ H r v → r ≢ 0
     → Lies T S ρ H r v
 lies is-number ne = absurd (ne refl)
 lies (is-cell {c = c} {vs = vs} f i l e s p) ne =
@@ -97,7 +97,7 @@ module _ {T : List (List Functor)} {S : Signature} (D : Declared T S) where
 
   module _ {ρ ρ′ : ℕ → ℕ} {H H′ : List RegionCell} (grows : Grows H H′) where
     mutual
-      pub move : {r : ℕ} {v : Value} → Placed T S ρ H r v → Agree S ρ ρ′ r → Placed T S ρ′ H′ r v
+      pub move : {r : ℕ} {v : Value} → PlacedValue T S ρ H r v → Agree S ρ ρ′ r → PlacedValue T S ρ′ H′ r v
       move is-number g = is-number
       move (is-cell {r = r} {c = c} {vs = vs} f i l e s p) g =
           is-cell f i (grows c l .0) (grows c l .1 ∙ e ∙ ap (λ (k : ℕ). cellOn k f vs) (g r (D .self r i))) s

@@ -23,7 +23,7 @@ use Rattle.region_graph.specs.Classes.{kept-in}
 use Rattle.safety.specs.Signatures.{Fit, born-unkept, born-shared, shared-top, outs-reach, laws-of}
 use Rattle.safety.specs.Premises.{Accepted, laws, fit}
 use Rattle.safety.specs.Places.{PlacedAll}
-use Rattle.safety.specs.Across.{Along, called-along, ComesAll, leave-all}
+use Rattle.safety.specs.Across.{Across, called-along, ComesAll, leave-all}
 use Rattle.safety.specs.Variables.{Vars, placed-each, vars-given, vars-moved}
 use Rattle.safety.specs.Owners.{Owner, owner, Covered, Away, Owns, Ownership}
 use Rattle.safety.specs.Invariant.{imageAt, givenBy, Hung, Stack, stack-stands, Now}
@@ -46,7 +46,7 @@ module _ {P : Program} (A : Accepted P) (q : ℕ) (zs : List ℕ) (ρ : ℕ → 
   F : Fit (P .types) Q
   F = fit A q
 
-  via : Along C Q zs m
+  via : Across C Q zs m
   via = called-along (g .call)
 
   -- what the waiting frame's numbers stand for and which it holds afterwards

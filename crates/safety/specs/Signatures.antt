@@ -29,8 +29,8 @@ pub record Fit (T : List (List Functor)) (S : Signature) : Type 0 where
   pub classes : classesOk S ≡ true
 
 -- no region, or one that is declared
-abbrev pub Known : Signature → ℕ → Type 0
-Known S r = (r ≡ 0) ⊎ (isRegion S r ≡ true)
+abbrev pub KnownRegion : Signature → ℕ → Type 0
+KnownRegion S r = (r ≡ 0) ⊎ (isRegion S r ≡ true)
 
 -- ---- no dead or born region is kept
 module _ (S : Signature) where

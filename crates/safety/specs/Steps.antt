@@ -25,10 +25,10 @@ use Rattle.laws.specs.Lists.{nth-map}
 use Rattle.region_graph.specs.Parameters.{arguments-in}
 use Rattle.region_graph.specs.Procedure.{cell-region}
 use Rattle.safety.specs.Walks.{require-in, Joined, join-in}
-use Rattle.safety.specs.Doing.{Doing, segment, Next, Taken, arms-in}
+use Rattle.safety.specs.Doing.{Doing, segment, NextGoal, ArmTaken, arms-in}
 use Rattle.safety.specs.Signatures.{Fit, laws-of}
 use Rattle.safety.specs.Premises.{Accepted, calling, fit, start-doing}
-use Rattle.safety.specs.Places.{cellOn, grows-more, Placed, PlacedAll, placed-none, placed-more, Lies}
+use Rattle.safety.specs.Places.{cellOn, grows-more, PlacedValue, PlacedAll, placed-none, placed-more, Lies}
 use Rattle.safety.specs.Variables.{AllVariables, type-in, types-variables, read-sound, placed-each, placed-new}
 use Rattle.safety.specs.Owners.{Owner}
 use Rattle.safety.specs.Invariant.{Now, Inv, inv, Fine}
@@ -79,19 +79,19 @@ module _ {P : Program} (A : Accepted P) (f : RegionFrame) (fs : List RegionFrame
       placed-each (N .vars) ys (λ y i. subset-in counted s w y (read-sound (laws-of F) counted ys a (rw e at (R .reads-sound)) y i))
 
   -- ---- the goals in turn
-  literal-ok : (x v : ℕ) → Next P S (step (literal x v)) (f .frame .goals) h s → Inv P (withFrame f (literalIn (f .frame) x v)) fs m
+  literal-ok : (x v : ℕ) → NextGoal P S (step (literal x v)) (f .frame .goals) h s → Inv P (withFrame f (literalIn (f .frame) x v)) fs m
   unfolding described withFrame literalIn giving stepOk
   literal-ok x v X =
       inv (quiet-doing (literal x v) (X .counted) (f .frame .goals) refl refl (X .goes) (X .onward))
       (now-quiet A (X .counted) (x ∷ []) (X .fewer) (number-placed P F x _ (X .typed)) N)
 
-  sum-ok : (x o y z : ℕ) → Next P S (step (sum x o y z)) (f .frame .goals) h s → Inv P (withFrame f (sumIn (f .frame) x o y z)) fs m
+  sum-ok : (x o y z : ℕ) → NextGoal P S (step (sum x o y z)) (f .frame .goals) h s → Inv P (withFrame f (sumIn (f .frame) x o y z)) fs m
   unfolding described withFrame sumIn giving stepOk
   sum-ok x o y z X =
       inv (quiet-doing (sum x o y z) (X .counted) (f .frame .goals) refl refl (X .goes) (X .onward))
       (now-quiet A (X .counted) (x ∷ []) (X .fewer) (number-placed P F x _ (and-true (X .typed) .0)) N)
 
-  assign-ok : (x y : ℕ) → Next P S (step (assign x y)) (f .frame .goals) h s → Inv P (withFrame f (assignIn (f .frame) x y)) fs m
+  assign-ok : (x y : ℕ) → NextGoal P S (step (assign x y)) (f .frame .goals) h s → Inv P (withFrame f (assignIn (f .frame) x y)) fs m
   unfolding described withFrame assignIn giving stepOk stepRegions
   assign-ok x y X =
       inv (quiet-doing (assign x y) (X .counted) (f .frame .goals) refl refl (X .goes) (X .onward))
@@ -108,13 +108,13 @@ module _ {P : Program} (A : Accepted P) (f : RegionFrame) (fs : List RegionFrame
       given : PlacedAll T S (f .stands) (m .cells) (regionsOf S (x ∷ [])) (f .frame .values y ∷ [])
       given = rw (eqb-true (regionOf S x) (regionOf S y) (X .regioned)) placed
 
-  print-ok : (y : ℕ) (z : ℤ) → Next P S (step (print y)) (f .frame .goals) h s → Inv P f fs (withPrinted m z)
+  print-ok : (y : ℕ) (z : ℤ) → NextGoal P S (step (print y)) (f .frame .goals) h s → Inv P f fs (withPrinted m z)
   unfolding described withPrinted
   print-ok y z X =
       inv (quiet-doing (print y) (X .counted) (f .frame .goals) refl refl (X .goes) (X .onward))
       (now-quiet A (X .counted) [] (X .fewer) placed-none N)
 
-  construct-ok : (x k : ℕ) (ys : Four) → Next P S (step (construct x k ys)) (f .frame .goals) h s
+  construct-ok : (x k : ℕ) (ys : Four) → NextGoal P S (step (construct x k ys)) (f .frame .goals) h s
       → Inv P (withFrame f (giving (f .frame) x (cellAt (length (m .cells))))) fs
       (withCell m (record { cell = cellFor (f .frame) k (argumentsOf ys); region = regionFor P f x }))
   unfolding described withFrame giving withCell cellFor regionFor stepRegions
@@ -131,27 +131,27 @@ module _ {P : Program} (A : Accepted P) (f : RegionFrame) (fs : List RegionFrame
           (types-variables S (typesIn (functorAt (functorsOf T (typeOf S x)) k)) (argumentsOf ys) (t .have)) refl
           (obeyed P S (construct x k ys) (X .goes))
 
-      new : Placed T S (f .stands) (m .cells ++ (cellOn (f .stands (regionOf S x)) k (map (f .frame .values) (argumentsOf ys)) ∷ []))
+      new : PlacedValue T S (f .stands) (m .cells ++ (cellOn (f .stands (regionOf S x)) k (map (f .frame .values) (argumentsOf ys)) ∷ []))
           (regionOf S x) (cellAt (length (m .cells)))
       new =
           placed-new (laws-of F) (regionOf S x) k (cell-region _ _ (F .typed) x (t .typed) .0) (rw (choices-typed P F x (t .typed)) (t .small))
           (rw (fits-along P F x k (argumentsOf ys) (t .typed) (t .have) (X .regioned)) at arguments)
 
-  create-ok : (r : ℕ) → Next P S (step (create r)) (f .frame .goals) h s
+  create-ok : (r : ℕ) → NextGoal P S (step (create r)) (f .frame .goals) h s
       → Inv P (record { frame = f .frame; stands = put (f .stands) r (suc (m .made)) }) fs (withRegion m)
   unfolding described withRegion stepOk
   create-ok r X =
       let R = obeyed P S (create r) (X .goes) in
       inv (rw (R .sound) at (X .onward)) (now-created A r (X .typed) N (X .counted) (X .held) (X .fewer) (R .bears-new) (R .held))
 
-  remove-ok : (r : ℕ) → Next P S (step (remove r)) (f .frame .goals) h s → Inv P f fs (withoutRegion m (f .stands r))
+  remove-ok : (r : ℕ) → NextGoal P S (step (remove r)) (f .frame .goals) h s → Inv P f fs (withoutRegion m (f .stands r))
   unfolding described withoutRegion stepOk
   remove-ok r X =
       let R = obeyed P S (remove r) (X .goes) in
       inv (rw (R .sound) at (X .onward))
       (now-removed A r (X .typed) N (X .counted) (X .held) (X .fewer) (R .needs-held) (R .ends-own) (R .held))
 
-  if-ok : (y z : ℕ) (a b : Goals) → Next P S (ifLess y z a b) (f .frame .goals) h s → Inv P (withFrame f (branchIn (f .frame) y z a b)) fs m
+  if-ok : (y z : ℕ) (a b : Goals) → NextGoal P S (ifLess y z a b) (f .frame .goals) h s → Inv P (withFrame f (branchIn (f .frame) y z a b)) fs m
   unfolding described withFrame branchIn withGoals
   if-ok y z a b X =
       let o = and-true (and-true (and-true (X .typed) .1) .1) in
@@ -172,7 +172,7 @@ module _ {P : Program} (A : Accepted P) (f : RegionFrame) (fs : List RegionFrame
 
   enter-ok : (x : ℕ) (cs : Arms) (counted : Set) {h₁ s₁ : Set} → 1 ≤ typeOf S x
       → (c : Lies T S (f .stands) (m .cells) (regionOf S x) (f .frame .values x))
-      → Taken P S cs (regionOf S x) (functorAt (functorsOf T (typeOf S x)) (c .functor)) (c .functor) h counted h₁ s₁
+      → ArmTaken P S cs (regionOf S x) (functorAt (functorsOf T (typeOf S x)) (c .functor)) (c .functor) h counted h₁ s₁
       → subset counted s ≡ true → Doing P S (f .frame .goals) h₁ s₁
       → Inv P (withFrame f (openCell (cellIn (map cellOf (m .cells)) (f .frame .values x)) cs (f .frame))) fs m
   unfolding withFrame
@@ -183,7 +183,7 @@ module _ {P : Program} (A : Accepted P) (f : RegionFrame) (fs : List RegionFrame
       (now-given A (t .arguments) (rw (← fits-along P F x (c .functor) (t .arguments) l (t .have) (t .targets)) at (c .inside))
       (now-fewer A w N)))
 
-  switch-ok : (x : ℕ) (cs : Arms) → Next P S (switch x cs) (f .frame .goals) h s
+  switch-ok : (x : ℕ) (cs : Arms) → NextGoal P S (switch x cs) (f .frame .goals) h s
       → Inv P (withFrame f (openCell (cellIn (map cellOf (m .cells)) (f .frame .values x)) cs (f .frame))) fs m
   unfolding described functorsFor
   switch-ok x cs X =
@@ -196,7 +196,7 @@ module _ {P : Program} (A : Accepted P) (f : RegionFrame) (fs : List RegionFrame
       (rw (choices-typed P F x l) at (c .small)) (o .1) (X .regioned) (r .1))
       (X .fewer) (X .onward)
 
-  call-ok : (q : ℕ) (ys : List ℕ) → Next P S (step (call q ys)) (f .frame .goals) h s → Inv P (calleeRegions P f q ys) (f ∷ fs) m
+  call-ok : (q : ℕ) (ys : List ℕ) → NextGoal P S (step (call q ys)) (f .frame .goals) h s → Inv P (calleeRegions P f q ys) (f ∷ fs) m
   unfolding described calleeRegions calleeFrame mappingFrom stepOk
   call-ok q ys X =
       let o = and-true (X .typed) in
@@ -206,7 +206,7 @@ module _ {P : Program} (A : Accepted P) (f : RegionFrame) (fs : List RegionFrame
       (λ y j. types-variables S (parameterTypes (signatureOf P q)) ys (o .1) y
       (arguments-in inMode (parametersOf (signatureOf P q)) ys y j)))
 
-  pub take-ok : (g : Goal) → Next P S g (f .frame .goals) h s → Fine P (take P g f fs m)
+  pub take-ok : (g : Goal) → NextGoal P S g (f .frame .goals) h s → Fine P (take P g f fs m)
   unfolding take
   take-ok (step (literal x v)) X = settled A _ fs m (literal-ok x v X)
   take-ok (step (sum x o y z)) X = settled A _ fs m (sum-ok x o y z X)

@@ -24,7 +24,7 @@ use Rattle.laws.specs.Choices.{put-same, put-other}
 use Rattle.laws.specs.Lists.{nth-last}
 use Rattle.region_graph.specs.Laws.{target, Declared}
 use Rattle.region_graph.specs.Shared.{variable-top}
-use Rattle.safety.specs.Places.{cellOn, Grows, grows-more, grows-last, along, choices, width, Placed, is-cell, PlacedAll, placed-none, placed-more, move, move-all}
+use Rattle.safety.specs.Places.{cellOn, Grows, grows-more, grows-last, along, choices, width, PlacedValue, is-cell, PlacedAll, placed-none, placed-more, move, move-all}
 
 -- each of a list is a variable
 abbrev pub AllVariables : Signature → List ℕ → Type 0
@@ -60,7 +60,7 @@ targets-along P S r f k (y ∷ ys) e =
 
 -- h is held and s is sound, in a frame with region numbers ρ and values vr; H has the cells
 pub record Vars (T : List (List Functor)) (S : Signature) (h s : Set) (ρ : ℕ → ℕ) (H : List RegionCell) (vr : ℕ → Value) : Type 0 where
-  pub placed : (x : ℕ) → member s x ≡ true → Placed T S ρ H (regionOf S x) (vr x)
+  pub placed : (x : ℕ) → member s x ≡ true → PlacedValue T S ρ H (regionOf S x) (vr x)
   pub closed : (x u : ℕ) → member s x ≡ true → member (reach S x) u ≡ true → member h u ≡ true
 
 module _ {T : List (List Functor)} {S : Signature} where
@@ -72,14 +72,14 @@ module _ {T : List (List Functor)} {S : Signature} where
   -- ---- values are given
   pub give-placed : {ρ : ℕ → ℕ} {H : List RegionCell} (xs : List ℕ) {vs : List Value} (vr : ℕ → Value) (x : ℕ)
       → PlacedAll T S ρ H (regionsOf S xs) vs
-      → (inList x xs ≡ true) ⊎ Placed T S ρ H (regionOf S x) (vr x) → Placed T S ρ H (regionOf S x) (giveEach xs vs vr x)
+      → (inList x xs ≡ true) ⊎ PlacedValue T S ρ H (regionOf S x) (vr x) → PlacedValue T S ρ H (regionOf S x) (giveEach xs vs vr x)
   unfolding giveEach regionsOf
   give-placed [] vr x placed-none (inl i) = absurd (nil-in x i)
   give-placed [] vr x placed-none (inr p) = p
   give-placed {ρ} {H} (y ∷ xs) vr x (placed-more {v = v} p q) c = give-placed xs (put vr y v) x q (go (ℕ-discrete y x) c)
     where
-      go : Dec (y ≡ x) → (inList x (y ∷ xs) ≡ true) ⊎ Placed T S ρ H (regionOf S x) (vr x)
-          → (inList x xs ≡ true) ⊎ Placed T S ρ H (regionOf S x) (put vr y v x)
+      go : Dec (y ≡ x) → (inList x (y ∷ xs) ≡ true) ⊎ PlacedValue T S ρ H (regionOf S x) (vr x)
+          → (inList x xs ≡ true) ⊎ PlacedValue T S ρ H (regionOf S x) (put vr y v x)
       go (yes e) d = inr (rw (← e) (rw (put-same vr y v) p))
       go (no ne) (inl i) = ⊎-elim (λ e. absurd (ne e)) (λ j. inl j) (cons-in x y xs i)
       go (no ne) (inr r) = inr (rw (put-other vr _ v _ ne) r)
@@ -145,7 +145,7 @@ module _ {T : List (List Functor)} {S : Signature} where
 
     -- a new cell in region r
     pub placed-new : {ρ : ℕ → ℕ} {H : List RegionCell} (r f : ℕ) {vs : List Value} → isRegion S r ≡ true → f < choices T S r
-        → PlacedAll T S ρ H (along S r f 1 (width T S r f)) vs → Placed T S ρ (H ++ (cellOn (ρ r) f vs ∷ [])) r (cellAt (length H))
+        → PlacedAll T S ρ H (along S r f 1 (width T S r f)) vs → PlacedValue T S ρ (H ++ (cellOn (ρ r) f vs ∷ [])) r (cellAt (length H))
     placed-new {ρ} {H} r f {vs} i l p =
         let k : RegionCell = cellOn (ρ r) f vs in
         is-cell f i (grows-last H k) (nth-last _ H k) l (move-all D (grows-more H k) p (λ t m u e. refl))

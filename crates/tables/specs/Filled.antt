@@ -20,24 +20,24 @@ use Rattle.tables.specs.Rows.{readsIn, givesIn, needsIn, bearsIn, endsIn
 
 module _ (f : List ℕ) where
   -- the goal at record i is the step g
-  pub record StepAt (i : ℕ) (g : Step) : Type 0 where
+  pub record GoalIsStep (i : ℕ) (g : Step) : Type 0 where
     pub stands : Stands f goals i
     pub some : i ≡ 0 → ⊥
     pub view : goalAt f i ≡ step g
 
   -- the rows have what every step reads and gives, and what every arm gives
   pub record Accessed (rows : List ℕ) : Type 0 where
-    pub reads : (i : ℕ) (g : Step) → StepAt i g → readsIn rows i ≡ Values.reads (program f) g
-    pub gives : (i : ℕ) (g : Step) → StepAt i g → givesIn rows i ≡ Values.gives (program f) g
+    pub reads : (i : ℕ) (g : Step) → GoalIsStep i g → readsIn rows i ≡ Values.reads (program f) g
+    pub gives : (i : ℕ) (g : Step) → GoalIsStep i g → givesIn rows i ≡ Values.gives (program f) g
     pub arm-gives : (i : ℕ) → Stands f arms i → (i ≡ 0 → ⊥)
         → givesIn rows i ≡ setOf (argumentsOf (fourAt f i))
 
   -- .. and what every step does to the regions of the procedure that it belongs to
   pub record Effected (owner : ℕ → ℕ) (rows : List ℕ) : Type 0 where
-    pub needs : (i : ℕ) (g : Step) → StepAt i g → needsIn rows i ≡ effect (program f) (signatureOf (program f) (owner i)) g .needs
-    pub bears : (i : ℕ) (g : Step) → StepAt i g → bearsIn rows i ≡ effect (program f) (signatureOf (program f) (owner i)) g .bears
-    pub ends : (i : ℕ) (g : Step) → StepAt i g → endsIn rows i ≡ effect (program f) (signatureOf (program f) (owner i)) g .ends
-    pub unshared : (i : ℕ) (g : Step) → StepAt i g → markIn rows i ≡ effect (program f) (signatureOf (program f) (owner i)) g .unshared
+    pub needs : (i : ℕ) (g : Step) → GoalIsStep i g → needsIn rows i ≡ effect (program f) (signatureOf (program f) (owner i)) g .needs
+    pub bears : (i : ℕ) (g : Step) → GoalIsStep i g → bearsIn rows i ≡ effect (program f) (signatureOf (program f) (owner i)) g .bears
+    pub ends : (i : ℕ) (g : Step) → GoalIsStep i g → endsIn rows i ≡ effect (program f) (signatureOf (program f) (owner i)) g .ends
+    pub unshared : (i : ℕ) (g : Step) → GoalIsStep i g → markIn rows i ≡ effect (program f) (signatureOf (program f) (owner i)) g .unshared
 
   -- a goal or arm belongs to the procedure that the record leading to it belongs to
   pub record Owning (owner : ℕ → ℕ) : Type 0 where

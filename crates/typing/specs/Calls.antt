@@ -19,7 +19,7 @@ use Rattle.language.specs.Typing.{hasType, haveTypes, typesOf, parameterTypes, 
 use Rattle.chains.specs.Formed.{Formed, Stands, argumentsAt, arguments-none, variablesAt, variables-none, goalAt}
 use Rattle.chains.specs.Shapes.{IsCall, call-here, argument-here}
 use Rattle.declarations.specs.Places.{procedureIn}
-use Rattle.declarations.specs.Parameters.{takes, takenTypes, Parameter, taken-one}
+use Rattle.declarations.specs.Parameters.{takes, takenTypes, ParameterFrom, taken-one}
 use Rattle.declarations.specs.Declares.{Declares, procedure-listed, callee-variables}
 
 -- ---- from the variable at record v and the argument at record y on
@@ -36,7 +36,7 @@ module _ {f : List ℕ} (F : Formed f) (S : Signature) (v y : ℕ) (sv : Stands 
     pub match-wrong : r ≡ false → false ≡ haveTypes S (takenTypes (variablesAt f v)) (argumentsAt f y)
     match-wrong p = refuse _ e p ∙ sym match-as
 
-    pub match-next : {u y′ : ℕ} → r ≡ true → Parameter f (word f v nextWord) u → y′ ≡ word f y nextWord
+    pub match-next : {u y′ : ℕ} → r ≡ true → ParameterFrom f (word f v nextWord) u → y′ ≡ word f y nextWord
         → haveTypes S (takenTypes (variablesAt f u)) (argumentsAt f y′) ≡ haveTypes S (takenTypes (variablesAt f v)) (argumentsAt f y)
     match-next p k ey = rw (ey, k .same) (pass e p refl ∙ sym match-as)
 
@@ -49,12 +49,12 @@ match-end f S v y F s e =
     ]
 
 -- the matching starts at the first in or out variable
-pub match-start : (f : List ℕ) (S : Signature) (y : ℕ) {v u : ℕ} → Parameter f v u
+pub match-start : (f : List ℕ) (S : Signature) (y : ℕ) {v u : ℕ} → ParameterFrom f v u
     → haveTypes S (takenTypes (variablesAt f u)) (argumentsAt f y) ≡ haveTypes S (takenTypes (variablesAt f v)) (argumentsAt f y)
 match-start f S y k = ap (λ ts. haveTypes S ts (argumentsAt f y)) (k .same)
 
 -- the first in or out variable from record w on, by the table
-pub parameter-at : {f t : List ℕ} → Declares f t → {w v u : ℕ} → Stands f variables v → w ≡ v → u ≡ getD t w 0 → Parameter f v u
+pub parameter-at : {f t : List ℕ} → Declares f t → {w v u : ℕ} → Stands f variables v → w ≡ v → u ≡ getD t w 0 → ParameterFrom f v u
 parameter-at D {w} {v} {u} s ew eu = rw (eu, ew) (D .parameters v s)
 
 -- ---- the types of the in and out variables, by their place in the chain

@@ -36,8 +36,8 @@ module _ (f own : List ℕ) where
   NumberTested i k r = r ≡ hasType (declared f own) 0 (word f i k)
 
   -- the arguments from record y on for the variables from record v on
-  abbrev pub Matched : ℕ → ℕ → Bool → Type 0
-  Matched v y r = r ≡ haveTypes (declared f own) (takenTypes (variablesAt f v)) (argumentsAt f y)
+  abbrev pub ArgumentsMatched : ℕ → ℕ → Bool → Type 0
+  ArgumentsMatched v y r = r ≡ haveTypes (declared f own) (takenTypes (variablesAt f v)) (argumentsAt f y)
 
   abbrev pub ArmsTested : ℕ → ℕ → Bool → Type 0
   ArmsTested i g r = r ≡ armsOk (program f) (declared f own) (armsAt f i) (functorsAt f g) 0

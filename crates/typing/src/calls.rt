@@ -17,7 +17,7 @@ ghost use Rattle.chains.specs.Formed.{Stands};
 ghost use Rattle.chains.specs.Shapes.{IsCall};
 ghost use Rattle.declarations.specs.Declares.{Declares};
 ghost use Rattle.declarations.specs.Own.{Own};
-ghost use Rattle.typing.specs.Settings.{Matched, GoalTested};
+ghost use Rattle.typing.specs.Settings.{ArgumentsMatched, GoalTested};
 
 // The arguments from record first on against the callee's variables from record start on.
 fn match_arguments(
@@ -29,7 +29,7 @@ fn match_arguments(
 ) -> bool
     requires { ⌜ Declares (now file) (now table) × Own (now file) (now own) ⌝ }
     requires { ⌜ Stands (now file) variables start × Stands (now file) arguments first ⌝ }
-    ensures { λ b. ⌜ Matched (now (file .entry)) (now (own .entry)) start first b ⌝ }
+    ensures { λ b. ⌜ ArgumentsMatched (now (file .entry)) (now (own .entry)) start first b ⌝ }
 {
     let mut v = parameter(table, start);
     let mut y = first;

@@ -14,29 +14,29 @@ use Rattle.chains.specs.Formed.{Formed, Stands, argumentsAt, arguments-none}
 use Rattle.chains.specs.Shapes.{argument-here}
 use Rattle.tables.specs.declared.Access.{Access}
 use Rattle.values.specs.Gathering.{noAccess, passedIn}
-use Rattle.values.specs.Matching.{Matches}
-use Rattle.values.specs.Parameters.{Declares, Turned, toldMode, turned-first, turned-short, turned-last, turned-next}
+use Rattle.values.specs.Matching.{CallMatches}
+use Rattle.values.specs.Parameters.{DeclaredSets, Gathered, toldMode, turned-first, turned-short, turned-last, turned-next}
 
 -- ---- a call's arguments
-pub record Going (f : List ℕ) (ins both : Set) (y0 : ℕ) (a : Access) (x y : ℕ) : Type 0 where
+pub record ArgumentsGoing (f : List ℕ) (ins both : Set) (y0 : ℕ) (a : Access) (x y : ℕ) : Type 0 where
   pub passed : ℕ
   pub next : x ≡ nextMember both passed
   pub argument : Stands f arguments y
-  pub turned : (S : Signature) (outs : Set) → both ≡ ins ∪ outs → Declares S ins outs → Turned S ins both (argumentsAt f y0) a passed (argumentsAt f y)
+  pub turned : (S : Signature) (outs : Set) → both ≡ ins ∪ outs → DeclaredSets S ins outs → Gathered S ins both (argumentsAt f y0) a passed (argumentsAt f y)
 
 pub going-first : {f : List ℕ} (ins : Set) {both : Set} {y0 : ℕ} {a : Access} {x : ℕ} → Stands f arguments y0 → a ≡ noAccess → x ≡ nextMember both 0
-    → Going f ins both y0 a x y0
+    → ArgumentsGoing f ins both y0 a x y0
 going-first ins s e n = record { passed = 0; next = n; argument = s; turned = λ S o b D. rw e (turned-first _ D b) }
 
-module _ {f : List ℕ} {ins both : Set} {y0 : ℕ} {a : Access} {x y : ℕ} (h : Going f ins both y0 a x y) where
-  pub going-short : y ≡ 0 → {outs : Set} → both ≡ ins ∪ outs → (S : Signature) → Declares S ins outs → Matches (S .variables) (argumentsAt f y0) a
+module _ {f : List ℕ} {ins both : Set} {y0 : ℕ} {a : Access} {x y : ℕ} (h : ArgumentsGoing f ins both y0 a x y) where
+  pub going-short : y ≡ 0 → {outs : Set} → both ≡ ins ∪ outs → (S : Signature) → DeclaredSets S ins outs → CallMatches (S .variables) (argumentsAt f y0) a
   going-short e b S D = turned-short (h .turned S _ b D) (arguments-none f e)
 
-  pub going-last : places ≤ x → {outs : Set} → both ≡ ins ∪ outs → (S : Signature) → Declares S ins outs → Matches (S .variables) (argumentsAt f y0) a
+  pub going-last : places ≤ x → {outs : Set} → both ≡ ins ∪ outs → (S : Signature) → DeclaredSets S ins outs → CallMatches (S .variables) (argumentsAt f y0) a
   going-last l b S D = turned-last (h .turned S _ b D) (omega (arith, h .next, next-is both (h .passed) .top))
 
   pub going-next : Formed f → x < places → (y ≡ 0 → ⊥) → {m w u z : ℕ} {b : Access} → m ≡ toldMode ins x → w ≡ word f y argumentVariable → b ≡ passedIn m a w
-      → u ≡ word f y nextWord → z ≡ nextMember both x → Going f ins both y0 b z u
+      → u ≡ word f y nextWord → z ≡ nextMember both x → ArgumentsGoing f ins both y0 b z u
   going-next F l p {m} {w} {u} {z} {b} i j k e n =
       let t = argument-here F p (h .argument) in
       record {

@@ -6,7 +6,7 @@ use Rattle.language.specs.Program.{Four, Variable, Step, literal, sum, assign, 
 use Rattle.language.specs.Values.{access, accessing}
 use Rattle.tables.specs.declared.Access.{Access}
 use Rattle.values.specs.Gathering.{noAccess, readIn, givenIn, fourRead, Gathers, gathers-none, gathers-read, gathers-give, four-read}
-use Rattle.values.specs.Matching.{passing, Matches}
+use Rattle.values.specs.Matching.{passing, CallMatches}
 
 -- all that the step reads and gives has been gathered
 pub record Accesses (P : Program) (g : Step) (a : Access) : Type 0 where
@@ -41,7 +41,7 @@ module _ (P : Program) where
   unfolding access accessing
   remove-access r = record { gathered = gathers-none }
 
-  pub call-access : {q : ℕ} {vs : List Variable} {ys : List ℕ} {a : Access} → vs ≡ signatureOf P q .variables → Matches vs ys a → Accesses P (call q ys) a
+  pub call-access : {q : ℕ} {vs : List Variable} {ys : List ℕ} {a : Access} → vs ≡ signatureOf P q .variables → CallMatches vs ys a → Accesses P (call q ys) a
   unfolding access accessing passing parametersOf
   call-access e m = record { gathered = rw e at m }
 

@@ -25,19 +25,19 @@ module _ {A : Type 0} (W : Walk.Walker A) (f : List ℕ) where
   ArmsWalked i a r c = Walk.outcome r c ≡ Walk.walkArms W (armsAt f i) a
 
   -- ---- along a chain from record start on, where a₀ was carried; the walk is at record i and carries a
-  pub record Along (start : ℕ) (a₀ : A) (i : ℕ) (a : A) : Type 0 where
+  pub record WalkedAlong (start : ℕ) (a₀ : A) (i : ℕ) (a : A) : Type 0 where
     pub stands : Stands f goals i
     pub near : ahead f i ≤ ahead f start
     pub same : Walk.walkGoals W (goalsAt f i) a ≡ Walk.walkGoals W (goalsAt f start) a₀
 
-  pub along-first : {i : ℕ} (a : A) → Stands f goals i → Along i a i a
+  pub along-first : {i : ℕ} (a : A) → Stands f goals i → WalkedAlong i a i a
   along-first a s = record { stands = s; near = omega arith; same = refl }
 
   -- no goals
   pub none-walked : {i : ℕ} (a : A) → i ≡ 0 → GoalsWalked i a true a
   none-walked a z = Walk.chain-end W a (goals-none f z)
 
-  module _ (F : Formed f) {start : ℕ} {a₀ : A} {i : ℕ} {a : A} (h : Along start a₀ i a) where
+  module _ (F : Formed f) {start : ℕ} {a₀ : A} {i : ℕ} {a : A} (h : WalkedAlong start a₀ i a) where
     pub along-last : i ≡ 0 → GoalsWalked start a₀ true a
     along-last z = none-walked a z ∙ h .same
 
@@ -46,7 +46,7 @@ module _ {A : Type 0} (W : Walk.Walker A) (f : List ℕ) where
         pub along-stop : (c : A) → r ≡ false → GoalsWalked start a₀ false c
         along-stop c p = Walk.chain-stop W a b (goals-step F (h .stands) z refl) m c p ∙ h .same
 
-        pub along-next : {w : ℕ} → r ≡ true → w ≡ word f i nextWord → Along start a₀ w b
+        pub along-next : {w : ℕ} → r ≡ true → w ≡ word f i nextWord → WalkedAlong start a₀ w b
         along-next p e =
             let o = chain-next F (h .stands) z e in
             record {

@@ -15,7 +15,7 @@ use Rattle.chains.specs.Reached.{procedure-variables}
 use Rattle.chains.specs.Lookups.{procedure-of}
 
 -- procedure q's variables start at a word of its record
-pub record Declares (f : List ℕ) (q v : ℕ) : Type 0 where
+pub record VariablesAt (f : List ℕ) (q v : ℕ) : Type 0 where
   pub stands : Stands f variables v
   pub view : variablesAt f v ≡ signatureOf (program f) q .variables
 
@@ -25,7 +25,7 @@ unfolding nth
 first-record {f} F zero q = rw (records-none f {i = 0} refl) refl
 first-record {f} F (suc i) q = rw (records-step {w = word f (suc i) nextWord} F (λ z. omega arith) q refl) refl
 
-pub entry-declares : {f : List ℕ} → Formed f → {i v : ℕ} → i ≡ word f 0 headerProcedures → v ≡ fieldOf f i procedureVariables → Declares f 0 v
+pub entry-declares : {f : List ℕ} → Formed f → {i v : ℕ} → i ≡ word f 0 headerProcedures → v ≡ fieldOf f i procedureVariables → VariablesAt f 0 v
 unfolding signatureOf
 entry-declares {f} F {i} e g =
     let p = e ∙ first-record F (word f 0 headerProcedures) (procedures-stand F .below) in

@@ -18,9 +18,9 @@ use Rattle.chains.specs.Formed.{Formed, Stands}
 use Rattle.chains.specs.Parts.{fourAt}
 use Rattle.records.specs.Blank.{walkWords}
 use Rattle.tables.specs.Rows.{readsIn, givesIn, markIn}
-use Rattle.tables.specs.Filled.{StepAt}
+use Rattle.tables.specs.Filled.{GoalIsStep}
 use Rattle.values.specs.Fitting.{armArguments}
-use Rattle.values.specs.Noting.{Noted}
+use Rattle.values.specs.Noting.{AllNoted}
 use Rattle.values.specs.Closed.{one-at}
 use Rattle.values.specs.Walk.{outcome, goesOn, step-goes}
 use Rattle.values.specs.Along.{GoalsWalked, GoalWalked, ArmsWalked}
@@ -51,9 +51,9 @@ carried-both c {x} {y} {e} {s} l p q =
     ∙ loaded-stored e)
     (ap loaded (getD-set-same (set c everyPlace x) somePlace y 0 (omega arith) ∙ q) ∙ loaded-stored s)
 
-module _ (f : List ℕ) {rows : List ℕ} (N : Noted f rows) where
+module _ (f : List ℕ) {rows : List ℕ} (N : AllNoted f rows) where
   -- ---- a step's row
-  row-step : (i : ℕ) {g : Step} (c d : List ℕ) (r : Bool) → StepAt f i g → RowValued rows i c r d → outcome r (valuation d) ≡ valuer (program f) .atStep g (valuation c)
+  row-step : (i : ℕ) {g : Step} (c d : List ℕ) (r : Bool) → GoalIsStep f i g → RowValued rows i c r d → outcome r (valuation d) ≡ valuer (program f) .atStep g (valuation c)
   unfolding valuer reads gives
   row-step i {g} c d r s m = let h = N .at i .step g s in m ∙ rw (h .read, h .given, h .none-twice) refl
 

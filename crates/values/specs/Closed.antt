@@ -9,7 +9,7 @@ use Rattle.language.specs.Format.{kindWord, switchKind, ifKind, armKind}
 use Rattle.language.specs.Program.{Step}
 use Rattle.chains.specs.Layout.{all-rows}
 use Rattle.chains.specs.Formed.{Formed, Stands, firstGoal, goalAt}
-use Rattle.tables.specs.Filled.{StepAt}
+use Rattle.tables.specs.Filled.{GoalIsStep}
 use Rattle.values.specs.Fitting.{arm-kind, arm-some}
 use Rattle.values.specs.Noting.{isStep, step-kind}
 use Rattle.chains.specs.Shapes.{step-here, kind-number}
@@ -19,7 +19,7 @@ module _ {f : List ℕ} (F : Formed f) (i : ℕ) (S : Stands f goals i) (z : i �
   pub one : Step
   one = step-here F S z e p q .one
 
-  pub one-at : StepAt f i one
+  pub one-at : GoalIsStep f i one
   unfolding goalAt firstGoal one
   one-at = record { stands = S; some = z; view = ap firstGoal (step-here F S z e p q .view) }
 

@@ -21,8 +21,8 @@ use Rattle.sets.specs.declared.Set.{Set}
 use Rattle.chains.specs.Parts.{fourAt}
 use Rattle.tables.specs.declared.Access.{Access}
 use Rattle.values.specs.Gathering.{noAccess, readIn, givenIn, readAll, fourRead, fourGiven, Gathers, four-given}
-use Rattle.values.specs.Matching.{Matches, none-matches}
-use Rattle.values.specs.Parameters.{Declares, declares}
+use Rattle.values.specs.Matching.{CallMatches, none-matches}
+use Rattle.values.specs.Parameters.{DeclaredSets, declares}
 use Rattle.values.specs.Accesses.{Accesses, literal-access, sum-access, assign-access, construct-access, print-access, create-access, remove-access, call-access, at-step}
 
 -- the arguments of the arm at record i
@@ -33,7 +33,7 @@ armArguments f i = argumentsOf (fourAt f i)
 abbrev pub Stepped : List ℕ → ℕ → Access → Type 0
 Stepped f i a = (g : Step) (gs : Goals) → goalsAt f i ≡ step g then gs → Accesses (program f) g a
 
-pub record Fits (f : List ℕ) (i : ℕ) (a : Access) : Type 0 where
+pub record AccessFits (f : List ℕ) (i : ℕ) (a : Access) : Type 0 where
   pub step : Stands f goals i → (i ≡ 0 → ⊥) → Stepped f i a
   pub arm : Stands f arms i → (i ≡ 0 → ⊥) → Gathers a [] (armArguments f i)
 
@@ -51,7 +51,7 @@ module _ (f : List ℕ) (i : ℕ) where
   pub not-both : {A : Type 0} → Stands f goals i → Stands f arms i → (i ≡ 0 → ⊥) → A
   not-both s t z = two-kinds (arm-kind t z) (goals-kind (starts-kind (word f) (recordCount f) i goals (omega arith) (stands-starts s) .1) .1)
 
-  pub fits-step : {g : GoalKind} {a : Access} → kindOf (word f i kindWord) ≡ kGoal g → Stepped f i a → Fits f i a
+  pub fits-step : {g : GoalKind} {a : Access} → kindOf (word f i kindWord) ≡ kGoal g → Stepped f i a → AccessFits f i a
   fits-step k h = record { step = λ s z. h; arm = λ s z. two-kinds (arm-kind s z) k }
 
 -- the code reads the four arguments in turn
@@ -67,40 +67,40 @@ module _ (f : List ℕ) (i : ℕ) (F : Formed f) {w : ℕ} (e : w ≡ word f i k
   is-kind : (k : Kind) → w ≡ row k .kind → kindOf (word f i kindWord) ≡ k
   is-kind k n = number-is k (word f i kindWord) (sym e ∙ n)
 
-  pub literal-fits : {a : Access} → w ≡ literalKind → a ≡ givenIn noAccess (word f i goalX) → Fits f i a
+  pub literal-fits : {a : Access} → w ≡ literalKind → a ≡ givenIn noAccess (word f i goalX) → AccessFits f i a
   unfolding all-rows
   literal-fits k p = fits-step f i (is-kind (kGoal kLiteral) k) (at-step (literal-here F e k .view) (rw p (literal-access (program f) _ _)))
 
-  pub sum-fits : {a : Access} → w ≡ sumKind → a ≡ givenIn (readIn (readIn noAccess (word f i sumY)) (word f i sumZ)) (word f i goalX) → Fits f i a
+  pub sum-fits : {a : Access} → w ≡ sumKind → a ≡ givenIn (readIn (readIn noAccess (word f i sumY)) (word f i sumZ)) (word f i goalX) → AccessFits f i a
   unfolding all-rows
   sum-fits k p = fits-step f i (is-kind (kGoal kSum) k) (at-step (sum-here F e k .view) (rw p (sum-access (program f) _ _ _ _)))
 
-  pub assign-fits : {a : Access} → w ≡ assignKind → a ≡ givenIn (readIn noAccess (word f i assignY)) (word f i goalX) → Fits f i a
+  pub assign-fits : {a : Access} → w ≡ assignKind → a ≡ givenIn (readIn noAccess (word f i assignY)) (word f i goalX) → AccessFits f i a
   unfolding all-rows
   assign-fits k p = fits-step f i (is-kind (kGoal kAssign) k) (at-step (assign-here F e k .view) (rw p (assign-access (program f) _ _)))
 
-  pub construct-fits : {a : Access} → w ≡ constructKind → a ≡ givenIn (fourRead (fourAt f i)) (word f i goalX) → Fits f i a
+  pub construct-fits : {a : Access} → w ≡ constructKind → a ≡ givenIn (fourRead (fourAt f i)) (word f i goalX) → AccessFits f i a
   unfolding all-rows
   construct-fits k p = fits-step f i (is-kind (kGoal kConstruct) k) (at-step (construct-here F e k .view) (rw p (construct-access (program f) _ _ _)))
 
-  pub print-fits : {a : Access} → w ≡ printKind → a ≡ readIn noAccess (word f i printY) → Fits f i a
+  pub print-fits : {a : Access} → w ≡ printKind → a ≡ readIn noAccess (word f i printY) → AccessFits f i a
   unfolding all-rows
   print-fits k p = fits-step f i (is-kind (kGoal kPrint) k) (at-step (print-here F e k .view) (rw p (print-access (program f) _)))
 
-  pub create-fits : {a : Access} → w ≡ createKind → a ≡ noAccess → Fits f i a
+  pub create-fits : {a : Access} → w ≡ createKind → a ≡ noAccess → AccessFits f i a
   unfolding all-rows
   create-fits k p = fits-step f i (is-kind (kGoal kCreate) k) (at-step (create-here F e k .view) (rw p (create-access (program f) _)))
 
-  pub remove-fits : {a : Access} → w ≡ removeKind → a ≡ noAccess → Fits f i a
+  pub remove-fits : {a : Access} → w ≡ removeKind → a ≡ noAccess → AccessFits f i a
   unfolding all-rows
   remove-fits k p = fits-step f i (is-kind (kGoal kRemove) k) (at-step (remove-here F e k .view) (rw p (remove-access (program f) _)))
 
   pub call-fits : {q y : ℕ} {a : Access} → w ≡ callKind → q ≡ word f i callProcedure → y ≡ word f i callArguments
-      → Accesses (program f) (call q (argumentsAt f y)) a → Fits f i a
+      → Accesses (program f) (call q (argumentsAt f y)) a → AccessFits f i a
   unfolding all-rows
   call-fits k g h p = fits-step f i (is-kind (kGoal kCall) k) (at-step (call-here F e k .view) (rw (g, h) at p))
 
-  pub arm-fits : {a : Access} → w ≡ armKind → a ≡ fourGiven (fourAt f i) → Fits f i a
+  pub arm-fits : {a : Access} → w ≡ armKind → a ≡ fourGiven (fourAt f i) → AccessFits f i a
   unfolding all-rows armArguments
   arm-fits k p = record {
     step = λ s z. two-kinds (is-kind kArm k) (goal-kind s z .1);
@@ -125,11 +125,11 @@ module _ {f t : List ℕ} (T : FileTable f t) {q w : ℕ} (h : q < length (progr
 
   -- its sets of in and out variables
   pub callee-declares : typingOk (program f) ≡ true → {ins outs : Set} → ins ≡ setIn t (w + insPlace) → outs ≡ setIn t (w + outsPlace)
-      → Declares (signatureOf (program f) q) ins outs
+      → DeclaredSets (signatureOf (program f) q) ins outs
   unfolding setIn signatureOf
   callee-declares d i o =
       let W = T .at q h .window in
       declares (program f) d h (i ∙ ap loaded (in-window insPlace refl) ∙ W .ins) (o ∙ ap loaded (in-window outsPlace refl) ∙ W .outs)
 
-  pub callee-accesses : {ys : List ℕ} {a : Access} → Matches (signatureOf (program f) q .variables) ys a → Accesses (program f) (call q ys) a
+  pub callee-accesses : {ys : List ℕ} {a : Access} → CallMatches (signatureOf (program f) q .variables) ys a → Accesses (program f) (call q ys) a
   callee-accesses m = call-access (program f) refl m

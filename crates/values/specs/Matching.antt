@@ -17,11 +17,11 @@ unfoldable pub passing : ℕ → ℕ → List Variable → List ℕ → List ℕ
 passing m x vs ys = argumentsIn m (parametersFrom x vs) ys
 
 -- all that a call reads and gives has been gathered
-abbrev pub Matches : List Variable → List ℕ → Access → Type 0
-Matches vs ys a = Gathers a (passing inMode 1 vs ys) (passing outMode 1 vs ys)
+abbrev pub CallMatches : List Variable → List ℕ → Access → Type 0
+CallMatches vs ys a = Gathers a (passing inMode 1 vs ys) (passing outMode 1 vs ys)
 
 -- no variables, and so no arguments
-pub none-matches : (ys : List ℕ) → Matches [] ys noAccess
+pub none-matches : (ys : List ℕ) → CallMatches [] ys noAccess
 unfolding passing parametersFrom argumentsIn
 none-matches ys = gathers-none
 

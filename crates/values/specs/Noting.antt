@@ -20,11 +20,11 @@ use Rattle.chains.specs.Formed.{Formed, Stands, counted, goalsAt, goalAt}
 use Rattle.chains.specs.Is.{goals-step}
 use Rattle.records.specs.Blank.{rowWords}
 use Rattle.tables.specs.Rows.{readsIn, givesIn, markIn, putAccess, Still, StillAt, row-same, access-length, access-word, access-still, access-reads, access-gives, access-mark}
-use Rattle.tables.specs.Filled.{StepAt, Accessed}
+use Rattle.tables.specs.Filled.{GoalIsStep, Accessed}
 use Rattle.tables.specs.declared.Access.{Access}
 use Rattle.values.specs.Ranged.{fresh}
 use Rattle.values.specs.Gathering.{Gathers}
-use Rattle.values.specs.Fitting.{armArguments, Fits, arm-kind, arm-some}
+use Rattle.values.specs.Fitting.{armArguments, AccessFits, arm-kind, arm-some}
 use Rattle.chains.specs.Shapes.{goal-kind, kind-number, switch-here, if-here}
 use Rattle.tables.specs.Places.{markPlace, needsPlace, rowPlace, rowSize}
 
@@ -61,11 +61,11 @@ pub record RowHas (rows : List ℕ) (i : ℕ) (ys xs : List ℕ) : Type 0 where
 
 -- .. as the step or arm there does
 pub record RowOf (f : List ℕ) (i : ℕ) (rows : List ℕ) : Type 0 where
-  pub step : (g : Step) → StepAt f i g → RowHas rows i (access (program f) g .read) (access (program f) g .given)
+  pub step : (g : Step) → GoalIsStep f i g → RowHas rows i (access (program f) g .read) (access (program f) g .given)
   pub arm : Stands f arms i → (i ≡ 0 → ⊥) → RowHas rows i [] (armArguments f i)
 
 -- .. and so for every step and every arm
-pub record Noted (f rows : List ℕ) : Type 0 where
+pub record AllNoted (f rows : List ℕ) : Type 0 where
   pub at : (i : ℕ) → RowOf f i rows
 
 -- word k of row i is none of those that are filled: what a step or an arm reads and gives, and its mark
@@ -73,16 +73,16 @@ abbrev pub Beside : List ℕ → ℕ → ℕ → Type 0
 Beside f i k = ((needsPlace ≤ k) × (k < markPlace)) ⊎ ((isStep (word f i kindWord) ≡ false) × (word f i kindWord ≡ armKind → ⊥))
 
 -- and stays as it was
-pub record Kept (f t u : List ℕ) : Type 0 where
+pub record RowsKept (f t u : List ℕ) : Type 0 where
   pub length : length u ≡ length t
   pub words : (i k : ℕ) → k < rowSize → Beside f i k → StillAt t u i k
 
 pub record RowListed (f : List ℕ) (i : ℕ) (t u : List ℕ) : Type 0 where
   pub row : RowOf f i u
-  pub kept : Kept f t u
+  pub kept : RowsKept f t u
   pub others : (j : ℕ) → (j ≡ i → ⊥) → Still t u j
 
-pub noted-accessed : {f rows : List ℕ} → Noted f rows → Accessed f rows
+pub noted-accessed : {f rows : List ℕ} → AllNoted f rows → Accessed f rows
 unfolding reads gives armArguments
 noted-accessed h =
     record {
@@ -95,7 +95,7 @@ noted-accessed h =
 goal-some : {k : GoalKind} → kGoal k ≡ kNone → ⊥
 goal-some e = let z : _≡_ {A = ℕ} 0 1 = cc in omega arith
 
-step-front : {f : List ℕ} {i : ℕ} {g : Step} → Formed f → StepAt f i g → goalsAt f i ≡ step g then goalsAt f (word f i nextWord)
+step-front : {f : List ℕ} {i : ℕ} {g : Step} → Formed f → GoalIsStep f i g → goalsAt f i ≡ step g then goalsAt f (word f i nextWord)
 step-front F s = rw (sym (s .view)) (goals-step F (s .stands) (s .some) refl)
 
 module _ {f : List ℕ} (i : ℕ) (F : Formed f) where
@@ -112,7 +112,7 @@ module _ {f : List ℕ} (i : ℕ) (F : Formed f) where
   kind-step g kCreate v e = rw e refl
   kind-step g kRemove v e = rw e refl
 
-  pub step-kind : (g : Step) → StepAt f i g → isStep (word f i kindWord) ≡ true
+  pub step-kind : (g : Step) → GoalIsStep f i g → isStep (word f i kindWord) ≡ true
   step-kind g s = let k = goal-kind (s .stands) (s .some) in kind-step g (k .0) (s .view) (kind-number (word f i kindWord) (kGoal (k .0)) (k .1) goal-some)
 
 -- a row whose words are the same has the same
@@ -125,7 +125,7 @@ module _ (t u : List ℕ) (j : ℕ) (e : Still t u j) where
 
 -- ---- one record's row
 -- what was gathered, put
-module _ {f : List ℕ} (t : List ℕ) {i : ℕ} {a : Access} (F : Formed f) (n : rowWords ≤ length t) (h : i < recordCount f) (fit : Fits f i a) where
+module _ {f : List ℕ} (t : List ℕ) {i : ℕ} {a : Access} (F : Formed f) (n : rowWords ≤ length t) (h : i < recordCount f) (fit : AccessFits f i a) where
   put-has : {ys xs : List ℕ} → Gathers a ys xs → RowHas (putAccess t i a) i ys xs
   put-has g =
       let l : i < maxRecords = (let c = counted F in omega arith) in
@@ -172,7 +172,7 @@ listed-none {f} {t} {i} F p q =
 -- ---- record by record
 pub record Noting (f t : List ℕ) (i : ℕ) (u : List ℕ) : Type 0 where
   pub rows : (j : ℕ) → 0 < j → j < i → RowOf f j u
-  pub kept : Kept f t u
+  pub kept : RowsKept f t u
 
 pub noting-first : (f t : List ℕ) → Noting f t 1 t
 noting-first f t = record { rows = λ j p q. absurd (omega arith); kept = record { length = refl; words = λ j k l b. refl } }
@@ -188,7 +188,7 @@ noting-next {f} {t} {u} {v} {i} h r =
     }
 
 -- all records are done: a step or an arm is one of them
-pub noting-last : {f t u : List ℕ} {i : ℕ} → Noting f t i u → recordCount f ≤ i → Noted f u
+pub noting-last : {f t u : List ℕ} {i : ℕ} → Noting f t i u → recordCount f ≤ i → AllNoted f u
 noting-last {f} {t} {u} {i} h l =
     record {
       at = λ j.

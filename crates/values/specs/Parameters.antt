@@ -23,7 +23,7 @@ use Rattle.language.specs.Values.{insOf, outsOf}
 use Rattle.language.specs.Format.{maxVariables, places}
 use Rattle.tables.specs.declared.Access.{Access}
 use Rattle.values.specs.Gathering.{noAccess, passedIn, Gathers, gathers-none}
-use Rattle.values.specs.Matching.{Matches, passing, snoc-if, gathers-pass}
+use Rattle.values.specs.Matching.{CallMatches, passing, snoc-if, gathers-pass}
 
 -- ---- the numbers of the parameters among variables numbered from x on rise, and are below the end
 head-rises : (m x l : ℕ) (ps : List Parameter) → l < x → Rising l (parameterVariables ps) → Rising x (parameterVariables ps)
@@ -114,13 +114,13 @@ tells ins l (_ ∷ ps) (inout-out {x = x} i) (rising-cons h r) g =
     told-cons {m = outMode} {x = x} (rw (g x (cons-here x x _ refl), not-after x ps r) refl) (tells ins x ps i r (λ n e. g n (cons-later n x _ e)))
 
 -- ---- what a signature declares, as two sets
-pub record Declares (S : Signature) (ins outs : Set) : Type 0 where
+pub record DeclaredSets (S : Signature) (ins outs : Set) : Type 0 where
   pub some : length (S .variables) ≤ maxVariables
   pub modes : all few (S .variables) ≡ true
   pub ins-are : ins ≡ insOf S
   pub outs-are : outs ≡ outsOf S
 
-module _ {S : Signature} {ins outs : Set} (D : Declares S ins outs) where
+module _ {S : Signature} {ins outs : Set} (D : DeclaredSets S ins outs) where
   rise : Rising 0 (parameterVariables (parametersOf S))
   unfolding parametersOf
   rise = rises 1 (S .variables) 0 (omega arith)
@@ -167,7 +167,7 @@ module _ {S : Signature} {ins outs : Set} (D : Declares S ins outs) where
           (small n e)
 
 -- ---- some of the arguments are gathered: the parameters above number n and the arguments ys are left
-pub record Turned (S : Signature) (ins both : Set) (ys₀ : List ℕ) (a : Access) (n : ℕ) (ys : List ℕ) : Type 0 where
+pub record Gathered (S : Signature) (ins both : Set) (ys₀ : List ℕ) (a : Access) (n : ℕ) (ys : List ℕ) : Type 0 where
   pub left : List Parameter
   pub numbers : parameterVariables left ≡ above both n
   pub told : Told ins left
@@ -177,7 +177,7 @@ pub record Turned (S : Signature) (ins both : Set) (ys₀ : List ℕ) (a : Acces
   pub ins-left : read ++ argumentsIn inMode left ys ≡ passing inMode 1 (S .variables) ys₀
   pub outs-left : given ++ argumentsIn outMode left ys ≡ passing outMode 1 (S .variables) ys₀
 
-pub turned-first : {S : Signature} {ins outs both : Set} (ys : List ℕ) → Declares S ins outs → both ≡ ins ∪ outs → Turned S ins both ys noAccess 0 ys
+pub turned-first : {S : Signature} {ins outs both : Set} (ys : List ℕ) → DeclaredSets S ins outs → both ≡ ins ∪ outs → Gathered S ins both ys noAccess 0 ys
 unfolding passing parametersOf
 turned-first {S} ys D e = record {
   left = parametersOf S;
@@ -195,14 +195,14 @@ unfolding argumentsIn
 none-left m [] = refl
 none-left m (p ∷ ps) = refl
 
-module _ {S : Signature} {ins both : Set} {ys₀ : List ℕ} {a : Access} {n : ℕ} {ys : List ℕ} (h : Turned S ins both ys₀ a n ys) where
-  ended : ((m : ℕ) → argumentsIn m (h .left) ys ≡ []) → Matches (S .variables) ys₀ a
+module _ {S : Signature} {ins both : Set} {ys₀ : List ℕ} {a : Access} {n : ℕ} {ys : List ℕ} (h : Gathered S ins both ys₀ a n ys) where
+  ended : ((m : ℕ) → argumentsIn m (h .left) ys ≡ []) → CallMatches (S .variables) ys₀ a
   ended z = rw (sym (h .ins-left), sym (h .outs-left), z inMode, z outMode, append-nil (h .read), append-nil (h .given)) (h .gathered)
 
-  pub turned-short : ys ≡ [] → Matches (S .variables) ys₀ a
+  pub turned-short : ys ≡ [] → CallMatches (S .variables) ys₀ a
   turned-short e = ended (λ m. rw e (none-left m (h .left)))
 
-  pub turned-last : nextMember both n ≡ places → Matches (S .variables) ys₀ a
+  pub turned-last : nextMember both n ≡ places → CallMatches (S .variables) ys₀ a
   unfolding argumentsIn parameterVariables
   turned-last e = ended (go (h .left) (h .numbers ∙ above-end both n e))
     where
@@ -219,8 +219,8 @@ step-left ins both (_ ∷ ps) (told-cons {x = z} q t) x e =
     let j : parameterVariables ps ≡ above both x = cc in
     (ps, rw (q, i) refl, j, t)
 
-pub turned-next : {S : Signature} {ins both : Set} {ys₀ : List ℕ} {a : Access} {n : ℕ} {ys : List ℕ} → Turned S ins both ys₀ a n ys
-    → {x y : ℕ} {zs : List ℕ} → x ≡ nextMember both n → x < places → ys ≡ y ∷ zs → Turned S ins both ys₀ (passedIn (toldMode ins x) a y) x zs
+pub turned-next : {S : Signature} {ins both : Set} {ys₀ : List ℕ} {a : Access} {n : ℕ} {ys : List ℕ} → Gathered S ins both ys₀ a n ys
+    → {x y : ℕ} {zs : List ℕ} → x ≡ nextMember both n → x < places → ys ≡ y ∷ zs → Gathered S ins both ys₀ (passedIn (toldMode ins x) a y) x zs
 unfolding argumentsIn
 turned-next {S} {ins} {both} {ys₀} {a} {n} {ys} h {x} {y} {zs} e l f =
     let t = step-left ins both (h .left) (h .told) x (h .numbers ∙ above-next both n x (sym e) l) in
@@ -247,7 +247,7 @@ told-out ins x e h = rw (sym e ∙ h) refl
 
 -- ---- number 3 says that a procedure's variables are few and each of a mode
 pub declares : (P : Program) → typingOk P ≡ true → {q : ℕ} → q < length (P .procedures) → {ins outs : Set} → ins ≡ insOf (signatureOf P q) → outs ≡ outsOf (signatureOf P q)
-    → Declares (signatureOf P q) ins outs
+    → DeclaredSets (signatureOf P q) ins outs
 unfolding typingOk procedureOk signatureOk variableOk signatureOf procedureAt
 declares P t {q} h i o =
     let s = and-true (and-true (all-nth (procedureOk P) _ (P .procedures) q (and-true (and-true t .1) .1) h) .0) in

@@ -12,7 +12,7 @@ use Rattle.language.specs.Program.{Procedure, Program, procedureAt, parametersF
 use Rattle.language.specs.Values.{procedureValues, valuesOk}
 use Rattle.language.specs.Answers.{program}
 use Rattle.chains.specs.Formed.{variablesAt}
-use Rattle.values.specs.Callees.{Declares}
+use Rattle.values.specs.Callees.{VariablesAt}
 use Rattle.language.specs.Typing.{procedureOk, typingOk}
 use Rattle.values.specs.Typed.{TypedGoals, typed-all, typed-head}
 
@@ -39,13 +39,13 @@ module _ {A : Type 0} (d : A) (p : A → Bool) where
 
 -- ---- a test of each procedure: those before number q passed
 module _ (P : Program) (test : Procedure → Bool) where
-  pub record Turn (q : ℕ) : Type 0 where
+  pub record TestTurn (q : ℕ) : Type 0 where
     pub rest : all test (drop q (P .procedures)) ≡ all test (P .procedures)
 
-  pub turn-first : Turn 0
+  pub turn-first : TestTurn 0
   turn-first = record { rest = refl }
 
-  module _ {q : ℕ} (h : Turn q) where
+  module _ {q : ℕ} (h : TestTurn q) where
     module _ (l : q < length (P .procedures)) {b : Bool} (m : b ≡ test (procedureAt P q)) where
       turn-is : b & all test (drop (suc q) (P .procedures)) ≡ all test (P .procedures)
       unfolding procedureAt
@@ -55,7 +55,7 @@ module _ (P : Program) (test : Procedure → Bool) where
       unfolding _&_
       turn-stop e = rw e at turn-is
 
-      pub turn-next : b ≡ true → Turn (q + 1)
+      pub turn-next : b ≡ true → TestTurn (q + 1)
       unfolding _&_
       turn-next e = record { rest = rw (add-one q) (rw e at turn-is) }
 
@@ -68,7 +68,7 @@ unfolding all procedureAt
 typed-at P T q l = typed-head {ps = []} (record { ok = true-and (all-nth _ (procedureOk P) (P .procedures) (typed-all P T .ok) q l) refl }) refl .goals
 
 -- ---- the entry, which has no in or out variable, and every procedure
-module _ (f : List ℕ) {v : ℕ} (D : Declares f 0 v) {b : Bool} (k : b ≡ isNone (parametersFrom 1 (variablesAt f v))) where
+module _ (f : List ℕ) {v : ℕ} (D : VariablesAt f 0 v) {b : Bool} (k : b ≡ isNone (parametersFrom 1 (variablesAt f v))) where
   entry-is : b & all (procedureValues (program f)) (program f .procedures) ≡ valuesOk (program f)
   unfolding valuesOk parametersOf
   entry-is = rw (k, ap (λ vs. isNone (parametersFrom 1 vs)) (D .view)) refl

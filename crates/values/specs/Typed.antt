@@ -22,7 +22,7 @@ pub record TypedGoals (P : Program) (gs : Goals) : Type 0 where
   pub few : length (signature .variables) ≤ maxVariables
   pub ok : goalsOk P signature gs ≡ true
 
-pub record TypedArms (P : Program) (cs : Arms) : Type 0 where
+pub record ArmsTyped (P : Program) (cs : Arms) : Type 0 where
   pub signature : Signature
   pub few : length (signature .variables) ≤ maxVariables
   pub functors : List Functor
@@ -82,7 +82,7 @@ module _ {P : Program} where
   unfolding goalsOk goalOk
   typed-step {g = g} h e = given-range (h .signature) (h .few) P g (and-true (rw e at (h .ok)) .0)
 
-  pub typed-arms : {gs hs : Goals} {x : ℕ} {cs : Arms} → TypedGoals P gs → gs ≡ switch x cs then hs → TypedArms P cs
+  pub typed-arms : {gs hs : Goals} {x : ℕ} {cs : Arms} → TypedGoals P gs → gs ≡ switch x cs then hs → ArmsTyped P cs
   unfolding goalsOk goalOk
   typed-arms h e =
       record { signature = h .signature; few = h .few; functors = _; number = 0; ok = and-true (and-true (and-true (rw e at (h .ok)) .0) .1) .1 }
@@ -96,13 +96,13 @@ module _ {P : Program} where
   typed-else h e = record { signature = h .signature; few = h .few; ok = and-true (and-true (and-true (and-true (rw e at (h .ok)) .0) .1) .1) .1 }
 
 -- an arm's arguments, its goals, and the arms behind it
-pub record TypedArm (P : Program) (ys : Four) (gs : Goals) (cs : Arms) : Type 0 where
+pub record ArmTyped (P : Program) (ys : Four) (gs : Goals) (cs : Arms) : Type 0 where
   pub arguments : Ranged (argumentsOf ys)
   pub goals : TypedGoals P gs
-  pub rest : TypedArms P cs
+  pub rest : ArmsTyped P cs
 
 typed-arm-in : {P : Program} (f : ℕ) {ys : Four} {gs : Goals} {cs : Arms} (S : Signature) → length (S .variables) ≤ maxVariables → (fs : List Functor) (n : ℕ)
-    → armsOk P S (arm f ys gs cs) fs n ≡ true → TypedArm P ys gs cs
+    → armsOk P S (arm f ys gs cs) fs n ≡ true → ArmTyped P ys gs cs
 unfolding armsOk argumentsOk
 typed-arm-in f S l [] n e = absurd (clash e refl)
 typed-arm-in {P} f {ys} {gs} {cs} S l (g ∷ fs) n e =
@@ -114,7 +114,7 @@ typed-arm-in {P} f {ys} {gs} {cs} S l (g ∷ fs) n e =
       rest = record { signature = S; few = l; functors = fs; number = suc n; ok = q .1 };
     }
 
-pub typed-arm : {P : Program} {bs cs : Arms} {f : ℕ} {ys : Four} {gs : Goals} → TypedArms P bs → bs ≡ arm f ys gs cs → TypedArm P ys gs cs
+pub typed-arm : {P : Program} {bs cs : Arms} {f : ℕ} {ys : Four} {gs : Goals} → ArmsTyped P bs → bs ≡ arm f ys gs cs → ArmTyped P ys gs cs
 typed-arm {f = f} h e = typed-arm-in f (h .signature) (h .few) (h .functors) (h .number) (rw e at (h .ok))
 
 -- ---- the procedures of a program that passed

@@ -12,8 +12,8 @@ use Rattle.sets.specs.declared.Set.{Set}
 use Rattle.language.specs.Program.{Four, argumentsOf, Step, Goals, done, _then_, Goal, step, switch, ifLess, Arms, noArms, arm, Procedure, Program}
 use Rattle.language.specs.Values.{Valued, faulty, valued, access, reads, gives, requireValues, afterValues, meetValues, giveValues, stepValues, goalsValues, goalValues, armsValues, insOf, outsOf, outsValued, procedureValues}
 use Rattle.values.specs.Ranged.{Ranged, fresh, fresh-distinct}
-use Rattle.values.specs.Typed.{TypedGoals, TypedArms, typed-next, typed-step, typed-arms, typed-then, typed-else, typed-arm}
-use Rattle.values.specs.Walk.{Outcome, stopped, goesOn, outcome, require, onwards, Walker, meet, walkGoals, walkGoal, walkArms}
+use Rattle.values.specs.Typed.{TypedGoals, ArmsTyped, typed-next, typed-step, typed-arms, typed-then, typed-else, typed-arm}
+use Rattle.values.specs.Walk.{WalkOutcome, stopped, goesOn, outcome, require, onwards, Walker, meet, walkGoals, walkGoal, walkArms}
 
 pub record Valuation : Type 0 where
   pub every : Set
@@ -40,7 +40,7 @@ abbrev pub valuation : List ℕ → Valuation
 valuation c = both (everyIn c) (someIn c)
 
 -- after what reads r and gives g, none of it twice where o says so
-unfoldable pub giving : Set → Set → Bool → Valuation → Outcome Valuation
+unfoldable pub giving : Set → Set → Bool → Valuation → WalkOutcome Valuation
 giving r g o a = require (subset r (a .every)) (require (apart g (a .some) & o) (goesOn (both (a .every ∪ g) (a .some ∪ g))))
 
 unfoldable pub valuer : Program → Walker Valuation
@@ -53,22 +53,22 @@ valuer P =
     }
 
 -- ---- it says what number 4 says, of goals that passed number 3
-unfoldable pub told : Outcome Valuation → Valued
+unfoldable pub told : WalkOutcome Valuation → Valued
 told stopped = faulty
 told (goesOn a) = valued (a .every) (a .some)
 
-required : (b : Bool) (c : Outcome Valuation) → told (require b c) ≡ requireValues b (told c)
+required : (b : Bool) (c : WalkOutcome Valuation) → told (require b c) ≡ requireValues b (told c)
 unfolding require requireValues told
 required true c = refl
 required false c = refl
 
-on-both : (c : Outcome Valuation) (d : Valued) (f : Valuation → Outcome Valuation) (k : Set → Set → Valued) → told c ≡ d
+on-both : (c : WalkOutcome Valuation) (d : Valued) (f : Valuation → WalkOutcome Valuation) (k : Set → Set → Valued) → told c ≡ d
     → ((a : Valuation) → told (f a) ≡ k (a .every) (a .some)) → told (onwards c f) ≡ afterValues d k
 unfolding told onwards afterValues
 on-both stopped d f k e m = rw (sym e) refl
 on-both (goesOn a) d f k e m = rw (sym e) (m a)
 
-met : (P : Program) (c d : Outcome Valuation) {v w : Valued} → told c ≡ v → told d ≡ w → told (meet (valuer P) c d) ≡ meetValues v w
+met : (P : Program) (c d : WalkOutcome Valuation) {v w : Valued} → told c ≡ v → told d ≡ w → told (meet (valuer P) c d) ≡ meetValues v w
 unfolding told meet meetValues valuer
 met P stopped d e h = rw (sym e) refl
 met P (goesOn a) stopped e h = rw (sym e, sym h) refl
@@ -119,7 +119,7 @@ module _ (P : Program) where
         ∙ ap₂ requireValues (ap₂ _&_ (test-is a y) (test-is a z))
         (met P (walkGoals (valuer P) bs a) (walkGoals (valuer P) cs a) (goals-agree bs (typed-then t refl) a) (goals-agree cs (typed-else t refl) a))
 
-    arms-agree : (cs : Arms) → TypedArms P cs → (a : Valuation) → told (walkArms (valuer P) cs a) ≡ armsValues P cs (a .every) (a .some)
+    arms-agree : (cs : Arms) → ArmsTyped P cs → (a : Valuation) → told (walkArms (valuer P) cs a) ≡ armsValues P cs (a .every) (a .some)
     arms-agree noArms t a = refl
     arms-agree (arm f ys gs noArms) t a = let q = typed-arm t refl in arm-agree ys gs a (q .arguments) (λ b. goals-agree gs (q .goals) b)
     arms-agree (arm f ys gs (arm k zs hs cs)) t a =

@@ -7,48 +7,48 @@ use Rattle.sets.specs.Tests.{_&_}
 use Rattle.language.specs.Program.{Four, Step, Goals, done, _then_, Goal, step, switch, ifLess, Arms, noArms, arm}
 
 -- what is carried, or that the walk has stopped
-pub data Outcome (A : Type 0) : Type 0 where
-  stopped : Outcome A
-  goesOn : A → Outcome A
+pub data WalkOutcome (A : Type 0) : Type 0 where
+  stopped : WalkOutcome A
+  goesOn : A → WalkOutcome A
 
 -- the code's answer, and what it carries then
-unfoldable pub outcome : {A : Type 0} → Bool → A → Outcome A
+unfoldable pub outcome : {A : Type 0} → Bool → A → WalkOutcome A
 outcome true a = goesOn a
 outcome false a = stopped
 
-unfoldable pub require : {A : Type 0} → Bool → Outcome A → Outcome A
+unfoldable pub require : {A : Type 0} → Bool → WalkOutcome A → WalkOutcome A
 require true c = c
 require false c = stopped
 
-unfoldable pub onwards : {A : Type 0} → Outcome A → (A → Outcome A) → Outcome A
+unfoldable pub onwards : {A : Type 0} → WalkOutcome A → (A → WalkOutcome A) → WalkOutcome A
 onwards stopped f = stopped
 onwards (goesOn a) f = f a
 
 -- what a walk does
 pub record Walker (A : Type 0) : Type 0 where
-  pub atStep : Step → A → Outcome A
+  pub atStep : Step → A → WalkOutcome A
   pub readable : A → ℕ → Bool
-  pub enter : Four → A → Outcome A
-  pub join : A → A → Outcome A
+  pub enter : Four → A → WalkOutcome A
+  pub join : A → A → WalkOutcome A
 
 module _ {A : Type 0} (W : Walker A) where
   -- both paths are gone to their ends
-  unfoldable pub meet : Outcome A → Outcome A → Outcome A
+  unfoldable pub meet : WalkOutcome A → WalkOutcome A → WalkOutcome A
   meet stopped d = stopped
   meet (goesOn a) stopped = stopped
   meet (goesOn a) (goesOn b) = W .join a b
 
   unfoldable mutual
-    pub walkGoals : Goals → A → Outcome A
+    pub walkGoals : Goals → A → WalkOutcome A
     walkGoals done a = goesOn a
     walkGoals (g then gs) a = onwards (walkGoal g a) (λ b. walkGoals gs b)
 
-    pub walkGoal : Goal → A → Outcome A
+    pub walkGoal : Goal → A → WalkOutcome A
     walkGoal (step g) a = W .atStep g a
     walkGoal (switch x cs) a = require (W .readable a x) (walkArms cs a)
     walkGoal (ifLess y z bs cs) a = require (W .readable a y & W .readable a z) (meet (walkGoals bs a) (walkGoals cs a))
 
-    pub walkArms : Arms → A → Outcome A
+    pub walkArms : Arms → A → WalkOutcome A
     walkArms noArms a = goesOn a
     walkArms (arm f ys gs noArms) a = onwards (W .enter ys a) (λ b. walkGoals gs b)
     walkArms (arm f ys gs (arm k zs hs cs)) a = meet (onwards (W .enter ys a) (λ b. walkGoals gs b)) (walkArms (arm k zs hs cs) a)

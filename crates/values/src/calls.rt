@@ -27,11 +27,11 @@ ghost use Rattle.language.specs.Answers.{program};
 ghost use Rattle.chains.specs.Shapes.{IsCall};
 ghost use Rattle.chains.specs.Formed.{Formed, Stands, argumentsAt};
 ghost use Rattle.values.specs.Gathering.{passedIn};
-ghost use Rattle.values.specs.Matching.{Matches};
-ghost use Rattle.values.specs.Parameters.{toldMode, Declares};
+ghost use Rattle.values.specs.Matching.{CallMatches};
+ghost use Rattle.values.specs.Parameters.{toldMode, DeclaredSets};
 ghost use Rattle.values.specs.Accesses.{Accesses};
 ghost use Rattle.tables.specs.Window.{FileTable};
-ghost use Rattle.values.specs.Fitting.{Fits};
+ghost use Rattle.values.specs.Fitting.{AccessFits};
 
 // y stands at the place of a variable of that mode.
 fn pass(a: Access, mode: usize, y: usize) -> Access
@@ -53,7 +53,7 @@ pub fn call_access(file: &[u8], table: &[u64; TABLE], procedures: usize, i: usiz
     requires { ⌜ procedures ≡ length (program (now file) .procedures) ⌝ }
     requires { ⌜ IsCall (now file) i ⌝ }
     requires { ⌜ typingOk (program (now file)) ≡ true ⌝ }
-    ensures { λ r. ⌜ Fits (now (file .entry)) i r ⌝ }
+    ensures { λ r. ⌜ AccessFits (now (file .entry)) i r ⌝ }
 {
     let q = word(file, i, CALL_PROCEDURE);
     let y = word(file, i, CALL_ARGUMENTS);
@@ -89,7 +89,7 @@ fn mode_of(ins: Set, x: usize) -> usize
 fn match_arguments(file: &[u8], ins: Set, outs: Set, y0: usize) -> Access
     requires { ⌜ Formed (now file) ⌝ }
     requires { ⌜ Stands (now file) arguments y0 ⌝ }
-    ensures { λ r. ⌜ ((S : Signature) → Declares S ins outs → Matches (S .variables) (argumentsAt (now (file .entry)) y0) r) ⌝ }
+    ensures { λ r. ⌜ ((S : Signature) → DeclaredSets S ins outs → CallMatches (S .variables) (argumentsAt (now (file .entry)) y0) r) ⌝ }
 {
     let both = ins.union(outs);
     let mut a = no_access();

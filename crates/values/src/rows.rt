@@ -35,7 +35,7 @@ ghost use Rattle.records.specs.Blank.{rowWords};
 ghost use Rattle.chains.specs.Formed.{Formed};
 ghost use Rattle.tables.specs.Window.{FileTable};
 ghost use Rattle.tables.specs.Filled.{Accessed};
-ghost use Rattle.values.specs.Noting.{isStep, Noted, Kept, RowListed};
+ghost use Rattle.values.specs.Noting.{isStep, AllNoted, RowsKept, RowListed};
 
 // Fills the rows of steps and arms: what they read and give, and whether they give no variable twice.
 pub fn list_accesses(file: &[u8], table: &[u64; TABLE], rows: &mut [u64; ROWS])
@@ -44,8 +44,8 @@ pub fn list_accesses(file: &[u8], table: &[u64; TABLE], rows: &mut [u64; ROWS])
     requires { ⌜ rowWords ≤ length (now rows) ⌝ }
     requires { ⌜ typingOk (program (now file)) ≡ true ⌝ }
     ensures { λ _. ⌜ Accessed (now (file .entry)) (now (rows .exit)) ⌝ }
-    ensures { λ _. ⌜ Noted (now (file .entry)) (now (rows .exit)) ⌝ }
-    ensures { λ _. ⌜ Kept (now (file .entry)) (now (rows .entry)) (now (rows .exit)) ⌝ }
+    ensures { λ _. ⌜ AllNoted (now (file .entry)) (now (rows .exit)) ⌝ }
+    ensures { λ _. ⌜ RowsKept (now (file .entry)) (now (rows .entry)) (now (rows .exit)) ⌝ }
 {
     let procedures = chain_length(file, word(file, 0, HEADER_PROCEDURES));
     let count = record_count(file);

@@ -29,7 +29,7 @@ ghost use Rattle.language.specs.Answers.{program};
 ghost use Rattle.records.specs.Blank.{rowWords};
 ghost use Rattle.chains.specs.Formed.{Formed};
 ghost use Rattle.tables.specs.Window.{FileTable};
-ghost use Rattle.values.specs.Noting.{Noted, Kept};
+ghost use Rattle.values.specs.Noting.{AllNoted, RowsKept};
 
 // Number 4. Fills the rows of steps and arms, whatever the answer.
 pub fn values_ok(file: &[u8], table: &[u64; TABLE], rows: &mut [u64; ROWS]) -> bool
@@ -38,8 +38,8 @@ pub fn values_ok(file: &[u8], table: &[u64; TABLE], rows: &mut [u64; ROWS]) -> b
     requires { ⌜ FileTable (now file) (now table) ⌝ }
     requires { ⌜ rowWords ≤ length (now rows) ⌝ }
     ensures { λ b. ⌜ b ≡ valuesOk (program (now (file .entry))) ⌝ }
-    ensures { λ _. ⌜ Noted (now (file .entry)) (now (rows .exit)) ⌝ }
-    ensures { λ _. ⌜ Kept (now (file .entry)) (now (rows .entry)) (now (rows .exit)) ⌝ }
+    ensures { λ _. ⌜ AllNoted (now (file .entry)) (now (rows .exit)) ⌝ }
+    ensures { λ _. ⌜ RowsKept (now (file .entry)) (now (rows .entry)) (now (rows .exit)) ⌝ }
 {
     list_accesses(file, table, rows);
     let first = word(file, 0, HEADER_PROCEDURES);
@@ -54,7 +54,7 @@ fn procedures_ok(file: &[u8], table: &[u64; TABLE], rows: &[u64; ROWS]) -> bool
     requires { ⌜ Formed (now file) ⌝ }
     requires { ⌜ typingOk (program (now file)) ≡ true ⌝ }
     requires { ⌜ FileTable (now file) (now table) ⌝ }
-    requires { ⌜ Noted (now file) (now rows) ⌝ }
+    requires { ⌜ AllNoted (now file) (now rows) ⌝ }
     ensures { λ b. ⌜ b ≡ all (procedureValues (program (now (file .entry)))) (program (now (file .entry)) .procedures) ⌝ }
 {
     let count = chain_length(file, word(file, 0, HEADER_PROCEDURES));
@@ -73,7 +73,7 @@ fn procedure_ok(file: &[u8], table: &[u64; TABLE], rows: &[u64; ROWS], q: usize)
     requires { ⌜ Formed (now file) ⌝ }
     requires { ⌜ typingOk (program (now file)) ≡ true ⌝ }
     requires { ⌜ FileTable (now file) (now table) ⌝ }
-    requires { ⌜ Noted (now file) (now rows) ⌝ }
+    requires { ⌜ AllNoted (now file) (now rows) ⌝ }
     requires { ⌜ q < length (program (now file) .procedures) ⌝ }
     ensures { λ b. ⌜ b ≡ procedureValues (program (now (file .entry))) (procedureAt (program (now (file .entry))) q) ⌝ }
 {

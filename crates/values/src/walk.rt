@@ -24,13 +24,13 @@ ghost use mathlib.Core.Path.{_≡_};
 ghost use Rattle.language.specs.File.{goals, arms, word};
 ghost use Rattle.language.specs.Format.{kindWord, switchKind, ifKind};
 ghost use Rattle.chains.specs.Formed.{Formed, Stands};
-ghost use Rattle.values.specs.Noting.{Noted};
+ghost use Rattle.values.specs.Noting.{AllNoted};
 ghost use Rattle.values.specs.Carrying.{GoalsValued, GoalValued, ArmsValued};
 
 // The goals from record start on.
 pub fn goals(file: &[u8], rows: &[u64; ROWS], carried: &mut [u64; WALK_WORDS], start: usize) -> bool
     requires { ⌜ Formed (now file) ⌝ }
-    requires { ⌜ Noted (now file) (now rows) ⌝ }
+    requires { ⌜ AllNoted (now file) (now rows) ⌝ }
     requires { ⌜ Stands (now file) goals start ⌝ }
     ensures { λ b. ⌜ GoalsValued (now (file .entry)) start (now (carried .entry)) b (now (carried .exit)) ⌝ }
 {
@@ -47,7 +47,7 @@ pub fn goals(file: &[u8], rows: &[u64; ROWS], carried: &mut [u64; WALK_WORDS], s
 // The goal at record i.
 fn goal(file: &[u8], rows: &[u64; ROWS], carried: &mut [u64; WALK_WORDS], i: usize) -> bool
     requires { ⌜ Formed (now file) ⌝ }
-    requires { ⌜ Noted (now file) (now rows) ⌝ }
+    requires { ⌜ AllNoted (now file) (now rows) ⌝ }
     requires { ⌜ Stands (now file) goals i × (i ≡ 0 → ⊥) ⌝ }
     ensures { λ b. ⌜ GoalValued (now (file .entry)) i (now (carried .entry)) b (now (carried .exit)) ⌝ }
 {
@@ -66,7 +66,7 @@ fn goal(file: &[u8], rows: &[u64; ROWS], carried: &mut [u64; WALK_WORDS], i: usi
 
 fn switch(file: &[u8], rows: &[u64; ROWS], carried: &mut [u64; WALK_WORDS], i: usize) -> bool
     requires { ⌜ Formed (now file) ⌝ }
-    requires { ⌜ Noted (now file) (now rows) ⌝ }
+    requires { ⌜ AllNoted (now file) (now rows) ⌝ }
     requires { ⌜ word (now file) i kindWord ≡ switchKind ⌝ }
     ensures { λ b. ⌜ GoalValued (now (file .entry)) i (now (carried .entry)) b (now (carried .exit)) ⌝ }
 {
@@ -80,7 +80,7 @@ fn switch(file: &[u8], rows: &[u64; ROWS], carried: &mut [u64; WALK_WORDS], i: u
 // An if: its first part, then from what was carried before its second.
 fn branches(file: &[u8], rows: &[u64; ROWS], carried: &mut [u64; WALK_WORDS], i: usize) -> bool
     requires { ⌜ Formed (now file) ⌝ }
-    requires { ⌜ Noted (now file) (now rows) ⌝ }
+    requires { ⌜ AllNoted (now file) (now rows) ⌝ }
     requires { ⌜ word (now file) i kindWord ≡ ifKind ⌝ }
     ensures { λ b. ⌜ GoalValued (now (file .entry)) i (now (carried .entry)) b (now (carried .exit)) ⌝ }
 {
@@ -114,7 +114,7 @@ fn branches(file: &[u8], rows: &[u64; ROWS], carried: &mut [u64; WALK_WORDS], i:
 // The arms from record i on, each from what is carried before them.
 fn arms(file: &[u8], rows: &[u64; ROWS], carried: &mut [u64; WALK_WORDS], i: usize) -> bool
     requires { ⌜ Formed (now file) ⌝ }
-    requires { ⌜ Noted (now file) (now rows) ⌝ }
+    requires { ⌜ AllNoted (now file) (now rows) ⌝ }
     requires { ⌜ Stands (now file) arms i ⌝ }
     ensures { λ b. ⌜ ArmsValued (now (file .entry)) i (now (carried .entry)) b (now (carried .exit)) ⌝ }
 {

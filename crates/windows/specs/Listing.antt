@@ -29,14 +29,14 @@ use Rattle.windows.specs.Storing.{set-here, set-else}
 use Rattle.windows.specs.Fitting.{windowSize, windowsSize, windows-fit}
 use Rattle.windows.specs.Kept.{procedure-kept}
 use Rattle.windows.specs.Classed.{SignatureAt}
-use Rattle.windows.specs.Procedure.{Room, ProcedureListed}
+use Rattle.windows.specs.Procedure.{WindowRoom, ProcedureListed}
 use Rattle.windows.specs.declared.Listed.{Listed}
 
 abbrev rightAll : List Procedure → Bool
 rightAll ps = all (λ p. classesOk (p .signature)) ps
 
 -- ---- the window of procedure p ends at or below place `at`
-pub record Filled (f : List ℕ) (p at : ℕ) (t : List ℕ) : Type 0 where
+pub record WindowBelow (f : List ℕ) (p at : ℕ) (t : List ℕ) : Type 0 where
   pub start : ℕ
   pub here : getD t p 0 ≡ start
   pub low : maxProcedures ≤ start
@@ -44,8 +44,8 @@ pub record Filled (f : List ℕ) (p at : ℕ) (t : List ℕ) : Type 0 where
   pub window : WindowOf f (procedureAt (program f) p) (drop start t)
   pub body : getD (drop start t) bodyPlace 0 ≡ word f (nth 0 (chainRecords f (word f 0 headerProcedures)) p) procedureGoals
 
-filled-kept : (f : List ℕ) (p at to : ℕ) (t u : List ℕ) → Filled f p at t → at ≤ to → getD u p 0 ≡ getD t p 0
-    → ((k : ℕ) → maxProcedures ≤ k → k < at → getD u k 0 ≡ getD t k 0) → Filled f p to u
+filled-kept : (f : List ℕ) (p at to : ℕ) (t u : List ℕ) → WindowBelow f p at t → at ≤ to → getD u p 0 ≡ getD t p 0
+    → ((k : ℕ) → maxProcedures ≤ k → k < at → getD u k 0 ≡ getD t k 0) → WindowBelow f p to u
 filled-kept f p at to t u h l e same = record {
   start = h .start;
   here = e ∙ h .here;
@@ -77,7 +77,7 @@ pub record Listing (f t₀ t : List ℕ) (right : Bool) (i q at : ℕ) : Type 0 
   pub low : maxProcedures ≤ at
   pub long : fileWords ≤ length t
   pub room : at + windowsSize (proceduresAt f i) ≤ fileWords
-  pub filled : (p : ℕ) → p < q → Filled f p at t
+  pub filled : (p : ℕ) → p < q → WindowBelow f p at t
   pub same : (right & rightAll (proceduresAt f i)) ≡ declaredClassesOk (program f)
   pub placed : at + windowsSize (proceduresAt f i) ≡ maxProcedures + windowsSize (program f .procedures)
   pub starts : (k : ℕ) → q ≤ k → k < maxProcedures → getD t k 0 ≡ getD t₀ k 0
@@ -137,7 +137,7 @@ module _ {f t₀ t : List ℕ} {right : Bool} {i q at : ℕ} (F : Formed f) (T :
       ap windowsSize (procedure-here F z (h .along .stands) .view)
       ∙ ap (λ (p : Procedure). windowSize (p .signature) + windowsSize (proceduresAt f (word f i nextWord))) (sym (is-here ∙ ap (λ (ps : List Procedure). nth noProcedure ps 0) (procedure-here F z (h .along .stands) .view)))
 
-  pub room-here : {n : ℕ} → n ≡ length t → Room f i at n
+  pub room-here : {n : ℕ} → n ≡ length t → WindowRoom f i at n
   unfolding windowSize
   room-here e =
       let s = signature-here in
@@ -152,7 +152,7 @@ module _ {f t₀ t : List ℕ} {right : Bool} {i q at : ℕ} (F : Formed f) (T :
     pub fits-here : at + l .size ≤ fileWords
     fits-here = omega (arith, P .size, h .room, size-here)
 
-    filled-here : Filled f q (at + l .size) t₂
+    filled-here : WindowBelow f q (at + l .size) t₂
     unfolding signatureOf windowSize nth
     filled-here = record {
       start = at;
@@ -167,7 +167,7 @@ module _ {f t₀ t : List ℕ} {right : Bool} {i q at : ℕ} (F : Formed f) (T :
       body = P .body ∙ ap (λ (j : ℕ). word f j procedureGoals) (sym (along-here F (h .along) z));
     }
 
-    filled-else : (p : ℕ) → p < q → Filled f p (at + l .size) t₂
+    filled-else : (p : ℕ) → p < q → WindowBelow f p (at + l .size) t₂
     filled-else p m =
         filled-kept f p at (at + l .size) t t₂ (h .filled p m) (omega arith)
         (P .before p (omega (arith, place-here, h .low)) ∙ set-else t q at e₁ p (λ o. omega arith))
@@ -199,7 +199,7 @@ module _ {f t₀ t : List ℕ} {right : Bool} {i q at : ℕ} (F : Formed f) (T :
           behind = λ n a. P .behind n a ∙ set-else t q at e₁ n (λ y. omega (arith, place-here, h .low)) ∙ h .behind n (omega arith);
         })
       where
-        go : (n : ℕ) → n < q + 1 → Dec (n ≡ q) → Filled f n (at + l .size) t₂
+        go : (n : ℕ) → n < q + 1 → Dec (n ≡ q) → WindowBelow f n (at + l .size) t₂
         go n b (yes y) = rw y filled-here
         go n b (no y) = filled-else n (omega (arith, y))
 
@@ -209,7 +209,7 @@ module _ {f t₀ t : List ℕ} {right : Bool} {i q at : ℕ} (h : Listing f t₀
   unfolding all
   listing-right = sym (and-yes right) ∙ ap (λ (ps : List Procedure). right & rightAll ps) (sym (procedures-none f z)) ∙ h .same
 
-  all-filled : (p : ℕ) → p < length (program f .procedures) → Filled f p at t
+  all-filled : (p : ℕ) → p < length (program f .procedures) → WindowBelow f p at t
   all-filled p l = let k = ap length (procedures-none f z) in h .filled p (omega (arith, h .count))
 
   pub listing-table : FileTable f t

@@ -19,7 +19,7 @@ use Rattle.chains.specs.Records.{chainRecords, records-few}
 use Rattle.chains.specs.Elements.{variables-count, regions-count}
 use Rattle.tables.specs.Window.{setIn, Window}
 use Rattle.tables.specs.Places.{bodyPlace, bornPlace, deadPlace, edgesPlace, firstPlace, headSize, homePlace, insPlace, keptPlace, outsPlace, passedPlace, reachPlace, regionsPlace, variablesPlace, windowWords}
-use Rattle.windows.specs.Storing.{set-here, set-else, Stored}
+use Rattle.windows.specs.Storing.{set-here, set-else, StoredWords}
 use Rattle.windows.specs.Parts.{partAt, RegionsListed, VariablesListed}
 use Rattle.windows.specs.Closing.{Closing, closing-last}
 use Rattle.windows.specs.Fitting.{windowSize}
@@ -36,7 +36,7 @@ headerWords n c =
     ∷ n .first ∷ []
 
 -- the window of the procedure at record i has room from place `at` on
-pub record Room (f : List ℕ) (i at size : ℕ) : Type 0 where
+pub record WindowRoom (f : List ℕ) (i at size : ℕ) : Type 0 where
   pub regions : length (chainRecords f (word f i procedureRegions)) ≤ maxRegions
   pub words : at + windowWords (length (chainRecords f (word f i procedureVariables))) (length (chainRecords f (word f i procedureRegions))) ≤ size
 
@@ -74,7 +74,7 @@ module _ {f : List ℕ} {v r : ℕ} (F : Formed f) (S : Signature) (h : Signatur
       ap loaded (getD-drop at t₃ (reachPlace (suc k)) 0 ∙ ap (λ (j : ℕ). getD t₃ j 0) z) ∙ reach-at k b)
 
   module _ {c : Classes} (C : Classed S c) (u : ℕ) (t : List ℕ)
-      (H : Stored t₃ at (headerWords (record { variables = m; regions = n; body = u; first = v }) c) headSize t) where
+      (H : StoredWords t₃ at (headerWords (record { variables = m; regions = n; body = u; first = v }) c) headSize t) where
     head : (k w : ℕ) → k < headSize → getD (headerWords (record { variables = m; regions = n; body = u; first = v }) c) k 0 ≡ w → getD (drop at t) k 0 ≡ w
     head k w b e = getD-drop at t k 0 ∙ H .there k b ∙ e
 
@@ -147,16 +147,16 @@ module _ {f : List ℕ} {v r : ℕ} (F : Formed f) (S : Signature) (h : Signatur
     }
 
 -- ---- what the code asks before it writes
-pub record Entered (f : List ℕ) (v r at size : ℕ) : Type 0 where
+pub record AskedRoom (f : List ℕ) (v r at size : ℕ) : Type 0 where
   pub variables : Stands f File.variables v
   pub regions : Stands f File.regions r
   pub few : length (chainRecords f r) ≤ maxRegions
   pub some : length (chainRecords f v) < maxRecords
   pub room : at + windowWords (length (chainRecords f v)) (length (chainRecords f r)) ≤ size
 
-pub entered : {f : List ℕ} {i at size v r : ℕ} → Formed f → Stands f File.procedures i → (i ≡ 0 → ⊥) → Room f i at size → v ≡ word f i procedureVariables
+pub entered : {f : List ℕ} {i at size v r : ℕ} → Formed f → Stands f File.procedures i → (i ≡ 0 → ⊥) → WindowRoom f i at size → v ≡ word f i procedureVariables
     → r ≡ word f i procedureRegions
-    → Entered f v r at size
+    → AskedRoom f v r at size
 entered {f} {i} {v = v} F s z R ev er =
     let p = procedure-here F z s in
     let sv : Stands f File.variables v = rw ev (p .to-variables .stands) in
@@ -171,6 +171,6 @@ entered {f} {i} {v = v} F s z R ev er =
 -- the header's words
 pub header-stored : {t₀ t : List ℕ} {at : ℕ} (n : Counts) (c : Classes) {w3 w4 w5 w6 w7 w8 : ℕ} → w3 ≡ stored (c .ins) → w4 ≡ stored (c .outs) → w5 ≡ stored (c .born)
     → w6 ≡ stored (c .dead) → w7 ≡ stored (c .kept) → w8 ≡ stored (c .passed)
-    → Stored t₀ at (n .variables ∷ n .regions ∷ n .body ∷ w3 ∷ w4 ∷ w5 ∷ w6 ∷ w7 ∷ w8 ∷ n .first ∷ []) headSize t → Stored t₀ at (headerWords n c) headSize t
+    → StoredWords t₀ at (n .variables ∷ n .regions ∷ n .body ∷ w3 ∷ w4 ∷ w5 ∷ w6 ∷ w7 ∷ w8 ∷ n .first ∷ []) headSize t → StoredWords t₀ at (headerWords n c) headSize t
 unfolding headerWords
 header-stored n c a b d e k p h = rw (← a, ← b, ← d, ← e, ← k, ← p) h

@@ -15,21 +15,21 @@ pub set-else : (t : List ℕ) (m w : ℕ) {u : List ℕ} → u ≡ set t m w →
 set-else t m w {u} e p n = ap (λ (x : List ℕ). getD x p 0) e ∙ getD-set-other t m p w 0 n
 
 -- the first n of the words stand from place at on
-pub record Stored (t₀ : List ℕ) (at : ℕ) (words : List ℕ) (n : ℕ) (t : List ℕ) : Type 0 where
+pub record StoredWords (t₀ : List ℕ) (at : ℕ) (words : List ℕ) (n : ℕ) (t : List ℕ) : Type 0 where
   pub there : (k : ℕ) → k < n → getD t (at + k) 0 ≡ getD words k 0
   pub before : (p : ℕ) → p < at → getD t p 0 ≡ getD t₀ p 0
   pub behind : (p : ℕ) → at + n ≤ p → getD t p 0 ≡ getD t₀ p 0
 
 module _ (t₀ : List ℕ) (at : ℕ) (words : List ℕ) where
-  pub stored-none : (t : List ℕ) {n : ℕ} → n ≡ 0 → t ≡ t₀ → Stored t₀ at words n t
+  pub stored-none : (t : List ℕ) {n : ℕ} → n ≡ 0 → t ≡ t₀ → StoredWords t₀ at words n t
   stored-none t z e = record {
     there = λ k l. absurd (omega arith);
     before = λ p l. ap (λ (x : List ℕ). getD x p 0) e;
     behind = λ p l. ap (λ (x : List ℕ). getD x p 0) e;
   }
 
-  pub stored-more : (t : List ℕ) {n w : ℕ} {u : List ℕ} → Stored t₀ at words n t → at + n < length t → w ≡ getD words n 0 → u ≡ set t (at + n) w
-      → Stored t₀ at words (n + 1) u
+  pub stored-more : (t : List ℕ) {n w : ℕ} {u : List ℕ} → StoredWords t₀ at words n t → at + n < length t → w ≡ getD words n 0 → u ≡ set t (at + n) w
+      → StoredWords t₀ at words (n + 1) u
   stored-more t {n} {w} {u} h l e g = record {
     there = λ k m. go k m (ℕ-discrete k n);
     before = λ p m. set-else t (at + n) w g p (λ q. omega arith) ∙ h .before p m;

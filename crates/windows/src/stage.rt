@@ -30,14 +30,14 @@ ghost use Rattle.records.specs.Blank.{fileWords};
 ghost use Rattle.chains.specs.Formed.{Formed, Stands};
 ghost use Rattle.tables.specs.Window.{FileTable};
 ghost use Rattle.tables.specs.Places.{headSize};
-ghost use Rattle.windows.specs.Storing.{Stored};
-ghost use Rattle.windows.specs.Procedure.{headerWords, Room, ListedAt};
+ghost use Rattle.windows.specs.Storing.{StoredWords};
+ghost use Rattle.windows.specs.Procedure.{headerWords, WindowRoom, ListedAt};
 ghost use Rattle.windows.specs.Listing.{OnlyWindows};
 
 // Stores the first words of a window.
 fn put_header(table: &mut [u64], at: usize, n: Counts, c: Classes)
     requires { ⌜ at + headSize ≤ length (now table) ⌝ }
-    ensures { λ _. ⌜ Stored (now (table .entry)) at (headerWords n c) headSize (now (table .exit)) ⌝ }
+    ensures { λ _. ⌜ StoredWords (now (table .entry)) at (headerWords n c) headSize (now (table .exit)) ⌝ }
 {
     let ins = c.ins;
     let outs = c.outs;
@@ -71,7 +71,7 @@ fn list_procedure(
 ) -> Listed
     requires { ⌜ Formed (now file) ⌝ }
     requires { ⌜ Stands (now file) File.procedures i × (i ≡ 0 → ⊥) ⌝ }
-    requires { ⌜ Room (now file) i at (length (now table)) ⌝ }
+    requires { ⌜ WindowRoom (now file) i at (length (now table)) ⌝ }
     requires { ⌜ places ≡ length (now targets) ⌝ }
     ensures { λ l. ⌜ ListedAt (now (file .entry)) i at (now (table .entry)) l (now (table .exit)) ⌝ }
 {

@@ -14,7 +14,7 @@ ghost use Rattle.language.specs.Format.{places};
 ghost use Rattle.chains.specs.Formed.{Formed, Stands};
 ghost use Rattle.chains.specs.Records.{chainRecords};
 ghost use Rattle.windows.specs.Parts.{HomeReach, RegionsListed, VariablesListed};
-ghost use Rattle.windows.specs.Storing.{Stored};
+ghost use Rattle.windows.specs.Storing.{StoredWords};
 
 // Writes the first edge of each region of the chain at record first from place `from` on, and where its edges lead into `targets`, from
 // place 1 on. Returns how many regions there are.
@@ -80,7 +80,7 @@ pub fn list_variables(file: &[u8], first: usize, table: &mut [u64], from: usize,
 // Stores words from place `at` on.
 pub fn store(table: &mut [u64], at: usize, words: &[u64])
     requires { ⌜ at + length (now words) ≤ length (now table) ⌝ }
-    ensures { λ _. ⌜ Stored (now (table .entry)) at (now (words .entry)) (length (now (words .entry))) (now (table .exit)) ⌝ }
+    ensures { λ _. ⌜ StoredWords (now (table .entry)) at (now (words .entry)) (length (now (words .entry))) (now (table .exit)) ⌝ }
 {
     let mut k = 0;
     while k < words.len() {

@@ -18,7 +18,7 @@ use Rattle.chains.specs.Formed.{Formed, Stands, goalsAt, armsAt, arms-none}
 use Rattle.chains.specs.Is.{arm-is}
 use Rattle.chains.specs.Parts.{fourAt, arm-at}
 use Rattle.chains.specs.Records.{chainRecords, records-step, along}
-use Rattle.word_machine.specs.Tables.{Tables, Tabled, onto, Starts}
+use Rattle.word_machine.specs.Tables.{Tables, Tabled, onto, Continues}
 use Rattle.word_machine.specs.Machine.{armOf}
 
 module _ {f : List ℕ} {T : Tables} (B : Tabled f T) (F : Formed f) where
@@ -27,7 +27,7 @@ module _ {f : List ℕ} {T : Tables} (B : Tabled f T) (F : Formed f) where
     pub arguments : ys ≡ argumentsOf (fourAt f j)
     pub goals-are : gs ≡ goalsAt f (word f j armGoals)
     pub stands : Stands f goals (word f j armGoals)
-    pub starts : Starts (B .onward) (B .owner) (word f j armGoals) c p
+    pub starts : Continues (B .onward) (B .owner) (word f j armGoals) c p
     pub entered : T .entry j ≡ onto (word f j armGoals) c
 
   picked-arguments : {ys zs : List ℕ} {gs hs : Goals} → picked ys gs ≡ picked zs hs → zs ≡ ys
@@ -61,11 +61,11 @@ module _ {f : List ℕ} {T : Tables} (B : Tabled f T) (F : Formed f) where
         by (inl t) e = rw (choose-true _ j (armOf f k (chainRecords f (word f j nextWord))) t) (here j s z o w (sym (choose-true _ _ _ t) ∙ e))
         by (inr t) e = rw (choose-false _ j (armOf f k (chainRecords f (word f j nextWord))) t) (ih (sym (choose-false _ _ _ t) ∙ e))
 
-    pub arm-found : (a : ℕ) → Stands f arms a → Starts (B .onward) (B .owner) a c p → pick (armsAt f a) k ≡ picked ys gs
+    pub arm-found : (a : ℕ) → Stands f arms a → Continues (B .onward) (B .owner) a c p → pick (armsAt f a) k ≡ picked ys gs
         → ArmFound c p ys gs (armOf f k (chainRecords f a))
     unfolding pick real
     arm-found =
-        along F arms refl (λ a. Starts (B .onward) (B .owner) a c p → pick (armsAt f a) k ≡ picked ys gs → ArmFound c p ys gs (armOf f k (chainRecords f a)))
+        along F arms refl (λ a. Continues (B .onward) (B .owner) a c p → pick (armsAt f a) k ≡ picked ys gs → ArmFound c p ys gs (armOf f k (chainRecords f a)))
         (λ s e. absurd (never (rw (arms-none f {i = 0} refl) at e)))
         (λ j s z ih o. one-arm j s z (o z .0) (o z .1) (ih (λ y. let b = B .arm-next j s z y in (b .0 ∙ o z .0, b .1 ∙ o z .1))))
       where

@@ -21,11 +21,11 @@ use Rattle.laws.specs.Numbers.{among-in}
 use Rattle.region_graph.specs.Shared.{region-top}
 use Rattle.chains.specs.Formed.{Formed}
 use Rattle.safety.specs.Premises.{Accepted, laws}
-use Rattle.heap.specs.Standing.{Stands}
+use Rattle.heap.specs.Standing.{StandsFor}
 use Rattle.word_machine.specs.Tables.{Tables, slotOf, givenOf, Tabled}
 use Rattle.word_machine.specs.Machine.{regionsFrom, regionsEnd, frameWords, goalPlace, valuePlace, regionPlace, callPlace, copied, cleared, blocks, valuesIn, regionsIn, calleeWords}
 use Rattle.word_machine.specs.Copies.{copied-length, copied-other, copied-related, cleared-length, cleared-before, cleared-after, cleared-in, blocks-most, blocks-least, puts-give, puts-stand}
-use Rattle.word_machine.specs.Relation.{Where, Means, Names, not-later, sig, FrameOk, Linked, Waiting, more, frame-later, waiting-later}
+use Rattle.word_machine.specs.Relation.{Where, Means, Names, not-later, sig, FrameOk, CallLinked, Waiting, more, frame-later, waiting-later}
 use Rattle.word_machine.specs.Returns.{members-range, passing, caller-range, caller-variable, callee-range}
 use Rattle.word_machine.specs.Links.{body-todo}
 
@@ -37,7 +37,7 @@ variable-count S x v = among-in (length (S .variables)) x v .1
 -- frame k stands for e, which goes on at record g; it calls q with arguments zs by the call at record i
 module _ {f : List ℕ} {T : Tables} (B : Tabled f T) (A : Accepted (program f)) (F : Formed f) {fw : List ℕ} {L : Where} {k i q : ℕ} {zs : List ℕ}
     {e : RegionFrame} {fs : List RegionFrame} (G : FrameOk B fw k L (T .successor i) e)
-    (W : Waiting B fw L (e .frame .procedure) (e .frame .arguments) k fs) (N : Linked B i (e .frame .procedure) q zs)
+    (W : Waiting B fw L (e .frame .procedure) (e .frame .arguments) k fs) (N : CallLinked B i (e .frame .procedure) q zs)
     (room : frameWords * suc (suc k) ≤ length fw) where
   abbrev ins : List ℕ
   ins = passing B A N inMode (inl refl)
@@ -125,7 +125,7 @@ module _ {f : List ℕ} {T : Tables} (B : Tabled f T) (A : Accepted (program f))
   -- ---- the callee's values and regions
   in-values : (x : ℕ) → 1 ≤ x → x ≤ maxVariables → isVariable (sig f q) x ≡ true
       → Means L (getD fe (valuePlace (suc k) x) 0) (calleeFrame (program f) (e .frame) q zs .values x)
-  unfolding calleeFrame Stands
+  unfolding calleeFrame StandsFor
   in-values x l h v =
       rw (
         kepte (valuePlace (suc k) x) (inl (omega arith)),
@@ -176,6 +176,6 @@ module _ {f : List ℕ} {T : Tables} (B : Tabled f T) (A : Accepted (program f))
 
   pub called-waiting : Waiting B fe L q zs (suc k) (e ∷ fs)
   called-waiting =
-      let l : Linked B (getD fe (callPlace (suc k)) 0) (e .frame .procedure) q zs = rw call-word N in
+      let l : CallLinked B (getD fe (callPlace (suc k)) 0) (e .frame .procedure) q zs = rw call-word N in
       let G′ : FrameOk B fe k L (getD fe (goalPlace k) 0) e = rw goal-word (frame-later B (not-later L) longe (λ j a b. caller-word (frameWords * k + j) (λ z. omega arith) (omega arith)) G) in
       more l G′ (waiting-later B (not-later L) longe (λ j h. caller-word j (λ z. omega arith) (omega arith)) (caller-word (callPlace k) (λ z. omega arith) (omega arith)) W)

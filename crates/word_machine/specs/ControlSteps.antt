@@ -33,28 +33,28 @@ use Rattle.heap.specs.Words.{argumentWords, arguments-are}
 use Rattle.heap.specs.Standing.{StandEach}
 use Rattle.heap.specs.Represents.{Reads}
 use Rattle.heap.specs.Reading.{reads}
-use Rattle.word_machine.specs.Tables.{Tables, Tabled, onto, Starts}
-use Rattle.word_machine.specs.Machine.{frameWords, Words, valuePlace, regionPlace, callPlace, withFrames, valueOf, went, ifRoom, armOf, givesEach, entersArm, switches, calls}
-use Rattle.word_machine.specs.Trimmed.{Ranged}
+use Rattle.word_machine.specs.Tables.{Tables, Tabled, onto, Continues}
+use Rattle.word_machine.specs.Machine.{frameWords, MachineWords, valuePlace, regionPlace, callPlace, withFrames, valueOf, went, ifRoom, armOf, givesEach, entersArm, switches, calls}
+use Rattle.word_machine.specs.Trimmed.{RangedMembers}
 use Rattle.word_machine.specs.Successors.{Todo, todo-before}
-use Rattle.word_machine.specs.Premises.{Number, Found}
-use Rattle.word_machine.specs.Relation.{Where, whereIn, Means, not-later, sig, FrameOk, Linked, Waiting, waiting-later, waiting-depth, Running, Stored}
+use Rattle.word_machine.specs.Premises.{Number, ArmFits}
+use Rattle.word_machine.specs.Relation.{Where, whereIn, Means, not-later, sig, FrameOk, CallLinked, Waiting, waiting-later, waiting-depth, Running, MemoryStored}
 use Rattle.word_machine.specs.Stepping.{frame-goals}
 use Rattle.word_machine.specs.Arms.{ArmFound, arm-found}
 use Rattle.word_machine.specs.Switching.{arm-each, each-length, each-other, each-means}
 use Rattle.word_machine.specs.Calls.{callee-is, longe, called-frame, called-waiting}
 use Rattle.word_machine.specs.Steps.{After, onward, halts, value-means, value-number}
 
-module _ {f : List ℕ} {T : Tables} (B : Tabled f T) (A : Accepted (program f)) (F : Formed f) (K : Room) (qs : List ℕ) (w : Words) (u : RegionFrame)
+module _ {f : List ℕ} {T : Tables} (B : Tabled f T) (A : Accepted (program f)) (F : Formed f) (K : Room) (qs : List ℕ) (w : MachineWords) (u : RegionFrame)
     (fs : List RegionFrame) (m : Memory) (ρ χ : ℕ → ℕ) (i : ℕ) (mine : B .owner i ≡ u .frame .procedure)
     (G : FrameOk B (w .frames) (w .top) (whereIn m ρ χ) (T .successor i) u)
-    (W : Waiting B (w .frames) (whereIn m ρ χ) (u .frame .procedure) (u .frame .arguments) (w .top) fs) (Q : Stored K qs w m ρ χ) where
+    (W : Waiting B (w .frames) (whereIn m ρ χ) (u .frame .procedure) (u .frame .arguments) (w .top) fs) (Q : MemoryStored K qs w m ρ χ) where
   abbrev L : Where
   L = whereIn m ρ χ
 
   -- ---- an if: one of two chains, and then the rest
-  branch-todo : (c : Bool) (a b : ℕ) → Stands f goals a → Stands f goals b → Starts (B .onward) (B .owner) a (T .successor i) (B .owner i)
-      → Starts (B .onward) (B .owner) b (T .successor i) (B .owner i)
+  branch-todo : (c : Bool) (a b : ℕ) → Stands f goals a → Stands f goals b → Continues (B .onward) (B .owner) a (T .successor i) (B .owner i)
+      → Continues (B .onward) (B .owner) b (T .successor i) (B .owner i)
       → Todo B (u .frame .procedure) (onto (choose c a b) (T .successor i)) (choose c (goalsAt f a) (goalsAt f b) before u .frame .goals)
   unfolding choose
   branch-todo true a b sa sb ta tb = todo-before B F _ _ _ (G .todo) a sa (λ z. let t = ta z in (t .0, t .1 ∙ mine))
@@ -79,14 +79,14 @@ module _ {f : List ℕ} {T : Tables} (B : Tabled f T) (A : Accepted (program f))
       (record { represents = Q .represents; printed = Q .printed; frame-room = Q .frame-room; print-room = Q .print-room }))
 
   -- ---- a call
-  module _ (q ys : ℕ) (N : Linked B i (u .frame .procedure) q (argumentsAt f ys)) (room : frameWords * suc (suc (w .top)) ≤ length (w .frames)) where
+  module _ (q ys : ℕ) (N : CallLinked B i (u .frame .procedure) q (argumentsAt f ys)) (room : frameWords * suc (suc (w .top)) ≤ length (w .frames)) where
     call-running : Running B (calls f T w i q) L (calleeRegions (program f) u q (argumentsAt f ys)) (u ∷ fs)
     unfolding calls calleeRegions calleeFrame
     call-running =
         let c = callee-is B A F G W N room in
         record { newest = rw c (called-frame B A F G W N room); waiting = rw c (called-waiting B A F G W N room) }
 
-    call-stored : Stored K qs (calls f T w i q) m ρ χ
+    call-stored : MemoryStored K qs (calls f T w i q) m ρ χ
     unfolding calls
     call-stored = record {
       represents = Q .represents;
@@ -95,7 +95,7 @@ module _ {f : List ℕ} {T : Tables} (B : Tabled f T) (A : Accepted (program f))
       print-room = Q .print-room;
     }
 
-  call-by : (q ys : ℕ) → Linked B i (u .frame .procedure) q (argumentsAt f ys) → (b : Bool) → ltb (suc (w .top)) (K .frames) ≡ b
+  call-by : (q ys : ℕ) → CallLinked B i (u .frame .procedure) q (argumentsAt f ys) → (b : Bool) → ltb (suc (w .top)) (K .frames) ≡ b
       → After B A F K qs (step (call q (argumentsAt f ys))) u fs m (roomOr b Frames) (ifRoom b Frames (calls f T w i q))
   unfolding roomOr ifRoom Run.take
   call-by q ys N false o = halts
@@ -103,14 +103,14 @@ module _ {f : List ℕ} {T : Tables} (B : Tabled f T) (A : Accepted (program f))
       let r : frameWords * suc (suc (w .top)) ≤ length (w .frames) = omega (arith, ltb-true (suc (w .top)) (K .frames) o, Q .frame-room) in
       onward refl (call-running q ys N r) (call-stored q ys N r)
 
-  pub call-after : (q ys : ℕ) → Linked B i (u .frame .procedure) q (argumentsAt f ys)
+  pub call-after : (q ys : ℕ) → CallLinked B i (u .frame .procedure) q (argumentsAt f ys)
       → After B A F K qs (step (call q (argumentsAt f ys))) u fs m (roomOr (ltb (suc (length fs)) (K .frames)) Frames)
       (ifRoom (ltb (suc (w .top)) (K .frames)) Frames (calls f T w i q))
   call-after q ys N = rw (← waiting-depth B W) (call-by q ys N (ltb (suc (w .top)) (K .frames)) refl)
 
   -- ---- a switch on X, whose cell stands at place p and has functor c: the arm at record j has arguments ys and goals gs
   module _ (j : ℕ) (ys : List ℕ) (gs : Goals) (vs : List Value) (p : ℕ) (found : ArmFound B F (T .successor i) (u .frame .procedure) ys gs j)
-      (words : StandEach χ (length (m .cells)) (argumentWords (w .cells) p) vs) (count : length vs ≡ length ys) (range : Ranged ys) where
+      (words : StandEach χ (length (m .cells)) (argumentWords (w .cells) p) vs) (count : length vs ≡ length ys) (range : RangedMembers ys) where
     -- the frame in the arm
     abbrev inArm : RegionFrame
     inArm = withFrame u (record { procedure = u .frame .procedure; arguments = u .frame .arguments; goals = gs before u .frame .goals; values = giveEach ys vs (u .frame .values) })
@@ -154,7 +154,7 @@ module _ {f : List ℕ} {T : Tables} (B : Tabled f T) (A : Accepted (program f))
     unfolding entersArm withFrames withFrame
     arm-running = let e = arm-each f T w p j in record { newest = rw e arm-frame; waiting = rw e arm-waiting }
 
-    arm-stored : Stored K qs (entersArm f T w p j) m ρ χ
+    arm-stored : MemoryStored K qs (entersArm f T w p j) m ρ χ
     unfolding entersArm withFrames
     arm-stored = record { represents = Q .represents; printed = Q .printed; frame-room = rw (arm-each f T w p j, long) (Q .frame-room); print-room = Q .print-room }
 
@@ -165,7 +165,7 @@ module _ {f : List ℕ} {T : Tables} (B : Tabled f T) (A : Accepted (program f))
   arm-taken cs c found ys gs e q = ap (λ (k : Cell). openCell k cs (u .frame)) e ∙ (rw q)
 
   pub switch-after : (n x cs : ℕ) → recordAt f i ≡ Switch n x cs → isVariable (sig f (u .frame .procedure)) x ≡ true
-      → m .alive (liesIn (m .cells) (u .frame .values x)) ≡ true → Found (sig f (u .frame .procedure)) (m .cells) (u .frame .values x) (armsAt f cs)
+      → m .alive (liesIn (m .cells) (u .frame .values x)) ≡ true → ArmFits (sig f (u .frame .procedure)) (m .cells) (u .frame .values x) (armsAt f cs)
       → After B A F K qs (switch x (armsAt f cs)) u fs m goes (went (switches f T w (valueOf w x) cs))
   unfolding switches Run.take
   switch-after n x cs e v l H =
@@ -174,7 +174,7 @@ module _ {f : List ℕ} {T : Tables} (B : Tabled f T) (A : Accepted (program f))
       let j = armOf f (H .cell .functor) (chainRecords f cs) in
       let D = arm-found B F (T .successor i) (u .frame .procedure) (H .cell .functor) (H .arguments) (H .goals) cs (switch-at F refl e .to-arms .stands)
       (λ z. let t = B .switch-arms i n x cs e z in (t .0, t .1 ∙ mine)) (H .picks) in
-      let r : Ranged (H .arguments) = λ y h. variable-top _ _ (laws A (u .frame .procedure)) y (H .variables y h) in
+      let r : RangedMembers (H .arguments) = λ y h. variable-top _ _ (laws A (u .frame .procedure)) y (H .variables y h) in
       rw (R′ .functor)
       (onward (ap (λ (b : Frame). state (program f) (withFrame u b) fs m)
       (arm-taken (armsAt f cs) (H .cell) (cellIn (map cellOf (m .cells)) (u .frame .values x)) (H .arguments) (H .goals) (H .is) (H .picks)))

@@ -38,12 +38,12 @@ stores-other (q ∷ ps) (v ∷ vs) t p z =
     differ e = let h : count q (q ∷ ps) ≡ 0 = rw e at z in omega (arith, count-here q ps)
 
 -- the words at the places are these
-abbrev pub Holds : List ℕ → List ℕ → List ℕ → Type 0
-Holds [] vs t = Unit {0}
-Holds (p ∷ ps) [] t = Unit {0}
-Holds (p ∷ ps) (v ∷ vs) t = ((p ≡ 0 → ⊥) → getD t p 0 ≡ v) × Holds ps vs t
+abbrev pub WordsAt : List ℕ → List ℕ → List ℕ → Type 0
+WordsAt [] vs t = Unit {0}
+WordsAt (p ∷ ps) [] t = Unit {0}
+WordsAt (p ∷ ps) (v ∷ vs) t = ((p ≡ 0 → ⊥) → getD t p 0 ≡ v) × WordsAt ps vs t
 
-stores-hold : (ps vs t : List ℕ) → ((p : ℕ) → p ≢ 0 → 0 < count p ps → p < length t) → ((p : ℕ) → p ≢ 0 → count p ps ≤ 1) → Holds ps vs (stores ps vs t)
+stores-hold : (ps vs t : List ℕ) → ((p : ℕ) → p ≢ 0 → 0 < count p ps → p < length t) → ((p : ℕ) → p ≢ 0 → count p ps ≤ 1) → WordsAt ps vs (stores ps vs t)
 unfolding stores
 stores-hold [] vs t r o = tt
 stores-hold (q ∷ ps) [] t r o = tt
@@ -52,7 +52,7 @@ stores-hold (q ∷ ps) (v ∷ vs) t r o = (
   stores-hold ps vs (set t q v) (λ p z h. omega (arith, r p z (omega (arith, count-later p q ps)), length-set t q v)) (λ p z. omega (arith, o p z, count-later p q ps)),
 )
 
-holds-kept : (ps vs t t′ : List ℕ) → ((p : ℕ) → p ≢ 0 → 0 < count p ps → getD t′ p 0 ≡ getD t p 0) → Holds ps vs t → Holds ps vs t′
+holds-kept : (ps vs t t′ : List ℕ) → ((p : ℕ) → p ≢ 0 → 0 < count p ps → getD t′ p 0 ≡ getD t p 0) → WordsAt ps vs t → WordsAt ps vs t′
 holds-kept [] vs t t′ e h = tt
 holds-kept (q ∷ ps) [] t t′ e h = tt
 holds-kept (q ∷ ps) (v ∷ vs) t t′ e h =
@@ -77,7 +77,7 @@ refers f zero b p = 0
 refers f (suc m) b p = count p (referred (recordAt f b)) + refers f m (suc b) p
 
 -- references of the m records from b on go up, below n, and to no record twice
-pub record Tree (f : List ℕ) (n m b : ℕ) : Type 0 where
+pub record ReferenceTree (f : List ℕ) (n m b : ℕ) : Type 0 where
   pub up : (i p : ℕ) → b ≤ i → i < b + m → p ≢ 0 → 0 < count p (referred (recordAt f i)) → (i < p) × (p < n)
   pub once : (p : ℕ) → p ≢ 0 → p < n → refers f m b p ≤ 1
 
@@ -88,16 +88,16 @@ module _ (words : ℕ → Record → ℕ → List ℕ) (f : List ℕ) where
   filled-other (suc m) b t p z =
       filled-other m (suc b) (step words f b t) p (omega arith) ∙ stores-other (places words f b) (words b (recordAt f b) (getD t b 0)) t p (omega arith)
 
-  tree-rest : {n m b : ℕ} → Tree f n (suc m) b → Tree f n m (suc b)
+  tree-rest : {n m b : ℕ} → ReferenceTree f n (suc m) b → ReferenceTree f n m (suc b)
   unfolding refers
   tree-rest R = record { up = λ i q h k. R .up i q (omega arith) (omega arith); once = λ q z h. omega (arith, R .once q z h) }
 
   -- no record refers to itself or below
-  not-up : {n m b : ℕ} → Tree f n (suc m) b → (p : ℕ) → p ≢ 0 → p ≤ b → (k : ℕ) → count p (referred (recordAt f b)) ≡ k → k ≡ 0
+  not-up : {n m b : ℕ} → ReferenceTree f n (suc m) b → (p : ℕ) → p ≢ 0 → p ≤ b → (k : ℕ) → count p (referred (recordAt f b)) ≡ k → k ≡ 0
   not-up R p z l zero e = refl
   not-up {b = b} R p z l (suc k) e = absurd (let u = R .up b p (omega arith) (omega arith) z (omega arith) in omega (arith, u .0))
 
-  not-referred : {n : ℕ} (m b p : ℕ) → Tree f n m b → p ≢ 0 → p ≤ b → refers f m b p ≡ 0
+  not-referred : {n : ℕ} (m b p : ℕ) → ReferenceTree f n m b → p ≢ 0 → p ≤ b → refers f m b p ≡ 0
   unfolding refers
   not-referred zero b p R z l = refl
   not-referred (suc m) b p R z l =
@@ -105,16 +105,16 @@ module _ (words : ℕ → Record → ℕ → List ℕ) (f : List ℕ) where
       omega (arith, not-up R p z l (count p (referred (recordAt f b))) refl)
 
   -- what record b refers to, it refers to once, and no later record does
-  one-place : {n m b : ℕ} → Tree f n (suc m) b → (p : ℕ) → p ≢ 0 → (k : ℕ) → count p (referred (recordAt f b)) ≡ k → k ≤ 1
+  one-place : {n m b : ℕ} → ReferenceTree f n (suc m) b → (p : ℕ) → p ≢ 0 → (k : ℕ) → count p (referred (recordAt f b)) ≡ k → k ≤ 1
   unfolding refers
   one-place R p z zero e = omega arith
   one-place {b = b} R p z (suc k) e = let u = R .up b p (omega arith) (omega arith) z (omega arith) in omega (arith, R .once p z (u .1))
 
-  no-later : {n m b : ℕ} → Tree f n (suc m) b → (p : ℕ) → p ≢ 0 → 0 < count p (referred (recordAt f b)) → refers f m (suc b) p ≡ 0
+  no-later : {n m b : ℕ} → ReferenceTree f n (suc m) b → (p : ℕ) → p ≢ 0 → 0 < count p (referred (recordAt f b)) → refers f m (suc b) p ≡ 0
   unfolding refers
   no-later {b = b} R p z h = let u = R .up b p (omega arith) (omega arith) z h in omega (arith, R .once p z (u .1))
 
-  module _ {n m b : ℕ} (t : List ℕ) (R : Tree f n (suc m) b) (s : 0 < b) (l : n ≤ length t) where
+  module _ {n m b : ℕ} (t : List ℕ) (R : ReferenceTree f n (suc m) b) (s : 0 < b) (l : n ≤ length t) where
     abbrev whole : List ℕ
     whole = filled words f m (suc b) (step words f b t)
 
@@ -123,7 +123,7 @@ module _ (words : ℕ → Record → ℕ → List ℕ) (f : List ℕ) where
         filled-other m (suc b) (step words f b t) b (not-referred m (suc b) b (tree-rest R) (λ z. omega arith) (omega arith))
         ∙ stores-other (places words f b) (words b (recordAt f b) (getD t b 0)) t b (not-up R b (λ z. omega arith) (omega arith) _ refl)
 
-    first-holds : Holds (referred (recordAt f b)) (words b (recordAt f b) (getD whole b 0)) whole
+    first-holds : WordsAt (referred (recordAt f b)) (words b (recordAt f b) (getD whole b 0)) whole
     first-holds =
         rw own-word
         (holds-kept (places words f b) (words b (recordAt f b) (getD t b 0)) (step words f b t) whole
@@ -131,8 +131,8 @@ module _ (words : ℕ → Record → ℕ → List ℕ) (f : List ℕ) where
         (stores-hold (places words f b) (words b (recordAt f b) (getD t b 0)) t (λ p z h. let u = R .up b p (omega arith) (omega arith) z h in omega (arith, u .1))
         (λ p z. one-place R p z _ refl)))
 
-  pub filled-holds : {n : ℕ} (m b : ℕ) (t : List ℕ) → Tree f n m b → 0 < b → n ≤ length t → (i : ℕ) → b ≤ i → i < b + m
-      → Holds (referred (recordAt f i)) (words i (recordAt f i) (getD (filled words f m b t) i 0)) (filled words f m b t)
+  pub filled-holds : {n : ℕ} (m b : ℕ) (t : List ℕ) → ReferenceTree f n m b → 0 < b → n ≤ length t → (i : ℕ) → b ≤ i → i < b + m
+      → WordsAt (referred (recordAt f i)) (words i (recordAt f i) (getD (filled words f m b t) i 0)) (filled words f m b t)
   unfolding filled
   filled-holds zero b t R s l i h k = absurd (omega arith)
   filled-holds (suc m) b t R s l i h k = elim (ℕ-discrete b i) [

@@ -15,7 +15,7 @@ use Rattle.chains.specs.Layout.{Leads, Used, once, next-leads, record-used}
 use Rattle.records.specs.Records.{recordAs, recordAt}
 use Rattle.chains.specs.Formed.{Formed, counted}
 use Rattle.word_machine.specs.Filling.{referred}
-use Rattle.word_machine.specs.FillingLaws.{refers, Tree}
+use Rattle.word_machine.specs.FillingLaws.{refers, ReferenceTree}
 
 module _ (f : List ℕ) where
   -- what a run comes to is among a record's references
@@ -97,7 +97,7 @@ module _ (f : List ℕ) where
     others p ne l =
         sym (hits-suc (word f) (recordCount f) (recordCount f - 1) 0 p) ∙ all-hits p ∙ once (word f) (recordCount f) (F .form) p (omega (arith, ne)) l
 
-    pub formed-tree : Tree f (recordCount f) (recordCount f - 1) 1
+    pub formed-tree : ReferenceTree f (recordCount f) (recordCount f - 1) 1
     formed-tree = record {
       up = λ i p a b ne h. references-up i p (omega arith) ne (omega (arith, referred-few (recordCount f) i p));
       once = λ p ne l. omega (arith, others p ne l, refers-hits (recordCount f - 1) 1 p);

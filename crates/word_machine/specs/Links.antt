@@ -29,7 +29,7 @@ use Rattle.safety.specs.Premises.{Accepted, calling, fit}
 use Rattle.safety.specs.Variables.{types-variables}
 use Rattle.word_machine.specs.Tables.{Tables, Tabled, onto}
 use Rattle.word_machine.specs.Successors.{Todo, todo-none, todo-before}
-use Rattle.word_machine.specs.Relation.{sig, Linked}
+use Rattle.word_machine.specs.Relation.{sig, CallLinked}
 
 module _ {f : List ℕ} {T : Tables} (B : Tabled f T) (A : Accepted (program f)) (F : Formed f) where
   -- ---- a call
@@ -43,7 +43,7 @@ module _ {f : List ℕ} {T : Tables} (B : Tabled f T) (A : Accepted (program f))
     class-shared u (inl h) = start-shared (fit A q) u h
     class-shared u (inr h) = born-shared (fit A q) u h
 
-    pub linked : Linked B i (B .owner i) q (argumentsAt f ys)
+    pub linked : CallLinked B i (B .owner i) q (argumentsAt f ys)
     unfolding stepOk
     linked =
         let c = call-at F refl e in

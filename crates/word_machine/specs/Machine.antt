@@ -33,7 +33,7 @@ use Rattle.memory.specs.Memory.{cellWords, regionWords, cellWord, emptyHeap, cr
 use Rattle.word_machine.specs.Tables.{Tables, onto, slotOf, givenOf}
 
 -- the lent words and what a run keeps beside them: the newest frame's number, its next goal's record, and how many numbers are printed
-pub record Words : Type 0 where
+pub record MachineWords : Type 0 where
   pub heap : Heap
   pub cells : List ℕ
   pub regions : List ℕ
@@ -109,25 +109,25 @@ givesEach base (zero ∷ xs) (w ∷ ws) fw = fw
 givesEach base (suc x ∷ xs) (w ∷ ws) fw = givesEach base xs ws (set fw (base + suc x) w)
 
 -- ---- changes of a part
-unfoldable pub withFrames : Words → List ℕ → ℕ → Words
+unfoldable pub withFrames : MachineWords → List ℕ → ℕ → MachineWords
 withFrames w fw i = record { heap = w .heap; cells = w .cells; regions = w .regions; frames = fw; prints = w .prints; top = w .top; goal = i; printed = w .printed }
 
 -- variable x gets a word, and record i is next
-unfoldable pub given : Words → ℕ → ℕ → ℕ → Words
+unfoldable pub given : MachineWords → ℕ → ℕ → ℕ → MachineWords
 given w x v i = withFrames w (set (w .frames) (valuePlace (w .top) x) v) i
 
-unfoldable pub valueOf : Words → ℕ → ℕ
+unfoldable pub valueOf : MachineWords → ℕ → ℕ
 valueOf w x = getD (w .frames) (valuePlace (w .top) x) 0
 
-unfoldable pub regionFor : Words → ℕ → ℕ
+unfoldable pub regionFor : MachineWords → ℕ → ℕ
 regionFor w r = getD (w .frames) (regionPlace (w .top) r) 0
 
 -- what a step comes to
 pub data Went : Type 0 where
-  went : Words → Went
+  went : MachineWords → Went
   stops : Stop → Went
 
-unfoldable pub ifRoom : Bool → Stop → Words → Went
+unfoldable pub ifRoom : Bool → Stop → MachineWords → Went
 ifRoom true c w = went w
 ifRoom false c w = stops c
 
@@ -142,29 +142,29 @@ termOf value old k (suc a) (suc b) (suc c) (suc d) =
     record { functor = k; a = value (suc a); b = value (suc b); c = value (suc c); d = value (suc d) }
 
 -- the words of the next cell to be made
-unfoldable pub contentsOf : Words → ℕ → ℕ → ℕ → ℕ → ℕ → Contents
+unfoldable pub contentsOf : MachineWords → ℕ → ℕ → ℕ → ℕ → ℕ → Contents
 contentsOf w k a b c d = termOf (valueOf w) (λ n. cellWord (w .cells) (w .heap .cells .head) n) k a b c d
 
-unfoldable pub constructedBy : Words → ℕ → ℕ → List ℕ → List ℕ → Made → Went
+unfoldable pub constructedBy : MachineWords → ℕ → ℕ → List ℕ → List ℕ → Made → Went
 constructedBy w x i m rs (At y h) =
     went (record { heap = h; cells = m; regions = rs; frames = set (w .frames) (valuePlace (w .top) x) y; prints = w .prints; top = w .top; goal = i; printed = w .printed })
 constructedBy w x i m rs NoRoom = stops Cells
 
 -- X gets a new cell in the region at place r, and record i is next
-unfoldable pub constructed : Words → ℕ → ℕ → ℕ → Contents → Went
+unfoldable pub constructed : MachineWords → ℕ → ℕ → ℕ → Contents → Went
 constructed w x i r c =
     constructedBy w x i (builtCells (w .heap) (w .cells) (w .regions) r c) (builtRegions (w .heap) (w .cells) (w .regions) r) (built (w .heap) (w .cells))
 
-unfoldable pub createdBy : Words → ℕ → ℕ → List ℕ → Made → Went
+unfoldable pub createdBy : MachineWords → ℕ → ℕ → List ℕ → Made → Went
 createdBy w r i rs (At p h) =
     went (record { heap = h; cells = w .cells; regions = rs; frames = set (w .frames) (regionPlace (w .top) r) p; prints = w .prints; top = w .top; goal = i; printed = w .printed })
 createdBy w r i rs NoRoom = stops Places
 
-unfoldable pub makesRegion : Words → ℕ → ℕ → Went
+unfoldable pub makesRegion : MachineWords → ℕ → ℕ → Went
 makesRegion w r i = createdBy w r i (createdRegions (w .heap) (w .regions)) (created (w .heap) (w .regions))
 
 -- the region at place p goes
-unfoldable pub dropsRegion : Words → ℕ → ℕ → Words
+unfoldable pub dropsRegion : MachineWords → ℕ → ℕ → MachineWords
 dropsRegion w p i =
     record {
       heap = removed (w .heap) (w .regions) p;
@@ -177,7 +177,7 @@ dropsRegion w p i =
       printed = w .printed;
     }
 
-unfoldable pub printsWord : Words → ℕ → ℕ → Words
+unfoldable pub printsWord : MachineWords → ℕ → ℕ → MachineWords
 printsWord w v i =
     record { heap = w .heap; cells = w .cells; regions = w .regions; frames = w .frames; prints = set (w .prints) (w .printed) v; top = w .top; goal = i; printed = suc (w .printed) }
 
@@ -185,26 +185,26 @@ printsWord w v i =
 pub record Outcome : Type 0 where
   pub ending : Ending
   pub done : ℕ
-  pub words : Words
+  pub words : MachineWords
 
-unfoldable pub endedWith : Ending → ℕ → Words → Outcome
+unfoldable pub endedWith : Ending → ℕ → MachineWords → Outcome
 endedWith e n w = record { ending = e; done = n; words = w }
 
-unfoldable pub afterStep : Went → (Words → Outcome) → (Stop → Outcome) → Outcome
+unfoldable pub afterStep : Went → (MachineWords → Outcome) → (Stop → Outcome) → Outcome
 afterStep (went w) onward halt = onward w
 afterStep (stops c) onward halt = halt c
 
 module _ (f : List ℕ) (T : Tables) where
   -- ---- a switch: the arm of X's cell at record j; the cell at place p
-  unfoldable pub armWords : Words → ℕ → ℕ → List ℕ
+  unfoldable pub armWords : MachineWords → ℕ → ℕ → List ℕ
   armWords w p j =
       givesEach (goalPlace (w .top)) (word f j termArguments ∷ word f j (termArguments + 1) ∷ word f j (termArguments + 2) ∷ word f j (termArguments + 3) ∷ [])
       (cellWord (w .cells) p 1 ∷ cellWord (w .cells) p 2 ∷ cellWord (w .cells) p 3 ∷ cellWord (w .cells) p 4 ∷ []) (w .frames)
 
-  unfoldable pub entersArm : Words → ℕ → ℕ → Words
+  unfoldable pub entersArm : MachineWords → ℕ → ℕ → MachineWords
   entersArm w p j = withFrames w (armWords w p j) (T .entry j)
 
-  unfoldable pub switches : Words → ℕ → ℕ → Words
+  unfoldable pub switches : MachineWords → ℕ → ℕ → MachineWords
   switches w p cs = entersArm w p (armOf f (cellWord (w .cells) p 0) (chainRecords f cs))
 
   -- ---- a call at record i: the callee's frame k over the caller's, with its in values and what its dead and kept regions stand for
@@ -218,7 +218,7 @@ module _ (f : List ℕ) (T : Tables) where
   calleeWords k i q fw =
       regionsIn k i (members (T .held q)) (valuesIn k i (cleared (suc (goalPlace (suc k))) (blocks (T .size q)) (set (set fw (goalPlace k) (T .successor i)) (callPlace (suc k)) i)))
 
-  unfoldable pub calls : Words → ℕ → ℕ → Words
+  unfoldable pub calls : MachineWords → ℕ → ℕ → MachineWords
   calls w i q =
       record {
         heap = w .heap;
@@ -242,7 +242,7 @@ module _ (f : List ℕ) (T : Tables) where
   unfoldable pub returnWords : ℕ → ℕ → List ℕ → List ℕ
   returnWords k i fw = choose (ltb i (recordCount f)) (regionsOut k i (members (T .bears (word f i callProcedure))) (valuesOut k i fw)) fw
 
-  unfoldable pub returned : ℕ → Words → Words
+  unfoldable pub returned : ℕ → MachineWords → MachineWords
   returned k w =
       record {
         heap = w .heap;
@@ -256,12 +256,12 @@ module _ (f : List ℕ) (T : Tables) where
       }
 
   -- "Whenever the newest frame has no goals left, it goes at once": k is the newest frame, i its next goal. Below the entry's there is none
-  unfoldable pub settledFrom : ℕ → ℕ → Words → Words
+  unfoldable pub settledFrom : ℕ → ℕ → MachineWords → MachineWords
   settledFrom zero i w = w
   settledFrom (suc k) zero w = settledFrom k (returned k w .goal) (returned k w)
   settledFrom (suc k) (suc i) w = w
 
-  unfoldable pub settled : Words → Words
+  unfoldable pub settled : MachineWords → MachineWords
   settled w = settledFrom (w .top) (w .goal) w
 
   unfoldable pub settledIf : Went → Went
@@ -269,7 +269,7 @@ module _ (f : List ℕ) (T : Tables) where
   settledIf (stops c) = stops c
 
   -- ---- the goal at record i, in room k
-  unfoldable pub steps : Room → ℕ → Record → Words → Went
+  unfoldable pub steps : Room → ℕ → Record → MachineWords → Went
   steps k i (Literal n x v) w = went (given w x (literalWord v) (T .successor i))
   steps k i (Sum n x o y z) w = went (given w x (sumWord o (valueOf w y) (valueOf w z)) (T .successor i))
   steps k i (Assign n x y) w = went (given w x (valueOf w y) (T .successor i))
@@ -292,18 +292,18 @@ module _ (f : List ℕ) (T : Tables) where
   steps k i (Argument n y) w = went w
   steps k i Other w = went w
 
-  unfoldable pub stepped : Room → ℕ → Words → Went
+  unfoldable pub stepped : Room → ℕ → MachineWords → Went
   stepped k i w = settledIf (steps k i (recordAt f i) w)
 
   -- ---- the run: l steps are left, record i is next, n steps are done. "An ended run is finished before 10 is looked at"
-  unfoldable pub runOn : Room → ℕ → ℕ → ℕ → Words → Outcome
+  unfoldable pub runOn : Room → ℕ → ℕ → ℕ → MachineWords → Outcome
   runOn k zero zero n w = endedWith Finished n w
   runOn k zero (suc i) n w = endedWith (Stopped Steps) n w
   runOn k (suc l) zero n w = endedWith Finished n w
   runOn k (suc l) (suc i) n w = afterStep (stepped k (suc i) w) (λ v. runOn k l (v .goal) (suc n) v) (λ c. endedWith (Stopped c) n w)
 
   -- nothing made, the entry's frame alone
-  unfoldable pub startWords : List ℕ → List ℕ → List ℕ → List ℕ → Words
+  unfoldable pub startWords : List ℕ → List ℕ → List ℕ → List ℕ → MachineWords
   startWords m rs fw ps =
       record {
         heap = emptyHeap (holds (length m) cellWords) (holds (length rs) regionWords);
@@ -317,7 +317,7 @@ module _ (f : List ℕ) (T : Tables) where
       }
 
   -- nothing made and no frame
-  unfoldable pub noFrame : List ℕ → List ℕ → List ℕ → List ℕ → Words
+  unfoldable pub noFrame : List ℕ → List ℕ → List ℕ → List ℕ → MachineWords
   noFrame m rs fw ps =
       record { heap = emptyHeap (holds (length m) cellWords) (holds (length rs) regionWords); cells = m; regions = rs; frames = fw; prints = ps; top = 0; goal = 0; printed = 0 }
 

@@ -22,7 +22,7 @@ use Rattle.chains.specs.Is.{argument-is}
 use Rattle.chains.specs.Parts.{call-at, argument-at}
 use Rattle.chains.specs.Records.{chainRecords, records-none, records-step, along}
 use Rattle.word_machine.specs.Filling.{referred, filled, matched, matchedBy, matches}
-use Rattle.word_machine.specs.FillingLaws.{Holds, filled-holds}
+use Rattle.word_machine.specs.FillingLaws.{WordsAt, filled-holds}
 use Rattle.word_machine.specs.FormedTree.{formed-tree}
 
 -- ---- stores by parameters
@@ -124,7 +124,7 @@ module _ {f : List ℕ} (F : Formed f) where
   abbrev calls : List ℕ
   calls = filled callWords f (recordCount f - 1) 1 (replicate maxRecords 0)
 
-  calls-hold : (i : ℕ) → 0 < i → i < recordCount f → Holds (referred (recordAt f i)) (callWords i (recordAt f i) (getD calls i 0)) calls
+  calls-hold : (i : ℕ) → 0 < i → i < recordCount f → WordsAt (referred (recordAt f i)) (callWords i (recordAt f i) (getD calls i 0)) calls
   calls-hold i a b =
       let c = counted F in
       filled-holds callWords f (recordCount f - 1) 1 (replicate maxRecords 0) (formed-tree f F) (omega arith) (omega (arith, length-replicate {A = ℕ} maxRecords 0)) i a (omega arith)

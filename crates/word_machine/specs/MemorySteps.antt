@@ -38,12 +38,12 @@ use Rattle.heap.specs.Creating.{create-ok}
 use Rattle.heap.specs.Building.{build-ok}
 use Rattle.heap.specs.Removing.{remove-ok}
 use Rattle.word_machine.specs.Tables.{Tables, Tabled}
-use Rattle.word_machine.specs.Machine.{Words, valuePlace, regionPlace, valueOf, went, ifRoom, contentsOf, constructedBy, constructed, createdBy, makesRegion, dropsRegion, printsWord}
+use Rattle.word_machine.specs.Machine.{MachineWords, valuePlace, regionPlace, valueOf, went, ifRoom, contentsOf, constructedBy, constructed, createdBy, makesRegion, dropsRegion, printsWord}
 use Rattle.word_machine.specs.Machine as M
 use Rattle.word_machine.specs.Trimmed.{term-functor, term-words}
 use Rattle.word_machine.specs.Statement.{Printed}
 use Rattle.word_machine.specs.Premises.{Number}
-use Rattle.word_machine.specs.Relation.{whereIn, Later, Names, sig, FrameOk, Waiting, Stored}
+use Rattle.word_machine.specs.Relation.{whereIn, Later, Names, sig, FrameOk, Waiting, MemoryStored}
 use Rattle.word_machine.specs.Stepping.{frame-more, waiting-more, set-frame, set-waiting, name-frame, name-waiting}
 use Rattle.word_machine.specs.Steps.{After, onward, halts, value-means, value-number}
 
@@ -65,9 +65,9 @@ printed-more {qs} {ps} {n} {zs} P l v z e = record {
     one : (xs : List ℕ) → drop (suc n) xs ≡ drop 1 (drop n xs)
     one xs = rw (← add-one n) (sym (drop-drop 1 n xs))
 
-module _ {f : List ℕ} {T : Tables} (B : Tabled f T) (A : Accepted (program f)) (F : Formed f) (K : Room) (qs : List ℕ) (w : Words) (u : RegionFrame)
+module _ {f : List ℕ} {T : Tables} (B : Tabled f T) (A : Accepted (program f)) (F : Formed f) (K : Room) (qs : List ℕ) (w : MachineWords) (u : RegionFrame)
     (fs : List RegionFrame) (m : Memory) (ρ χ : ℕ → ℕ) (i : ℕ) (G : FrameOk B (w .frames) (w .top) (whereIn m ρ χ) (T .successor i) u)
-    (W : Waiting B (w .frames) (whereIn m ρ χ) (u .frame .procedure) (u .frame .arguments) (w .top) fs) (Q : Stored K qs w m ρ χ) where
+    (W : Waiting B (w .frames) (whereIn m ρ χ) (u .frame .procedure) (u .frame .arguments) (w .top) fs) (Q : MemoryStored K qs w m ρ χ) where
   -- ---- a print
   print-by : (y : ℕ) → isVariable (sig f (u .frame .procedure)) y ≡ true → Number (u .frame .values y) → (b : Bool) → ltb (w .printed) (K .prints) ≡ b
       → After B A F K qs (step (print y)) u fs m (roomOr b Prints) (ifRoom b Prints (printsWord w (valueOf w y) (T .successor i)))

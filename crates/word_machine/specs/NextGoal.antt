@@ -25,21 +25,21 @@ use Rattle.safety.specs.Premises.{Accepted, fit}
 use Rattle.safety.specs.Variables.{type-in, types-variables}
 use Rattle.safety.specs.Invariant.{Inv}
 use Rattle.word_machine.specs.Tables.{Tables, Tabled}
-use Rattle.word_machine.specs.Machine.{Words, steps}
-use Rattle.word_machine.specs.Successors.{Onward, todo-next}
+use Rattle.word_machine.specs.Machine.{MachineWords, steps}
+use Rattle.word_machine.specs.Successors.{GoalOnward, todo-next}
 use Rattle.word_machine.specs.Premises.{next-typed, next-regioned, next-allowed, sum-numbers, print-number, if-numbers, switch-found}
-use Rattle.word_machine.specs.Relation.{whereIn, sig, FrameOk, Waiting, Stored}
+use Rattle.word_machine.specs.Relation.{whereIn, sig, FrameOk, Waiting, MemoryStored}
 use Rattle.word_machine.specs.Links.{linked}
 use Rattle.word_machine.specs.Stepping.{frame-goals}
 use Rattle.word_machine.specs.Steps.{After, literal-after, sum-after, assign-after}
 use Rattle.word_machine.specs.MemorySteps.{print-after, create-after, remove-after, construct-after}
 use Rattle.word_machine.specs.ControlSteps.{if-after, call-after, switch-after}
 
-module _ {f : List ℕ} {T : Tables} (B : Tabled f T) (A : Accepted (program f)) (F : Formed f) (K : Room) (qs : List ℕ) (w : Words) (e : RegionFrame)
+module _ {f : List ℕ} {T : Tables} (B : Tabled f T) (A : Accepted (program f)) (F : Formed f) (K : Room) (qs : List ℕ) (w : MachineWords) (e : RegionFrame)
     (fs : List RegionFrame) (m : Memory) (ρ χ : ℕ → ℕ) (i : ℕ) (G : FrameOk B (w .frames) (w .top) (whereIn m ρ χ) i e)
-    (W : Waiting B (w .frames) (whereIn m ρ χ) (e .frame .procedure) (e .frame .arguments) (w .top) fs) (Q : Stored K qs w m ρ χ)
+    (W : Waiting B (w .frames) (whereIn m ρ χ) (e .frame .procedure) (e .frame .arguments) (w .top) fs) (Q : MemoryStored K qs w m ρ χ)
     (I : Inv (program f) e fs m) (g : Goal) (rest : Goals) (q : e .frame .goals ≡ g then rest) where
-  O : Onward B (e .frame .procedure) i g rest
+  O : GoalOnward B (e .frame .procedure) i g rest
   O = todo-next B (G .todo) g rest q
 
   -- the frame without its goal

@@ -10,7 +10,7 @@ use mir.Val.{toZ}
 use mir.Facts.{toZ-pos, toZ-neg}
 use Rattle.language.specs.Numbers.{literalNumber, residue, wrap, sumNumber}
 use Rattle.language.specs.Frames.{Value, numeral, numberIn}
-use Rattle.heap.specs.Standing.{Stands}
+use Rattle.heap.specs.Standing.{StandsFor}
 use Rattle.word_machine.specs.Machine.{literalWord, sumWord}
 use Rattle.word_machine.specs.Relation.{Where, Means}
 
@@ -37,5 +37,5 @@ literal-word v = elim (decLt v (2 ^ 15)) [
 
 -- a word that stands for a number is read as that number
 pub number-word : (L : Where) (w : ℕ) (v : Value) → Means L w v → (z : ℤ) → v ≡ numeral z → toZ w32 w ≡ numberIn v
-unfolding Stands numberIn
+unfolding StandsFor numberIn
 number-word L w v s z e = rw e (rw e at s)

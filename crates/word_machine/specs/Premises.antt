@@ -24,10 +24,10 @@ use Rattle.laws.specs.Lists.{nth-map}
 use Rattle.region_graph.specs.Procedure.{number-region}
 use Rattle.region_graph.specs.Alike.{region-some}
 use Rattle.safety.specs.Walks.{require-in}
-use Rattle.safety.specs.Doing.{Next, next-in, Taken, arms-in}
+use Rattle.safety.specs.Doing.{NextGoal, next-in, ArmTaken, arms-in}
 use Rattle.safety.specs.Signatures.{laws-of}
 use Rattle.safety.specs.Premises.{Accepted, fit}
-use Rattle.safety.specs.Places.{Placed, is-number, is-cell, PlacedAll, placed-none, placed-more, Lies}
+use Rattle.safety.specs.Places.{PlacedValue, is-number, is-cell, PlacedAll, placed-none, placed-more, Lies}
 use Rattle.safety.specs.Variables.{AllVariables, type-in, types-variables, read-sound}
 use Rattle.safety.specs.Owners.{Owner}
 use Rattle.safety.specs.Invariant.{Now, Inv, inv}
@@ -38,7 +38,7 @@ abbrev pub Number : Value → Type 0
 Number v = (z : ℤ) × (v ≡ numeral z)
 
 -- a switch on X finds a cell, and the arm of its functor has as many arguments as the cell
-pub record Found (S : Signature) (cells : List RegionCell) (v : Value) (cs : Arms) : Type 0 where
+pub record ArmFits (S : Signature) (cells : List RegionCell) (v : Value) (cs : Arms) : Type 0 where
   pub cell : Cell
   pub arguments : List ℕ
   pub goals : Goals
@@ -48,7 +48,7 @@ pub record Found (S : Signature) (cells : List RegionCell) (v : Value) (cs : Arm
   pub variables : AllVariables S arguments
 
 module _ {T : List (List Functor)} {S : Signature} {ρ : ℕ → ℕ} {H : List RegionCell} where
-  placed-number : {r : ℕ} {v : Value} → Placed T S ρ H r v → r ≡ 0 → Number v
+  placed-number : {r : ℕ} {v : Value} → PlacedValue T S ρ H r v → r ≡ 0 → Number v
   placed-number (is-number {z = z}) e = (z, refl)
   placed-number (is-cell f i l c s p) e = absurd (region-some S _ i e)
 
@@ -72,7 +72,7 @@ module _ {P : Program} (A : Accepted P) (e : RegionFrame) (fs : List RegionFrame
     number-of y t i = placed-number (N .vars .placed y i) (number-region _ _ (fit A (e .frame .procedure) .typed) y (type-in S 0 y t .1))
 
     -- the variables that a step reads are sound
-    read-in : (g : Step) (ys : List ℕ) (rest : Goals) → Next P S (step g) rest h s → reads P g ≡ setOf ys → AllVariables S ys → (y : ℕ) → inList y ys ≡ true
+    read-in : (g : Step) (ys : List ℕ) (rest : Goals) → NextGoal P S (step g) rest h s → reads P g ≡ setOf ys → AllVariables S ys → (y : ℕ) → inList y ys ≡ true
         → member s y ≡ true
     unfolding checkGoal
     read-in g ys rest X q a y i =
@@ -81,8 +81,8 @@ module _ {P : Program} (A : Accepted P) (e : RegionFrame) (fs : List RegionFrame
 
     -- the cell c that X has, and the arm t of its functor
     found-in : (x : ℕ) (cs : Arms) {h₁ s₁ t₁ : Set} → 1 ≤ typeOf S x → (c : Lies (P .types) S (e .stands) (m .cells) (regionOf S x) (e .frame .values x))
-        → Taken P S cs (regionOf S x) (functorAt (functorsOf (P .types) (typeOf S x)) (c .functor)) (c .functor) h t₁ h₁ s₁
-        → Found S (m .cells) (e .frame .values x) cs
+        → ArmTaken P S cs (regionOf S x) (functorAt (functorsOf (P .types) (typeOf S x)) (c .functor)) (c .functor) h t₁ h₁ s₁
+        → ArmFits S (m .cells) (e .frame .values x) cs
     unfolding cellIn cellOf
     found-in x cs l c t = record {
       cell = record { functor = c .functor; contents = c .contents };
@@ -96,7 +96,7 @@ module _ {P : Program} (A : Accepted P) (e : RegionFrame) (fs : List RegionFrame
       variables = types-variables S _ (t .arguments) (t .have);
     }
 
-    found : (x : ℕ) (cs : Arms) (rest : Goals) → Next P S (switch x cs) rest h s → Found S (m .cells) (e .frame .values x) cs
+    found : (x : ℕ) (cs : Arms) (rest : Goals) → NextGoal P S (switch x cs) rest h s → ArmFits S (m .cells) (e .frame .values x) cs
     unfolding goalOk goalRegions checkGoal functorsFor
     found x cs rest X =
         let o = and-true (and-true (X .typed) .1) in
@@ -162,5 +162,5 @@ module _ {P : Program} (A : Accepted P) (e : RegionFrame) (fs : List RegionFrame
       let r = and-true (require-in (X .goes) .0) in
       (number-of N y (t .0) (subset-in (X .counted) s (X .fewer) y (r .0)), number-of N z (u .0) (subset-in (X .counted) s (X .fewer) z (r .1)))
 
-  pub switch-found : Inv P e fs m → (x : ℕ) (cs : Arms) (rest : Goals) → e .frame .goals ≡ switch x cs then rest → Found S (m .cells) (e .frame .values x) cs
+  pub switch-found : Inv P e fs m → (x : ℕ) (cs : Arms) (rest : Goals) → e .frame .goals ≡ switch x cs then rest → ArmFits S (m .cells) (e .frame .values x) cs
   switch-found (inv d N) x cs rest q = found N x cs rest (next-in P _ d _ rest q)

@@ -18,10 +18,10 @@ use Rattle.language.specs.AcceptedRun.{RegionFrame, Memory}
 use Rattle.language.specs.Machine.{Room}
 use Rattle.language.specs.Answers.{program}
 use Rattle.language.specs.Format.{callProcedure, maxVariables, maxRegions}
-use Rattle.heap.specs.Standing.{Stands, stands-more}
+use Rattle.heap.specs.Standing.{StandsFor, stands-more}
 use Rattle.heap.specs.Represents.{Represents}
-use Rattle.word_machine.specs.Tables.{Tables, slotOf, givenOf, Passed, Tabled}
-use Rattle.word_machine.specs.Machine.{regionsFrom, regionsEnd, frameWords, Words, goalPlace, valuePlace, regionPlace, callPlace}
+use Rattle.word_machine.specs.Tables.{Tables, slotOf, givenOf, PassingMode, Tabled}
+use Rattle.word_machine.specs.Machine.{regionsFrom, regionsEnd, frameWords, MachineWords, goalPlace, valuePlace, regionPlace, callPlace}
 use Rattle.word_machine.specs.Statement.{Printed}
 use Rattle.word_machine.specs.Successors.{Todo}
 
@@ -37,7 +37,7 @@ whereIn M ρ χ = record { regionAt = ρ; cellAt = χ; made = M .made; cells = l
 
 -- a word stands for a value; a word stands for the region numbered s, if s is one
 abbrev pub Means : Where → ℕ → Value → Type 0
-Means L w v = Stands (L .cellAt) (L .cells) w v
+Means L w v = StandsFor (L .cellAt) (L .cells) w v
 
 abbrev pub Names : Where → ℕ → ℕ → Type 0
 Names L w s = (s ≡ 0 → ⊥) → (s ≤ L .made) × (w ≡ L .regionAt s)
@@ -70,12 +70,12 @@ module _ {f : List ℕ} {T : Tables} (B : Tabled f T) where
     pub todo : Todo B (e .frame .procedure) i (e .frame .goals)
 
   -- record i is a call of q with arguments zs, from procedure p
-  pub record Linked (i p q : ℕ) (zs : List ℕ) : Type 0 where
+  pub record CallLinked (i p q : ℕ) (zs : List ℕ) : Type 0 where
     pub there : i < recordCount f
     pub some : q < length (program f .procedures)
     pub callee : word f i callProcedure ≡ q
-    pub slots : (m : ℕ) → Passed m → map slotOf (T .passes m i) ≡ variablesIn m (sig f q)
-    pub places : (m : ℕ) → Passed m → map givenOf (T .passes m i) ≡ argumentsIn m (parametersOf (sig f q)) zs
+    pub slots : (m : ℕ) → PassingMode m → map slotOf (T .passes m i) ≡ variablesIn m (sig f q)
+    pub places : (m : ℕ) → PassingMode m → map givenOf (T .passes m i) ≡ argumentsIn m (parametersOf (sig f q)) zs
     pub variables : (y : ℕ) → inList y zs ≡ true → isVariable (sig f p) y ≡ true
     pub images : (r : ℕ) → (member (startHeld (sig f q)) r ≡ true) ⊎ (member (born (sig f q)) r ≡ true)
         → (T .image i r ≡ imageIn (mapping (sig f p) (sig f q) zs) r) × (isRegion (sig f p) (T .image i r) ≡ true)
@@ -83,7 +83,7 @@ module _ {f : List ℕ} {T : Tables} (B : Tabled f T) where
   -- the frames that wait below frame k, which is procedure q's, called with arguments zs
   pub data Waiting (fw : List ℕ) (L : Where) : ℕ → List ℕ → ℕ → List RegionFrame → Type 0 where
     none : {q : ℕ} {zs : List ℕ} → Waiting fw L q zs 0 []
-    more : {q k : ℕ} {zs : List ℕ} {e : RegionFrame} {fs : List RegionFrame} → Linked (getD fw (callPlace (suc k)) 0) (e .frame .procedure) q zs
+    more : {q k : ℕ} {zs : List ℕ} {e : RegionFrame} {fs : List RegionFrame} → CallLinked (getD fw (callPlace (suc k)) 0) (e .frame .procedure) q zs
         → FrameOk fw k L (getD fw (goalPlace k) 0) e → Waiting fw L (e .frame .procedure) (e .frame .arguments) k fs
         → Waiting fw L q zs (suc k) (e ∷ fs)
 
@@ -105,7 +105,7 @@ module _ {f : List ℕ} {T : Tables} (B : Tabled f T) where
         → getD fw′ (callPlace k) 0 ≡ getD fw (callPlace k) 0 → Waiting fw L q zs k fs → Waiting fw′ L′ q zs k fs
     waiting-later same call none = none
     waiting-later {q = q} {k = suc k} {zs = zs} same call (more {e = e} l F W) =
-        let l′ : Linked (getD fw′ (callPlace (suc k)) 0) (e .frame .procedure) q zs = rw call l in
+        let l′ : CallLinked (getD fw′ (callPlace (suc k)) 0) (e .frame .procedure) q zs = rw call l in
         let F′ : FrameOk fw′ k L′ (getD fw′ (goalPlace k) 0) e = rw (same (goalPlace k) (omega arith)) (frame-later (λ j a b. same (frameWords * k + j) (omega arith)) F) in
         more l′ F′ (waiting-later (λ j h. same j (omega arith)) (same (callPlace k) (omega arith)) W)
 
@@ -114,12 +114,12 @@ module _ {f : List ℕ} {T : Tables} (B : Tabled f T) where
   waiting-depth (more l F W) = ap suc (waiting-depth W)
 
   -- ---- a run: e is the newest frame, fs wait
-  pub record Running (w : Words) (L : Where) (e : RegionFrame) (fs : List RegionFrame) : Type 0 where
+  pub record Running (w : MachineWords) (L : Where) (e : RegionFrame) (fs : List RegionFrame) : Type 0 where
     pub newest : FrameOk (w .frames) (w .top) L (w .goal) e
     pub waiting : Waiting (w .frames) L (e .frame .procedure) (e .frame .arguments) (w .top) fs
 
 -- the lent words stand for the memory M; qs are the words lent for printed numbers
-pub record Stored (k : Room) (qs : List ℕ) (w : Words) (M : Memory) (ρ χ : ℕ → ℕ) : Type 0 where
+pub record MemoryStored (k : Room) (qs : List ℕ) (w : MachineWords) (M : Memory) (ρ χ : ℕ → ℕ) : Type 0 where
   pub represents : Represents k (w .heap) (w .cells) (w .regions) M ρ χ
   pub printed : Printed qs (w .prints) (w .printed) (M .printed)
   pub frame-room : frameWords * k .frames ≤ length (w .frames)

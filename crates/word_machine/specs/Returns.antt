@@ -24,11 +24,11 @@ use Rattle.laws.specs.Lists.{image-listed}
 use Rattle.region_graph.specs.Parameters.{arguments-in, parameter-variable, mode-parameter}
 use Rattle.region_graph.specs.Shared.{variable-top, region-top}
 use Rattle.safety.specs.Premises.{Accepted, laws}
-use Rattle.word_machine.specs.Tables.{Tables, slotOf, givenOf, Passed, Tabled}
-use Rattle.word_machine.specs.Machine.{regionsFrom, regionsEnd, frameWords, Words, valuePlace, regionPlace, callPlace, copied, valuesOut, regionsOut, returnWords, returned, settledFrom}
+use Rattle.word_machine.specs.Tables.{Tables, slotOf, givenOf, PassingMode, Tabled}
+use Rattle.word_machine.specs.Machine.{regionsFrom, regionsEnd, frameWords, MachineWords, valuePlace, regionPlace, callPlace, copied, valuesOut, regionsOut, returnWords, returned, settledFrom}
 use Rattle.word_machine.specs.Successors.{todo-end, todo-next}
 use Rattle.word_machine.specs.Copies.{copied-length, copied-other, copied-related, puts-give, puts-stand}
-use Rattle.word_machine.specs.Relation.{Where, Means, Names, not-later, sig, FrameOk, Linked, Waiting, none, more, waiting-later, Running}
+use Rattle.word_machine.specs.Relation.{Where, Means, Names, not-later, sig, FrameOk, CallLinked, Waiting, none, more, waiting-later, Running}
 
 -- members are numbers from 1 to 64
 pub members-range : (s : _) (r : ℕ) → inList r (members s) ≡ true → (member s r ≡ true) × (1 ≤ r) × (r ≤ maxRegions)
@@ -46,7 +46,7 @@ stand-named name name′ meant (r ∷ rs) t h =
 
 module _ {f : List ℕ} {T : Tables} (B : Tabled f T) (A : Accepted (program f)) where
   -- ---- the variables that a call's arguments pass
-  module _ {i p q : ℕ} {zs : List ℕ} (N : Linked B i p q zs) (m : ℕ) (d : Passed m) where
+  module _ {i p q : ℕ} {zs : List ℕ} (N : CallLinked B i p q zs) (m : ℕ) (d : PassingMode m) where
     abbrev pub passing : List ℕ
     passing = T .passes m i
 
@@ -66,7 +66,7 @@ module _ {f : List ℕ} {T : Tables} (B : Tabled f T) (A : Accepted (program f))
 
   -- ---- frame suc k, which stands for e, returns to frame k, which stands for u
   module _ {fw : List ℕ} {L : Where} {k i g : ℕ} {e u : RegionFrame} {fs : List RegionFrame} (F : FrameOk B fw (suc k) L i e)
-      (N : Linked B (getD fw (callPlace (suc k)) 0) (u .frame .procedure) (e .frame .procedure) (e .frame .arguments)) (G : FrameOk B fw k L g u)
+      (N : CallLinked B (getD fw (callPlace (suc k)) 0) (u .frame .procedure) (e .frame .procedure) (e .frame .arguments)) (G : FrameOk B fw k L g u)
       (W : Waiting B fw L (u .frame .procedure) (u .frame .arguments) k fs) where
     abbrev c : ℕ
     c = getD fw (callPlace (suc k)) 0
@@ -153,7 +153,7 @@ module _ {f : List ℕ} {T : Tables} (B : Tabled f T) (A : Accepted (program f))
     return-is = choose-true _ _ fw (lt-ltb c (recordCount f) (N .there)) ∙ (rw (N .callee, B .bears (e .frame .procedure) (N .some)))
 
   -- ---- a run that has gone on: it has ended, or its newest frame has a goal
-  pub data Related (w : Words) (L : Where) (frames : List RegionFrame) : Type 0 where
+  pub data Related (w : MachineWords) (L : Where) (frames : List RegionFrame) : Type 0 where
     over : frames ≡ [] → w .goal ≡ 0 → Related w L frames
     runs : {e : RegionFrame} {fs : List RegionFrame} {i : ℕ} → frames ≡ e ∷ fs → w .goal ≡ suc i → Running B w L e fs → Related w L frames
 
@@ -162,7 +162,7 @@ module _ {f : List ℕ} {T : Tables} (B : Tabled f T) (A : Accepted (program f))
   some-goal (suc j) z = (j, refl)
 
   -- k is the newest frame, i its next goal
-  pub settled-from : {L : Where} (fs : List RegionFrame) {k : ℕ} (i : ℕ) (w : Words) (e : RegionFrame) (gs : Goals) → w .top ≡ k → w .goal ≡ i
+  pub settled-from : {L : Where} (fs : List RegionFrame) {k : ℕ} (i : ℕ) (w : MachineWords) (e : RegionFrame) (gs : Goals) → w .top ≡ k → w .goal ≡ i
       → e .frame .goals ≡ gs → FrameOk B (w .frames) k L i e → Waiting B (w .frames) L (e .frame .procedure) (e .frame .arguments) k fs
       → Related (settledFrom f T k i w) L (settle (λ u. u .frame .goals) (returningRegions (program f)) fs e gs)
   unfolding settledFrom settle returned returningRegions returning

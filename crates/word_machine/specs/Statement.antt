@@ -28,7 +28,7 @@ pub record Gives (qs : List ℕ) (o : Outcome) (r : Run) : Type 0 where
   pub printed : Printed qs (o .words .prints) (o .words .printed) (r .printed)
 
 -- m, rs, fw and ps are the words lent for cells, regions, frames and printed numbers, l the steps
-abbrev pub Joined : Type 0
-Joined =
+abbrev pub JoinedRuns : Type 0
+JoinedRuns =
     (f : List ℕ) → checked f ≡ Accepted → (T : Tables) → Tabled f T → (m rs fw ps : List ℕ) (l : ℕ)
     → Gives ps (wordRun f T m rs fw ps l) (ran f (lentWords m rs fw ps l))

@@ -20,25 +20,25 @@ use Rattle.safety.specs.Premises.{Accepted, laws}
 use Rattle.region_graph.specs.Shared.{variable-top}
 use Rattle.heap.specs.Standing as Standing
 use Rattle.word_machine.specs.Tables.{Tables, Tabled}
-use Rattle.word_machine.specs.Machine.{Words, valuePlace, literalWord, sumWord, withFrames, given, valueOf, Went, went, stops}
+use Rattle.word_machine.specs.Machine.{MachineWords, valuePlace, literalWord, sumWord, withFrames, given, valueOf, Went, went, stops}
 use Rattle.word_machine.specs.Numbers.{literal-word, sum-word, number-word}
 use Rattle.word_machine.specs.Premises.{Number}
-use Rattle.word_machine.specs.Relation.{whereIn, Means, sig, FrameOk, Waiting, Running, Stored}
+use Rattle.word_machine.specs.Relation.{whereIn, Means, sig, FrameOk, Waiting, Running, MemoryStored}
 use Rattle.word_machine.specs.Stepping.{set-frame, set-waiting}
 
 module _ {f : List ℕ} {T : Tables} (B : Tabled f T) (A : Accepted (program f)) (F : Formed f) (K : Room) (qs : List ℕ) where
   -- what is to be shown: u is the newest frame without its goal g, fs wait
   pub data After (g : Goal) (u : RegionFrame) (fs : List RegionFrame) (m : Memory) : Outlook → Went → Type 0 where
-    onward : {v : Words} {e : RegionFrame} {es : List RegionFrame} {n : Memory} {ρ χ : ℕ → ℕ} → Run.take (program f) g u fs m ≡ state (program f) e es n
-        → Running B v (whereIn n ρ χ) e es → Stored K qs v n ρ χ → After g u fs m goes (went v)
+    onward : {v : MachineWords} {e : RegionFrame} {es : List RegionFrame} {n : Memory} {ρ χ : ℕ → ℕ} → Run.take (program f) g u fs m ≡ state (program f) e es n
+        → Running B v (whereIn n ρ χ) e es → MemoryStored K qs v n ρ χ → After g u fs m goes (went v)
     halts : {c : Stop} → After g u fs m (lacks c) (stops c)
 
   -- the words w stand for the state; record i is the goal's
-  module _ (w : Words) (u : RegionFrame) (fs : List RegionFrame) (m : Memory) (ρ χ : ℕ → ℕ) (i : ℕ)
+  module _ (w : MachineWords) (u : RegionFrame) (fs : List RegionFrame) (m : Memory) (ρ χ : ℕ → ℕ) (i : ℕ)
       (G : FrameOk B (w .frames) (w .top) (whereIn m ρ χ) (T .successor i) u)
-      (W : Waiting B (w .frames) (whereIn m ρ χ) (u .frame .procedure) (u .frame .arguments) (w .top) fs) (Q : Stored K qs w m ρ χ) where
+      (W : Waiting B (w .frames) (whereIn m ρ χ) (u .frame .procedure) (u .frame .arguments) (w .top) fs) (Q : MemoryStored K qs w m ρ χ) where
     -- ---- a value is given
-    pub stored-given : (x v : ℕ) → Stored K qs (given w x v (T .successor i)) m ρ χ
+    pub stored-given : (x v : ℕ) → MemoryStored K qs (given w x v (T .successor i)) m ρ χ
     unfolding given withFrames
     stored-given x v = record {
       represents = Q .represents;
@@ -63,13 +63,13 @@ module _ {f : List ℕ} {T : Tables} (B : Tabled f T) (A : Accepted (program f))
 
     pub literal-after : (x v : ℕ) → isVariable (sig f (u .frame .procedure)) x ≡ true
         → After (step (literal x v)) u fs m goes (went (given w x (literalWord v) (T .successor i)))
-    unfolding Run.take literalIn Standing.Stands
+    unfolding Run.take literalIn Standing.StandsFor
     literal-after x v o = onward refl (given-running x (literalWord v) _ o (literal-word v)) (stored-given x (literalWord v))
 
     pub sum-after : (x o y z : ℕ) → isVariable (sig f (u .frame .procedure)) x ≡ true → isVariable (sig f (u .frame .procedure)) y ≡ true
         → isVariable (sig f (u .frame .procedure)) z ≡ true → Number (u .frame .values y) → Number (u .frame .values z)
         → After (step (sum x o y z)) u fs m goes (went (given w x (sumWord o (valueOf w y) (valueOf w z)) (T .successor i)))
-    unfolding Run.take sumIn Standing.Stands
+    unfolding Run.take sumIn Standing.StandsFor
     sum-after x o y z a b c p q =
         onward refl
         (given-running x (sumWord o (valueOf w y) (valueOf w z)) _ a

@@ -10,7 +10,7 @@ use Rattle.chains.specs.Layout.{real}
 use Rattle.chains.specs.Formed.{Formed, Stands, goalsAt, goalAt, goals-none}
 use Rattle.chains.specs.Is.{goals-step}
 use Rattle.chains.specs.Records.{along}
-use Rattle.word_machine.specs.Tables.{Tables, Tabled, onto, Starts}
+use Rattle.word_machine.specs.Tables.{Tables, Tabled, onto, Continues}
 
 module _ {f : List ℕ} {T : Tables} (B : Tabled f T) where
   -- the goals of a frame of procedure p whose next goal's record is i
@@ -20,11 +20,11 @@ module _ {f : List ℕ} {T : Tables} (B : Tabled f T) where
         → Todo p i gs
 
   -- a chain's goals in front of others: the law of the table
-  pub todo-before : Formed f → (p c : ℕ) (rest : Goals) → Todo p c rest → (i : ℕ) → Stands f goals i → Starts (B .onward) (B .owner) i c p
+  pub todo-before : Formed f → (p c : ℕ) (rest : Goals) → Todo p c rest → (i : ℕ) → Stands f goals i → Continues (B .onward) (B .owner) i c p
       → Todo p (onto i c) (goalsAt f i before rest)
   unfolding onto _before_ real
   todo-before F p c rest d =
-      along F goals refl (λ i. Starts (B .onward) (B .owner) i c p → Todo p (onto i c) (goalsAt f i before rest))
+      along F goals refl (λ i. Continues (B .onward) (B .owner) i c p → Todo p (onto i c) (goalsAt f i before rest))
       (λ s. rw (goals-none f {i = 0} refl) d)
       (λ i s z ih e. first i s z (e z .0) (e z .1) (ih (λ y. let q = B .goal-next i s z y in (q .0 ∙ e z .0, q .1 ∙ e z .1))))
     where
@@ -43,14 +43,14 @@ module _ {f : List ℕ} {T : Tables} (B : Tabled f T) where
   todo-end (todo-none z e) q = z
   todo-end (todo-goal s z o e d) q = let x : _≡_ {A = ℕ} 0 1 = cc in absurd (omega arith)
 
-  pub record Onward (p i : ℕ) (g : Goal) (rest : Goals) : Type 0 where
+  pub record GoalOnward (p i : ℕ) (g : Goal) (rest : Goals) : Type 0 where
     pub stands : Stands f goals i
     pub some : i ≡ 0 → ⊥
     pub mine : B .owner i ≡ p
     pub is : g ≡ goalAt f i
     pub then′ : Todo p (T .successor i) rest
 
-  pub todo-next : {p i : ℕ} {gs : Goals} → Todo p i gs → (g : Goal) (rest : Goals) → gs ≡ g then rest → Onward p i g rest
+  pub todo-next : {p i : ℕ} {gs : Goals} → Todo p i gs → (g : Goal) (rest : Goals) → gs ≡ g then rest → GoalOnward p i g rest
   todo-next (todo-none z e) g rest q = let x : _≡_ {A = ℕ} 0 1 = cc in absurd (omega arith)
   todo-next (todo-goal {rest = r} s z o e d) g rest q =
       let x : r ≡ rest = cc in

@@ -15,12 +15,12 @@ use Rattle.heap.specs.Words.{argumentWords, arguments-are}
 use Rattle.heap.specs.Standing.{StandEach}
 use Rattle.chains.specs.Parts.{fourAt}
 use Rattle.word_machine.specs.Tables.{Tables}
-use Rattle.word_machine.specs.Machine.{frameWords, Words, givesEach, armWords}
+use Rattle.word_machine.specs.Machine.{frameWords, MachineWords, givesEach, armWords}
 use Rattle.word_machine.specs.Copies.{set-related}
-use Rattle.word_machine.specs.Trimmed.{Ranged, ranged-rest, none-behind}
+use Rattle.word_machine.specs.Trimmed.{RangedMembers, ranged-rest, none-behind}
 use Rattle.word_machine.specs.Relation.{Where, Means}
 
-pub arm-each : (f : List ℕ) (T : Tables) (w : Words) (p j : ℕ)
+pub arm-each : (f : List ℕ) (T : Tables) (w : MachineWords) (p j : ℕ)
     → armWords f T w p j ≡ givesEach (frameWords * w .top) (fourWords (fourAt f j)) (argumentWords (w .cells) p) (w .frames)
 unfolding armWords fourWords
 arm-each f T w p j = rw (arguments-are (w .cells) p)
@@ -34,7 +34,7 @@ each-length base (suc y ∷ ys) (w ∷ ws) fw = each-length base ys ws (set fw (
 
 module _ (base : ℕ) where
   -- ---- words that are no variable's stay
-  pub each-other : (ys ws fw : List ℕ) (j : ℕ) → Ranged (trimmed ys) → (j < base) ⊎ (base + maxVariables < j) → getD (givesEach base ys ws fw) j 0 ≡ getD fw j 0
+  pub each-other : (ys ws fw : List ℕ) (j : ℕ) → RangedMembers (trimmed ys) → (j < base) ⊎ (base + maxVariables < j) → getD (givesEach base ys ws fw) j 0 ≡ getD fw j 0
   unfolding givesEach trimmed trimOnto
   each-other [] ws fw j r o = refl
   each-other (y ∷ ys) [] fw j r o = refl
@@ -50,7 +50,7 @@ module _ (base : ℕ) where
   -- ---- the words of the variables stand for what they are given
   module _ (L : Where) (x : ℕ) where
     pub each-means : (ys ws : List ℕ) (vs : List Value) (fw : List ℕ) (t : ℕ → Value) → length ys ≤ length ws → base + maxVariables < length fw
-        → StandEach (L .cellAt) (L .cells) ws vs → length vs ≡ length (trimmed ys) → Ranged (trimmed ys) → Means L (getD fw (base + x) 0) (t x)
+        → StandEach (L .cellAt) (L .cells) ws vs → length vs ≡ length (trimmed ys) → RangedMembers (trimmed ys) → Means L (getD fw (base + x) 0) (t x)
         → Means L (getD (givesEach base ys ws fw) (base + x) 0) (giveEach (trimmed ys) vs t x)
     unfolding trimmed trimOnto givesEach giveEach StandEach
     each-means [] ws vs fw t k l s e r h = h

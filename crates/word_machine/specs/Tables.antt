@@ -45,8 +45,8 @@ unfoldable pub givenOf : ℕ → ℕ
 givenOf w = w / givenUnit % givenUnit
 
 -- the modes that pass values: in and out
-abbrev pub Passed : ℕ → Type 0
-Passed m = (m ≡ inMode) ⊎ (m ≡ outMode)
+abbrev pub PassingMode : ℕ → Type 0
+PassingMode m = (m ≡ inMode) ⊎ (m ≡ outMode)
 
 -- the first record of a chain, or where to go on if the chain is empty
 unfoldable pub onto : ℕ → ℕ → ℕ
@@ -54,8 +54,8 @@ onto zero c = c
 onto (suc i) c = suc i
 
 -- a chain that starts at record w goes on at record c after its end, and is procedure p's
-abbrev pub Starts : (ℕ → ℕ) → (ℕ → ℕ) → ℕ → ℕ → ℕ → Type 0
-Starts onward owner w c p = (w ≡ 0 → ⊥) → (onward w ≡ c) × (owner w ≡ p)
+abbrev pub Continues : (ℕ → ℕ) → (ℕ → ℕ) → ℕ → ℕ → ℕ → Type 0
+Continues onward owner w c p = (w ≡ 0 → ⊥) → (onward w ≡ c) × (owner w ≡ p)
 
 -- the record of a procedure's first goal
 abbrev pub bodyRecord : List ℕ → ℕ → ℕ
@@ -68,17 +68,17 @@ pub record Tabled (f : List ℕ) (T : Tables) : Type 0 where
   pub onward : ℕ → ℕ
   pub owner : ℕ → ℕ
   pub next : (i : ℕ) → Stands f goals i → (i ≡ 0 → ⊥) → T .successor i ≡ onto (word f i nextWord) (onward i)
-  pub goal-next : (i : ℕ) → Stands f goals i → (i ≡ 0 → ⊥) → Starts onward owner (word f i nextWord) (onward i) (owner i)
-  pub arm-next : (i : ℕ) → Stands f arms i → (i ≡ 0 → ⊥) → Starts onward owner (word f i nextWord) (onward i) (owner i)
-  pub arm-goals : (i : ℕ) → Stands f arms i → (i ≡ 0 → ⊥) → Starts onward owner (word f i armGoals) (onward i) (owner i)
-  pub switch-arms : (i n x cs : ℕ) → recordAt f i ≡ Switch n x cs → Starts onward owner cs (T .successor i) (owner i)
-  pub if-then : (i n y z a b : ℕ) → recordAt f i ≡ If n y z a b → Starts onward owner a (T .successor i) (owner i)
-  pub if-else : (i n y z a b : ℕ) → recordAt f i ≡ If n y z a b → Starts onward owner b (T .successor i) (owner i)
-  pub bodies : (p : ℕ) → p < length (program f .procedures) → Starts onward owner (T .body p) 0 p
+  pub goal-next : (i : ℕ) → Stands f goals i → (i ≡ 0 → ⊥) → Continues onward owner (word f i nextWord) (onward i) (owner i)
+  pub arm-next : (i : ℕ) → Stands f arms i → (i ≡ 0 → ⊥) → Continues onward owner (word f i nextWord) (onward i) (owner i)
+  pub arm-goals : (i : ℕ) → Stands f arms i → (i ≡ 0 → ⊥) → Continues onward owner (word f i armGoals) (onward i) (owner i)
+  pub switch-arms : (i n x cs : ℕ) → recordAt f i ≡ Switch n x cs → Continues onward owner cs (T .successor i) (owner i)
+  pub if-then : (i n y z a b : ℕ) → recordAt f i ≡ If n y z a b → Continues onward owner a (T .successor i) (owner i)
+  pub if-else : (i n y z a b : ℕ) → recordAt f i ≡ If n y z a b → Continues onward owner b (T .successor i) (owner i)
+  pub bodies : (p : ℕ) → p < length (program f .procedures) → Continues onward owner (T .body p) 0 p
   pub region : (i n x k a b c d : ℕ) → recordAt f i ≡ Construct n x k a b c d → T .region i ≡ regionOf (signatureOf (program f) (owner i)) x
   pub arm-entry : (i : ℕ) → Stands f arms i → (i ≡ 0 → ⊥) → T .entry i ≡ onto (word f i armGoals) (onward i)
-  pub slots : (i n q ys m : ℕ) → recordAt f i ≡ Call n q ys → Passed m → map slotOf (T .passes m i) ≡ variablesIn m (signatureOf (program f) q)
-  pub givens : (i n q ys m : ℕ) → recordAt f i ≡ Call n q ys → Passed m
+  pub slots : (i n q ys m : ℕ) → recordAt f i ≡ Call n q ys → PassingMode m → map slotOf (T .passes m i) ≡ variablesIn m (signatureOf (program f) q)
+  pub givens : (i n q ys m : ℕ) → recordAt f i ≡ Call n q ys → PassingMode m
       → map givenOf (T .passes m i) ≡ argumentsIn m (parametersOf (signatureOf (program f) q)) (argumentsAt f ys)
   pub image : (i n q ys r : ℕ) → recordAt f i ≡ Call n q ys
       → (member (startHeld (signatureOf (program f) q)) r ≡ true) ⊎ (member (born (signatureOf (program f) q)) r ≡ true)

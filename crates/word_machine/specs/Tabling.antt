@@ -23,16 +23,16 @@ use Rattle.chains.specs.Goals.{construct-at}
 use Rattle.chains.specs.Parts.{switch-at, if-at, call-at}
 use Rattle.chains.specs.Records.{chainRecords, records-none, records-step}
 use Rattle.chains.specs.Elements.{procedures-count}
-use Rattle.word_machine.specs.Tables.{slotOf, givenOf, onto, Starts, bodyRecord, Tabled}
+use Rattle.word_machine.specs.Tables.{slotOf, givenOf, onto, Continues, bodyRecord, Tabled}
 use Rattle.word_machine.specs.Passing.{packed, Matches}
 use Rattle.word_machine.specs.Arguments.{slots-passed, givens-passed}
 use Rattle.word_machine.specs.Filling.{referred, onwardWords, ownerWords, onwards, owners, slots, modes, tablesOf}
-use Rattle.word_machine.specs.FillingLaws.{Holds, filled-other, filled-holds}
+use Rattle.word_machine.specs.FillingLaws.{WordsAt, filled-other, filled-holds}
 use Rattle.word_machine.specs.FormedTree.{formed-tree, first-free}
 use Rattle.word_machine.specs.Matching.{Says, matches-say}
 
 -- ---- a goal's word is its next goal's
-goal-onward : (k : GoalKind) (w : ℕ → ℕ) (i v : ℕ) (t : List ℕ) → Holds (referred (recordAs (kGoal k) w)) (onwardWords i (recordAs (kGoal k) w) v) t
+goal-onward : (k : GoalKind) (w : ℕ → ℕ) (i v : ℕ) (t : List ℕ) → WordsAt (referred (recordAs (kGoal k) w)) (onwardWords i (recordAs (kGoal k) w) v) t
     → w nextWord ≢ 0 → getD t (w nextWord) 0 ≡ v
 unfolding referred onwardWords
 goal-onward kLiteral w i v t h = h .0
@@ -46,7 +46,7 @@ goal-onward kPrint w i v t h = h .0
 goal-onward kCreate w i v t h = h .0
 goal-onward kRemove w i v t h = h .0
 
-goal-owner : (k : GoalKind) (w : ℕ → ℕ) (i v : ℕ) (t : List ℕ) → Holds (referred (recordAs (kGoal k) w)) (ownerWords i (recordAs (kGoal k) w) v) t
+goal-owner : (k : GoalKind) (w : ℕ → ℕ) (i v : ℕ) (t : List ℕ) → WordsAt (referred (recordAs (kGoal k) w)) (ownerWords i (recordAs (kGoal k) w) v) t
     → w nextWord ≢ 0 → getD t (w nextWord) 0 ≡ v
 unfolding referred ownerWords
 goal-owner kLiteral w i v t h = h .0
@@ -70,15 +70,15 @@ module _ {f : List ℕ} (F : Formed f) where
   abbrev Owner : ℕ → ℕ
   Owner i = getD (owners f) i 0
 
-  onward-holds : (i : ℕ) → i ≢ 0 → i < recordCount f → Holds (referred (recordAt f i)) (onwardWords i (recordAt f i) (Onward i)) (onwards f)
+  onward-holds : (i : ℕ) → i ≢ 0 → i < recordCount f → WordsAt (referred (recordAt f i)) (onwardWords i (recordAt f i) (Onward i)) (onwards f)
   unfolding onwards
   onward-holds i a b = filled-holds onwardWords f (recordCount f - 1) 1 (replicate maxRecords 0) (formed-tree f F) (omega arith) few i (omega (arith, a)) (omega (arith, a))
 
-  owner-holds : (i : ℕ) → i ≢ 0 → i < recordCount f → Holds (referred (recordAt f i)) (ownerWords i (recordAt f i) (Owner i)) (owners f)
+  owner-holds : (i : ℕ) → i ≢ 0 → i < recordCount f → WordsAt (referred (recordAt f i)) (ownerWords i (recordAt f i) (Owner i)) (owners f)
   unfolding owners
   owner-holds i a b = filled-holds ownerWords f (recordCount f - 1) 1 (replicate maxRecords 0) (formed-tree f F) (omega arith) few i (omega (arith, a)) (omega (arith, a))
 
-  goal-next : (i : ℕ) → Stands f goals i → (z : i ≢ 0) → Starts Onward Owner (word f i nextWord) (Onward i) (Owner i)
+  goal-next : (i : ℕ) → Stands f goals i → (z : i ≢ 0) → Continues Onward Owner (word f i nextWord) (Onward i) (Owner i)
   goal-next i s z y =
       let k = goal-is s z in (
         goal-onward (k .0) (word f i) i (Onward i) (onwards f) (rw (k .1) at (onward-holds i z (s .below))) y,
@@ -86,14 +86,14 @@ module _ {f : List ℕ} (F : Formed f) where
       )
 
   arm-parts : (i : ℕ) → Stands f arms i → (z : i ≢ 0)
-      → Starts Onward Owner (word f i nextWord) (Onward i) (Owner i) × Starts Onward Owner (word f i armGoals) (Onward i) (Owner i)
+      → Continues Onward Owner (word f i nextWord) (Onward i) (Owner i) × Continues Onward Owner (word f i armGoals) (Onward i) (Owner i)
   unfolding referred onwardWords ownerWords
   arm-parts i s z =
       let a = rw (arm-is s z) at (onward-holds i z (s .below)) in
       let b = rw (arm-is s z) at (owner-holds i z (s .below)) in
       (λ y. (a .0 y, b .0 y), λ y. (a .1 .0 y, b .1 .0 y))
 
-  switch-parts : (i n x cs : ℕ) → recordAt f i ≡ Switch n x cs → Starts Onward Owner cs (onto (word f i nextWord) (Onward i)) (Owner i)
+  switch-parts : (i n x cs : ℕ) → recordAt f i ≡ Switch n x cs → Continues Onward Owner cs (onto (word f i nextWord) (Onward i)) (Owner i)
   unfolding referred onwardWords ownerWords
   switch-parts i n x cs e y =
       let c = switch-at F refl e in
@@ -102,7 +102,7 @@ module _ {f : List ℕ} (F : Formed f) where
       (a .1 .0 y ∙ ap (λ k. onto k (Onward i)) (c .w1), b .1 .0 y)
 
   if-parts : (i n y z a b : ℕ) → recordAt f i ≡ If n y z a b
-      → Starts Onward Owner a (onto (word f i nextWord) (Onward i)) (Owner i) × Starts Onward Owner b (onto (word f i nextWord) (Onward i)) (Owner i)
+      → Continues Onward Owner a (onto (word f i nextWord) (Onward i)) (Owner i) × Continues Onward Owner b (onto (word f i nextWord) (Onward i)) (Owner i)
   unfolding referred onwardWords ownerWords
   if-parts i n y z a b e =
       let c = if-at F refl e in
@@ -144,7 +144,7 @@ module _ {f : List ℕ} (F : Formed f) where
   procedure-count : length (program f .procedures) ≡ length (chainRecords f (word f 0 headerProcedures))
   procedure-count = ap length (program-procedures F) ∙ procedures-count F (word f 0 headerProcedures) (procedures-stand F)
 
-  body-starts : (p : ℕ) → p < length (program f .procedures) → Starts Onward Owner (bodyRecord f p) 0 p
+  body-starts : (p : ℕ) → p < length (program f .procedures) → Continues Onward Owner (bodyRecord f p) 0 p
   unfolding referred onwardWords ownerWords
   body-starts p l y =
       let h = numbered p (word f 0 headerProcedures) 0 (procedures-stand F) first-owner (omega (arith, procedure-count)) in

@@ -16,7 +16,7 @@ use Rattle.chains.specs.Formed.{Formed}
 use Rattle.safety.specs.Premises as Premises
 use Rattle.word_machine.specs.Tables.{Tables, Tabled}
 use Rattle.word_machine.specs.Machine.{endedWith, noFrame, runFrom, lentWords, wordRun}
-use Rattle.word_machine.specs.Statement.{Gives, Joined}
+use Rattle.word_machine.specs.Statement.{Gives, JoinedRuns}
 use Rattle.word_machine.specs.WholeRun.{start-gives}
 use Rattle.word_machine.specs.Filling.{tablesOf}
 use Rattle.word_machine.specs.Tabling.{tabled}
@@ -45,7 +45,7 @@ module _ (f : List ℕ) (e : checked f ≡ Accepted) (T : Tables) (B : Tabled f 
     printed = record { count = refl; long = refl; room = omega arith; front = refl; behind = refl };
   }
 
-pub joined : Joined
+pub joined : JoinedRuns
 unfolding wordRun run ran runFor lentWords
 joined f e T B m rs fw ps l = rw e (from-gives f e T B m rs fw ps l _ refl)
 

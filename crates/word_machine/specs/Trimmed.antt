@@ -13,14 +13,14 @@ use Rattle.heap.specs.Standing.{StandEach}
 use Rattle.word_machine.specs.Machine.{termOf}
 
 -- numbers from 1 to 64
-abbrev pub Ranged : List ℕ → Type 0
-Ranged ys = (y : ℕ) → inList y ys ≡ true → (1 ≤ y) × (y ≤ maxVariables)
+abbrev pub RangedMembers : List ℕ → Type 0
+RangedMembers ys = (y : ℕ) → inList y ys ≡ true → (1 ≤ y) × (y ≤ maxVariables)
 
 -- of such numbers, zeros at the end aside: what follows the first, and nothing behind a 0
-pub ranged-rest : (y : ℕ) (zs : List ℕ) → Ranged (suc y ∷ zs) → Ranged zs
+pub ranged-rest : (y : ℕ) (zs : List ℕ) → RangedMembers (suc y ∷ zs) → RangedMembers zs
 ranged-rest y zs r x i = r x (cons-later x (suc y) zs i)
 
-pub none-behind : (zs : List ℕ) → Ranged (trimOnto zero zs) → trimOnto zero zs ≡ []
+pub none-behind : (zs : List ℕ) → RangedMembers (trimOnto zero zs) → trimOnto zero zs ≡ []
 unfolding trimOnto
 none-behind [] r = refl
 none-behind (z ∷ zs) r = absurd (let q = r 0 (cons-here 0 0 (z ∷ zs) refl) in omega (arith, q .0))
@@ -35,7 +35,7 @@ term-functor value old k (suc a) (suc b) (suc c) zero = refl
 term-functor value old k (suc a) (suc b) (suc c) (suc d) = refl
 
 -- its words stand for its arguments' values if the words of all four numbers do
-pub term-words : (place : ℕ → ℕ) (n : ℕ) (value old : ℕ → ℕ) (values : ℕ → Value) (k a b c d : ℕ) → Ranged (argumentsOf (four a b c d))
+pub term-words : (place : ℕ → ℕ) (n : ℕ) (value old : ℕ → ℕ) (values : ℕ → Value) (k a b c d : ℕ) → RangedMembers (argumentsOf (four a b c d))
     → StandEach place n (map value (fourWords (four a b c d))) (map values (argumentsOf (four a b c d)))
     → StandEach place n (wordsOf (termOf value old k a b c d)) (map values (argumentsOf (four a b c d)))
 unfolding termOf argumentsOf trimmed trimOnto fourWords StandEach

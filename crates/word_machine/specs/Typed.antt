@@ -19,7 +19,7 @@ use Rattle.records.specs.Records.{recordAt}
 use Rattle.chains.specs.Kinds.{kindIn, kind-read, same-read}
 use Rattle.chains.specs.Parts.{switch-at, arm-at}
 use Rattle.owners.specs.Owner.{ownerOf}
-use Rattle.owners.specs.Owners.{Belongs, switch-arms, arm-next}
+use Rattle.owners.specs.Owners.{OwnedBy, switch-arms, arm-next}
 use Rattle.owners.specs.Typed.{typed-goal}
 use Rattle.owners.specs.Referred.{sortOf, usesOf, Each, EachOf, header-uses, outward}
 
@@ -44,7 +44,7 @@ module _ {f : List ℕ} (F : Formed f) (ok : typingOk (program f) ≡ true) wher
   Armed arms i = (i ≡ 0 → ⊥) → TypedArms (program f) (owning i) (armsAt f i)
   Armed arguments i = Unit {0}
 
-  armed-on : {q w : ℕ} → Belongs f q w → TypedArms (program f) (signatureOf (program f) q) (armsAt f w) → (w ≡ 0 → ⊥)
+  armed-on : {q w : ℕ} → OwnedBy f q w → TypedArms (program f) (signatureOf (program f) q) (armsAt f w) → (w ≡ 0 → ⊥)
       → TypedArms (program f) (owning w) (armsAt f w)
   armed-on b t z = rw (b z) t
 

@@ -26,13 +26,13 @@ use Rattle.chains.specs.Formed.{Formed}
 use Rattle.safety.specs.Premises.{Accepted, laws}
 use Rattle.safety.specs.Invariant.{Inv, Fine, running, over}
 use Rattle.safety.specs.Safety.{steps-fine, taken, busy}
-use Rattle.heap.specs.Standing.{Stands}
+use Rattle.heap.specs.Standing.{StandsFor}
 use Rattle.heap.specs.Reading.{starts}
 use Rattle.word_machine.specs.Tables.{Tables, Tabled}
-use Rattle.word_machine.specs.Machine.{frameWords, Words, valuePlace, Went, cleared, blocks, valuesOut, regionsOut, returnWords, returned, settledFrom, settled, settledIf, steps, stepped, endedWith, afterStep, runOn, startWords, lentWords}
+use Rattle.word_machine.specs.Machine.{frameWords, MachineWords, valuePlace, Went, cleared, blocks, valuesOut, regionsOut, returnWords, returned, settledFrom, settled, settledIf, steps, stepped, endedWith, afterStep, runOn, startWords, lentWords}
 use Rattle.word_machine.specs.Statement.{Gives}
 use Rattle.word_machine.specs.Copies.{copied-length, cleared-length, cleared-in, blocks-most, blocks-least}
-use Rattle.word_machine.specs.Relation.{whereIn, sig, FrameOk, none, Running, Stored}
+use Rattle.word_machine.specs.Relation.{whereIn, sig, FrameOk, none, Running, MemoryStored}
 use Rattle.word_machine.specs.Returns as R
 use Rattle.word_machine.specs.Returns.{Related, settled-from}
 use Rattle.word_machine.specs.Links.{body-todo}
@@ -71,7 +71,7 @@ module _ {f : List ℕ} {T : Tables} (B : Tabled f T) (A : Accepted (program f))
       by true = copied-length _ _ _ _ ∙ copied-length _ _ _ fw
       by false = refl
 
-  settled-stored : {m : Memory} {ρ χ : ℕ → ℕ} (k i : ℕ) (w : Words) → Stored K qs w m ρ χ → Stored K qs (settledFrom f T k i w) m ρ χ
+  settled-stored : {m : Memory} {ρ χ : ℕ → ℕ} (k i : ℕ) (w : MachineWords) → MemoryStored K qs w m ρ χ → MemoryStored K qs (settledFrom f T k i w) m ρ χ
   unfolding settledFrom returned
   settled-stored zero i w s = s
   settled-stored (suc k) zero w s = settled-stored k _ (returned f T k w) (record {
@@ -83,20 +83,20 @@ module _ {f : List ℕ} {T : Tables} (B : Tabled f T) (A : Accepted (program f))
   settled-stored (suc k) (suc i) w s = s
 
   -- ---- after n steps of the definition's run
-  pub data Agrees (n : ℕ) (w : Words) : Type 0 where
+  pub data Agrees (n : ℕ) (w : MachineWords) : Type 0 where
     agrees : {ρ χ : ℕ → ℕ} → Related B A w (whereIn (Run.steps (program f) n .memory) ρ χ) (Run.steps (program f) n .frames)
-        → Stored K qs w (Run.steps (program f) n .memory) ρ χ → Agrees n w
+        → MemoryStored K qs w (Run.steps (program f) n .memory) ρ χ → Agrees n w
 
   -- a state in words that stands for a state of the run
-  pub settled-agrees : (n : ℕ) (v : Words) (e : RegionFrame) (es : List RegionFrame) (m : Memory) {ρ χ : ℕ → ℕ} → Run.steps (program f) n ≡ state (program f) e es m
-      → Running B v (whereIn m ρ χ) e es → Stored K qs v m ρ χ → Agrees n (settled f T v)
+  pub settled-agrees : (n : ℕ) (v : MachineWords) (e : RegionFrame) (es : List RegionFrame) (m : Memory) {ρ χ : ℕ → ℕ} → Run.steps (program f) n ≡ state (program f) e es m
+      → Running B v (whereIn m ρ χ) e es → MemoryStored K qs v m ρ χ → Agrees n (settled f T v)
   unfolding settled state
   settled-agrees n v e es m {ρ} {χ} z R S =
       agrees {ρ = ρ} {χ = χ} (rw z (settled-from B A es (v .goal) v e (e .frame .goals) refl refl refl (R .newest) (R .waiting)))
       (rw z (settled-stored (v .top) (v .goal) v S))
 
   -- ---- one step, and the rest by induction
-  module _ (n : ℕ) (w : Words) {ρ χ : ℕ → ℕ} (S : Stored K qs w (Run.steps (program f) n .memory) ρ χ) where
+  module _ (n : ℕ) (w : MachineWords) {ρ χ : ℕ → ℕ} (S : MemoryStored K qs w (Run.steps (program f) n .memory) ρ χ) where
     over-gives : (l : ℕ) → Gives qs (runOn f T K l 0 n w) (D.runOn (program f) K l ended n (Run.steps (program f) n))
     unfolding runOn endedWith D.runOn D.endedWith
     over-gives zero = record { ending = refl; steps = refl; printed = S .printed }
@@ -110,7 +110,7 @@ module _ {f : List ℕ} {T : Tables} (B : Tabled f T) (A : Accepted (program f))
       last-gives i halts = record { ending = refl; steps = refl; printed = S .printed }
 
       step-gives : (l : ℕ) {o : Outlook} {t : Went} → After B A F K qs g u fs m o t → Run.steps (program f) (suc n) ≡ Run.take (program f) g u fs m
-          → ((v : Words) → Agrees (suc n) v
+          → ((v : MachineWords) → Agrees (suc n) v
           → Gives qs (runOn f T K l (v .goal) (suc n) v) (D.runOn (program f) K l (outlook K (Run.steps (program f) (suc n))) (suc n) (Run.steps (program f) (suc n))))
           → Gives qs (afterStep (settledIf f T t) (λ v. runOn f T K l (v .goal) (suc n) v) (λ c. endedWith (Stopped c) n w))
           (D.runOn (program f) K (suc l) o n (Run.steps (program f) n))
@@ -119,8 +119,8 @@ module _ {f : List ℕ} {T : Tables} (B : Tabled f T) (A : Accepted (program f))
       step-gives l halts z ih = record { ending = refl; steps = refl; printed = S .printed }
 
   -- the newest frame's next goal, in words and in the definition
-  pub next-goal : (n : ℕ) (w : Words) {ρ χ : ℕ → ℕ} {e : RegionFrame} {fs : List RegionFrame} (j : ℕ) (p : Run.steps (program f) n .frames ≡ e ∷ fs) → w .goal ≡ suc j
-      → Running B w (whereIn (Run.steps (program f) n .memory) ρ χ) e fs → Stored K qs w (Run.steps (program f) n .memory) ρ χ
+  pub next-goal : (n : ℕ) (w : MachineWords) {ρ χ : ℕ → ℕ} {e : RegionFrame} {fs : List RegionFrame} (j : ℕ) (p : Run.steps (program f) n .frames ≡ e ∷ fs) → w .goal ≡ suc j
+      → Running B w (whereIn (Run.steps (program f) n .memory) ρ χ) e fs → MemoryStored K qs w (Run.steps (program f) n .memory) ρ χ
       → (g : Goal) (rest : Goals) → e .frame .goals ≡ g then rest
       → After B A F K qs g (withFrame e (withGoals (e .frame) rest)) fs (Run.steps (program f) n .memory) (outlook K (Run.steps (program f) n))
       (steps f T K (suc j) (recordAt f (suc j)) w)
@@ -129,7 +129,7 @@ module _ {f : List ℕ} {T : Tables} (B : Tabled f T) (A : Accepted (program f))
       (goal-after B A F K qs w e fs (Run.steps (program f) n .memory) ρ χ (suc j) (rw y at (N .newest)) (N .waiting) S
       (fine-inv (Run.steps (program f) n) e fs (steps-fine A n) p) g rest q)
 
-  module _ (n : ℕ) (w : Words) (i : ℕ) (o : Outlook) (t : w .goal ≡ i) (z : outlook K (Run.steps (program f) n) ≡ o) where
+  module _ (n : ℕ) (w : MachineWords) (i : ℕ) (o : Outlook) (t : w .goal ≡ i) (z : outlook K (Run.steps (program f) n) ≡ o) where
     run-zero : Agrees n w → Gives qs (runOn f T K zero i n w) (D.runOn (program f) K zero o n (Run.steps (program f) n))
     run-zero (agrees (R.over p y) S) =
         let a : i ≡ 0 = sym t ∙ y in
@@ -140,7 +140,7 @@ module _ {f : List ℕ} {T : Tables} (B : Tabled f T) (A : Accepted (program f))
         let a : i ≡ suc j = sym t ∙ y in
         rw (a, ← z) (last-gives n w S j (next-goal n w j p y N S (h .0) (h .1) (h .2)))
 
-    run-suc : (l : ℕ) → ((v : Words) → Agrees (suc n) v
+    run-suc : (l : ℕ) → ((v : MachineWords) → Agrees (suc n) v
         → Gives qs (runOn f T K l (v .goal) (suc n) v) (D.runOn (program f) K l (outlook K (Run.steps (program f) (suc n))) (suc n) (Run.steps (program f) (suc n))))
         → Agrees n w → Gives qs (runOn f T K (suc l) i n w) (D.runOn (program f) K (suc l) o n (Run.steps (program f) n))
     unfolding runOn stepped
@@ -154,7 +154,7 @@ module _ {f : List ℕ} {T : Tables} (B : Tabled f T) (A : Accepted (program f))
         rw (a, ← z) (step-gives n w S l (next-goal n w j p y N S (h .0) (h .1) (h .2)) (taken A n e fs (h .0) (h .1) p (h .2)) ih)
 
   -- l steps are left, record i is next, o is the definition's outlook
-  run-from : (l n : ℕ) (w : Words) (i : ℕ) (o : Outlook) → w .goal ≡ i → outlook K (Run.steps (program f) n) ≡ o → Agrees n w
+  run-from : (l n : ℕ) (w : MachineWords) (i : ℕ) (o : Outlook) → w .goal ≡ i → outlook K (Run.steps (program f) n) ≡ o → Agrees n w
       → Gives qs (runOn f T K l i n w) (D.runOn (program f) K l o n (Run.steps (program f) n))
   run-from zero n w i o t z d = run-zero n w i o t z d
   run-from (suc l) n w i o t z d = run-suc n w i o t z l (λ v a. run-from l (suc n) v (v .goal) (outlook K (Run.steps (program f) (suc n))) refl refl a) d
@@ -170,7 +170,7 @@ module _ {f : List ℕ} {T : Tables} (B : Tabled f T) (A : Accepted (program f))
     room = rw k (omega arith)
 
     entry-frame : FrameOk B (cleared 1 (blocks (T .size 0)) fw) 0 (whereIn (start (program f) .memory) (λ r. 0) (λ j. 0)) (T .body 0) (record { frame = entryFrame (program f); stands = λ r. 0 })
-    unfolding entryFrame Stands
+    unfolding entryFrame StandsFor
     entry-frame =
         let e = B .size 0 entry-some in
         let c = blocks-most (T .size 0) in
@@ -186,7 +186,7 @@ module _ {f : List ℕ} {T : Tables} (B : Tabled f T) (A : Accepted (program f))
     unfolding roomIn lentWords holds
     print-words = rw k (omega arith)
 
-    entry-stored : Stored K qs (startWords f T m rs fw qs) (start (program f) .memory) (λ r. 0) (λ j. 0)
+    entry-stored : MemoryStored K qs (startWords f T m rs fw qs) (start (program f) .memory) (λ r. 0) (λ j. 0)
     unfolding startWords start state lentWords
     entry-stored = record {
       represents = rw k (starts (program f) (lentWords m rs fw qs l) m rs refl refl);

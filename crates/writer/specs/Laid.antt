@@ -11,20 +11,20 @@ use Rattle.chains.specs.Layout.{Spelled, Stand, Eights, stand-join, stand-same,
 use Rattle.language.specs.File.{word}
 
 -- each word fits in 16 bits
-abbrev pub Small : List ℕ → Type 0
-Small [] = Unit {0}
-Small (x ∷ xs) = (x < wordEnd) × Small xs
+abbrev pub SmallWords : List ℕ → Type 0
+SmallWords [] = Unit {0}
+SmallWords (x ∷ xs) = (x < wordEnd) × SmallWords xs
 
 -- ---- one word
 -- word k of record i is x now, and no other byte changed
-pub record Put (a b : List ℕ) (i k x : ℕ) : Type 0 where
+pub record PutWord (a b : List ℕ) (i k x : ℕ) : Type 0 where
   pub same : length b ≡ length a
   pub there : word b i k ≡ x
   pub below : (j : ℕ) → j < recordBytes * i + 2 * k → getD b j 0 ≡ getD a j 0
   pub past : (j : ℕ) → recordBytes * i + 2 * k + 2 ≤ j → getD b j 0 ≡ getD a j 0
 
 pub put-made : (a : List ℕ) (i k x : ℕ) {p q : ℕ} → recordBytes * i + recordBytes ≤ length a → k < recordWords → p ≡ x % byteEnd → q ≡ x / byteEnd
-    → Put a (set (set a (recordBytes * i + 2 * k) p) (recordBytes * i + 2 * k + 1) q) i k x
+    → PutWord a (set (set a (recordBytes * i + 2 * k) p) (recordBytes * i + 2 * k + 1) q) i k x
 unfolding word
 put-made a i k x {p = p} {q = q} l h e f =
     let c = set a (recordBytes * i + 2 * k) p in
@@ -44,16 +44,16 @@ put-made a i k x {p = p} {q = q} l h e f =
 
 -- ---- the words of a record, from word k on
 -- words k and up of record i are xs now, and no other byte changed
-pub record Row (a b : List ℕ) (i k : ℕ) (xs : List ℕ) : Type 0 where
+pub record PutWords (a b : List ℕ) (i k : ℕ) (xs : List ℕ) : Type 0 where
   pub same : length b ≡ length a
   pub there : Spelled (word b i) k xs
   pub below : (j : ℕ) → j < recordBytes * i + 2 * k → getD b j 0 ≡ getD a j 0
   pub past : (j : ℕ) → recordBytes * i + 2 * (k + length xs) ≤ j → getD b j 0 ≡ getD a j 0
 
-pub row-none : (a : List ℕ) (i k : ℕ) → Row a a i k []
+pub row-none : (a : List ℕ) (i k : ℕ) → PutWords a a i k []
 row-none a i k = record { same = refl; there = tt; below = λ j l. refl; past = λ j l. refl }
 
-pub row-more : {a b d : List ℕ} {i k x : ℕ} {xs : List ℕ} → Put a b i k x → Row b d i (suc k) xs → Row a d i k (x ∷ xs)
+pub row-more : {a b d : List ℕ} {i k x : ℕ} {xs : List ℕ} → PutWord a b i k x → PutWords b d i (suc k) xs → PutWords a d i k (x ∷ xs)
 unfolding word
 row-more {b = b} {d = d} {i = i} {k = k} p q =
     record {
@@ -75,7 +75,7 @@ pub record Laid (a b : List ℕ) (c : ℕ) (rs : List (List ℕ)) : Type 0 where
 pub laid-none : (a : List ℕ) (c : ℕ) → Laid a a c []
 laid-none a c = record { same = refl; eights = tt; there = tt; below = λ j l. refl; past = λ j l. refl }
 
-pub laid-row : {a b : List ℕ} {c : ℕ} {r : List ℕ} → length r ≡ recordWords → Row a b c 0 r → Laid a b c (r ∷ [])
+pub laid-row : {a b : List ℕ} {c : ℕ} {r : List ℕ} → length r ≡ recordWords → PutWords a b c 0 r → Laid a b c (r ∷ [])
 laid-row e h =
     record {
       same = h .same;
@@ -150,7 +150,7 @@ begun-none a at = record {
 
 module _ {a b d : List ℕ} {at k c : ℕ} {xs : List ℕ} {rs : List (List ℕ)} (B : Begun a b at k c xs rs) where
   -- the next word
-  pub begun-put : {x : ℕ} → k < recordWords → Put b d at k x → Begun a d at (k + 1) c (xs ++ x ∷ []) rs
+  pub begun-put : {x : ℕ} → k < recordWords → PutWord b d at k x → Begun a d at (k + 1) c (xs ++ x ∷ []) rs
   begun-put {x} l p = record {
     same = p .same ∙ B .same;
     few = omega arith;
@@ -189,7 +189,7 @@ module _ {a b d : List ℕ} {at k c : ℕ} {xs : List ℕ} {rs : List (List ℕ)
   }
 
 -- the first two words come last
-pub begun-done : {a b d e : List ℕ} {at k c u v : ℕ} {xs : List ℕ} {rs : List (List ℕ)} → Begun a b at k c xs rs → recordWords ≤ k → Put b d at kindWord u → Put d e at nextWord v
+pub begun-done : {a b d e : List ℕ} {at k c u v : ℕ} {xs : List ℕ} {rs : List (List ℕ)} → Begun a b at k c xs rs → recordWords ≤ k → PutWord b d at kindWord u → PutWord d e at nextWord v
     → Laid a e at ((u ∷ v ∷ xs) ∷ rs)
 begun-done {a} {b} {d} {e} {at} {k} {c} {u} {v} {xs} {rs} B l p q =
     let past : (j : ℕ) → recordBytes * at + 2 * 2 ≤ j → getD e j 0 ≡ getD b j 0 = λ j m. q .past j (omega arith) ∙ p .past j (omega arith) in

@@ -18,7 +18,7 @@ use Rattle.chains.specs.Formed.{Formed, counted, ahead, ahead-none, ahead-some}
 use Rattle.chains.specs.Records.{next-onward}
 use Rattle.writer.specs.Leads.{isFirst, leadsAt}
 use Rattle.writer.specs.Ready.{treeAt, usesAt, wordsAt, size-is}
-use Rattle.writer.specs.Spelling.{Next, plain-next, leads-next, leads-up, some-left, row-uses, is-first}
+use Rattle.writer.specs.Spelling.{NextWord, plain-next, leads-next, leads-up, some-left, row-uses, is-first}
 
 -- r is the place n records behind c, up to 4,096; above that, r is above it too
 pub record Behind (c n r : ℕ) : Type 0 where
@@ -114,7 +114,7 @@ module _ {f : List ℕ} {i from : ℕ} (F : Formed f) (l : i < recordCount f) wh
       used-here : Used (word f) (recordCount f) i k (here .0 ∷ here .1)
       used-here = rw left-is at (G .used)
 
-      go-on : {x e n r : ℕ} {ys : List (List ℕ)} → Next f i k 0 (here .0 ∷ here .1) (here .1) x ys e → e ≡ n → Behind c n r → Passing f i from (k + 1) r
+      go-on : {x e n r : ℕ} {ys : List (List ℕ)} → NextWord f i k 0 (here .0 ∷ here .1) (here .1) x ys e → e ≡ n → Behind c n r → Passing f i from (k + 1) r
       go-on {e = e} {n = n} N q B =
           let z : k + 1 ≡ suc k = omega arith in
           let y : k + 1 - 2 ≡ k - 2 + 1 = omega (arith, G .low) in

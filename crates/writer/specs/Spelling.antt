@@ -16,7 +16,7 @@ use Rattle.records.specs.Sizes.{wordEnd, recordWords}
 use Rattle.chains.specs.Layout.{row-length, Used, record-used, known-number, header-kind, lay-length}
 use Rattle.chains.specs.Shapes.{kind-number}
 use Rattle.chains.specs.Formed.{Formed, counted, ahead, ahead-none, ahead-some}
-use Rattle.writer.specs.Laid.{Put, linked, Begun, begun-none, begun-put, begun-part, begun-done}
+use Rattle.writer.specs.Laid.{PutWord, linked, Begun, begun-none, begun-put, begun-part, begun-done}
 use Rattle.writer.specs.Ready.{Wrote, treeAt, usesAt, wordsAt, frontTo, ChainReady, RecordReady, reference-is}
 use Rattle.writer.specs.Leads.{isFirst, leadsAt}
 
@@ -66,14 +66,14 @@ unfolding leadsAt usesAt
 is-first f i k e = ap isFirst (drop-nth unused (usesAt f i) (k - 2) e)
 
 -- word k is x, what it leads to is ys, and the words behind it have theirs from e on
-pub record Next (f : List ℕ) (i k c : ℕ) (left rest : List Use) (x : ℕ) (ys : List (List ℕ)) (e : ℕ) : Type 0 where
+pub record NextWord (f : List ℕ) (i k c : ℕ) (left rest : List Use) (x : ℕ) (ys : List (List ℕ)) (e : ℕ) : Type 0 where
   pub used : Used (word f) (recordCount f) i (suc k) rest
   pub text : wordList c (readWords (λ j. treeAt f j) (word f i) k left) ≡ x ∷ wordList e (readWords (λ j. treeAt f j) (word f i) (suc k) rest)
   pub laid : layWords (readWords (λ j. treeAt f j) (word f i) k left) c ≡ ys ++ layWords (readWords (λ j. treeAt f j) (word f i) (suc k) rest) e
   pub total : c + sizeWords (readWords (λ j. treeAt f j) (word f i) k left) ≡ e + sizeWords (readWords (λ j. treeAt f j) (word f i) (suc k) rest)
 
 module _ (f : List ℕ) (i k c : ℕ) (us : List Use) where
-  pub plain-next : (u : Use) → isFirst u ≡ false → Used (word f) (recordCount f) i k (u ∷ us) → Next f i k c (u ∷ us) us (word f i k) [] c
+  pub plain-next : (u : Use) → isFirst u ≡ false → Used (word f) (recordCount f) i k (u ∷ us) → NextWord f i k c (u ∷ us) us (word f i k) [] c
   unfolding isFirst readWords wordList layWords sizeWords
   plain-next number e h = record { used = h; text = refl; laid = refl; total = refl }
   plain-next unused e h = record { used = h .1; text = refl; laid = refl; total = refl }
@@ -87,7 +87,7 @@ module _ (f : List ℕ) (i k c : ℕ) (us : List Use) where
   leads-up (first s) e h = elim (h .0) [ inl z ↦ inl z | inr z ↦ inr (z .0, z .1) ]
 
   pub leads-next : (u : Use) → isFirst u ≡ true → word f i k < recordCount f → Used (word f) (recordCount f) i k (u ∷ us)
-      → Next f i k c (u ∷ us) us (linked (word f i k) c) (lay (treeAt f (word f i k)) c) (c + size (treeAt f (word f i k)))
+      → NextWord f i k c (u ∷ us) us (linked (word f i k) c) (lay (treeAt f (word f i k)) c) (c + size (treeAt f (word f i k)))
   unfolding isFirst readWords wordList layWords sizeWords
   leads-next number e l h = absurd (false≢true e)
   leads-next unused e l h = absurd (false≢true e)
@@ -110,7 +110,7 @@ module _ {f : List ℕ} {i at : ℕ} {a b : List ℕ} {k c : ℕ} (R : RecordRea
   pub spelling-room : (recordBytes * at + recordBytes ≤ length b) × (c < wordEnd)
   spelling-room = (omega (arith, R .room, G .begun .same), omega (arith, R .few, G .total))
 
-  go-on : {d : List ℕ} {x e : ℕ} {ys : List (List ℕ)} → Next f i k c (here .0 ∷ here .1) (here .1) x ys e → Begun a d at (k + 1) e (G .xs ++ x ∷ []) (G .rs ++ ys)
+  go-on : {d : List ℕ} {x e : ℕ} {ys : List (List ℕ)} → NextWord f i k c (here .0 ∷ here .1) (here .1) x ys e → Begun a d at (k + 1) e (G .xs ++ x ∷ []) (G .rs ++ ys)
       → Spelling f i at a d (k + 1) e
   go-on {d} {x} {e} {ys} N B =
       let z : k + 1 ≡ suc k = omega arith in
@@ -132,7 +132,7 @@ module _ {f : List ℕ} {i at : ℕ} {a b : List ℕ} {k c : ℕ} (R : RecordRea
       length-snoc (v ∷ ys) y = omega (arith, length-snoc ys y)
 
   -- a word that leads nowhere
-  pub spelling-plain : {d : List ℕ} {w : ℕ} → leadsAt (word f i kindWord) k ≡ false → w ≡ word f i k → Put b d at k w → Spelling f i at a d (k + 1) c
+  pub spelling-plain : {d : List ℕ} {w : ℕ} → leadsAt (word f i kindWord) k ≡ false → w ≡ word f i k → PutWord b d at k w → Spelling f i at a d (k + 1) c
   spelling-plain {d} {w} e g p =
       go-on (plain-next f i k c (here .1) (here .0) (sym first-is ∙ e) used-here) (rw append-nil (begun-put (G .begun) m (rw g at p)))
 
@@ -144,7 +144,7 @@ module _ {f : List ℕ} {i at : ℕ} {a b : List ℕ} {k c : ℕ} (R : RecordRea
     below : word f i k < recordCount f
     below = let n = counted (R .formed) in elim up [ inl z ↦ omega arith | inr z ↦ z .1 ]
 
-    next : Next f i k c (here .0 ∷ here .1) (here .1) (linked (word f i k) c) (lay (treeAt f (word f i k)) c) (c + size (treeAt f (word f i k)))
+    next : NextWord f i k c (here .0 ∷ here .1) (here .1) (linked (word f i k) c) (lay (treeAt f (word f i k)) c) (c + size (treeAt f (word f i k)))
     next = leads-next f i k c (here .1) (here .0) (sym first-is ∙ e) below used-here
 
     pub spelling-falls : ahead f w < recordCount f - i
@@ -152,7 +152,7 @@ module _ {f : List ℕ} {i at : ℕ} {a b : List ℕ} {k c : ℕ} (R : RecordRea
         let n = R .below in
         rw g (elim up [ inl z ↦ omega (arith, ahead-none f z) | inr z ↦ omega (arith, ahead-some f (word f i k) (omega arith)) ])
 
-    pub spelling-chain : {d : List ℕ} {x : ℕ} → Put b d at k x → ChainReady f w c (length d)
+    pub spelling-chain : {d : List ℕ} {x : ℕ} → PutWord b d at k x → ChainReady f w c (length d)
     spelling-chain p =
         let t = G .total ∙ ap (λ v. c + sizeWords (readWords (λ j. treeAt f j) (word f i) k v)) left-is ∙ next .total in
         rw g (record {
@@ -162,9 +162,9 @@ module _ {f : List ℕ} {i at : ℕ} {a b : List ℕ} {k c : ℕ} (R : RecordRea
           few = omega (arith, R .few, t);
         })
 
-    pub spelling-leads : {d h : List ℕ} {x r : ℕ} → x ≡ linked w c → Put b d at k x → Wrote d h c r (lay (treeAt f w) c) → Spelling f i at a h (k + 1) r
+    pub spelling-leads : {d h : List ℕ} {x r : ℕ} → x ≡ linked w c → PutWord b d at k x → Wrote d h c r (lay (treeAt f w) c) → Spelling f i at a h (k + 1) r
     spelling-leads {d} {h} {x} {r} q p N =
-        let P : Put b d at k (linked (word f i k) c) = rw (q, g) at p in
+        let P : PutWord b d at k (linked (word f i k) c) = rw (q, g) at p in
         let M : Wrote d h c r (lay (treeAt f (word f i k)) c) = rw g at N in
         let o : r ≡ c + size (treeAt f (word f i k)) = M .next ∙ ap (λ n. c + n) (lay-length (treeAt f (word f i k)) c) in
         rw o (go-on next (rw o at (begun-part (begun-put (G .begun) m P) (M .laid) (M .next))))
@@ -202,7 +202,7 @@ module _ {f : List ℕ} {i at : ℕ} {a b : List ℕ} {k c : ℕ} (R : RecordRea
   pub done-room : (recordBytes * at + recordBytes ≤ length b) × (c < wordEnd)
   done-room = (omega (arith, R .room, G .begun .same), omega (arith, R .few, all-total))
 
-  pub spelling-done : {d e : List ℕ} {u v : ℕ} (on : ℕ) → u ≡ word f i kindWord → v ≡ linked on c → Put b d at 0 u → Put d e at 1 v
+  pub spelling-done : {d e : List ℕ} {u v : ℕ} (on : ℕ) → u ≡ word f i kindWord → v ≡ linked on c → PutWord b d at 0 u → PutWord d e at 1 v
       → Wrote a e at c (frontTo f i on at)
   unfolding frontTo
   spelling-done {d} {e} {u} {v} on p r y z =

@@ -10,7 +10,7 @@ ghost use Prim.Native.Nat.{_+_, _*_, _/_, _%_, _≤_, _<_};
 ghost use lib.ListN.{length};
 ghost use Rattle.language.specs.Format.{recordBytes};
 ghost use Rattle.records.specs.Sizes.{byteEnd, wordEnd, recordWords};
-ghost use Rattle.writer.specs.Laid.{Put, Laid, Small, linked, withNext};
+ghost use Rattle.writer.specs.Laid.{PutWord, Laid, SmallWords, linked, withNext};
 
 fn low(x: usize) -> u8
     ensures { λ r. ⌜ r ≡ x % byteEnd ⌝ }
@@ -30,7 +30,7 @@ pub fn put_word(out: &mut [u8], i: usize, k: usize, x: usize)
     requires { ⌜ recordBytes * i + recordBytes ≤ length (now out) ⌝ }
     requires { ⌜ k < recordWords ⌝ }
     requires { ⌜ x < wordEnd ⌝ }
-    ensures { λ _. ⌜ Put (now (out .entry)) (now (out .exit)) i k x ⌝ }
+    ensures { λ _. ⌜ PutWord (now (out .entry)) (now (out .exit)) i k x ⌝ }
 {
     let at = RECORD_BYTES * i + 2 * k;
     out[at] = low(x);
@@ -51,7 +51,7 @@ pub fn put_record(
     w7: usize,
 )
     requires { ⌜ recordBytes * i + recordBytes ≤ length (now out) ⌝ }
-    requires { ⌜ Small (w0 ∷ w1 ∷ w2 ∷ w3 ∷ w4 ∷ w5 ∷ w6 ∷ w7 ∷ []) ⌝ }
+    requires { ⌜ SmallWords (w0 ∷ w1 ∷ w2 ∷ w3 ∷ w4 ∷ w5 ∷ w6 ∷ w7 ∷ []) ⌝ }
     ensures { λ _. ⌜ Laid (now (out .entry)) (now (out .exit)) i ((w0 ∷ w1 ∷ w2 ∷ w3 ∷ w4 ∷ w5 ∷ w6 ∷ w7 ∷ []) ∷ []) ⌝ }
 {
     put_word(out, i, KIND, w0);

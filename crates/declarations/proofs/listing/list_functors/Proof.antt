@@ -8,14 +8,14 @@ use Rattle.chains.specs.Formed.{Stands, types-stand, ahead, counted}
 use Rattle.chains.specs.Is.{chain-next, type-is}
 use Rattle.chains.specs.Declared.{type-at}
 use Rattle.declarations.specs.Functors.{stands-same}
-use Rattle.declarations.specs.Listing.{Left, left-all, left-here, left-next, left-end}
+use Rattle.declarations.specs.Listing.{ChainLeft, left-all, left-here, left-next, left-end}
 use Rattle.declarations.specs.Filling.{type-room, functors-few, FunctorsSo, functors-none, functors-next, functors-all}
 use borrow.Author.Needs.{needs}
 use Rattle.declarations.proofs.listing.list_functors.Statement.{statement}
 use Rattle.declarations.proofs.listing.list_functors.Tie as tie
 
 abbrev Inv-loop : tie.InvT-loop
-Inv-loop file table₀ i₀ t₀ table i t = FunctorsSo file table₀ table t × Left file (word file 0 headerTypes) t i × Stands file types i
+Inv-loop file table₀ i₀ t₀ table i t = FunctorsSo file table₀ table t × ChainLeft file (word file 0 headerTypes) t i × Stands file types i
 
 abbrev μ-loop : tie.MeasureT-loop
 μ-loop file table₀ i₀ t₀ table i t = ahead file i

@@ -5,13 +5,13 @@ use Prim.Native.Nat.{_<_}
 use Rattle.language.specs.File.{recordCount}
 use Rattle.chains.specs.Formed.{ahead, counted}
 use Rattle.chains.specs.Records.{next-onward}
-use Rattle.declarations.specs.Listing.{ListsSo, Left, left-all, left-here, left-next, left-end, left-room, lists-none, lists-next, lists-all}
+use Rattle.declarations.specs.Listing.{ListsSo, ChainLeft, left-all, left-here, left-next, left-end, left-room, lists-none, lists-next, lists-all}
 use borrow.Author.Needs.{needs}
 use Rattle.declarations.proofs.listing.list_records.Statement.{statement}
 use Rattle.declarations.proofs.listing.list_records.Tie as tie
 
 abbrev Inv-loop : tie.InvT-loop
-Inv-loop file start at table₀ i₀ n₀ table i n = ListsSo file start at n table₀ table × Left file start n i × (i < recordCount file)
+Inv-loop file start at table₀ i₀ n₀ table i n = ListsSo file start at n table₀ table × ChainLeft file start n i × (i < recordCount file)
 
 abbrev μ-loop : tie.MeasureT-loop
 μ-loop file start at table₀ i₀ n₀ table i n = ahead file i

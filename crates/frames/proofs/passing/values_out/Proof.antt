@@ -7,14 +7,14 @@ use Rattle.language.specs.Format.{maxRecords}
 use Rattle.plans.specs.Plan.{outsFrom}
 use Rattle.word_machine.specs.Tables.{linkUnit, slotOf, givenOf}
 use Rattle.word_machine.specs.Machine.{frameWords}
-use Rattle.frames.specs.Passing.{Along, passedOut, along-first, along-next, along-last}
+use Rattle.frames.specs.Passing.{CopiedAlong, passedOut, along-first, along-next, along-last}
 use borrow.Author.Needs.{needs}
 use Rattle.frames.proofs.passing.values_out.Statement.{statement}
 use Rattle.frames.proofs.passing.values_out.Tie as tie
 
 abbrev Inv-loop : tie.InvT-loop
 Inv-loop plan i at frames₀ a₀ w₀ frames a w =
-    Along (λ v. at + givenOf v) (λ v. at + frameWords + slotOf v) (λ b. getD plan (outsFrom + b) 0) (passedOut plan i at frames₀) a w frames × (length frames ≡ length frames₀)
+    CopiedAlong (λ v. at + givenOf v) (λ v. at + frameWords + slotOf v) (λ b. getD plan (outsFrom + b) 0) (passedOut plan i at frames₀) a w frames × (length frames ≡ length frames₀)
 
 abbrev μ-loop : tie.MeasureT-loop
 μ-loop plan i at frames₀ a₀ w₀ frames a w = maxRecords - a

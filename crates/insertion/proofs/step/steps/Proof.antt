@@ -3,13 +3,13 @@ use native.Mathlib.Omega.{arith}
 use mathlib.Core.Path.{sym, _∙_}
 use Rattle.chains.specs.Formed.{ahead}
 use Rattle.insertion.specs.Cursor.{recordIn, pointIn}
-use Rattle.insertion.specs.Along.{Along, along-first, along-onward, along-next}
+use Rattle.insertion.specs.Along.{LaidAlong, along-first, along-onward, along-next}
 use Rattle.insertion.proofs.step.steps.Statement.{statement}
 use Rattle.insertion.proofs.step.steps.Tie as tie
 
 abbrev Inv-loop : tie.InvT-loop
 Inv-loop file rows points out₀ at₀ start i₀ out at i =
-    Along (file .now) rows points start (pointIn at₀) out₀ out (recordIn at₀) i (pointIn at) (recordIn at)
+    LaidAlong (file .now) rows points start (pointIn at₀) out₀ out (recordIn at₀) i (pointIn at) (recordIn at)
 
 abbrev μ-loop : tie.MeasureT-loop
 μ-loop file rows points out₀ at₀ start i₀ out at i = ahead (file .now) i

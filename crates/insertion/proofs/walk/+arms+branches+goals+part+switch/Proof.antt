@@ -7,7 +7,7 @@ use Prim.Native.Nat.{_+_, _*_, ℕ, _<_}
 use Rattle.chains.specs.Formed.{ahead}
 use Rattle.chains.specs.Shapes.{switch-here, if-here, to-arms, to-then, to-else, arm-goals, arm-next}
 use Rattle.insertion.specs.Cursor.{recordIn, pointIn}
-use Rattle.insertion.specs.Along.{Along, Parted, along-first, along-last, along-onward, along-rest}
+use Rattle.insertion.specs.Along.{LaidAlong, HasParts, along-first, along-last, along-onward, along-rest}
 use Rattle.insertion.proofs.Walking.{along-turn, goal-moved, part-laid, switch-laid, if-laid, no-arms, arms-laid}
 use borrow.Fn.Kinds.{In}
 use borrow.Fn.PlainCycle.{Measures, is, falls, and}
@@ -229,7 +229,7 @@ branches-returns t c =
 
 abbrev goals-Inv-loop : goals-lts.InvT-loop
 goals-Inv-loop file rows points out₀ at₀ start i₀ out at i =
-    Along (file .now) rows points start (pointIn at₀) out₀ out (recordIn at₀) i (pointIn at) (recordIn at) × Parted (file .now) i
+    LaidAlong (file .now) rows points start (pointIn at₀) out₀ out (recordIn at₀) i (pointIn at) (recordIn at) × HasParts (file .now) i
 
 abbrev goals-μ-loop : goals-lts.MeasureT-loop
 goals-μ-loop file rows points out₀ at₀ start i₀ out at i =

@@ -3,13 +3,13 @@ use Prim.Native.Nat.{_-_}
 use mathlib.Core.Path.{_≡_, refl, _∙_}
 use native.Mathlib.Omega.{arith}
 use lib.ListN.{length, drop}
-use Rattle.owners.proofs.Filling.{Passed, first, asks, next, last}
+use Rattle.owners.proofs.Filling.{OwnersFilled, first, asks, next, last}
 use borrow.Author.Needs.{needs}
 use Rattle.owners.proofs.pass.list_owners.Statement.{statement}
 use Rattle.owners.proofs.pass.list_owners.Tie as tie
 
 abbrev Inv-loop : tie.InvT-loop
-Inv-loop file owners₀ n i₀ owners i = Passed file (drop n owners₀) owners n i × (length owners ≡ length owners₀)
+Inv-loop file owners₀ n i₀ owners i = OwnersFilled file (drop n owners₀) owners n i × (length owners ≡ length owners₀)
 
 abbrev μ-loop : tie.MeasureT-loop
 μ-loop file owners₀ n i₀ owners i = n - i

@@ -7,7 +7,7 @@ use borrow.Author.Needs.{needs}
 use Rattle.language.specs.File.{recordCount}
 use Rattle.chains.specs.Formed.{counted}
 use Rattle.plans.specs.Passes.{Regional, imagesBefore, picturedAt, picturing}
-use Rattle.plans.specs.Images.{Found, found-none}
+use Rattle.plans.specs.Images.{LastCall, found-none}
 use Rattle.plans.specs.Pictures.{copied-keeps, before-few, count-few}
 use Rattle.plans.specs.Turns.{Pass, pass-first, pass-below, pass-more, pass-last, given-ready, before-first, before-more, pictured-next}
 use Rattle.plans.proofs.images.fill_images.Statement.{statement}
@@ -15,7 +15,7 @@ use Rattle.plans.proofs.images.fill_images.Tie as tie
 
 abbrev Inv-loop : tie.InvT-loop
 Inv-loop file table owners images₀ records found₀ last₀ i₀ at₀ images found last i at =
-    Pass file (picturedAt file) records images₀ i images × (at ≡ imagesBefore file i) × Found file last found × Regional images
+    Pass file (picturedAt file) records images₀ i images × (at ≡ imagesBefore file i) × LastCall file last found × Regional images
 
 abbrev μ-loop : tie.MeasureT-loop
 μ-loop file table owners images₀ records found₀ last₀ i₀ at₀ images found last i at = records - i

@@ -5,14 +5,14 @@ use mathlib.Core.Path.{sym, _∙_}
 use lib.Seq.{length-take-le}
 use Rattle.plans.specs.Plan.{tablesIn}
 use Rattle.running.specs.Lent.{stepsLent}
-use Rattle.profile.specs.Parts.{Going, going-first, going-on, advanced, last-fits}
+use Rattle.profile.specs.Parts.{PartsGoing, going-first, going-on, advanced, last-fits}
 use borrow.Author.Needs.{needs}
 use Rattle.profile.proofs.parts.print_parts.Statement.{statement}
 use Rattle.profile.proofs.parts.print_parts.Tie as tie
 
 abbrev Inv-loop : tie.InvT-loop
 Inv-loop file plan images callees cells₀ regions₀ frames₀ prints₀ out₀ point₀ cells regions frames prints out point =
-    Going file (tablesIn plan images callees) stepsLent cells₀ regions₀ frames₀ prints₀ out₀ cells regions frames prints out point
+    PartsGoing file (tablesIn plan images callees) stepsLent cells₀ regions₀ frames₀ prints₀ out₀ cells regions frames prints out point
 
 abbrev μ-loop : tie.MeasureT-loop
 μ-loop file plan images callees cells₀ regions₀ frames₀ prints₀ out₀ point₀ cells regions frames prints out point =

@@ -1,13 +1,13 @@
 -- `region_size` meets its contract: the cells passed and those still to come make the region's.
 use Prim.Native.Nat.{_-_}
 use native.Mathlib.Omega.{arith}
-use Rattle.profiling.specs.Walking.{Passed, passed-none, passed-last, passed-more, passed-all, size-none, size-walked}
+use Rattle.profiling.specs.Walking.{CellsPassed, passed-none, passed-last, passed-more, passed-all, size-none, size-walked}
 use borrow.Author.Needs.{needs}
 use Rattle.profiling.proofs.walking.region_size.Statement.{statement}
 use Rattle.profiling.proofs.walking.region_size.Tie as tie
 
 abbrev Inv-loop : tie.InvT-loop
-Inv-loop cells regions limit region at last cell₀ n₀ cell n = Passed cells last limit cell₀ n cell
+Inv-loop cells regions limit region at last cell₀ n₀ cell n = CellsPassed cells last limit cell₀ n cell
 
 abbrev μ-loop : tie.MeasureT-loop
 μ-loop cells regions limit region at last cell₀ n₀ cell n = limit - n

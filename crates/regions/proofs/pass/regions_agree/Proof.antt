@@ -5,13 +5,13 @@ use native.Mathlib.Omega.{arith}
 use mathlib.Core.Logic.{⊎-elim}
 use borrow.Author.Tests.{not-true, not-false}
 use Rattle.language.specs.File.{recordCount}
-use Rattle.regions.specs.Rowed.{Going, going-first, going-stop, going-next, going-last, going-passed, going-stopped, going-before}
+use Rattle.regions.specs.Rowed.{RowsGoing, going-first, going-stop, going-next, going-last, going-passed, going-stopped, going-before}
 use Rattle.regions.specs.Firsts.{Firsts, firsts-none}
 use Rattle.regions.proofs.pass.regions_agree.Statement.{statement}
 use Rattle.regions.proofs.pass.regions_agree.Tie as tie
 
 abbrev Inv-loop : tie.InvT-loop
-Inv-loop file table owners rows₀ n firsts₀ last₀ i₀ rows firsts last i = Going file rows₀ rows n i × (last < i) × Firsts file firsts
+Inv-loop file table owners rows₀ n firsts₀ last₀ i₀ rows firsts last i = RowsGoing file rows₀ rows n i × (last < i) × Firsts file firsts
 
 abbrev μ-loop : tie.MeasureT-loop
 μ-loop file table owners rows₀ n firsts₀ last₀ i₀ rows firsts last i = n - i

@@ -3,12 +3,12 @@ use Prim.Native.Nat.{_-_}
 use native.Mathlib.Omega.{arith}
 use borrow.Author.Needs.{needs}
 use Rattle.language.specs.Format.{places}
-use Rattle.values.proofs.Turning.{Going, going-first, going-short, going-last, going-next, going-rises}
+use Rattle.values.proofs.Turning.{ArgumentsGoing, going-first, going-short, going-last, going-next, going-rises}
 use Rattle.values.proofs.calls.match_arguments.Statement.{statement}
 use Rattle.values.proofs.calls.match_arguments.Tie as tie
 
 abbrev Inv-loop : tie.InvT-loop
-Inv-loop file ins y0 both a₀ x₀ y₀ a x y = Going file ins both y0 a x y
+Inv-loop file ins y0 both a₀ x₀ y₀ a x y = ArgumentsGoing file ins both y0 a x y
 
 abbrev μ-loop : tie.MeasureT-loop
 μ-loop file ins y0 both a₀ x₀ y₀ a x y = places - x

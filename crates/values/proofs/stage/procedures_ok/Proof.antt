@@ -6,12 +6,12 @@ use Rattle.language.specs.Values.{procedureValues}
 use Rattle.language.specs.Answers.{program}
 use Rattle.chains.specs.Formed.{procedures-stand}
 use Rattle.values.specs.Listing.{procedure-count}
-use Rattle.values.specs.Turns.{Turn, turn-first, turn-stop, turn-next, turn-last}
+use Rattle.values.specs.Turns.{TestTurn, turn-first, turn-stop, turn-next, turn-last}
 use Rattle.values.proofs.stage.procedures_ok.Statement.{statement}
 use Rattle.values.proofs.stage.procedures_ok.Tie as tie
 
 abbrev Inv-loop : tie.InvT-loop
-Inv-loop file table rows count q₀ q = Turn (program file) (procedureValues (program file)) q
+Inv-loop file table rows count q₀ q = TestTurn (program file) (procedureValues (program file)) q
 
 abbrev μ-loop : tie.MeasureT-loop
 μ-loop file table rows count q₀ q = count - q

@@ -8,7 +8,7 @@ use Rattle.language.specs.Answers.{program}
 use Rattle.chains.specs.Formed.{ahead}
 use Rattle.chains.specs.Is.{chain-next}
 use Rattle.chains.specs.Shapes.{switch-here, if-here, to-arms, to-then, to-else, arm-goals, arm-next}
-use Rattle.values.specs.Along.{Along, along-first, none-walked, along-last, along-stop, along-next, switch-stops, switch-walked, if-unread, if-unread-2, if-then-stops, if-else-stops, if-walked, arms-none-walked, arm-refused, arm-stops, arm-last, arm-rest-stops, arms-walked}
+use Rattle.values.specs.Along.{WalkedAlong, along-first, none-walked, along-last, along-stop, along-next, switch-stops, switch-walked, if-unread, if-unread-2, if-then-stops, if-else-stops, if-walked, arms-none-walked, arm-refused, arm-stops, arm-last, arm-rest-stops, arms-walked}
 use Rattle.values.specs.Valuing.{both, valuation, valuer}
 use Rattle.values.specs.Closed.{goal-closed, arm-closed}
 use Rattle.values.specs.Carrying.{goal-step, row-arm, readable-is, joined}
@@ -198,7 +198,7 @@ goal-returns-4 : (t : ℕ) → goal-lts.Need-returns-4 (goal-calls t) (goal-at t
 goal-returns-4 t c = goal-step _ (c .before .before .before .before .before .before .before .pre .1 .1 .0) (c .before .before .before .before .before .before .before .pre .1 .0) _ (c .before .before .before .before .before .before .before .pre .1 .1 .1 .0) (c .before .before .before .before .before .before .before .pre .1 .1 .1 .1) (c .before .before .before .before .before .word .ensures .0) (c .before .before .before .before .match .rest .0 .1) (c .before .before .before .before .match .rest .1) _ _ _ (c .apply .ensures)
 
 abbrev goals-Inv-loop : goals-lts.InvT-loop
-goals-Inv-loop file rows carried₀ start i₀ carried i = Along (valuer (program file)) file start (valuation carried₀) i (valuation carried)
+goals-Inv-loop file rows carried₀ start i₀ carried i = WalkedAlong (valuer (program file)) file start (valuation carried₀) i (valuation carried)
 
 abbrev goals-μ-loop : goals-lts.MeasureT-loop
 goals-μ-loop file rows carried₀ start i₀ carried i = ahead file i

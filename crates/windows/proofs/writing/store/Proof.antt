@@ -4,12 +4,12 @@ use Prim.Native.Nat.{_-_, _≤_}
 use mathlib.Core.Path.{_≡_, refl}
 use native.Mathlib.Omega.{arith}
 use lib.ListN.{length, length-set}
-use Rattle.windows.specs.Storing.{Stored, stored-none, stored-more}
+use Rattle.windows.specs.Storing.{StoredWords, stored-none, stored-more}
 use Rattle.windows.proofs.writing.store.Statement.{statement}
 use Rattle.windows.proofs.writing.store.Tie as tie
 
 abbrev Inv-loop : tie.InvT-loop
-Inv-loop table₀ at words k₀ table k = Stored table₀ at words k table × (k ≤ length words) × (length table ≡ length table₀)
+Inv-loop table₀ at words k₀ table k = StoredWords table₀ at words k table × (k ≤ length words) × (length table ≡ length table₀)
 
 abbrev μ-loop : tie.MeasureT-loop
 μ-loop table₀ at words k₀ table k = length words - k
