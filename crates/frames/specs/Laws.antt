@@ -14,7 +14,7 @@ use mir.Facts.{toZ-neg}
 use Rattle.language.specs.Lists.{choose}
 use Rattle.language.specs.Format.{maxVariables}
 use Rattle.word_machine.specs.Machine.{sumWord, cleared, blocks}
-use Rattle.word_machine.specs.WordLaws.{add-words, subtract-words}
+use Rattle.word_machine.specs.WordLaws.{toZ-high, add-words, subtract-words}
 
 -- ---- words that are cleared
 pub cleared-two : (p : ℕ) (t u v : List ℕ) → u ≡ set t p 0 → v ≡ set u (p + 1) 0 → v ≡ cleared p 2 t
@@ -49,9 +49,6 @@ unfolding blocks choose
 all-cleared n p t u h e = rw (le-ltb n 9 (omega arith), le-ltb n 17 h) e
 
 -- ---- a word of the upper half, with k its complement
-toZ-high : (w : Width) (n : ℕ) → 2 ^ hbits w ≤ n → toZ w n ≡ negsuc (2 ^ bits w - suc n)
-toZ-high w n h = simp (le-ltb n (2 ^ hbits w) h)
-
 minus-pos : (k : ℕ) → negsuc 0 -ℤ pos k ≡ negsuc k
 minus-pos zero = refl
 minus-pos (suc k) = rw (zero-add k)

@@ -1,12 +1,10 @@
 -- A call's frame and a return, as the code puts them together.
 use Prim.Native.Nat.{ℕ, zero, suc, _+_, _*_, _≤_, _<_}
 use native.Mathlib.Omega.{arith}
-use mathlib.Core.Path.{_≡_, refl, ap, _∙_}
-use mathlib.Core.Bool.{Bool, true, false}
+use mathlib.Core.Path.{_≡_, refl, ap}
 use mathlib.Core.List.{List}
 use borrow.Author.Tests.{lt-ltb, le-ltb}
-use lib.Dec.{ltb}
-use lib.ListN.{length, getD, set}
+use lib.ListN.{getD, set}
 use Rattle.sets.specs.Members.{members}
 use Rattle.sets.specs.Sets.{loaded}
 use Rattle.sets.specs.declared.Set.{Set}
@@ -18,8 +16,7 @@ use Rattle.plans.specs.Plan.{Narrow, sidesFrom, calleeWord, calleeBody, calleeS
 use Rattle.frames.specs.Passing.{passedIn, passedOut, passed-in, passed-out}
 use Rattle.frames.specs.Naming.{Pictured, namedIn, namedOut, named-in, named-out}
 use Rattle.word_machine.specs.Tables.{Tables}
-use Rattle.word_machine.specs.Copies.{copied-length}
-use Rattle.word_machine.specs.Machine.{MachineWords, frameWords, callFrom, callPlace, cleared, blocks, calleeWords, regionsIn, valuesOut, regionsOut, returnWords, returned, settledFrom, settled}
+use Rattle.word_machine.specs.Machine.{MachineWords, frameWords, callFrom, callPlace, cleared, blocks, calleeWords, regionsIn, regionsOut, returnWords, returned, settledFrom, settled}
 use Rattle.machine.specs.Words.{wordsOf}
 
 -- P is the place of the caller's first word: the two words that a call keeps
@@ -121,11 +118,3 @@ module _ (f : List ℕ) (T : Tables) (h : Heap) (m rs ps : List ℕ) (printed : 
   pub settle-first : (a k i : ℕ) (fw : List ℕ) → settledFrom f T k i (at a k i fw) ≡ settled f T (at a k i fw)
   unfolding settled wordsOf
   settle-first a k i fw = refl
-
-pub return-length : (f : List ℕ) (T : Tables) (k i : ℕ) (fw : List ℕ) → length (returnWords f T k i fw) ≡ length fw
-unfolding returnWords regionsOut valuesOut choose
-return-length f T k i fw = go (ltb i (recordCount f))
-  where
-    go : (b : Bool) → length (choose b (regionsOut f T k i (members (T .bears (word f i callProcedure))) (valuesOut f T k i fw)) fw) ≡ length fw
-    go true = copied-length _ _ _ _ ∙ copied-length _ _ _ fw
-    go false = refl

@@ -17,7 +17,7 @@ use Rattle.memory.specs.declared.Made.the-variants.{At, NoRoom}
 use Rattle.memory.specs.declared.Taken.{Taken}
 use Rattle.memory.specs.declared.Taken.the-variants.{Place, Full}
 use Rattle.memory.specs.Memory.{created, createdOf, createdRegions, createdRegionsOf, removed, removedCells, removedRegions}
-use Rattle.memory.specs.Building.{built-none}
+use Rattle.memory.specs.Building.{not-made, built-none}
 use Rattle.plans.specs.Plan.{tablesIn}
 use Rattle.word_machine.specs.Tables.{Tables}
 use Rattle.word_machine.specs.Machine.{Went, went, stops, frameWords, regionsFrom, contentsOf, valueOf, regionFor, constructed, constructedBy, makesRegion, createdBy, dropsRegion, steps}
@@ -30,9 +30,6 @@ use Rattle.machine.specs.Cells.{Constructs}
 use Rattle.machine.specs.Steps.{construct-record, create-record, remove-record}
 
 -- ---- answers told apart
-not-made : (y : ℕ) (h : Heap) → NoRoom ≡ At y h → ⊥
-not-made y h e = let z : _≡_ {A = ℕ} 1 0 = cc in omega arith
-
 unfoldable lacking : Kept → ℕ
 lacking (Left h) = 0
 lacking (Lacks c) = 1

@@ -15,8 +15,8 @@ use Rattle.memory.specs.declared.Heap.{Heap}
 use Rattle.memory.specs.declared.Made.the-variants.{At, NoRoom}
 use Rattle.memory.specs.Memory.{first, raised, taken, filled, hung, built, builtOf, builtCells, builtCellsOf, builtRegions, builtRegionsOf}
 
-never : (y : ℕ) (h : Heap) → NoRoom ≡ At y h → ⊥
-never y h e = let z : _≡_ {A = ℕ} 0 1 = cc in omega arith
+pub not-made : (y : ℕ) (h : Heap) → NoRoom ≡ At y h → ⊥
+not-made y h e = let z : _≡_ {A = ℕ} 0 1 = cc in omega arith
 
 same-place : (x y : ℕ) (g h : Heap) → At x g ≡ At y h → x ≡ y
 same-place x y g h e = cc
@@ -25,7 +25,7 @@ module _ (h : Heap) (m rs : List ℕ) (r : ℕ) (c : Contents) where
   -- no cell is left: nothing changes
   full-of : (t : Taken) → NoRoom ≡ builtOf h t → (builtCellsOf m rs r c t ≡ m) × (builtRegionsOf h rs r t ≡ rs)
   unfolding builtOf builtCellsOf builtRegionsOf
-  full-of (Place x p) e = absurd (never _ _ e)
+  full-of (Place x p) e = absurd (not-made _ _ e)
   full-of Full e = (refl, refl)
 
   pub built-none : NoRoom ≡ built h m → (builtCells h m rs r c ≡ m) × (builtRegions h m rs r ≡ rs)
@@ -37,7 +37,7 @@ module _ (h : Heap) (m rs : List ℕ) (r : ℕ) (c : Contents) where
       → (builtCellsOf m rs r c t ≡ filled m x c (first rs r)) × (builtRegionsOf h rs r t ≡ hung rs r x (h .cells .limit))
   unfolding builtOf builtCellsOf builtRegionsOf
   made-of (Place y p) x g e = rw (same-place _ _ _ _ e) (refl, refl)
-  made-of Full x g e = absurd (never _ _ (sym e))
+  made-of Full x g e = absurd (not-made _ _ (sym e))
 
   pub built-made : (x : ℕ) (g : Heap) → At x g ≡ built h m → (builtCells h m rs r c ≡ filled m x c (first rs r)) × (builtRegions h m rs r ≡ hung rs r x (h .cells .limit))
   unfolding built builtCells builtRegions
@@ -47,7 +47,7 @@ module _ (h : Heap) (m rs : List ℕ) (r : ℕ) (c : Contents) where
 place-of : (h : Heap) (b d : Bool) (g : Pool) (x : ℕ) (l : Heap) → At x l ≡ builtOf h (choose b Full (choose d (Place (h .cells .head) (raised (h .cells))) (Place (h .cells .head) g)))
     → x ≡ h .cells .head
 unfolding builtOf choose
-place-of h true d g x l e = absurd (never _ _ (sym e))
+place-of h true d g x l e = absurd (not-made _ _ (sym e))
 place-of h false true g x l e = same-place _ _ _ _ e
 place-of h false false g x l e = same-place _ _ _ _ e
 

@@ -1,5 +1,5 @@
 -- A step from where a run stands.
-use Prim.Native.Nat.{ℕ, zero, suc, _+_, _≤_, _<_}
+use Prim.Native.Nat.{ℕ, suc, _+_, _≤_, _<_}
 use native.Mathlib.Omega.{arith}
 use native.Mathlib.Numerals.{add-one}
 use mathlib.Core.Path.{_≡_, refl, sym, ap, _∙_}
@@ -19,6 +19,7 @@ use Rattle.chains.specs.Formed.{Formed}
 use Rattle.memory.specs.declared.Heap.{Heap}
 use Rattle.word_machine.specs.Tables.{Tables}
 use Rattle.word_machine.specs.Machine.{MachineWords, Went, went, stops, steps, settled, settledIf, stepped, lentWords}
+use Rattle.word_machine.specs.Returns.{some-goal}
 use Rattle.machine.specs.declared.State.{State}
 use Rattle.machine.specs.Words.{FramePlaced, wordsOf}
 use Rattle.profiling.specs.declared.Counts.{Counts}
@@ -83,10 +84,6 @@ module _ (f : List ℕ) (T : Tables) where
   before-stops (went v) c e = let z : _≡_ {A = ℕ} 0 1 = cc in absurd (omega arith)
   before-stops (stops d) c e = sym e
 
-some : (i : ℕ) → (i ≡ 0 → ⊥) → (j : ℕ) × (i ≡ suc j)
-some zero z = absurd (z refl)
-some (suc j) z = (j, refl)
-
 module _ {f : List ℕ} {T : Tables} {l : ℕ} {m rs fw ps : List ℕ} {p : Point} (H : RunStands f T l m rs fw ps p) where
   abbrev K : Room
   K = roomIn (lentWords m rs fw ps l)
@@ -105,21 +102,21 @@ module _ {f : List ℕ} {T : Tables} {l : ℕ} {m rs fw ps : List ℕ} {p : Poin
     abbrev i : ℕ
     i = p .state .goal
 
-    goal-some : W .goal ≡ suc (some i z .0)
+    goal-some : W .goal ≡ suc (some-goal i z .0)
     unfolding wordsOf
-    goal-some = some i z .1
+    goal-some = some-goal i z .1
 
     pub goal-within : i < recordCount f
-    goal-within = rw (some i z .1) (goal-low (H .here) (some i z .0) goal-some)
+    goal-within = rw (some-goal i z .1) (goal-low (H .here) (some-goal i z .0) goal-some)
 
     pub moves-spent : l ≤ p .done → EndsAfter f (lentWords m rs fw ps l) (Stopped Steps) (p .done)
     unfolding lentWords
-    moves-spent q = record { is = spent-here (H .here) (some i z .0) goal-some q }
+    moves-spent q = record { is = spent-here (H .here) (some-goal i z .0) goal-some q }
 
     module _ (q : p .done < l) {r : Turn} {m₁ rs₁ fw₁ ps₁ : List ℕ} (t : Turns f T (p .state) (p .heap) m rs fw ps r m₁ rs₁ fw₁ ps₁) where
-      came : turnedTo r m₁ rs₁ fw₁ ps₁ ≡ settledIf f T (steps f T K (suc (some i z .0)) (recordAt f (suc (some i z .0))) W)
+      came : turnedTo r m₁ rs₁ fw₁ ps₁ ≡ settledIf f T (steps f T K (suc (some-goal i z .0)) (recordAt f (suc (some-goal i z .0))) W)
       unfolding stepped roomIn lentWords
-      came = rw (← some i z .1) (t .comes K refl refl)
+      came = rw (← some-goal i z .1) (t .comes K refl refl)
 
       steps-low : p .done < lentWords m rs fw ps l .steps
       unfolding lentWords
@@ -128,7 +125,7 @@ module _ {f : List ℕ} {T : Tables} {l : ℕ} {m rs fw ps : List ℕ} {p : Poin
       pub moves-lacks : (c : Stop) → r ≡ Lacks c → EndsAfter f (lentWords m rs fw ps l) (Stopped c) (p .done)
       unfolding turnedTo
       moves-lacks c e =
-          record { is = stops-here (H .here) (some i z .0) goal-some c steps-low (before-stops f T _ c (ap (λ x. turnedTo x m₁ rs₁ fw₁ ps₁) (sym e) ∙ came)) }
+          record { is = stops-here (H .here) (some-goal i z .0) goal-some c steps-low (before-stops f T _ c (ap (λ x. turnedTo x m₁ rs₁ fw₁ ps₁) (sym e) ∙ came)) }
 
       pub moves-on : (s : State) (h : Heap) (c : Counts) (n : ℕ) → r ≡ TurnOn s h → c ≡ counted W (recordAt f i) (p .counts) → n ≡ p .done + 1 → length m₁ ≡ length m → length rs₁ ≡ length rs
           → length fw₁ ≡ length fw → length ps₁ ≡ length ps
@@ -136,9 +133,9 @@ module _ {f : List ℕ} {T : Tables} {l : ℕ} {m rs fw ps : List ℕ} {p : Poin
       unfolding turnedTo
       moves-on s h c n e ec en lm lr lf lp =
           let v = before-went f T _ (wordsOf h m₁ rs₁ fw₁ ps₁ s) (ap (λ x. turnedTo x m₁ rs₁ fw₁ ps₁) (sym e) ∙ came) in
-          let a = steps-on (H .here) (some i z .0) goal-some (v .0) steps-low (v .1) in
+          let a = steps-on (H .here) (some-goal i z .0) goal-some (v .0) steps-low (v .1) in
           let d : n ≡ suc (p .done) = en ∙ add-one (p .done) in
-          let x = ec ∙ ap (λ j. counted W (recordAt f j) (p .counts)) (some i z .1) in
+          let x = ec ∙ ap (λ j. counted W (recordAt f j) (p .counts)) (some-goal i z .1) in
           moves-to (record {
             next = d;
             low = q;

@@ -10,13 +10,15 @@ use borrow.Author.Tests.{ltb-true}
 use lib.Dec.{ltb}
 use lib.ListN.{length, getD, set, length-set}
 use lib.Seq.{getD-set-same, getD-set-other}
-use Rattle.sets.specs.Members.{inList, cons-here, cons-later}
+use Rattle.sets.specs.Members.{members, inList, cons-here, cons-later}
 use Rattle.language.specs.Lists.{choose, put}
 use Rattle.language.specs.Frames.{Value, giveEach}
 use Rattle.language.specs.AcceptedRun.{standEach}
-use Rattle.language.specs.Format.{maxVariables}
+use Rattle.language.specs.Format.{callProcedure, maxVariables}
+use Rattle.language.specs.File.{word, recordCount}
 use Rattle.laws.specs.Choices.{put-same, put-other}
-use Rattle.word_machine.specs.Machine.{copied, cleared, blocks}
+use Rattle.word_machine.specs.Tables.{Tables}
+use Rattle.word_machine.specs.Machine.{valuesOut, regionsOut, returnWords, copied, cleared, blocks}
 
 -- ---- lengths, and words that no store meets
 module _ (to from : ℕ → ℕ) where
@@ -31,6 +33,15 @@ module _ (to from : ℕ → ℕ) where
   copied-other (a ∷ as′) fw j h =
       copied-other as′ (set fw (to a) (getD fw (from a) 0)) j (λ b i. h b (cons-later b a as′ i))
       ∙ getD-set-other fw (to a) j (getD fw (from a) 0) 0 (h a (cons-here a a as′ refl))
+
+-- a return keeps the length
+pub return-length : (f : List ℕ) (T : Tables) (k i : ℕ) (fw : List ℕ) → length (returnWords f T k i fw) ≡ length fw
+unfolding returnWords regionsOut valuesOut choose
+return-length f T k i fw = by (ltb i (recordCount f))
+  where
+    by : (b : Bool) → length (choose b (regionsOut f T k i (members (T .bears (word f i callProcedure))) (valuesOut f T k i fw)) fw) ≡ length fw
+    by true = copied-length _ _ _ _ ∙ copied-length _ _ _ fw
+    by false = refl
 
 pub cleared-length : (n p : ℕ) (fw : List ℕ) → length (cleared p n fw) ≡ length fw
 unfolding cleared

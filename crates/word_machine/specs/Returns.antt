@@ -44,6 +44,11 @@ stand-named name name′ meant (r ∷ rs) t h =
     ap (λ n. standEach name meant rs (put t n (meant r))) (h r (cons-here r r rs refl))
     ∙ stand-named name name′ meant rs (put t (name′ r) (meant r)) (λ q i. h q (cons-later q r rs i))
 
+-- a record that is not 0
+pub some-goal : (i : ℕ) → (i ≡ 0 → ⊥) → (j : ℕ) × (i ≡ suc j)
+some-goal zero z = absurd (z refl)
+some-goal (suc j) z = (j, refl)
+
 module _ {f : List ℕ} {T : Tables} (B : Tabled f T) (A : Accepted (program f)) where
   -- ---- the variables that a call's arguments pass
   module _ {i p q : ℕ} {zs : List ℕ} (N : CallLinked B i p q zs) (m : ℕ) (d : PassingMode m) where
@@ -156,10 +161,6 @@ module _ {f : List ℕ} {T : Tables} (B : Tabled f T) (A : Accepted (program f))
   pub data Related (w : MachineWords) (L : Where) (frames : List RegionFrame) : Type 0 where
     over : frames ≡ [] → w .goal ≡ 0 → Related w L frames
     runs : {e : RegionFrame} {fs : List RegionFrame} {i : ℕ} → frames ≡ e ∷ fs → w .goal ≡ suc i → Running B w L e fs → Related w L frames
-
-  some-goal : (i : ℕ) → (i ≡ 0 → ⊥) → (j : ℕ) × (i ≡ suc j)
-  some-goal zero z = absurd (z refl)
-  some-goal (suc j) z = (j, refl)
 
   -- k is the newest frame, i its next goal
   pub settled-from : {L : Where} (fs : List RegionFrame) {k : ℕ} (i : ℕ) (w : MachineWords) (e : RegionFrame) (gs : Goals) → w .top ≡ k → w .goal ≡ i

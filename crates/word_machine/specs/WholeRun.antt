@@ -2,15 +2,11 @@
 use Prim.Native.Nat.{ℕ, zero, suc, _*_, _≤_, _<_}
 use native.Mathlib.Omega.{arith}
 use mathlib.Core.Path.{_≡_, refl, sym, ap, _∙_}
-use mathlib.Core.Bool.{Bool, true, false, false≢true}
+use mathlib.Core.Bool.{true, false, false≢true}
 use mathlib.Core.List.{List, [], _∷_}
-use lib.Dec.{ltb}
 use lib.ListN.{length, getD}
 use Rattle.sets.specs.Tests.{and-true}
-use Rattle.sets.specs.Members.{members}
 use Rattle.language.specs.declared.Ending.the-variants.{Stopped}
-use Rattle.language.specs.Lists.{choose}
-use Rattle.language.specs.File.{word, recordCount}
 use Rattle.language.specs.Program.{Goals, _then_, Goal, Program, procedureAt}
 use Rattle.language.specs.Typing.{typingOk}
 use Rattle.language.specs.Frames.{entryFrame, withGoals}
@@ -19,7 +15,6 @@ use Rattle.language.specs.AcceptedRun as Run
 use Rattle.language.specs.Machine.{Room, holds, roomIn, Outlook, ended, outlookFor, outlookIn, outlookAt, outlook}
 use Rattle.language.specs.Machine as D
 use Rattle.language.specs.Answers.{program}
-use Rattle.language.specs.Format.{callProcedure}
 use Rattle.laws.specs.Numbers.{among-in}
 use Rattle.records.specs.Records.{recordAt}
 use Rattle.chains.specs.Formed.{Formed}
@@ -29,9 +24,9 @@ use Rattle.safety.specs.Safety.{steps-fine, taken, busy}
 use Rattle.heap.specs.Standing.{StandsFor}
 use Rattle.heap.specs.Reading.{starts}
 use Rattle.word_machine.specs.Tables.{Tables, Tabled}
-use Rattle.word_machine.specs.Machine.{frameWords, MachineWords, valuePlace, Went, cleared, blocks, valuesOut, regionsOut, returnWords, returned, settledFrom, settled, settledIf, steps, stepped, endedWith, afterStep, runOn, startWords, lentWords}
+use Rattle.word_machine.specs.Machine.{frameWords, MachineWords, valuePlace, Went, cleared, blocks, returned, settledFrom, settled, settledIf, steps, stepped, endedWith, afterStep, runOn, startWords, lentWords}
 use Rattle.word_machine.specs.Statement.{Gives}
-use Rattle.word_machine.specs.Copies.{copied-length, cleared-length, cleared-in, blocks-most, blocks-least}
+use Rattle.word_machine.specs.Copies.{return-length, cleared-length, cleared-in, blocks-most, blocks-least}
 use Rattle.word_machine.specs.Relation.{whereIn, sig, FrameOk, none, Running, MemoryStored}
 use Rattle.word_machine.specs.Returns as R
 use Rattle.word_machine.specs.Returns.{Related, settled-from}
@@ -63,21 +58,13 @@ fine-inv s e fs (over p d) z = absurd (false≢true (cc))
 
 module _ {f : List ℕ} {T : Tables} (B : Tabled f T) (A : Accepted (program f)) (F : Formed f) (K : Room) (qs : List ℕ) where
   -- ---- returns change frames only
-  return-length : (k i : ℕ) (fw : List ℕ) → length (returnWords f T k i fw) ≡ length fw
-  unfolding returnWords regionsOut valuesOut choose
-  return-length k i fw = by (ltb i (recordCount f))
-    where
-      by : (b : Bool) → length (choose b (regionsOut f T k i (members (T .bears (word f i callProcedure))) (valuesOut f T k i fw)) fw) ≡ length fw
-      by true = copied-length _ _ _ _ ∙ copied-length _ _ _ fw
-      by false = refl
-
   settled-stored : {m : Memory} {ρ χ : ℕ → ℕ} (k i : ℕ) (w : MachineWords) → MemoryStored K qs w m ρ χ → MemoryStored K qs (settledFrom f T k i w) m ρ χ
   unfolding settledFrom returned
   settled-stored zero i w s = s
   settled-stored (suc k) zero w s = settled-stored k _ (returned f T k w) (record {
     represents = s .represents;
     printed = s .printed;
-    frame-room = rw (return-length k (getD (w .frames) _ 0) (w .frames)) (s .frame-room);
+    frame-room = rw (return-length f T k (getD (w .frames) _ 0) (w .frames)) (s .frame-room);
     print-room = s .print-room;
   })
   settled-stored (suc k) (suc i) w s = s

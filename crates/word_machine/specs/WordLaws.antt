@@ -14,7 +14,7 @@ use Rattle.records.specs.Sizes.{wordEnd}
 use Rattle.word_machine.specs.Machine.{literalWord, sumWord}
 
 -- the upper half of the words
-toZ-high : (w : Width) (n : ℕ) → 2 ^ hbits w ≤ n → toZ w n ≡ negsuc (2 ^ bits w - suc n)
+pub toZ-high : (w : Width) (n : ℕ) → 2 ^ hbits w ≤ n → toZ w n ≡ negsuc (2 ^ bits w - suc n)
 toZ-high w n h = simp (le-ltb n (2 ^ hbits w) h)
 
 -- ---- literals: one from the half on is negative, and its word has all bits of the high half

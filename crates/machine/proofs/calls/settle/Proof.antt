@@ -8,8 +8,9 @@ use Rattle.memory.specs.declared.Heap.{Heap}
 use Rattle.plans.specs.Plan.{tablesIn}
 use Rattle.word_machine.specs.Machine.{frameWords, settledFrom, settled}
 use Rattle.machine.specs.Words.{wordsOf}
-use Rattle.machine.specs.Calls.{settle-first, settle-entry, settle-goal, settle-return, return-length}
+use Rattle.machine.specs.Calls.{settle-first, settle-entry, settle-goal, settle-return}
 use borrow.Author.Needs.{needs}
+use Rattle.word_machine.specs.Copies.{return-length}
 use Rattle.machine.proofs.calls.settle.Statement.{statement}
 use Rattle.machine.proofs.calls.settle.Tie as tie
 
