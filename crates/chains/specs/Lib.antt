@@ -6,6 +6,7 @@ pub mod Goals
 pub mod Parts
 pub mod Is
 pub mod Shapes
+pub mod Edges
 pub mod Fields
 pub mod Records
 pub mod Elements

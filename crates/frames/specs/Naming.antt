@@ -33,10 +33,6 @@ module _ (images : List ℕ) (side at : ℕ) where
   unfolding namedIn
   in-length rs fw = copied-length _ _ rs fw
 
-  pub out-length : (rs fw : List ℕ) → length (namedOut rs fw) ≡ length fw
-  unfolding namedOut
-  out-length rs fw = copied-length _ _ rs fw
-
 -- ---- words are copied for each member, the least one first
 module _ (to from : ℕ → ℕ) where
   pub copied-none : (s : Set) (fw : List ℕ) → sameSet s emptySet ≡ true → fw ≡ copied to from (members s) fw

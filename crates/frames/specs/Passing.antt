@@ -80,7 +80,3 @@ module _ (f plan images callees : List ℕ) (k at : ℕ) (e : at ≡ frameWords 
 pub in-length : (plan : List ℕ) (i at : ℕ) (fw : List ℕ) → length (passedIn plan i at fw) ≡ length fw
 unfolding passedIn
 in-length plan i at fw = copied-length _ _ _ fw
-
-pub out-length : (plan : List ℕ) (i at : ℕ) (fw : List ℕ) → length (passedOut plan i at fw) ≡ length fw
-unfolding passedOut
-out-length plan i at fw = copied-length _ _ _ fw

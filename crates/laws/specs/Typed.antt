@@ -6,9 +6,8 @@ use mathlib.Core.Path.{_≡_, refl}
 use lib.ListN.{length}
 use Rattle.sets.specs.Tests.{and-true, clash}
 use Rattle.language.specs.Format.{maxProcedures}
-use Rattle.language.specs.Lists.{all}
-use Rattle.language.specs.Program.{Four, Functor, Goals, _then_, Goal, switch, ifLess, Arms, arm, Signature, Program}
-use Rattle.language.specs.Typing.{argumentsOk, goalsOk, goalOk, armsOk, procedureOk, typesOk, typingOk}
+use Rattle.language.specs.Program.{Four, Functor, Goals, _then_, Goal, switch, Arms, arm, Signature, Program}
+use Rattle.language.specs.Typing.{argumentsOk, goalsOk, goalOk, armsOk, typesOk, typingOk}
 use Rattle.laws.specs.Numbers.{among-in}
 
 -- arms that pass for the functors from some number on
@@ -33,10 +32,6 @@ module _ (P : Program) (S : Signature) where
   unfolding goalOk
   typed-arms e h = record { functors = _; number = 0; ok = and-true (and-true (rw e at h) .1) .1 }
 
-  pub typed-parts : {g : Goal} {y z : ℕ} {gs hs : Goals} → g ≡ ifLess y z gs hs → goalOk P S g ≡ true → (goalsOk P S gs ≡ true) × (goalsOk P S hs ≡ true)
-  unfolding goalOk
-  typed-parts e h = and-true (and-true (and-true (rw e at h) .1) .1)
-
   arm-in : (k : ℕ) (ys : Four) (gs : Goals) (cs : Arms) (fs : List Functor) (n : ℕ) → armsOk P S (arm k ys gs cs) fs n ≡ true → TypedArm P S ys gs cs
   unfolding armsOk
   arm-in k ys gs cs [] n e = absurd (clash e refl)
@@ -57,7 +52,3 @@ module _ (P : Program) (ok : typingOk P ≡ true) where
   pub procedures-count : (1 ≤ length (P .procedures)) × (length (P .procedures) ≤ maxProcedures)
   unfolding typingOk
   procedures-count = among-in maxProcedures (length (P .procedures)) (and-true (and-true ok .1) .0)
-
-  pub procedures-typed : all (procedureOk P) (P .procedures) ≡ true
-  unfolding typingOk
-  procedures-typed = and-true (and-true ok .1) .1

@@ -9,7 +9,7 @@ use lib.Dec.{eqb}
 use borrow.Author.Tests.{eqb-true, ltb-true}
 use Rattle.sets.specs.Tests.{and-true, or-true}
 use Rattle.language.specs.File.{Chain, Use, number, unused, first, row, kindOf, kindAt, referenceOk, wordsOk, recordOk, onceIn, formOk}
-use Rattle.language.specs.Tree.{Tree, readWords, readRecord, readChain, readTree}
+use Rattle.language.specs.Tree.{Tree, readWords, readRecord, readChain}
 use Rattle.layout.specs.Table.{stands-chain}
 use Rattle.layout.specs.Fits.{Fits, fits-end, fits-node, FitsWords, fits-none, fits-number, fits-unused, fits-first}
 use Rattle.layout.specs.Lists.{all-at, hits}
@@ -120,7 +120,3 @@ module _ (W : ℕ → ℕ → ℕ) (n : ℕ) where
 
     pub chain-fits : (i : ℕ) (c : Chain) → Starts W n c i → Fits c (readChain n W i)
     chain-fits i c s = chain-fits-up-to n i c s
-
-    pub whole-fits : 0 < n → Fits (row (kindOf (W 0 0)) .chain) (readTree W n)
-    unfolding readTree
-    whole-fits p = record-fits 0 (λ j. readChain n W j) p (λ j d r. chain-fits j d (leads-starts 0 d j r))

@@ -12,7 +12,7 @@ use Rattle.language.specs.Program.{Four, four, Functor, Variable, Edge, Region,
 use Rattle.language.specs.Reading.{wordAt, chainAt, each, readFunctor, readType, readVariable, readEdge, readRegion, noSense, numberIn, senseIn, num, sub, goalOf, inFront, senseOf, readProcedure, programOf}
 use Rattle.language.specs.Records.{zeros, fourPlain, chainOf, functorWords, typeWords, variableWords, edgeWords, regionWords, argumentWords, stepTree, goalsTree, goalTree, armsTree, procedureWords, headed, programTree}
 use Rattle.language.specs.Answers.{program}
-use Rattle.layout.specs.Written.{count-written, length-written, form-written, header-written, tree-written}
+use Rattle.layout.specs.Written.{length-written, form-written, header-written, tree-written}
 use Rattle.layout.specs.ProgramFits.{types-fit, procedures-fit}
 
 -- ---- declarations
@@ -108,10 +108,6 @@ module _ (P : Program) where
   pub tree-of-program : treeOf (written (programTree P)) ≡ programTree P
   unfolding programTree
   tree-of-program = tree-written (types-fit P) (procedures-fit P)
-
-  pub count-of-program : recordCount (written (programTree P)) ≡ size (programTree P)
-  unfolding programTree
-  count-of-program = count-written (types-fit P) (procedures-fit P)
 
   pub length-of-program : length (written (programTree P)) ≡ 16 * size (programTree P)
   unfolding programTree

@@ -4,11 +4,11 @@ use native.Mathlib.Omega.{arith}
 use mathlib.Core.List.{List, [], _∷_}
 use mathlib.Core.Path.{_≡_, refl}
 use lib.ListN.{length}
-use Rattle.language.specs.File.{Kind, kType, kFunctor, kProcedure, kVariable, kRegion, kEdge, kArgument}
+use Rattle.language.specs.File.{Kind, kType, kProcedure, kVariable, kRegion, kEdge, kArgument}
 use Rattle.language.specs.Tree.{Tree, Words, noWords}
 use Rattle.language.specs.Layout.{size, sizeWords}
-use Rattle.language.specs.Program.{Four, four, Functor, Variable, Edge, Region, Step, literal, sum, assign, construct, call, print, create, remove, Goals, done, _then_, Goal, step, switch, ifLess, Arms, noArms, arm, _before_, Signature, Procedure, Program}
-use Rattle.language.specs.Records.{zeros, fourPlain, chainOf, functorWords, typeWords, variableWords, edgeWords, regionWords, argumentWords, stepTree, goalsTree, goalTree, armsTree, procedureWords, programTree}
+use Rattle.language.specs.Program.{Four, four, Variable, Edge, Region, Step, literal, sum, assign, construct, call, print, create, remove, Goals, done, _then_, Goal, step, switch, ifLess, Arms, noArms, arm, _before_, Signature, Procedure, Program}
+use Rattle.language.specs.Records.{zeros, fourPlain, chainOf, typeWords, variableWords, edgeWords, regionWords, argumentWords, stepTree, goalsTree, goalTree, armsTree, procedureWords, programTree}
 use Rattle.layout.specs.Written.{headed-size}
 
 -- ---- chains
@@ -27,13 +27,6 @@ four-size : (a : Four) (ws : Words) → sizeWords (fourPlain a ws) ≡ sizeWords
 unfolding fourPlain size
 four-size (four a b c d) ws = refl
 
-functor-size : (f : Functor) → sizeWords (functorWords f) ≡ 0
-unfolding functorWords zeros size
-functor-size f = four-size (f .argumentTypes) (zeros 1)
-
-pub functors-size : (fs : List Functor) → size (chainOf kFunctor functorWords fs) ≡ length fs
-functors-size fs = plain-size kFunctor functorWords functor-size fs
-
 pub variables-size : (vs : List Variable) → size (chainOf kVariable variableWords vs) ≡ length vs
 unfolding variableWords zeros size
 variables-size vs = plain-size kVariable variableWords (λ v. refl) vs
@@ -45,10 +38,6 @@ edges-size es = plain-size kEdge edgeWords (λ e. refl) es
 pub arguments-size : (ys : List ℕ) → size (chainOf kArgument argumentWords ys) ≡ length ys
 unfolding argumentWords zeros size
 arguments-size ys = plain-size kArgument argumentWords (λ y. refl) ys
-
-pub type-size : (fs : List Functor) → sizeWords (typeWords fs) ≡ length fs
-unfolding typeWords zeros size
-type-size fs = omega (arith, functors-size fs)
 
 pub region-size : (r : Region) → sizeWords (regionWords r) ≡ length (r .edges)
 unfolding regionWords zeros size

@@ -6,9 +6,9 @@ use native.Mathlib.Decide.{decLt}
 use mathlib.Core.Path.{_≡_, refl, ap, sym, _∙_}
 use mathlib.Core.List.{List, [], _∷_, _++_, map}
 use mathlib.Core.Logic.{inl, inr}
-use lib.ListN.{length, getD, getD-replicate, List·getD-append}
+use lib.ListN.{length, getD, replicate, length-replicate, getD-replicate, List·getD-append}
 use Rattle.language.specs.Lists.{nth, count}
-use Rattle.language.specs.Format.{kindWord, nextWord, headerProcedures, procedureVariables, procedureRegions, procedureGoals, regionEdges, armGoals, switchArms, ifThen, ifElse, callArguments}
+use Rattle.language.specs.Format.{maxRecords, kindWord, nextWord, headerProcedures, procedureVariables, procedureRegions, procedureGoals, regionEdges, armGoals, switchArms, ifThen, ifElse, callArguments}
 use Rattle.language.specs.File.{GoalKind, kLiteral, kSum, kAssign, kConstruct, kSwitch, kIf, kCall, kPrint, kCreate, kRemove, Kind, kHeader, kProcedure, kVariable, kRegion, kEdge, kArm, kArgument, kGoal, procedures, goals, row, kindOf, word, recordCount}
 use Rattle.language.specs.Answers.{program}
 use Rattle.laws.specs.Counts.{hit-same, count-cons}
@@ -286,3 +286,7 @@ module _ {f : List ℕ} (F : Formed f) where
     procedure-first z =
         let s = procedure-stands in
         procedure-owned F refl (procedure-is (s .0) (s .1)) .to-goals z ∙ procedure-owner
+
+-- ---- a blank table has room for the owners
+pub owners-fit : {f t : List ℕ} → Formed f → t ≡ replicate maxRecords 0 → recordCount f ≤ length t
+owners-fit {f} {t} F e = let n = counted F in omega (arith, ap length e, length-replicate {A = ℕ} maxRecords 0)

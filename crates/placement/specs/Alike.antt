@@ -13,7 +13,6 @@ use Rattle.language.specs.Regions.{inTargets, stepRegions, goalsRegions, goalRe
 use Rattle.language.specs.Lifetimes.{effect, liveStep, live, liveGoal, liveArms, heldAfter}
 use Rattle.language.specs.Checking.{stepRules, checkStep, checkGoals, checkGoal, checkArms}
 use Rattle.language.specs.Annotation.{annotate, annotateProcedure}
-use Rattle.language.specs.PlainRun.{stripped, stripProcedure}
 use Rattle.placement.specs.Combine.{after-same, carry-same}
 
 pub record AlikePrograms (P R : Program) : Type 0 where
@@ -190,10 +189,6 @@ rebuilt P f h = record {
 pub alike-annotated : (P : Program) → AlikePrograms P (annotate P)
 unfolding annotate annotateProcedure
 alike-annotated P = rebuilt P (annotateProcedure P) (λ p. refl)
-
-pub alike-stripped : (P : Program) → AlikePrograms P (stripped P)
-unfolding stripped stripProcedure
-alike-stripped P = rebuilt P stripProcedure (λ p. refl)
 
 -- "Signatures are those of the input"
 pub annotated-signature : (P : Program) (p : ℕ) → signatureOf (annotate P) p ≡ signatureOf P p

@@ -117,11 +117,6 @@ module _ (P : Program) (S : Signature) where
     unfolding liveGoal
     then-held y z a b F h = goals-held F held (subset-trans _ _ held (then-wants S y z (live P a after) (live P b after)) h)
 
-    pub else-held : (y z : ℕ) (a b : Goals) → GoalsFit P S b after → subset (wanted S (liveGoal P (ifLess y z a b) after)) held ≡ true
-        → placeGoals P S b after held .held ≡ wanted S after
-    unfolding liveGoal
-    else-held y z a b F h = goals-held F held (subset-trans _ _ held (else-wants S y z (live P a after) (live P b after)) h)
-
   -- ---- only regions of the procedure are created and held
   module _ (D : Declared (P .types) S) where
     pub created-within : (g : Step) (after : Set) → FitsStep P S g after → Within S (createdFor P S g after)

@@ -134,11 +134,6 @@ module _ (P : Program) where
       sym (alike-goalsRegions P (annotate P) (alike-annotated P) _ S) ∙ sym (regions-strip P _ S)
       ∙ ap (goalsRegions P S) (strip-placed P S gs after held) ∙ regions-strip P gs S
 
-  -- and has the same live variables
-  pub placed-live : (gs : Goals) (S : Signature) (after held l : Set) → live P (placeGoals P S gs after held .goals) l ≡ live P gs l
-  placed-live gs S after held l =
-      sym (live-strip P _ l) ∙ ap (λ (hs : Goals). live P hs l) (strip-placed P S gs after held) ∙ live-strip P gs l
-
   procedure-values : (p : Procedure) → procedureValues (annotate P) (annotateProcedure P p) ≡ procedureValues P p
   unfolding procedureValues annotateProcedure
   procedure-values p = ap (outsValued (p .signature)) (placed-values (p .body) (p .signature) _ _ _ _)

@@ -6,15 +6,15 @@ use native.Mathlib.Numerals.{add-one}
 use mathlib.Core.Bool.{true}
 use mathlib.Core.List.{List, [], _++_}
 use mathlib.Core.Path.{_≡_, refl, sym, ap, _∙_, fun-ext}
-use lib.ListN.{length, getD, set, replicate, length-replicate}
+use lib.ListN.{getD, set}
 use Rattle.language.specs.Lists.{choose, nth}
 use Rattle.language.specs.File.{kConstruct, kCall, kGoal, kinds, kindOf, word, recordCount}
-use Rattle.language.specs.Format.{nextWord, maxRecords, kindWord, callKind, constructKind, goalX, callProcedure, callArguments}
+use Rattle.language.specs.Format.{nextWord, kindWord, callKind, constructKind, goalX, callProcedure, callArguments}
 use Rattle.language.specs.Program.{parametersFrom, parametersOf}
 use Rattle.records.specs.Records.{recordAt}
 use Rattle.records.specs.declared.Record.the-variants.{Call}
 use Rattle.chains.specs.Layout.{all-rows, header-kind}
-use Rattle.chains.specs.Formed.{Formed, counted, variablesAt}
+use Rattle.chains.specs.Formed.{Formed, variablesAt}
 use Rattle.chains.specs.Records.{chainRecords}
 use Rattle.chains.specs.Kinds.{kindIn, kind-read}
 use Rattle.chains.specs.Shapes.{IsCall, goal-number, by-number}
@@ -96,9 +96,6 @@ call-record f i e = by-number f i (kGoal kCall) refl (kind-is f i callKind e)
 -- ---- the table of owners
 pub owners-given : {f table owners : List ℕ} (behind : List ℕ) → TypedAndFilled f table → owners ≡ ownersOf f ++ behind → Given f table owners
 owners-given {f} behind R e = record { formed = R .formed; typed = R .typed; windows = R .windows; owned = λ i l. listed-owner f i behind e l }
-
-pub owners-fit : {f t : List ℕ} → Formed f → t ≡ replicate maxRecords 0 → recordCount f ≤ length t
-owners-fit {f} {t} F e = let n = counted F in omega (arith, ap length e, length-replicate {A = ℕ} maxRecords 0)
 
 -- ---- a call, by the window of its callee
 pub given-ready : {f table owners : List ℕ} → Given f table owners → TypedAndFilled f table

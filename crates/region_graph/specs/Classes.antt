@@ -9,7 +9,7 @@ use borrow.Author.Tests.{eqb-true, eq-eqb}
 use lib.Dec.{eqb}
 use Rattle.sets.specs.Tests.{_or_, neg, clash, false-of, and-true, or-true, neg-true}
 use Rattle.sets.specs.Sets.{member, _∪_, _∖_, subset, apart, union-left, union-right, union-in, subset-mk}
-use Rattle.sets.specs.SetLaws.{subset-trans, subset-antisym, left-union, right-union, union-least, difference-left, difference-apart, apart-in, apart-mk, apart-mono, subset-refl}
+use Rattle.sets.specs.SetLaws.{subset-trans, left-union, right-union, union-least, difference-left, difference-apart, apart-in, apart-mk, apart-mono, subset-refl}
 use Rattle.sets.specs.Members.{every}
 use Rattle.sets.specs.MemberLaws.{keep-in, keep-mk, every-in}
 use Rattle.sets.specs.declared.Set.{Set}
@@ -151,9 +151,3 @@ module _ (S : Signature) (ok : classesOk S ≡ true) where
 
       other : (r : ℕ) → member (kept S ∪ born S) r ≡ true → member (born S ∪ kept S) r ≡ true
       other r i = ⊎-elim (union-right (born S) (kept S) r) (union-left (born S) (kept S) r) (union-in (kept S) (born S) r i)
-
-  pub shared-parts : (T : List (List Functor)) → Declared T S → inputs S ∪ outputs S ≡ kept S ∪ born S ∪ dead S
-  shared-parts T D =
-      subset-antisym (inputs S ∪ outputs S) (kept S ∪ born S ∪ dead S) (subset-mk _ _ (shared-classed T S D))
-      (union-least (kept S ∪ born S) (dead S) (inputs S ∪ outputs S)
-      (union-least (kept S) (born S) (inputs S ∪ outputs S) (kept-shared S) born-shared) dead-shared)

@@ -141,9 +141,6 @@ module _ (T : List (List Functor)) (S : Signature) (D : Declared T S) where
       let m = outs-mk S (D .variables) x e in
       subset-mk (reach S x) (outputs S) (λ u i. unionOver-mk (reach S) (outsOf S) x u m (outs-top S x m) i)
 
-  pub input-own : (x : ℕ) → inList x (variablesIn inMode S) ≡ true → regionOf S x ≢ 0 → member (inputs S) (regionOf S x) ≡ true
-  input-own x e n = subset-in (reach S x) (inputs S) (input-reach x e) (regionOf S x) (reach-own x n)
-
   pub output-own : (x : ℕ) → inList x (variablesIn outMode S) ≡ true → regionOf S x ≢ 0 → member (outputs S) (regionOf S x) ≡ true
   output-own x e n = subset-in (reach S x) (outputs S) (output-reach x e) (regionOf S x) (reach-own x n)
 

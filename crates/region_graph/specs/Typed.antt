@@ -3,7 +3,7 @@
 use Prim.Native.Nat.{ℕ, zero, suc, _≤_, _<_}
 use mathlib.Core.Bool.{Bool, true, false, false≢true}
 use mathlib.Core.List.{List, [], _∷_}
-use mathlib.Core.Path.{_≡_, refl, ap}
+use mathlib.Core.Path.{_≡_, refl}
 use native.Mathlib.Omega.{arith}
 use borrow.Author.Tests.{leb-true}
 use lib.Dec.{leb}
@@ -21,7 +21,7 @@ use Rattle.language.specs.Regions.{goalsRegions, regionsOk}
 use Rattle.language.specs.Lifetimes.{ofClass, declared, born, dead, kept, startHeld, classesOk, goalsClasses, declaredClassesOk, callClassesOk}
 use Rattle.language.specs.Checking.{checkGoals, endRules, procedureRules, rulesOk}
 use Rattle.laws.specs.Numbers.{among-in, among-mk, upFrom-in, upFrom-mk}
-use Rattle.laws.specs.Lists.{all-or-default, nth-past, all-nth1, nth1-past}
+use Rattle.laws.specs.Lists.{all-or-default, all-nth1, nth1-past}
 use Rattle.laws.specs.MoreSets.{keep-empty}
 use Rattle.laws.specs.Goals.{someArm}
 
@@ -116,14 +116,6 @@ noSignature = record { variables = []; regions = [] }
 
 abbrev pub noProcedure : Procedure
 noProcedure = record { signature = noSignature; body = done }
-
-pub procedure-past : (P : Program) (p : ℕ) → length (P .procedures) ≤ p → procedureAt P p ≡ noProcedure
-unfolding procedureAt
-procedure-past P p h = nth-past noProcedure (P .procedures) p h
-
-pub signature-past : (P : Program) (p : ℕ) → length (P .procedures) ≤ p → signatureOf P p ≡ noSignature
-unfolding signatureOf
-signature-past P p h = ap (λ (q : Procedure). q .signature) (procedure-past P p h)
 
 pub no-signature-typed : (T : List (List Functor)) → signatureOk T noSignature ≡ true
 unfolding signatureOk all _&_

@@ -60,13 +60,6 @@ module _ (T : List (List Functor)) (C Q : Signature) (okC : signatureOk T C ≡ 
     whole : Complete C Q ys m
     whole = complete C Q (Maps C Q ys) ys m (rw answer at ways)
 
-    -- an image is one that the relation has
-    pub image-maps : (r : ℕ) → m r ≢ 0 → Maps C Q ys r (m r)
-    image-maps r n = ⊎-elim (λ p. absurd (n p)) (λ i. i .way) ((rw answer at ways) .0 .good r)
-
-    pub image-shared : (r : ℕ) → m r ≢ 0 → shared Q r
-    image-shared r n = maps-shared (image-maps r n) (region-some Q r (whole .matched r n .callee))
-
     -- and the relation has no other
     pub maps-image : {r u : ℕ} → Maps C Q ys r u → m r ≡ u
     maps-image (argument i) =

@@ -14,8 +14,7 @@ use lib.ListN.{length, getD, set, length-set}
 use lib.Seq.{getD-set-same, getD-set-other}
 use Rattle.sets.specs.Size.{size}
 use Rattle.language.specs.File
-use Rattle.language.specs.File.{word}
-use Rattle.language.specs.Format.{nextWord, edgeTarget, maxRegions, places}
+use Rattle.language.specs.Format.{maxRegions, places}
 use Rattle.language.specs.Lists.{put}
 use Rattle.language.specs.Program.{Functor, Signature}
 use Rattle.language.specs.Typing.{isRegion, signatureOk}
@@ -23,8 +22,7 @@ use Rattle.language.specs.Regions.{targets, targetsIn, Mapping, twoWays, images
 use Rattle.region_graph.specs.Typed.{region-in, regions-few}
 use Rattle.region_graph.specs.Alike.{Paired, paired-cons, Alike, targets-alike}
 use Rattle.region_graph.specs.Unmapped.{put-here, put-other, unmapped, unmapped-falls, unmapped-shrinks, unmapped-none}
-use Rattle.chains.specs.Formed.{Formed, Stands, edgesAt, edges-none}
-use Rattle.chains.specs.Shapes.{edge-here}
+use Rattle.chains.specs.Formed.{Stands, edgesAt}
 use Rattle.tables.specs.Window.{Window, edgesIn, firstPlace}
 
 -- the images that a table stands for
@@ -121,16 +119,6 @@ module _ (f t : List ℕ) (r : ℕ) {i : ℕ} (e : i ≡ edgesIn t r) where
   targets-same : {S : Signature} → Window f S t → targetsIn (edgesAt f i) ≡ targets S r
   unfolding targets
   targets-same h = ap (λ (j : ℕ). targetsIn (edgesAt f j)) e ∙ ap targetsIn (h .edges r)
-
--- .. and goes along them
-pub targets-end : (f : List ℕ) {i : ℕ} → i ≡ 0 → targetsIn (edgesAt f i) ≡ []
-unfolding targetsIn
-targets-end f z = ap targetsIn (edges-none f z)
-
-pub targets-here : (f : List ℕ) (i : ℕ) → Formed f → Stands f File.edges i → (i ≡ 0 → ⊥) → {t n : ℕ} → t ≡ word f i edgeTarget → n ≡ word f i nextWord
-    → targetsIn (edgesAt f i) ≡ t ∷ targetsIn (edgesAt f n)
-unfolding targetsIn
-targets-here f i F s z e g = rw (e, g) (ap targetsIn (edge-here F z s .view))
 
 -- the table has room for each region, 0 has no image, and n bounds the callee's regions without one
 pub record ImageTable (Q : Signature) (t : List ℕ) (n : ℕ) : Type 0 where

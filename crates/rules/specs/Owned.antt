@@ -1,19 +1,18 @@
 -- Each goal and arm belongs to the procedure that `owners` says, and what the stages prepare.
 use Prim.Native.Nat.{ℕ, _≤_}
-use native.Mathlib.Omega.{arith}
 use mathlib.Core.Bool.{Bool, true}
 use mathlib.Core.List.{List, _++_}
-use mathlib.Core.Path.{_≡_, refl, ap}
+use mathlib.Core.Path.{_≡_, refl}
 use borrow.Author.Tests.{leb-true}
-use lib.ListN.{length, replicate, length-replicate}
+use lib.ListN.{length}
 use Rattle.sets.specs.Tests.{and-true}
-use Rattle.language.specs.Format.{maxRecords, maxProcedures}
-use Rattle.language.specs.File.{kSwitch, kIf, kGoal, recordCount}
+use Rattle.language.specs.Format.{maxProcedures}
+use Rattle.language.specs.File.{kSwitch, kIf, kGoal}
 use Rattle.language.specs.Lists.{among}
 use Rattle.language.specs.Typing.{typingOk}
 use Rattle.language.specs.Answers.{program}
 use Rattle.chains.specs.Layout.{all-rows}
-use Rattle.chains.specs.Formed.{Formed, counted}
+use Rattle.chains.specs.Formed.{Formed}
 use Rattle.chains.specs.Is.{arm-is}
 use Rattle.chains.specs.Shapes.{by-number}
 use Rattle.owners.specs.Owner.{ownersOf, ownerOf}
@@ -41,9 +40,6 @@ owning {f} F = record {
 }
 
 -- ---- the table of owners
-pub owners-fit : {f t : List ℕ} → Formed f → t ≡ replicate maxRecords 0 → recordCount f ≤ length t
-owners-fit {f} {t} F e = let n = counted F in omega (arith, ap length e, length-replicate {A = ℕ} maxRecords 0)
-
 pub given : {f table owners : List ℕ} (behind : List ℕ) → Formed f → typingOk (program f) ≡ true → FileTable f table → owners ≡ ownersOf f ++ behind → Given f table owners
 given {f} behind F t w e = record { formed = F; typed = t; windows = w; owned = λ i l. listed-owner f i behind e l }
 

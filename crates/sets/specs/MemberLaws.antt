@@ -74,11 +74,6 @@ module _ (p : ℕ → Bool) (s : Set) where
   pub keep-subset : subset (keep p s) s ≡ true
   keep-subset = subset-mk (keep p s) s (λ n e. keep-in n e .0)
 
-pub keep-mono : (p : ℕ → Bool) (a b : Set) → subset a b ≡ true → subset (keep p a) (keep p b) ≡ true
-keep-mono p a b h =
-    subset-mk (keep p a) (keep p b)
-    (λ n e. let r = keep-in p a n e in keep-mk p b n (subset-in a b h n (r .0)) (small-top (keep p a) (small-keep p a) n e) (r .1))
-
 -- ---- the union over the members
 unionAll-in : (f : ℕ → Set) (xs : List ℕ) (n : ℕ) → member (unionAll f xs) n ≡ true
     → (x : ℕ) × (inList x xs ≡ true) × (member (f x) n ≡ true)
@@ -171,6 +166,3 @@ module _ (p : ℕ → Bool) (s : Set) where
       go : (every p s ≡ true) ⊎ (every p s ≡ false) → every p s ≡ true
       go (inl e) = e
       go (inr e) = let r = every-fails e in absurd (clash (h (r .0) (r .1) (r .3)) (r .2))
-
-pub every-subset : (p : ℕ → Bool) (a b : Set) → subset a b ≡ true → every p b ≡ true → every p a ≡ true
-every-subset p a b h e = every-mk p a (λ n m l. every-in p b e n (subset-in a b h n m) l)

@@ -7,8 +7,8 @@ use Prim.Native.Nat.{ℕ, _≤_, _<_}
 use native.Mathlib.Decide.{decLt}
 use native.Mathlib.Omega.{arith}
 use Rattle.sets.specs.Tests.{truth, clash, false-of, same-truth}
-use Rattle.sets.specs.Sets.{member, emptySet, single, _∪_, _∩_, _∖_, sameSet, subset, apart, Small, member-empty, single-high, single-in}
-use Rattle.sets.specs.Sets.{union-left, union-right, union-in, intersection-mk, intersection-in, difference-mk, difference-in, member-ext, same-eq, eq-same, member-some, subset-in, subset-mk, subset-fails}
+use Rattle.sets.specs.Sets.{member, emptySet, single, _∪_, _∩_, _∖_, subset, apart, Small, member-empty, single-high, single-in}
+use Rattle.sets.specs.Sets.{union-left, union-right, union-in, intersection-mk, intersection-in, difference-in, member-ext, same-eq, member-some, subset-in, subset-mk}
 use Rattle.sets.specs.declared.Set.{Set}
 
 -- ---- the order by subset
@@ -26,17 +26,6 @@ empty-subset a = subset-mk emptySet a (λ n h. absurd (clash h (member-empty n))
 
 pub single-subset : (n : ℕ) (s : Set) → member s n ≡ true → subset (single n) s ≡ true
 single-subset n s e = subset-mk (single n) s (λ k h. ap (member s) (sym (single-in n k h)) ∙ e)
-
--- two sets that differ differ in a member, on one side or the other
-pub same-fails : (a b : Set) → sameSet a b ≡ false
-    → ((n : ℕ) × (member a n ≡ true) × (member b n ≡ false)) ⊎ ((n : ℕ) × (member b n ≡ true) × (member a n ≡ false))
-same-fails a b e = go (truth (subset a b)) (truth (subset b a))
-  where
-    go : (subset a b ≡ true) ⊎ (subset a b ≡ false) → (subset b a ≡ true) ⊎ (subset b a ≡ false)
-        → ((n : ℕ) × (member a n ≡ true) × (member b n ≡ false)) ⊎ ((n : ℕ) × (member b n ≡ true) × (member a n ≡ false))
-    go (inr p) q = inl (subset-fails a b p)
-    go (inl p) (inr q) = inr (subset-fails b a q)
-    go (inl p) (inl q) = absurd (clash (eq-same a b (subset-antisym a b p q)) e)
 
 -- ---- the union is the least set that holds both
 pub left-union : (a b : Set) → subset a (a ∪ b) ≡ true
@@ -87,16 +76,6 @@ intersection-most a b t p q = subset-mk t (a ∩ b) (λ n h. intersection-mk a b
 
 pub difference-left : (a b : Set) → subset (a ∖ b) a ≡ true
 difference-left a b = subset-mk (a ∖ b) a (λ n h. difference-in a b n h .0)
-
-pub intersection-mono : (a b c d : Set) → subset a c ≡ true → subset b d ≡ true → subset (a ∩ b) (c ∩ d) ≡ true
-intersection-mono a b c d p q =
-    intersection-most c d (a ∩ b) (subset-trans (a ∩ b) a c (intersection-left a b) p) (subset-trans (a ∩ b) b d (intersection-right a b) q)
-
-pub difference-mono : (a b c d : Set) → subset a c ≡ true → subset d b ≡ true → subset (a ∖ b) (c ∖ d) ≡ true
-difference-mono a b c d p q =
-    subset-mk (a ∖ b) (c ∖ d)
-    (λ n e. let r = difference-in a b n e in
-    difference-mk c d n (subset-in a c p n (r .0)) (false-of (λ t. clash (subset-in d b q n t) (r .1))))
 
 -- ---- sets with no common member
 pub apart-in : (a b : Set) → apart a b ≡ true → (n : ℕ) → member a n ≡ true → member b n ≡ false

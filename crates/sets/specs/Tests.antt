@@ -67,11 +67,6 @@ unfolding _or_
 true-or-right true e = refl
 true-or-right false e = e
 
-pub or-false : {a b : Bool} → (a or b) ≡ false → (a ≡ false) × (b ≡ false)
-unfolding _or_
-or-false {a = true} e = absurd (false≢true (sym e))
-or-false {a = false} e = (refl, e)
-
 -- ---- not
 pub neg-true : {a : Bool} → neg a ≡ true → a ≡ false
 unfolding neg
@@ -82,13 +77,3 @@ pub true-neg : {a : Bool} → a ≡ false → neg a ≡ true
 unfolding neg
 true-neg {a = true} e = sym e
 true-neg {a = false} e = refl
-
-pub neg-false : {a : Bool} → neg a ≡ false → a ≡ true
-unfolding neg
-neg-false {a = true} e = refl
-neg-false {a = false} e = sym e
-
-pub false-neg : {a : Bool} → a ≡ true → neg a ≡ false
-unfolding neg
-false-neg {a = true} e = refl
-false-neg {a = false} e = sym e

@@ -6,9 +6,9 @@ use mathlib.Core.List.{List, [], _∷_}
 use Prim.Native.Nat.{ℕ, zero, suc, _+_, _-_, _≤_, _<_, min}
 use native.Mathlib.Decide.{decLt, ℕ-discrete}
 use native.Mathlib.Omega.{arith}
-use Rattle.sets.specs.Tests.{_&_, clash}
+use Rattle.sets.specs.Tests.{clash}
 use Rattle.sets.specs.Sets.{member, emptySet, single, _∪_}
-use Rattle.sets.specs.Members.{consIf, membersFrom, members, firstOr65, nextMember, setOf, filtered, keep, unionAll, unionOver, image, allOf, every, inList, membersFrom-in, membersFrom-mk}
+use Rattle.sets.specs.Members.{consIf, membersFrom, members, firstOr65, nextMember, setOf, filtered, keep, unionAll, unionOver, image, inList, membersFrom-in, membersFrom-mk}
 use Rattle.sets.specs.declared.Set.{Set}
 
 -- the members above n, in rising order
@@ -124,18 +124,6 @@ above-mk s n k e h l = membersFrom-mk s (64 - n) (suc n) k e h (omega arith)
 
 -- ---- loops over the members: what is left to do from n on, at the start, at the end, and at the next member r
 module _ (p : ℕ → Bool) (s : Set) where
-  pub every-start : allOf p (above s 0) ≡ every p s
-  unfolding every
-  every-start = ap (allOf p) (above-start s)
-
-  pub every-end : (n : ℕ) → nextMember s n ≡ 65 → allOf p (above s n) ≡ true
-  unfolding allOf
-  every-end n e = ap (allOf p) (above-end s n e)
-
-  pub every-next : (n r : ℕ) → nextMember s n ≡ r → r < 65 → allOf p (above s n) ≡ (p r & allOf p (above s r))
-  unfolding allOf
-  every-next n r e l = ap (allOf p) (above-next s n r e l)
-
   pub keep-start : setOf (filtered p (above s 0)) ≡ keep p s
   unfolding keep
   keep-start = ap (λ (xs : List ℕ). setOf (filtered p xs)) (above-start s)

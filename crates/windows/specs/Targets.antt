@@ -4,33 +4,19 @@ use native.Mathlib.Decide.{ℕ-discrete}
 use mathlib.Core.List.{List, [], _∷_}
 use mathlib.Core.Bool.{true}
 use mathlib.Core.Logic.{_⊎_, inl, inr, _≢_}
-use mathlib.Core.Path.{_≡_, refl, sym, ap, _∙_}
+use mathlib.Core.Path.{_≡_, sym, ap, _∙_}
 use lib.ListN.{length, getD, set}
 use lib.Seq.{getD-set-same, getD-set-other}
 use Rattle.sets.specs.Sets.{member, single, _∪_, stored, loaded, loaded-stored}
 use Rattle.sets.specs.SetLaws.{union-empty, union-assoc}
 use Rattle.sets.specs.Members.{setOf, inList}
 use Rattle.sets.specs.declared.Set.{Set}
-use Rattle.language.specs.File.{edges, word}
 use Rattle.language.specs.Program.{Functor, Signature}
 use Rattle.language.specs.Typing.{isRegion}
-use Rattle.language.specs.Regions.{targets, targetsIn, reachFrom}
-use Rattle.language.specs.Format.{nextWord, edgeTarget}
+use Rattle.language.specs.Regions.{targets, reachFrom}
 use Rattle.region_graph.specs.Laws.{Declared}
-use Rattle.chains.specs.Formed.{Formed, Stands, edgesAt, edges-none}
-use Rattle.chains.specs.Declared.{edge-at}
-use Rattle.chains.specs.Is.{edge-is}
 
 -- ---- one chain of edges, by the words that the code has read
-pub targets-end : (f : List ℕ) {i : ℕ} → i ≡ 0 → targetsIn (edgesAt f i) ≡ []
-unfolding targetsIn
-targets-end f z = ap targetsIn (edges-none f z)
-
-pub targets-here : (f : List ℕ) (i : ℕ) → Formed f → Stands f edges i → (i ≡ 0 → ⊥) → {t n : ℕ} → t ≡ word f i edgeTarget → n ≡ word f i nextWord
-    → targetsIn (edgesAt f i) ≡ t ∷ targetsIn (edgesAt f n)
-unfolding targetsIn
-targets-here f i F s z e g = rw (e, g) (ap targetsIn (edge-at F refl (edge-is s z) .view))
-
 -- what is found so far with what the rest leads to is the whole
 pub targets-none : {ts : List ℕ} {s w : Set} → ts ≡ [] → s ∪ setOf ts ≡ w → s ≡ w
 unfolding setOf

@@ -8,7 +8,8 @@ use Rattle.language.specs.Format.{places}
 use Rattle.plans.specs.Plan.{imageBytes}
 use Rattle.plans.specs.Kept.{zeros-every}
 use Rattle.plans.specs.Pictures.{images-length}
-use Rattle.plans.specs.Turns.{owners-fit, owners-given, filled-plan, filled-images}
+use Rattle.owners.specs.Owners.{owners-fit}
+use Rattle.plans.specs.Turns.{owners-given, filled-plan, filled-images}
 use Rattle.plans.specs.Early.{matched-joinable}
 use Rattle.plans.specs.Narrow.{filled-narrow}
 use Rattle.plans.specs.Tabling.{filled-tabled, filled-numbered}

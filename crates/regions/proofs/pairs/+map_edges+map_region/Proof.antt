@@ -11,7 +11,8 @@ use Rattle.language.specs.File.{edges}
 use Rattle.language.specs.Regions.{targetsIn}
 use Rattle.chains.specs.Formed.{Stands, ahead, edgesAt}
 use Rattle.chains.specs.Is.{chain-next}
-use Rattle.regions.specs.Pairs.{edges-stand, targets-end, targets-here, PairMapped, pair-mapped, pair-known, zeros, zeros-grown, zeros-set, Grown, grown-refl, grown-trans, grown-set, RestMapped, rest-first, rest-next, rest-stops, rest-ends, region-none, region-again, region-new}
+use Rattle.chains.specs.Edges.{targets-end, targets-here}
+use Rattle.regions.specs.Pairs.{edges-stand, PairMapped, pair-mapped, pair-known, zeros, zeros-grown, zeros-set, Grown, grown-refl, grown-trans, grown-set, RestMapped, rest-first, rest-next, rest-stops, rest-ends, region-none, region-again, region-new}
 use borrow.Fn.Kinds.{In}
 use borrow.Fn.PlainCycle.{Measures, is, falls, and}
 use Rattle.regions.proofs.pairs.map_edges.Reads as map-edges

@@ -1,5 +1,6 @@
 -- `regions_ok` meets its contract.
-use Rattle.rules.specs.Owned.{owners-fit, given}
+use Rattle.owners.specs.Owners.{owners-fit}
+use Rattle.rules.specs.Owned.{given}
 use borrow.Author.Needs.{needs}
 use Rattle.rules.proofs.stages.regions_ok.Statement.{statement}
 use Rattle.rules.proofs.stages.regions_ok.Tie as tie

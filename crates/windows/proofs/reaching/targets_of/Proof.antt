@@ -8,7 +8,8 @@ use Rattle.language.specs.File.{edges}
 use Rattle.language.specs.Regions.{targetsIn}
 use Rattle.chains.specs.Formed.{Stands, ahead, edgesAt}
 use Rattle.chains.specs.Is.{chain-next}
-use Rattle.windows.specs.Targets.{targets-end, targets-here, targets-none, targets-more}
+use Rattle.chains.specs.Edges.{targets-end, targets-here}
+use Rattle.windows.specs.Targets.{targets-none, targets-more}
 use Rattle.windows.proofs.reaching.targets_of.Statement.{statement}
 use Rattle.windows.proofs.reaching.targets_of.Tie as tie
 
