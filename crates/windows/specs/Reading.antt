@@ -1,13 +1,13 @@
--- Reach by a worklist: the regions found so far and those among them whose edges are still to be read. Where none is left, what is found is
--- the least set that has the region and is closed under edges, which is the definition's reach.
+-- Reach by a worklist: the regions found so far and those among them whose edges have been read, each once. Where the edges of all are read,
+-- what is found is the least set that has the region and is closed under edges, which is the definition's reach.
 use Prim.Native.Nat.{ℕ, _-_, _≤_, _<_}
 use mathlib.Core.Bool.{Bool, true, false}
 use mathlib.Core.List.{List}
 use mathlib.Core.Logic.{_⊎_, inl, inr, ⊎-elim}
 use mathlib.Core.Path.{_≡_, sym, ap, _∙_}
 use native.Mathlib.Omega.{arith}
-use Rattle.sets.specs.Tests.{_&_, truth, clash, and-true, true-and, false-of}
-use Rattle.sets.specs.Sets.{member, single, _∪_, _∖_, single-mk, single-in, member-pos, union-left, union-right, union-in, difference-mk, difference-in, subset-mk}
+use Rattle.sets.specs.Tests.{_&_, truth, clash, and-true, true-and}
+use Rattle.sets.specs.Sets.{member, emptySet, single, _∪_, _∖_, member-empty, single-mk, single-in, member-pos, union-left, union-right, union-in, difference-mk, difference-in, subset-mk}
 use Rattle.sets.specs.SetLaws.{subset-antisym}
 use Rattle.sets.specs.Members.{nextMember, inList}
 use Rattle.sets.specs.Walk.{next-is}
@@ -24,96 +24,75 @@ use Rattle.windows.specs.Targets.{setAt, Between}
 
 -- ---- the worklist, where `next u` is where u's edges lead
 module _ (next : ℕ → Set) (r : ℕ) where
-  pub record Reading (found unread : Set) : Type 0 where
-    pub within : (n : ℕ) → member unread n ≡ true → member found n ≡ true
+  pub record Reading (found read : Set) : Type 0 where
+    pub within : (n : ℕ) → member read n ≡ true → member found n ≡ true
     pub start : 1 ≤ r → r ≤ maxRegions → member found r ≡ true
-    pub closed : (u t : ℕ) → member found u ≡ true → member unread u ≡ false → member (next u) t ≡ true → member found t ≡ true
+    pub closed : (u t : ℕ) → member read u ≡ true → member (next u) t ≡ true → member found t ≡ true
     pub least : (test : ℕ → Bool) → test r ≡ true → ((u t : ℕ) → test u ≡ true → member (next u) t ≡ true → test t ≡ true)
         → (u : ℕ) → member found u ≡ true → test u ≡ true
 
-  pub first : Reading (single r) (single r)
+  first : Reading (single r) emptySet
   first = record {
-    within = λ n m. m;
+    within = λ n m. absurd (clash m (member-empty n));
     start = single-mk r;
-    closed = λ u t m k. absurd (clash m k);
+    closed = λ u t m. absurd (clash m (member-empty u));
     least = λ test h onward u m. ap test (sym (single-in r u m)) ∙ h;
   }
 
-  pub starts : {found unread : Set} → found ≡ single r → unread ≡ single r → Reading found unread
+  pub starts : {found read : Set} → found ≡ single r → read ≡ emptySet → Reading found read
   starts e g = rw (e, g) first
 
-  -- u's edges are read
-  module _ {found unread : Set} (h : Reading found unread) (u : ℕ) (e : u ≡ nextMember unread 0) (l : u < places) where
-    is-unread : member unread u ≡ true
-    is-unread = rw e (next-is unread 0 .found (rw (← e) l))
+  -- no edges are read at first
+  pub starts-at : (found : Set) {read : Set} {u : ℕ} → read ≡ emptySet → u ≡ nextMember found 0 → u ≡ nextMember (found ∖ read) 0
+  starts-at found e g = g ∙ ap (λ (s : Set). nextMember s 0) (rw e (sym whole))
+    where
+      whole : found ∖ emptySet ≡ found
+      whole =
+          subset-antisym (found ∖ emptySet) found (subset-mk _ _ (λ n m. difference-in found emptySet n m .0))
+          (subset-mk _ _ (λ n m. difference-mk found emptySet n m (member-empty n)))
 
-    abbrev found′ : Set
-    found′ = found ∪ (next u ∖ found)
+  -- u is next: found, and its edges are not read yet
+  module _ {found read : Set} (h : Reading found read) {o : Set} (u : ℕ) (e : o ≡ found ∖ read) (g : u ≡ nextMember o 0) (l : u < places) where
+    is-next : (member found u ≡ true) × (member read u ≡ false)
+    is-next = difference-in found read u (rw (← e, g) (next-is o 0 .found (rw (← g) l)))
 
-    abbrev unread′ : Set
-    unread′ = (unread ∖ single u) ∪ (next u ∖ found)
+    pub numbered : 1 ≤ u
+    numbered = let n = next-is o 0 .low in omega (arith, g)
 
-    -- a region that is found and not to be read was read before, or is u
-    was-read : (v : ℕ) → member found′ v ≡ true → member unread′ v ≡ false → (member found v ≡ true) × ((member unread v ≡ false) ⊎ (u ≡ v))
-    was-read v m k = ⊎-elim (λ p. (p, go (truth (member unread v)) (truth (member (single u) v)))) (λ q. absurd (clash (union-right (unread ∖ single u) _ v q) k)) (union-in found _ v m)
-      where
-        go : (member unread v ≡ true) ⊎ (member unread v ≡ false) → (member (single u) v ≡ true) ⊎ (member (single u) v ≡ false)
-            → (member unread v ≡ false) ⊎ (u ≡ v)
-        go (inr p) q = inl p
-        go (inl p) (inl q) = inr (single-in u v q)
-        go (inl p) (inr q) = absurd (clash (union-left _ (next u ∖ found) v (difference-mk unread (single u) v p q)) k)
+    pub not-read : member read u ≡ false
+    not-read = is-next .1
 
-    -- what u's edges lead to is found now
-    is-found : (t : ℕ) → member (next u) t ≡ true → member found′ t ≡ true
-    is-found t i = go (truth (member found t))
-      where
-        go : (member found t ≡ true) ⊎ (member found t ≡ false) → member found′ t ≡ true
-        go (inl p) = union-left found _ t p
-        go (inr p) = union-right found _ t (difference-mk (next u) found t i p)
-
-    turn : Reading found′ unread′
+    turn : Reading (found ∪ next u) (read ∪ single u)
     turn = record {
-      within = λ n m. ⊎-elim (λ p. union-left found _ n (h .within n (difference-in unread (single u) n p .0))) (λ q. union-right found _ n q) (union-in (unread ∖ single u) _ n m);
+      within = λ n m. union-left found _ n (⊎-elim (h .within n) (λ q. rw (← single-in u n q) (is-next .0)) (union-in read _ n m));
       start = λ a b. union-left found _ r (h .start a b);
-      closed = λ v t m k i. let w = was-read v m k in ⊎-elim (λ p. union-left found _ t (h .closed v t (w .0) p i)) (λ q. is-found t (ap (λ (x : ℕ). member (next x) t) q ∙ i)) (w .1);
-      least = λ test o onward v m. ⊎-elim (h .least test o onward v) (λ q. onward u v (h .least test o onward u (h .within u is-unread)) (difference-in (next u) found v q .0)) (union-in found _ v m);
+      closed = λ v t m i. ⊎-elim (λ p. union-left found _ t (h .closed v t p i)) (λ q. union-right found _ t (ap (λ (x : ℕ). member (next x) t) (single-in u v q) ∙ i)) (union-in read _ v m);
+      least = λ test o onward v m. ⊎-elim (h .least test o onward v) (onward u v (h .least test o onward u (is-next .0))) (union-in found _ v m);
     }
 
     -- one more is read
-    more-read : size (found ∖ unread) < size (found′ ∖ unread′)
-    more-read = size-lt (found ∖ unread) (found′ ∖ unread′) u (subset-mk _ _ still) (false-of (λ m. clash is-unread (difference-in found unread u m .1))) here (omega arith)
-      where
-        not-new : (v : ℕ) → member found v ≡ true → member (next u ∖ found) v ≡ true → ⊥
-        not-new v m k = clash m (difference-in (next u) found v k .1)
+    more-read : size read < size (read ∪ single u)
+    more-read =
+        size-lt read (read ∪ single u) u (subset-mk _ _ (λ v. union-left read _ v)) not-read (union-right read _ u (single-mk u numbered (omega arith))) (omega arith)
 
-        still : (v : ℕ) → member (found ∖ unread) v ≡ true → member (found′ ∖ unread′) v ≡ true
-        still v m =
-            let d = difference-in found unread v m in
-            difference-mk found′ unread′ v (union-left found _ v (d .0))
-            (false-of (λ k. ⊎-elim (λ p. clash (difference-in unread (single u) v p .0) (d .1)) (not-new v (d .0)) (union-in (unread ∖ single u) _ v k)))
+    -- the same in the code's terms
+    pub goes : {found″ read″ s : Set} → s ≡ next u → found″ ≡ found ∪ s → read″ ≡ read ∪ single u
+        → Reading found″ read″ × (maxRegions - size read″ < maxRegions - size read)
+    goes i j k = rw (k, j, i) (turn, omega (arith, more-read, size-top (read ∪ single u)))
 
-        here : member (found′ ∖ unread′) u ≡ true
-        here =
-            let m = h .within u is-unread in
-            let n = next-is unread 0 .low in
-            difference-mk found′ unread′ u (union-left found _ u m)
-            (false-of (λ k. ⊎-elim (λ p. clash (single-mk u (omega (arith, e)) (omega arith)) (difference-in unread (single u) u p .1)) (not-new u m) (union-in (unread ∖ single u) _ u k)))
-
-  -- the same in the code's terms
-  pub goes : {found unread new found″ unread″ s o g : Set} {u : ℕ} → Reading found unread → u ≡ nextMember unread 0 → u < places
-      → s ≡ next u → new ≡ s ∖ found → found″ ≡ found ∪ new → o ≡ single u → g ≡ unread ∖ o → unread″ ≡ g ∪ new
-      → Reading found″ unread″ × (maxRegions - size (found″ ∖ unread″) < maxRegions - size (found ∖ unread))
-  goes {found} {unread} {u = u} h e l i j k a b d =
-      rw (d, b, a, k, j, i) (turn h u e l, let m = more-read h u e l in omega (arith, size-top (found′ h u e l ∖ unread′ h u e l)))
-
-  -- none is left
-  none-left : {found unread : Set} → Reading found unread → {u : ℕ} → u ≡ nextMember unread 0 → places ≤ u → (n : ℕ) → n ≤ maxRegions → member unread n ≡ false
-  none-left {unread = unread} h e l n k =
-      let x = next-is unread 0 in
-      false-of (λ m. clash m (x .none n (member-pos unread n m) (omega (arith, e))))
+  -- none is left: what is found is read
+  all-read : {found read o : Set} → Reading found read → {u : ℕ} → o ≡ found ∖ read → u ≡ nextMember o 0 → places ≤ u
+      → (n : ℕ) → n ≤ maxRegions → member found n ≡ true → member read n ≡ true
+  all-read {found} {read} {o} h {u} e g l n k m = go (truth (member read n))
+    where
+      go : (member read n ≡ true) ⊎ (member read n ≡ false) → member read n ≡ true
+      go (inl p) = p
+      go (inr p) =
+          let d : member o n ≡ true = rw e (difference-mk found read n m p) in
+          absurd (clash d (next-is o 0 .none n (member-pos o n d) (omega (arith, g))))
 
 -- ---- the definition's reach
-module _ {t : List ℕ} {r u : ℕ} {found unread : Set} (h : Reading (setAt t) r found unread) (e : u ≡ nextMember unread 0) (l : places ≤ u)
+module _ {t : List ℕ} {r u : ℕ} {found read o : Set} (h : Reading (setAt t) r found read) (e : o ≡ found ∖ read) (j : u ≡ nextMember o 0) (l : places ≤ u)
     (T : List (List Functor)) (S : Signature) (d : Declared T S) (q : Between S t) where
   leads : (u t : ℕ) → isRegion S u ≡ true → inList t (targets S u) ≡ true → isRegion S t ≡ true
   leads u t i m = d .onward u t i m .0
@@ -139,7 +118,7 @@ module _ {t : List ℕ} {r u : ℕ} {found unread : Set} (h : Reading (setAt t) 
           let a = and-true m in
           let b = leads w v (a .1) i in
           let y = home w (a .1) in
-          true-and (h .closed w v (a .0) (none-left (setAt t) r h e l w (y .1)) (q .low w v (a .1) i)) b
+          true-and (h .closed w v (all-read (setAt t) r h e j l w (y .1) (a .0)) (q .low w v (a .1) i)) b
 
       outside : (v : ℕ) → member (reachFrom S r) v ≡ true → member found v ≡ true
       outside v m =

@@ -5,14 +5,16 @@ use language::format::NEXT;
 use language::format::PLACES;
 use sets::Set;
 ghost use mathlib.Core.Path.{_≡_};
-ghost use Prim.Native.Nat.{_<_};
+ghost use mathlib.Core.Bool.{false};
+ghost use Prim.Native.Nat.{_≤_, _<_};
 ghost use lib.ListN.{length};
+ghost use Rattle.sets.specs.Sets.{member, single, _∪_};
 ghost use Rattle.sets.specs.Members.{setOf};
 ghost use Rattle.language.specs.File.{edges};
 ghost use Rattle.language.specs.Regions.{targetsIn};
 ghost use Rattle.language.specs.Format.{places};
 ghost use Rattle.chains.specs.Formed.{Formed, Stands, edgesAt};
-ghost use Rattle.windows.specs.Targets.{RegionReach};
+ghost use Rattle.windows.specs.Targets.{RegionReach, setAt};
 ghost use Rattle.windows.specs.Closing.{Closing};
 
 // Where the edges of the chain at record start lead.
@@ -30,19 +32,42 @@ pub fn targets_of(file: &[u8], start: usize) -> Set
     found
 }
 
-// The regions that edges lead to from region r, with r, by a table of where each region's edges lead.
+// What reading a region's edges gives: where they lead, and the regions whose edges have been read.
+struct Edges {
+    targets: Set,
+    read: Set,
+}
+
+// Reads the edges of region u. No region's edges are read twice: u is not among those read before, and is among those that are
+// read now.
+fn read_edges(targets: &[u64], read: Set, u: usize) -> Edges
+    requires { ⌜ places ≡ length (now targets) ⌝ }
+    requires { ⌜ 1 ≤ u ⌝ }
+    requires { ⌜ u < places ⌝ }
+    requires { ⌜ member read u ≡ false ⌝ }
+    ensures { λ e. ⌜ e .targets ≡ setAt (now (targets .entry)) u ⌝ }
+    ensures { λ e. ⌜ e .read ≡ read ∪ single u ⌝ }
+{
+    Edges {
+        targets: Set::loaded(targets[u]),
+        read: read.union(Set::of(u)),
+    }
+}
+
+// The regions that edges lead to from region r, with r, by a table of where each region's edges lead: a loop that adds regions
+// until none is new.
 pub fn reach_from(targets: &[u64], r: usize) -> Set
     requires { ⌜ places ≡ length (now targets) ⌝ }
     ensures { λ x. ⌜ RegionReach (now (targets .entry)) r x ⌝ }
 {
     let mut found = Set::of(r);
-    let mut unread = Set::of(r);
-    let mut u = unread.after(0);
+    let mut read = Set::EMPTY;
+    let mut u = found.after(0);
     while u < PLACES {
-        let new = Set::loaded(targets[u]).difference(found);
-        found = found.union(new);
-        unread = unread.difference(Set::of(u)).union(new);
-        u = unread.after(0);
+        let edges = read_edges(targets, read, u);
+        found = found.union(edges.targets);
+        read = edges.read;
+        u = found.difference(read).after(0);
     }
     found
 }
