@@ -1,5 +1,5 @@
--- Reach by a worklist: the regions found so far and those among them whose edges have been read, each once. Where the edges of all are read,
--- what is found is the least set that has the region and is closed under edges, which is the definition's reach.
+-- Reach by a worklist: the regions found so far, and those whose edges have been read, each once. Where the edges of all that are found are
+-- read, they are the least set that has the region and is closed under edges, which is the definition's reach.
 use Prim.Native.Nat.{ℕ, _-_, _≤_, _<_}
 use mathlib.Core.Bool.{Bool, true, false}
 use mathlib.Core.List.{List}
@@ -22,77 +22,65 @@ use Rattle.region_graph.specs.Reach.{reach-closed}
 use Rattle.region_graph.specs.Typed.{region-in}
 use Rattle.windows.specs.Targets.{setAt, Between}
 
--- ---- the worklist, where `next u` is where u's edges lead
-module _ (next : ℕ → Set) (r : ℕ) where
-  pub record Reading (found read : Set) : Type 0 where
-    pub within : (n : ℕ) → member read n ≡ true → member found n ≡ true
-    pub start : 1 ≤ r → r ≤ maxRegions → member found r ≡ true
-    pub closed : (u t : ℕ) → member read u ≡ true → member (next u) t ≡ true → member found t ≡ true
-    pub least : (test : ℕ → Bool) → test r ≡ true → ((u t : ℕ) → test u ≡ true → member (next u) t ≡ true → test t ≡ true)
-        → (u : ℕ) → member found u ≡ true → test u ≡ true
+-- ---- the worklist from region r, where `next u` is where u's edges lead
+pub record Reading (next : ℕ → Set) (r : ℕ) (found read : Set) : Type 0 where
+  pub start : 1 ≤ r → r ≤ maxRegions → member found r ≡ true
+  pub closed : (u t : ℕ) → member read u ≡ true → member (next u) t ≡ true → member found t ≡ true
+  pub least : (test : ℕ → Bool) → test r ≡ true → ((u t : ℕ) → test u ≡ true → member (next u) t ≡ true → test t ≡ true)
+      → (u : ℕ) → member found u ≡ true → test u ≡ true
 
-  first : Reading (single r) emptySet
+module _ {next : ℕ → Set} {r : ℕ} where
+  -- no edges are read at first
+  first : Reading next r (single r) emptySet
   first = record {
-    within = λ n m. absurd (clash m (member-empty n));
     start = single-mk r;
     closed = λ u t m. absurd (clash m (member-empty u));
     least = λ test h onward u m. ap test (sym (single-in r u m)) ∙ h;
   }
 
-  pub starts : {found read : Set} → found ≡ single r → read ≡ emptySet → Reading found read
-  starts e g = rw (e, g) first
+  pub starts : {found : Set} → found ≡ single r → Reading next r found emptySet
+  starts e = rw e first
 
-  -- no edges are read at first
-  pub starts-at : (found : Set) {read : Set} {u : ℕ} → read ≡ emptySet → u ≡ nextMember found 0 → u ≡ nextMember (found ∖ read) 0
-  starts-at found e g = g ∙ ap (λ (s : Set). nextMember s 0) (rw e (sym whole))
-    where
-      whole : found ∖ emptySet ≡ found
-      whole =
-          subset-antisym (found ∖ emptySet) found (subset-mk _ _ (λ n m. difference-in found emptySet n m .0))
-          (subset-mk _ _ (λ n m. difference-mk found emptySet n m (member-empty n)))
+  -- u is next: the lowest region that is found and whose edges are not read
+  module _ {found read : Set} (h : Reading next r found read) {u : ℕ} (g : u ≡ nextMember (found ∖ read) 0) where
+    pub is-next : u < places → (1 ≤ u) × (member found u ≡ true) × (member read u ≡ false)
+    is-next l =
+        let x = next-is (found ∖ read) 0 in
+        let n = x .low in
+        let d = difference-in found read u (rw g (x .found (rw (← g) l))) in
+        (omega (arith, g), d .0, d .1)
 
-  -- u is next: found, and its edges are not read yet
-  module _ {found read : Set} (h : Reading found read) {o : Set} (u : ℕ) (e : o ≡ found ∖ read) (g : u ≡ nextMember o 0) (l : u < places) where
-    is-next : (member found u ≡ true) × (member read u ≡ false)
-    is-next = difference-in found read u (rw (← e, g) (next-is o 0 .found (rw (← g) l)))
+    -- none is left: what is found is read
+    all-read : places ≤ u → (n : ℕ) → n ≤ maxRegions → member found n ≡ true → member read n ≡ true
+    all-read l n k m = go (truth (member read n))
+      where
+        go : (member read n ≡ true) ⊎ (member read n ≡ false) → member read n ≡ true
+        go (inl p) = p
+        go (inr p) =
+            let d = difference-mk found read n m p in
+            absurd (clash d (next-is (found ∖ read) 0 .none n (member-pos (found ∖ read) n d) (omega (arith, g))))
 
-    pub numbered : 1 ≤ u
-    numbered = let n = next-is o 0 .low in omega (arith, g)
-
-    pub not-read : member read u ≡ false
-    not-read = is-next .1
-
-    turn : Reading (found ∪ next u) (read ∪ single u)
-    turn = record {
-      within = λ n m. union-left found _ n (⊎-elim (h .within n) (λ q. rw (← single-in u n q) (is-next .0)) (union-in read _ n m));
+    -- u's edges are read
+    turn : u < places → Reading next r (found ∪ next u) (read ∪ single u)
+    turn l = record {
       start = λ a b. union-left found _ r (h .start a b);
       closed = λ v t m i. ⊎-elim (λ p. union-left found _ t (h .closed v t p i)) (λ q. union-right found _ t (ap (λ (x : ℕ). member (next x) t) (single-in u v q) ∙ i)) (union-in read _ v m);
-      least = λ test o onward v m. ⊎-elim (h .least test o onward v) (onward u v (h .least test o onward u (is-next .0))) (union-in found _ v m);
+      least = λ test o onward v m. ⊎-elim (h .least test o onward v) (onward u v (h .least test o onward u (is-next l .1))) (union-in found _ v m);
     }
 
     -- one more is read
-    more-read : size read < size (read ∪ single u)
-    more-read =
-        size-lt read (read ∪ single u) u (subset-mk _ _ (λ v. union-left read _ v)) not-read (union-right read _ u (single-mk u numbered (omega arith))) (omega arith)
+    more-read : u < places → size read < size (read ∪ single u)
+    more-read l =
+        let x = is-next l in
+        size-lt read (read ∪ single u) u (subset-mk _ _ (λ v. union-left read _ v)) (x .2) (union-right read _ u (single-mk u (x .0) (omega arith))) (omega arith)
 
     -- the same in the code's terms
-    pub goes : {found″ read″ s : Set} → s ≡ next u → found″ ≡ found ∪ s → read″ ≡ read ∪ single u
-        → Reading found″ read″ × (maxRegions - size read″ < maxRegions - size read)
-    goes i j k = rw (k, j, i) (turn, omega (arith, more-read, size-top (read ∪ single u)))
-
-  -- none is left: what is found is read
-  all-read : {found read o : Set} → Reading found read → {u : ℕ} → o ≡ found ∖ read → u ≡ nextMember o 0 → places ≤ u
-      → (n : ℕ) → n ≤ maxRegions → member found n ≡ true → member read n ≡ true
-  all-read {found} {read} {o} h {u} e g l n k m = go (truth (member read n))
-    where
-      go : (member read n ≡ true) ⊎ (member read n ≡ false) → member read n ≡ true
-      go (inl p) = p
-      go (inr p) =
-          let d : member o n ≡ true = rw e (difference-mk found read n m p) in
-          absurd (clash d (next-is o 0 .none n (member-pos o n d) (omega (arith, g))))
+    pub goes : u < places → {found″ read″ s : Set} → s ≡ next u → found″ ≡ found ∪ s → read″ ≡ read ∪ single u
+        → Reading next r found″ read″ × (maxRegions - size read″ < maxRegions - size read)
+    goes l i j k = rw (k, j, i) (turn l, omega (arith, more-read l, size-top (read ∪ single u)))
 
 -- ---- the definition's reach
-module _ {t : List ℕ} {r u : ℕ} {found read o : Set} (h : Reading (setAt t) r found read) (e : o ≡ found ∖ read) (j : u ≡ nextMember o 0) (l : places ≤ u)
+module _ {t : List ℕ} {r u : ℕ} {found read : Set} (h : Reading (setAt t) r found read) (j : u ≡ nextMember (found ∖ read) 0) (l : places ≤ u)
     (T : List (List Functor)) (S : Signature) (d : Declared T S) (q : Between S t) where
   leads : (u t : ℕ) → isRegion S u ≡ true → inList t (targets S u) ≡ true → isRegion S t ≡ true
   leads u t i m = d .onward u t i m .0
@@ -118,7 +106,7 @@ module _ {t : List ℕ} {r u : ℕ} {found read o : Set} (h : Reading (setAt t) 
           let a = and-true m in
           let b = leads w v (a .1) i in
           let y = home w (a .1) in
-          true-and (h .closed w v (all-read (setAt t) r h e j l w (y .1) (a .0)) (q .low w v (a .1) i)) b
+          true-and (h .closed w v (all-read h j l w (y .1) (a .0)) (q .low w v (a .1) i)) b
 
       outside : (v : ℕ) → member (reachFrom S r) v ≡ true → member found v ≡ true
       outside v m =

@@ -1,14 +1,15 @@
 -- `reach_from` meets its contract: the invariant and its laws are in Reading.
 use Prim.Native.Nat.{_-_}
-use mathlib.Core.Path.{_≡_, refl, ap, _∙_}
+use mathlib.Core.Path.{_≡_, sym, ap, _∙_}
 use borrow.Author.Needs.{needs}
 use Rattle.sets.specs.Sets.{_∖_}
 use Rattle.sets.specs.Members.{nextMember}
 use Rattle.sets.specs.Size.{size}
 use Rattle.sets.specs.declared.Set.{Set}
 use Rattle.language.specs.Format.{maxRegions}
+use Rattle.laws.specs.MoreSets.{difference-empty}
 use Rattle.windows.specs.Targets.{setAt}
-use Rattle.windows.specs.Reading.{Reading, starts, starts-at, numbered, not-read, goes, reached}
+use Rattle.windows.specs.Reading.{Reading, is-next, starts, goes, reached}
 use Rattle.windows.proofs.reaching.reach_from.Statement.{statement}
 use Rattle.windows.proofs.reaching.reach_from.Tie as tie
 
@@ -20,39 +21,31 @@ abbrev μ-loop : tie.MeasureT-loop
 μ-loop targets r found₀ read₀ u₀ found read u = maxRegions - size read
 
 loop-holds : tie.Need-loop-holds Inv-loop μ-loop
-loop-holds c =
-    let a = c .before .before .before .args in
-    (starts (setAt (a .targets .now)) (a .r) (c .before .of .ensures) refl, starts-at (setAt (a .targets .now)) (a .r) _ refl (c .after .ensures))
+loop-holds c = (starts (c .before .of .ensures), c .after .ensures ∙ ap (λ (s : Set). nextMember s 0) (sym (difference-empty _)))
 
 read-edges-requires : tie.Need-read-edges-requires Inv-loop μ-loop
 read-edges-requires c κs =
     let l = c .before in
-    let s = l .before .before .before .before in
-    let n = setAt (s .args .targets .now) in
-    let i = l .loop .inv in
     let t = c .loop-test .taken in
-    (s .pre, (numbered n (s .args .r) (i .0) (l .loop .u) refl (i .1) t, (t, not-read n (s .args .r) (i .0) (l .loop .u) refl (i .1) t)))
+    let x = is-next (l .loop .inv .0) (l .loop .inv .1) t in
+    (l .before .before .before .before .pre, (x .0, (t, x .2)))
 
 loop-less : tie.Need-loop-less Inv-loop μ-loop
 loop-less c =
     let e = c .before .before .before .before in
-    let l = e .before .before in
-    let a = l .before .before .before .before .args in
-    goes (setAt (a .targets .now)) (a .r) (l .loop .inv .0) (l .loop .u) refl (l .loop .inv .1) (e .before .loop-test .taken) (e .read-edges .ensures .0)
-    (c .before .before .before .union .ensures) (e .read-edges .ensures .1) .1
+    let i = e .before .before .loop .inv in
+    goes (i .0) (i .1) (e .before .loop-test .taken) (e .read-edges .ensures .0) (c .before .before .before .union .ensures) (e .read-edges .ensures .1) .1
 
 loop-again : tie.Need-loop-again Inv-loop μ-loop
 loop-again c =
     let e = c .before .before .before .before in
-    let l = e .before .before in
-    let a = l .before .before .before .before .args in (
-      goes (setAt (a .targets .now)) (a .r) (l .loop .inv .0) (l .loop .u) refl (l .loop .inv .1) (e .before .loop-test .taken) (e .read-edges .ensures .0)
-          (c .before .before .before .union .ensures) (e .read-edges .ensures .1) .0,
+    let i = e .before .before .loop .inv in (
+      goes (i .0) (i .1) (e .before .loop-test .taken) (e .read-edges .ensures .0) (c .before .before .before .union .ensures) (e .read-edges .ensures .1) .0,
       c .after2 .ensures ∙ ap (λ (s : Set). nextMember s 0) (c .before .difference .ensures),
     )
 
 returns : tie.Need-returns Inv-loop μ-loop
-returns c = let l = c .before .loop in reached (l .inv .0) refl (l .inv .1) (c .loop-test .left)
+returns c = let l = c .before .loop in reached (l .inv .0) (l .inv .1) (c .loop-test .left)
 
 pub reach-from-spec : {M : Type 1} → statement M
 reach-from-spec =
