@@ -3,8 +3,6 @@ use Prim.Native.Nat.{ℕ}
 use mathlib.Core.Path.{_≡_, ap}
 use mathlib.Core.Bool.{Bool, true, false, false≢true}
 use mathlib.Core.List.{List, [], _∷_, _++_}
-use lib.Dec.{leb}
-use Rattle.language.specs.Lists.{choose}
 use Rattle.language.specs.File.{edges}
 use Rattle.language.specs.Program.{Signature}
 use Rattle.language.specs.Answers.{program}
@@ -36,9 +34,9 @@ module _ (f own : List ℕ) where
   abbrev pub FunctorMatch : ℕ → ℕ → ℕ → Rest → Type 0
   FunctorMatch g i e r = EdgesMatch f (declared f own) (placesIn (program f .types) g 1 (typesIn (functorAtRecord f i))) e r
 
--- the place of functor g at position k, where that is within the arity and its type has regions
-unfoldable pub placeAt : List ℕ → ℕ → ℕ → ℕ → ℕ → List Place
-placeAt f g arity k t = choose (leb k arity) (placeIf (regioned (program f .types) t) (record { functor = g; position = k; type = t }) []) []
+-- the place of functor g at position k, where its type has regions
+unfoldable pub placeAt : List ℕ → ℕ → ℕ → ℕ → List Place
+placeAt f g k t = placeIf (regioned (program f .types) t) (record { functor = g; position = k; type = t }) []
 
 -- all places of the functors from record start on
 abbrev pub AllMatch : List ℕ → List ℕ → ℕ → ℕ → Bool → Type 0

@@ -1,22 +1,23 @@
 -- What fills the two tables: the functors type by type, then all that the file declares; what a procedure declares.
 use Prim.Native.Nat.{ℕ, zero, suc, _+_, _*_, _≤_, _<_}
 use native.Mathlib.Omega.{arith}
-use native.Mathlib.Decide.{decLt}
+use native.Mathlib.Decide.{decLt, ℕ-discrete}
 use mathlib.Core.Path.{_≡_, refl, ap, sym, _∙_}
 use mathlib.Core.Bool.{true}
 use borrow.Author.Tests.{leb-true}
 use Rattle.sets.specs.Tests.{and-true}
 use mathlib.Core.List.{List}
 use mathlib.Core.Logic.{inl, inr}
-use lib.ListN.{length, getD, replicate}
+use lib.ListN.{length, getD, set, replicate, length-set}
+use lib.Seq.{getD-set-same, getD-set-other}
 use Rattle.laws.specs.Lists.{nth-past}
-use Rattle.language.specs.Format.{nextWord, headerTypes, headerProcedures, typeFunctors, procedureVariables, procedureRegions, maxFunctors, maxTypes, maxProcedures, maxVariables, maxRegions, places}
+use Rattle.language.specs.Format.{nextWord, headerTypes, headerProcedures, typeFunctors, procedureVariables, procedureRegions, maxRecords, maxFunctors, maxTypes, maxProcedures, maxVariables, maxRegions, places}
 use Rattle.language.specs.Lists.{nth, nth1}
 use Rattle.language.specs.File.{procedures, variables, regions, word, recordCount}
 use Rattle.language.specs.Typing.{typesOk}
 use Rattle.language.specs.Answers.{program}
 use Rattle.chains.specs.Fields.{fieldOf, field-none, field-some}
-use Rattle.chains.specs.Formed.{Formed, Stands, procedures-stand, program-procedures, variablesAt, regionsAt}
+use Rattle.chains.specs.Formed.{Formed, Stands, counted, procedures-stand, program-procedures, variablesAt, regionsAt}
 use Rattle.chains.specs.Records.{chainRecords, records-none, records-step}
 use Rattle.chains.specs.Elements.{procedures-count, variables-count, regions-count}
 use Rattle.chains.specs.Is.{procedure-is}
@@ -24,7 +25,8 @@ use Rattle.chains.specs.Declared.{procedure-at}
 use Rattle.declarations.specs.Places.{procedurePlaces, functorPlaces, filePlaces, placeIn, place-past, place-there, place-same, functorIn, functor-past, functor-there, functor-same, regionPlaces, ownPlaces, variableIn, regionIn}
 use Rattle.declarations.specs.Listing.{Lists, lists-entry, lists-place, ChainLeft, blank-at}
 use Rattle.declarations.specs.Parameters.{Linked}
-use Rattle.declarations.specs.Declares.{typeStart, functors-length, few-functors, first-record, Declares}
+use Rattle.declarations.specs.Regioned.{regionedStart, no-start}
+use Rattle.declarations.specs.Declares.{typeStart, start-stands, functors-length, few-functors, first-record, Declares}
 use Rattle.declarations.specs.Functors.{stands-same}
 use Rattle.declarations.specs.Own.{OwnOf, signatureFrom, signatureAt, declared, fewDeclared}
 use Rattle.declarations.specs.TypeLaws.{few-types, type-count}
@@ -59,36 +61,67 @@ pub record FunctorsSo (f t u : List ℕ) (n : ℕ) : Type 0 where
   pub kept : length u ≡ length t
   pub right : (ty m : ℕ) → ty ≤ n → m < maxFunctors → getD u (functorPlaces + maxFunctors * ty + m) 0 ≡ nth 0 (chainRecords f (typeStart f ty)) m
   pub blank : (k : ℕ) → functorPlaces + maxFunctors * suc n ≤ k → getD u k 0 ≡ 0
-  pub other : (k : ℕ) → k < functorPlaces → getD u k 0 ≡ getD t k 0
+  pub starts : (ty : ℕ) → ty ≤ n → getD u (typeStart f ty) 0 ≡ regionedStart f (typeStart f ty)
+  pub other : (k : ℕ) → maxRecords ≤ k → k < functorPlaces → getD u k 0 ≡ getD t k 0
 
 -- of all types
 pub record Functors (f t u : List ℕ) : Type 0 where
   pub kept : length u ≡ length t
   pub right : (ty m : ℕ) → functorIn u ty m ≡ nth 0 (chainRecords f (typeStart f ty)) m
-  pub other : (k : ℕ) → k < functorPlaces → getD u k 0 ≡ getD t k 0
+  pub starts : (ty : ℕ) → getD u (typeStart f ty) 0 ≡ regionedStart f (typeStart f ty)
+  pub other : (k : ℕ) → maxRecords ≤ k → k < functorPlaces → getD u k 0 ≡ getD t k 0
+
+-- no type has the number 0
+pub functors-zero : {f t u : List ℕ} → Functors f t u → getD u 0 0 ≡ 0
+functors-zero {f} {u = u} S = ap (λ k. getD u k 0) (sym (start-none f)) ∙ S .starts 0 ∙ no-start f (start-none f)
 
 no-records : (f : List ℕ) {i : ℕ} (m : ℕ) → i ≡ 0 → nth 0 (chainRecords f i) m ≡ 0
 unfolding nth
 no-records f m z = ap (λ xs. nth 0 xs m) (records-none f z)
 
-pub functors-none : (f : List ℕ) {t : List ℕ} → ((k : ℕ) → functorPlaces ≤ k → getD t k 0 ≡ 0) → FunctorsSo f t t 0
-functors-none f b = record {
+pub functors-none : (f : List ℕ) {t : List ℕ} → getD t 0 0 ≡ 0 → ((k : ℕ) → functorPlaces ≤ k → getD t k 0 ≡ 0) → FunctorsSo f t t 0
+functors-none f {t} z b = record {
   kept = refl;
   right = λ ty m h l. let z : ty ≡ 0 = omega arith in b (functorPlaces + maxFunctors * ty + m) (omega arith) ∙ sym (no-records f m (ap (typeStart f) z ∙ start-none f));
   blank = λ k h. b k (omega arith);
-  other = λ k h. refl;
+  starts = λ ty h. let e : ty ≡ 0 = omega arith in let q = ap (typeStart f) e ∙ start-none f in ap (λ k. getD t k 0) q ∙ z ∙ sym (no-start f q);
+  other = λ k h l. refl;
 }
 
 module _ {f t u : List ℕ} {n : ℕ} (S : FunctorsSo f t u n) where
-  pub functors-next : {i start at n′ : ℕ} {u′ : List ℕ} → nth 0 (chainRecords f (word f 0 headerTypes)) n ≡ i → (i ≡ 0 → ⊥) → start ≡ word f i typeFunctors
-      → at ≡ functorPlaces + maxFunctors * n′ → n′ ≡ suc n → length (chainRecords f start) ≤ maxFunctors → Lists f start at u u′ → FunctorsSo f t u′ n′
-  functors-next {i} {start} {at} {n′} {u′} ei z es ea en few L = record {
-    kept = L .kept ∙ S .kept;
-    right = there;
-    blank = λ k h. L .other k (inr (omega arith)) ∙ S .blank k (omega arith);
-    other = λ k h. L .other k (inl (omega arith)) ∙ S .other k h;
+  pub functors-next : {i start at n′ v : ℕ} {u′ : List ℕ} → Formed f → nth 0 (chainRecords f (word f 0 headerTypes)) n ≡ i → (i ≡ 0 → ⊥)
+      → start ≡ word f i typeFunctors → at ≡ functorPlaces + maxFunctors * n′ → n′ ≡ suc n → length (chainRecords f start) ≤ maxFunctors → filePlaces ≤ length t
+      → Lists f start at u u′ → v ≡ regionedStart f start → FunctorsSo f t (set u′ start v) n′
+  functors-next {i} {start} {at} {n′} {v} {u′} F ei z es ea en few long L ev = record {
+    kept = simp length-set (L .kept ∙ S .kept);
+    right = λ ty m h l. untouched (functorPlaces + maxFunctors * ty + m) (λ q. omega (arith, low)) ∙ there ty m h l;
+    blank = λ k h. untouched k (λ q. omega (arith, low)) ∙ L .other k (inr (omega arith)) ∙ S .blank k (omega arith);
+    starts = start-there;
+    other = λ k h l. untouched k (λ q. omega (arith, low)) ∙ L .other k (inl (omega arith)) ∙ S .other k h l;
   }
     where
+      here : start ≡ typeStart f (suc n)
+      here = start-here f n ei z es
+
+      start-low : (ty : ℕ) → typeStart f ty < maxRecords
+      start-low ty = omega (arith, start-stands F ty .below, counted F .most)
+
+      low : start < maxRecords
+      low = omega (arith, here, start-low (suc n))
+
+      untouched : (k : ℕ) → (k ≡ start → ⊥) → getD (set u′ start v) k 0 ≡ getD u′ k 0
+      untouched k ne = getD-set-other u′ start k v 0 ne
+
+      start-there : (ty : ℕ) → ty ≤ n′ → getD (set u′ start v) (typeStart f ty) 0 ≡ regionedStart f (typeStart f ty)
+      start-there ty h =
+          elim (ℕ-discrete (typeStart f ty) start) [
+            | yes q ↦ rw q (getD-set-same u′ start v 0 (omega (arith, low, L .kept, S .kept)) ∙ ev)
+            | no q ↦ untouched (typeStart f ty) q ∙ L .other (typeStart f ty) (inl (omega (arith, start-low ty))) ∙ S .starts ty (earlier q)
+          ]
+        where
+          earlier : (typeStart f ty ≡ start → ⊥) → ty ≤ n
+          earlier q = elim (decLt n ty) [ yes d ↦ let e : ty ≡ suc n = omega arith in absurd (q (ap (typeStart f) e ∙ sym here)) | no d ↦ omega arith ]
+
       there : (ty m : ℕ) → ty ≤ n′ → m < maxFunctors → getD u′ (functorPlaces + maxFunctors * ty + m) 0 ≡ nth 0 (chainRecords f (typeStart f ty)) m
       there ty m h l =
           elim (decLt n ty) [
@@ -113,12 +146,23 @@ module _ {f t u : List ℕ} {n : ℕ} (S : FunctorsSo f t u n) where
           | no l ↦ sym (functor-past u ty m (omega arith))
         ]
 
+    no-type : (ty : ℕ) → n < ty → typeStart f ty ≡ 0
+    no-type zero h = absurd (omega arith)
+    no-type (suc k) h = start-past f k (omega arith)
+
     pub functors-all : Functors f t u
-    functors-all = record { kept = S .kept; right = each; other = S .other }
+    functors-all = record { kept = S .kept; right = each; starts = start-each; other = S .other }
       where
+        start-each : (ty : ℕ) → getD u (typeStart f ty) 0 ≡ regionedStart f (typeStart f ty)
+        start-each ty =
+            elim (decLt n ty) [
+              | yes h ↦ let e : typeStart f ty ≡ typeStart f 0 = no-type ty h ∙ sym (start-none f) in rw e (S .starts 0 (omega arith))
+              | no h ↦ S .starts ty (omega arith)
+            ]
+
         each : (ty m : ℕ) → functorIn u ty m ≡ nth 0 (chainRecords f (typeStart f ty)) m
         each zero m = there 0 m (omega arith)
-        each (suc k) m = elim (decLt n (suc k)) [ yes h ↦ past (suc k) m h ∙ sym (no-records f m (start-past f k (omega arith))) | no h ↦ there (suc k) m (omega arith) ]
+        each (suc k) m = elim (decLt n (suc k)) [ yes h ↦ past (suc k) m h ∙ sym (no-records f m (no-type (suc k) h)) | no h ↦ there (suc k) m (omega arith) ]
 
 -- ---- all that the file declares
 module _ {f : List ℕ} (F : Formed f) (h : length (program f .procedures) ≤ maxProcedures) {first : ℕ} (e : first ≡ word f 0 headerProcedures) where
@@ -129,12 +173,17 @@ module _ {f : List ℕ} (F : Formed f) (h : length (program f .procedures) ≤ m
   file-listed ok {t0} {t1} {t2} {t3} b L S K = record {
     formed = F;
     types-ok = ok;
-    functors = λ ty m. functor-same t2 ty m t3 (λ k l. K .other k (omega arith)) ∙ S .right ty m;
+    functors = listed;
+    starts = λ ty.
+        ap (λ k. getD t3 k 0) (listed ty 0 ∙ first-record F (start-stands F ty)) ∙ K .other (typeStart f ty) (inl (start-stands F ty)) ∙ S .starts ty;
     procedures = λ q.
-        place-same t2 procedurePlaces maxProcedures q t3 (λ k a b. K .other k a) ∙ place-same t1 procedurePlaces maxProcedures q t2 (λ k a b. S .other k b)
+        place-same t2 procedurePlaces maxProcedures q t3 (λ k a b. K .other k (inr a)) ∙ place-same t1 procedurePlaces maxProcedures q t2 (λ k a b. S .other k a b)
         ∙ lists-place L maxProcedures (λ k x y. blank-at filePlaces b k) procedures-few q ∙ ap (λ i. nth 0 (chainRecords f i) q) e;
     parameters = λ v s. K .right v (elim (decLt 0 v) [ yes l ↦ inr (omega arith) | no l ↦ inl (omega arith) ]) s;
   }
+    where
+      listed : (ty m : ℕ) → functorIn t3 ty m ≡ nth 0 (chainRecords f (typeStart f ty)) m
+      listed ty m = functor-same t2 ty m t3 (λ k l. K .other k (inr (omega arith))) ∙ S .right ty m
 
 -- ---- what a procedure declares: its variables from record v on, its regions from record r on
 numbered : (f : List ℕ) (i : ℕ) (u : List ℕ) (at most : ℕ) → getD u at 0 ≡ 0 → ((n : ℕ) → n < most → getD u (at + 1 + n) 0 ≡ nth 0 (chainRecords f i) n)

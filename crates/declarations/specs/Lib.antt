@@ -2,6 +2,7 @@ pub mod Places
 pub mod Listing
 pub mod Parameters
 pub mod Functors
+pub mod Regioned
 pub mod Types
 pub mod TypeLaws
 pub mod Declares

@@ -11,11 +11,11 @@ use lib.ListN.{length, getD, set, length-set}
 use lib.Seq.{getD-set-same, getD-set-other}
 use Rattle.language.specs.Format.{kindWord, nextWord, variableMode, variableType, variableKind, maxRecords}
 use Rattle.language.specs.Lists.{choose}
-use Rattle.language.specs.File.{variables, word, recordCount}
+use Rattle.language.specs.File.{kVariable, functors, variables, rowIn, row, word, recordCount}
 use Rattle.language.specs.Program.{Variable}
 use Rattle.chains.specs.Formed.{Formed, Stands, stands-none, counted, Onward, variablesAt, ahead}
-use Rattle.chains.specs.Is.{variable-is}
-use Rattle.chains.specs.Shapes.{variable-number}
+use Rattle.chains.specs.Is.{functor-is, variable-is}
+use Rattle.chains.specs.Shapes.{variable-number, by-number}
 use Rattle.chains.specs.Declared.{variable-at}
 use Rattle.declarations.specs.Places.{filePlaces}
 
@@ -72,11 +72,18 @@ module _ {f : List ℕ} (F : Formed f) (v : ℕ) (s : Stands f variables v) (z :
   onward : Onward f variables v (word f v nextWord)
   onward = variable-at F refl (variable-is s z) .to-next
 
--- ---- what the code computes, from table t: u has the links of the records from i on, and is as t where no record's place is
+-- no functor is a variable
+functor-other : {f : List ℕ} {k : ℕ} → Stands f functors k → (k ≡ 0 → ⊥) → word f k kindWord ≡ variableKind → ⊥
+unfolding row rowIn
+functor-other {f} {k} s z e =
+    let r = sym (functor-is s z) ∙ by-number f k kVariable refl e in
+    let q : _≡_ {A = ℕ} 0 1 = cc in omega arith
+
+-- ---- what the code computes, from table t: u has the links of the records from i on, and is as t where a functor's place is, or no record's
 pub record Linked (f t u : List ℕ) (i : ℕ) : Type 0 where
   pub kept : length u ≡ length t
   pub right : (v : ℕ) → (v ≡ 0) ⊎ (i ≤ v) → Stands f variables v → ParameterFrom f v (getD u v 0)
-  pub other : (k : ℕ) → maxRecords ≤ k → getD u k 0 ≡ getD t k 0
+  pub other : (k : ℕ) → Stands f functors k ⊎ (maxRecords ≤ k) → getD u k 0 ≡ getD t k 0
 
 module _ {f : List ℕ} (F : Formed f) where
   parameter-none : {v u : ℕ} → v ≡ 0 → u ≡ 0 → ParameterFrom f v u
@@ -113,9 +120,14 @@ module _ {f : List ℕ} (F : Formed f) where
               rw (sym (link-local f u j n)) (record { stands = k .stands; falls = omega (arith, k .falls, o .falls); passes = k .passes; same = k .same ∙ sym (taken-local F j s z n) })
         ]
 
-    linked-next : j < maxRecords → filePlaces ≤ length t → {w : ℕ} → (Stands f variables j → ParameterFrom f j w) → Linked f t (set u j w) j
-    linked-next b h {w} p = record { kept = simp length-set (L .kept); right = at; other = λ k l. getD-set-other u j k w 0 (λ q. omega arith) ∙ L .other k l }
+    linked-next : word f j kindWord ≡ variableKind → j < maxRecords → filePlaces ≤ length t → {w : ℕ} → (Stands f variables j → ParameterFrom f j w)
+        → Linked f t (set u j w) j
+    linked-next ek b h {w} p = record { kept = simp length-set (L .kept); right = at; other = λ k o. getD-set-other u j k w 0 (apart k o) ∙ L .other k o }
       where
+        apart : (k : ℕ) → Stands f functors k ⊎ (maxRecords ≤ k) → k ≡ j → ⊥
+        apart k (inl s) q = functor-other (rw q at s) z ek
+        apart k (inr l) q = omega arith
+
         at : (v : ℕ) → (v ≡ 0) ⊎ (j ≤ v) → Stands f variables v → ParameterFrom f v (getD (set u j w) v 0)
         at v (inl d) s = rw (getD-set-other u j v w 0 (λ q. z (sym q ∙ d))) (L .right v (inl d) s)
         at v (inr l) s =
@@ -124,8 +136,8 @@ module _ {f : List ℕ} (F : Formed f) where
               | no m ↦ let d : v ≡ j = omega arith in rw (d, getD-set-same u j w 0 (omega (arith, L .kept))) (p (rw (sym d) s))
             ]
 
-    pub linked-variable : j < recordCount f → filePlaces ≤ length t → {w : ℕ} → w ≡ linkOf f u j → Linked f t (set u j w) j
-    linked-variable b h {w} ew = linked-next (omega (arith, counted F .most)) h λ s. rw ew (parameter-here s)
+    pub linked-variable : word f j kindWord ≡ variableKind → j < recordCount f → filePlaces ≤ length t → {w : ℕ} → w ≡ linkOf f u j → Linked f t (set u j w) j
+    linked-variable ek b h {w} ew = linked-next ek (omega (arith, counted F .most)) h λ s. rw ew (parameter-here s)
 
 pub linked-all : {f t u : List ℕ} {i : ℕ} → Linked f t u i → i ≤ 1 → Linked f t u 1
 linked-all L h = record { kept = L .kept; right = λ v o s. L .right v (elim o [ inl d ↦ inl d | inr l ↦ inr (omega arith) ]) s; other = L .other }

@@ -4,14 +4,15 @@ use Prim.Native.Nat.{ℕ, _+_, _*_, _≤_, _<_}
 use borrow.Author.Tests.{lt-ltb, le-ltb}
 use native.Mathlib.Decide.{decLt}
 use native.Mathlib.Omega.{arith}
-use mathlib.Core.Path.{_≡_}
+use mathlib.Core.Path.{_≡_, ap, _∙_}
 use mathlib.Core.List.{List}
 use lib.Dec.{ltb}
 use lib.ListN.{getD}
 use Rattle.language.specs.Format.{maxRecords, maxProcedures, maxFunctors, places}
 use Rattle.language.specs.Lists.{choose}
 
--- the file's: links between variables by their records, then the procedures, then maxFunctors places for each type
+-- the file's: by their records, links between variables and marks at the first functors of types with regions; then the procedures, then maxFunctors
+-- places for each type
 abbrev pub procedurePlaces : ℕ
 procedurePlaces = maxRecords
 
@@ -46,6 +47,10 @@ module _ (t : List ℕ) where
   unfoldable pub functorIn : ℕ → ℕ → ℕ
   functorIn ty n = choose (ltb ty places) (placeIn t (functorPlaces + maxFunctors * ty) maxFunctors n) 0
 
+  -- the first functor of type ty, where the type has regions
+  abbrev pub regionedIn : ℕ → ℕ
+  regionedIn ty = getD t (functorIn ty 0) 0
+
 -- ---- looking up
 module _ (t : List ℕ) (at most n : ℕ) where
   pub place-past : most ≤ n → 0 ≡ placeIn t at most n
@@ -69,6 +74,9 @@ module _ (t : List ℕ) (ty n : ℕ) where
   pub functor-there : ty < places → {r : ℕ} → r ≡ placeIn t (functorPlaces + maxFunctors * ty) maxFunctors n → r ≡ functorIn t ty n
   unfolding functorIn choose
   functor-there h e = rw (lt-ltb ty places h) e
+
+  pub functor-first : ty < places → n ≡ 0 → getD t (functorPlaces + maxFunctors * ty) 0 ≡ functorIn t ty n
+  functor-first h z = functor-there h (ap (λ k. getD t k 0) (omega arith) ∙ place-there t (functorPlaces + maxFunctors * ty) maxFunctors n (omega arith))
 
   pub functor-same : (u : List ℕ) → ((k : ℕ) → functorPlaces ≤ k → getD u k 0 ≡ getD t k 0) → functorIn u ty n ≡ functorIn t ty n
   unfolding functorIn choose

@@ -1,16 +1,16 @@
 -- What a procedure declares: what the code tests by the two tables is what the definition says.
 use Prim.Native.Nat.{ℕ, _≤_, _<_}
 use native.Mathlib.Omega.{arith}
-use borrow.Author.Tests.{le-leb, lt-leb, lt-ltb, le-ltb}
+use borrow.Author.Tests.{le-leb, lt-leb}
 use mathlib.Core.Path.{_≡_, refl, ap, sym, _∙_}
 use mathlib.Core.Bool.{Bool, true, false}
 use mathlib.Core.List.{List, _∷_}
 use lib.Dec.{eqb, leb}
 use lib.ListN.{length}
-use Rattle.sets.specs.Tests.{_&_}
+use Rattle.sets.specs.Tests.{_&_, neg, and-true}
 use Rattle.laws.specs.Tests.{and-assoc, and-stop, and-on, refuse, pass}
 use Rattle.language.specs.Format.{nextWord, procedureVariables, procedureRegions, variableMode, variableType, variableRegion, regionType, regionClass, regionEdges, deadClass, maxVariables, maxRegions}
-use Rattle.language.specs.Lists.{all, choose}
+use Rattle.language.specs.Lists.{all, choose, nth1}
 use Rattle.language.specs.File.{procedures, variables, regions, word}
 use Rattle.language.specs.Program.{Functor, Variable, Region, Signature, functorsOf, outMode}
 use Rattle.language.specs.Answers.{program}
@@ -20,8 +20,9 @@ use Rattle.chains.specs.Records.{chainRecords}
 use Rattle.chains.specs.Elements.{variables-count, regions-count}
 use Rattle.chains.specs.Is.{procedure-is, variable-is, region-is}
 use Rattle.chains.specs.Declared.{procedure-at, variable-at, region-at}
-use Rattle.declarations.specs.Places.{variableIn, regionIn, functorIn}
-use Rattle.declarations.specs.Declares.{Declares, type-listed, type-some, type-none, functors-here}
+use Rattle.declarations.specs.Places.{variableIn, regionIn, regionedIn, functorIn}
+use Rattle.declarations.specs.Regioned.{regioned-type}
+use Rattle.declarations.specs.Declares.{Declares, type-some, type-none, regioned-none, regioned-some, regioned-functors}
 use Rattle.declarations.specs.Own.{declared, signatureFrom, signatureAt, fewDeclared}
 
 unfoldable pub variableAtRecord : List ℕ → ℕ → Variable
@@ -57,6 +58,9 @@ module _ {f : List ℕ} {i : ℕ} (F : Formed f) where
   unfolding regionAtRecord
   regions-step s z = region-at F refl (region-is s z) .view
 
+and-same : {a b : Bool} (c : Bool) → a ≡ b → (a & c) ≡ (b & c)
+and-same c e = rw e
+
 module _ {f t : List ℕ} (D : Declares f t) (S : Signature) (i : ℕ) where
   -- ---- a variable
   module _ {m : ℕ} (em : m ≡ word f i variableMode) where
@@ -66,41 +70,47 @@ module _ {f t : List ℕ} (D : Declares f t) (S : Signature) (i : ℕ) where
 
     module _ (h : m ≤ outMode) {ty r : ℕ} (et : ty ≡ word f i variableType) (er : r ≡ word f i variableRegion) where
       pub variable-number : ty ≡ 0 → eqb r 0 ≡ variableOk (program f .types) S (variableAtRecord f i)
-      unfolding variableOk variableAtRecord isType regioned choose
+      unfolding variableOk variableAtRecord isType regioned functorsOf nth1 all neg choose
       variable-number z =
           and-on (le-leb (word f i variableMode) outMode (omega arith)) (and-on (le-leb (word f i variableType) (length (program f .types)) (omega arith))
-          (rw (lt-leb 1 (word f i variableType) (omega arith)) (ap (λ k. eqb k 0) er)))
+          (rw (sym et ∙ z) (ap (λ k. eqb k 0) er)))
 
-      module _ (z : ty ≡ 0 → ⊥) {g : ℕ} (eg : g ≡ functorIn t ty 0) where
-        pub variable-type : g ≡ 0 → false ≡ variableOk (program f .types) S (variableAtRecord f i)
-        unfolding variableOk variableAtRecord
-        variable-type e = and-on (le-leb (word f i variableMode) outMode (omega arith)) (and-stop _ (ap (isType (program f .types)) (sym et) ∙ type-none D ty eg z e))
+      module _ {s : ℕ} (es : s ≡ regionedIn t ty) where
+        pub variable-regioned : (s ≡ 0 → ⊥) → {b : Bool} → b ≡ isRegionOf S ty r → b ≡ variableOk (program f .types) S (variableAtRecord f i)
+        unfolding variableOk variableAtRecord choose
+        variable-regioned n eb =
+            let k = regioned-some D ty es n in
+            and-on (le-leb (word f i variableMode) outMode (omega arith)) (rw (sym et, sym er) (and-on (and-true (regioned-type (program f .types) ty ∙ k) .0) (rw k eb)))
 
-        pub variable-cell : (g ≡ 0 → ⊥) → {b : Bool} → b ≡ isRegionOf S ty r → b ≡ variableOk (program f .types) S (variableAtRecord f i)
-        unfolding variableOk variableAtRecord regioned choose
-        variable-cell n eb =
-            and-on (le-leb (word f i variableMode) outMode (omega arith)) (and-on (ap (isType (program f .types)) (sym et) ∙ type-some D ty eg n)
-            (rw (le-leb 1 (word f i variableType) (omega arith), sym et, sym er) eb))
+        module _ (n : s ≡ 0) (z : ty ≡ 0 → ⊥) {g : ℕ} (eg : g ≡ functorIn t ty 0) where
+          pub variable-type : g ≡ 0 → false ≡ variableOk (program f .types) S (variableAtRecord f i)
+          unfolding variableOk variableAtRecord
+          variable-type e = and-on (le-leb (word f i variableMode) outMode (omega arith)) (and-stop _ (ap (isType (program f .types)) (sym et) ∙ type-none D ty eg z e))
+
+          pub variable-bare : (g ≡ 0 → ⊥) → eqb r 0 ≡ variableOk (program f .types) S (variableAtRecord f i)
+          unfolding variableOk variableAtRecord choose
+          variable-bare m =
+              and-on (le-leb (word f i variableMode) outMode (omega arith)) (rw (sym et, sym er) (and-on (type-some D ty eg m) (rw (regioned-none D ty es n))))
 
   -- ---- a region
-  module _ {ty g : ℕ} (et : ty ≡ word f i regionType) (eg : g ≡ functorIn t ty 0) where
+  module _ {ty g : ℕ} (et : ty ≡ word f i regionType) (eg : g ≡ regionedIn t ty) where
     region-as : regionOk (program f .types) S (regionAtRecord f i)
-        ≡ ((isType (program f .types) ty & regioned (program f .types) ty) & leb (word f i regionClass) deadClass
+        ≡ (regioned (program f .types) ty & leb (word f i regionClass) deadClass
         & edgesOk (program f .types) S (placesFrom (program f .types) 0 (functorsOf (program f .types) ty)) (edgesAt f (word f i regionEdges)))
     unfolding regionOk regionAtRecord
-    region-as = rw et (sym (and-assoc _ _ _))
+    region-as = rw et (sym (and-assoc _ _ _) ∙ and-same _ (regioned-type (program f .types) (word f i regionType)))
 
     pub region-type : g ≡ 0 → false ≡ regionOk (program f .types) S (regionAtRecord f i)
-    region-type z = refuse _ (type-listed D ty) (le-ltb 0 (functorIn t ty 0) (omega arith)) ∙ sym region-as
+    region-type z = and-stop _ (regioned-none D ty eg z) ∙ sym region-as
 
     module _ (z : g ≡ 0 → ⊥) {c : ℕ} (ec : c ≡ word f i regionClass) where
       pub region-class : deadClass < c → false ≡ regionOk (program f .types) S (regionAtRecord f i)
-      region-class h = pass (type-listed D ty) (lt-ltb 0 (functorIn t ty 0) (omega arith)) (and-stop _ (lt-leb (word f i regionClass) deadClass (omega arith))) ∙ sym region-as
+      region-class h = and-on (regioned-some D ty eg z) (and-stop _ (lt-leb (word f i regionClass) deadClass (omega arith))) ∙ sym region-as
 
       pub region-edges : c ≤ deadClass → {e : ℕ} {b : Bool} → e ≡ word f i regionEdges → b ≡ edgesOk (program f .types) S (placesFrom (program f .types) 0 (functorsAt f g)) (edgesAt f e) → b ≡ regionOk (program f .types) S (regionAtRecord f i)
       region-edges h {e} {b} ee k =
-          pass (type-listed D ty) (lt-ltb 0 (functorIn t ty 0) (omega arith)) (and-on (le-leb (word f i regionClass) deadClass (omega arith))
-          (k ∙ ap (λ fs. edgesOk (program f .types) S (placesFrom (program f .types) 0 fs) (edgesAt f e)) (functors-here D ty eg) ∙ ap (λ j. edgesOk (program f .types) S (placesFrom (program f .types) 0 (functorsOf (program f .types) ty)) (edgesAt f j)) ee)) ∙ sym region-as
+          and-on (regioned-some D ty eg z) (and-on (le-leb (word f i regionClass) deadClass (omega arith))
+          (k ∙ ap (λ fs. edgesOk (program f .types) S (placesFrom (program f .types) 0 fs) (edgesAt f e)) (regioned-functors D ty eg z) ∙ ap (λ j. edgesOk (program f .types) S (placesFrom (program f .types) 0 (functorsOf (program f .types) ty)) (edgesAt f j)) ee)) ∙ sym region-as
 
 -- ---- all of it
 module _ (f : List ℕ) (i : ℕ) (F : Formed f) (s : Stands f procedures i) (z : i ≡ 0 → ⊥) {v l : ℕ} (ev : v ≡ word f i procedureVariables) (el : l ≡ length (chainRecords f v)) where

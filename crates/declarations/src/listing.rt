@@ -6,6 +6,7 @@ use crate::places::PROCEDURE_PLACES;
 use crate::places::REGION_PLACES;
 use chains::record_count;
 use chains::word;
+use language::format::FUNCTOR_ARITY;
 use language::format::HEADER_PROCEDURES;
 use language::format::HEADER_TYPES;
 use language::format::KIND;
@@ -21,7 +22,7 @@ ghost use mathlib.Core.Bool.{true};
 ghost use Prim.Native.Nat.{ℕ, _+_, _≤_, _<_};
 ghost use lib.ListN.{length, getD, replicate};
 ghost use Rattle.language.specs.Format.{maxProcedures};
-ghost use Rattle.language.specs.File.{procedures, recordCount};
+ghost use Rattle.language.specs.File.{functors, procedures, recordCount};
 ghost use Rattle.language.specs.Typing.{typesOk};
 ghost use Rattle.language.specs.Answers.{program};
 ghost use Rattle.records.specs.Sizes.{wordEnd};
@@ -31,6 +32,7 @@ ghost use Rattle.declarations.specs.Places.{filePlaces, functorPlaces, o
 ghost use Rattle.declarations.specs.Listing.{Lists};
 ghost use Rattle.declarations.specs.Parameters.{linkOf, Linked};
 ghost use Rattle.declarations.specs.Filling.{Functors};
+ghost use Rattle.declarations.specs.Regioned.{regionedStart};
 ghost use Rattle.declarations.specs.Declares.{Declares};
 ghost use Rattle.declarations.specs.Own.{signatureAt, fewDeclared, OwnOf};
 
@@ -63,23 +65,36 @@ fn list_records(file: &[u8], start: usize, at: usize, table: &mut [u16])
     }
 }
 
-// The functors of every type.
+// The chain of functors at record start where one of them has arguments, 0 where none has: a type of constants has no regions.
+fn regioned_start(file: &[u8], start: usize) -> u16
+    requires { ⌜ Formed (now file) ⌝ }
+    requires { ⌜ Stands (now file) functors start ⌝ }
+    ensures { λ r. ⌜ r ≡ regionedStart (now (file .entry)) start ⌝ }
+{
+    let mut i = start;
+    while i != 0 {
+        if word(file, i, FUNCTOR_ARITY) != 0 {
+            return narrow(start);
+        }
+        i = word(file, i, NEXT);
+    }
+    0
+}
+
+// The functors of every type, and the first one of each type with regions.
 fn list_functors(file: &[u8], table: &mut [u16; FILE_PLACES])
     requires { ⌜ Formed (now file) ⌝ }
     requires { ⌜ typesOk (program (now file) .types) ≡ true ⌝ }
-    requires { ⌜ (filePlaces ≤ length (now table)) × ((k : ℕ) → functorPlaces ≤ k → getD (now table) k 0 ≡ 0) ⌝ }
+    requires { ⌜ (filePlaces ≤ length (now table)) × (getD (now table) 0 0 ≡ 0) × ((k : ℕ) → functorPlaces ≤ k → getD (now table) k 0 ≡ 0) ⌝ }
     ensures { λ _. ⌜ Functors (now (file .entry)) (now (table .entry)) (now (table .exit)) ⌝ }
 {
     let mut i = word(file, 0, HEADER_TYPES);
     let mut t = 0;
     while i != 0 {
         t += 1;
-        list_records(
-            file,
-            word(file, i, TYPE_FUNCTORS),
-            FUNCTOR_PLACES + MAX_FUNCTORS * t,
-            table,
-        );
+        let start = word(file, i, TYPE_FUNCTORS);
+        list_records(file, start, FUNCTOR_PLACES + MAX_FUNCTORS * t, table);
+        table[start] = regioned_start(file, start);
         i = word(file, i, NEXT);
     }
 }

@@ -14,10 +14,10 @@ use language::format::VARIABLE_TYPE;
 ghost use mathlib.Core.Path.{_≡_};
 ghost use Prim.Native.Nat.{_+_, _≤_, _<_};
 ghost use lib.ListN.{length, getD};
-ghost use Rattle.language.specs.Format.{maxRecords};
+ghost use Rattle.language.specs.Format.{maxRecords, places};
 ghost use Rattle.language.specs.Typing.{hasType, isRegionOf};
 ghost use Rattle.chains.specs.Formed.{Formed};
-ghost use Rattle.declarations.specs.Places.{placeIn, variableIn, regionIn, procedureIn, functorIn};
+ghost use Rattle.declarations.specs.Places.{placeIn, variableIn, regionIn, procedureIn, functorIn, regionedIn};
 ghost use Rattle.declarations.specs.Own.{Own, declared};
 
 // Entry n of the `most` from place `at` on.
@@ -39,6 +39,22 @@ pub fn functor(table: &[u16; FILE_PLACES], t: usize, n: usize) -> usize
         return 0;
     }
     place(table, FUNCTOR_PLACES + MAX_FUNCTORS * t, MAX_FUNCTORS, n)
+}
+
+// The first functor of t, a type or 0.
+pub fn first_functor(table: &[u16; FILE_PLACES], t: usize) -> usize
+    requires { ⌜ t < places ⌝ }
+    ensures { λ r. ⌜ r ≡ functorIn (now (table .entry)) t 0 ⌝ }
+{
+    wide(table[FUNCTOR_PLACES + MAX_FUNCTORS * t])
+}
+
+// The first functor of type t, where the type has regions.
+pub fn regioned(table: &[u16; FILE_PLACES], t: usize) -> usize
+    requires { ⌜ functorIn (now table) t 0 < maxRecords ⌝ }
+    ensures { λ r. ⌜ r ≡ regionedIn (now (table .entry)) t ⌝ }
+{
+    wide(table[functor(table, t, 0)])
 }
 
 pub fn procedure(table: &[u16; FILE_PLACES], q: usize) -> usize

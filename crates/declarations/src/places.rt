@@ -8,8 +8,8 @@ ghost use mathlib.Core.Path.{_≡_};
 ghost use lib.ListN.{replicate};
 ghost use Rattle.declarations.specs.Places.{filePlaces, ownPlaces};
 
-// The file's: for each variable's record the first in or out variable from there on, at the record's number; then the procedures; then the functors,
-// MAX_FUNCTORS places a type.
+// The file's: at a record's number, for each variable the first in or out variable from there on, and for the first functor of a type with regions that
+// functor; then the procedures; then the functors, MAX_FUNCTORS places a type.
 pub const PROCEDURE_PLACES: usize = MAX_RECORDS;
 
 pub const FUNCTOR_PLACES: usize = PROCEDURE_PLACES + MAX_PROCEDURES;

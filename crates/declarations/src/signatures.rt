@@ -3,6 +3,7 @@ use crate::edges::edges_ok;
 use crate::names::functor;
 use crate::names::is_region_of;
 use crate::names::region;
+use crate::names::regioned;
 use crate::names::variable;
 use crate::places::FILE_PLACES;
 use crate::places::OWN_PLACES;
@@ -43,10 +44,13 @@ fn variable_ok(file: &[u8], table: &[u16; FILE_PLACES], own: &[u16; OWN_PLACES],
     if t == 0 {
         return region == 0;
     }
+    if regioned(table, t) != 0 {
+        return is_region_of(file, own, t, region);
+    }
     if functor(table, t, 0) == 0 {
         return false;
     }
-    is_region_of(file, own, t, region)
+    region == 0
 }
 
 fn variables_ok(
@@ -75,14 +79,14 @@ fn region_ok(file: &[u8], table: &[u16; FILE_PLACES], own: &[u16; OWN_PLACES], i
     requires { ⌜ Stands (now file) regions i × (i ≡ 0 → ⊥) ⌝ }
     ensures { λ b. ⌜ RegionTested (now (file .entry)) (now (own .entry)) i b ⌝ }
 {
-    let start = functor(table, word(file, i, REGION_TYPE), 0);
+    let start = regioned(table, word(file, i, REGION_TYPE));
     if start == 0 {
         return false;
     }
     if CLASS_DEAD < word(file, i, REGION_CLASS) {
         return false;
     }
-    edges_ok(file, own, start, word(file, i, REGION_EDGES))
+    edges_ok(file, table, own, start, word(file, i, REGION_EDGES))
 }
 
 fn regions_ok(

@@ -1,9 +1,9 @@
--- How long the files are.
+-- How long the new U is.
 use mathlib.Core.Path.{_≡_, refl}
 use lib.ListN.{length}
 use Rattle.language.specs.Computing.{computing}
-use Rattle.language.specs.Table.{eight, rows, file, five, with5, A}
+use Rattle.language.specs.Table.{eight, rows, file, newU}
 
-pub length-of-A : length A ≡ 144
-unfolding computing eight rows file five with5 A
-length-of-A = refl
+pub length-of-new-U : length newU ≡ 96
+unfolding computing eight rows file newU
+length-of-new-U = refl

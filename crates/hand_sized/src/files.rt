@@ -1,7 +1,7 @@
 // The hand-sized files of document 01, a record a line and each word's low byte first, each proved equal to the file of `language`'s Table.
 use language::format::RECORD_BYTES;
 ghost use mathlib.Core.Path.{_≡_};
-ghost use Rattle.language.specs.Table.{U as fileU, A as fileA, U5, U6, early, twice};
+ghost use Rattle.language.specs.Table.{U as fileU, A as fileA, newU, U5, U6, early, twice};
 
 const U: [u8; 112] = *b"\x01\0\x03\0\x01\0\x07\0\0\0\0\0\0\0\0\0\
     \x02\0\0\0\x02\0\0\0\0\0\0\0\0\0\0\0\
@@ -20,6 +20,14 @@ const A: [u8; 144] = *b"\x01\0\x03\0\x01\0\x09\0\0\0\0\0\0\0\0\0\
     \x12\0\x07\0\x01\0\0\0\0\0\0\0\0\0\0\0\
     \x0b\0\x08\0\x01\0\0\0\0\0\0\0\0\0\0\0\
     \x13\0\0\0\x01\0\0\0\0\0\0\0\0\0\0\0";
+
+// "File U then has no region record" (C-14).
+const NEW_U: [u8; 96] = *b"\x01\0\x03\0\x01\0\x06\0\0\0\0\0\0\0\0\0\
+    \x02\0\0\0\x02\0\0\0\0\0\0\0\0\0\0\0\
+    \x03\0\0\0\0\0\0\0\0\0\0\0\0\0\0\0\
+    \x04\0\0\0\x04\0\0\0\x05\0\0\0\0\0\0\0\
+    \x05\0\0\0\0\0\x01\0\0\0\0\0\0\0\0\0\
+    \x0b\0\0\0\x01\0\0\0\0\0\0\0\0\0\0\0";
 
 // "A with create, remove, construct".
 const EARLY: [u8; 144] = *b"\x01\0\x03\0\x01\0\x09\0\0\0\0\0\0\0\0\0\
@@ -54,6 +62,12 @@ pub fn a() -> [u8; 144]
     ensures { λ r. ⌜ r ≡ fileA ⌝ }
 {
     A
+}
+
+pub fn new_u() -> [u8; 96]
+    ensures { λ r. ⌜ r ≡ newU ⌝ }
+{
+    NEW_U
 }
 
 pub fn removed_early() -> [u8; 144]

@@ -1,5 +1,6 @@
 // Document 01's table of hand-sized files ("Proved by hand-sized files"), about the code: each function puts a file to `annotate`, `check` or `run`, and its
-// contract states the answer outright. `language`'s Table has the same of the definitions.
+// contract states the answer outright. `language`'s Table has the same of the definitions. "The table keeps its cases with the answers that now follow and
+// gains the new U's" (C-14): U and A give a type of constants a region.
 mod files;
 mod wraps;
 
@@ -7,6 +8,7 @@ use annotation::Annotated;
 use annotation::annotate;
 use checking::check;
 use files::a;
+use files::new_u;
 use files::past_arity;
 use files::removed_early;
 use files::removed_twice;
@@ -27,12 +29,12 @@ ghost use mathlib.Core.List.{map};
 ghost use lib.ListN.{take, drop};
 ghost use mir.Syntax.{w32};
 ghost use mir.Val.{toZ};
-ghost use Rattle.language.specs.declared.Refusal.the-variants.{Header, Form, Typing, Annotated as Marked, Rules, Room};
+ghost use Rattle.language.specs.declared.Refusal.the-variants.{Header, Form, Typing, Room};
 ghost use Rattle.language.specs.declared.Verdict.the-variants.{Refused, Accepted};
-ghost use Rattle.language.specs.declared.Stop.the-variants.{Steps, Cells, Frames};
-ghost use Rattle.language.specs.declared.Ending.the-variants.{Finished, Stopped};
+ghost use Rattle.language.specs.declared.Stop.the-variants.{Steps, Frames};
+ghost use Rattle.language.specs.declared.Ending.the-variants.{Refused as NotRun, Finished, Stopped};
 ghost use Rattle.language.specs.Answers.{refusalNumber, stopNumber};
-ghost use Rattle.language.specs.Table.{A as fileA};
+ghost use Rattle.language.specs.Table.{newU};
 ghost use Rattle.annotation.specs.declared.Annotated.the-variants.{Refused as NotAnnotated, Written};
 ghost use Rattle.hand_sized.specs.Joined.{quiet, refusedBy, Untouched, IfAllRefuse};
 ghost use Rattle.hand_sized.specs.Wraps.{ends};
@@ -44,106 +46,179 @@ pub struct Answers {
     pub ran: Outcome,
 }
 
-// "U annotated with 144 bytes is A".
+// U annotated with 144 bytes: 3, "old files that give such a type a region get 3".
 pub fn annotate_u_in_144(out: &mut [u8; 144]) -> Annotated
-    ensures { λ r. ⌜ r ≡ Written 144 ⌝ }
-    ensures { λ _. ⌜ now (out .exit) ≡ fileA ⌝ }
-{
-    annotate(&u(), out)
-}
-
-// ".. with 143, refusal 9".
-pub fn annotate_u_in_143(out: &mut [u8; 143]) -> Annotated
-    ensures { λ r. ⌜ r ≡ NotAnnotated Room ⌝ }
-    ensures { λ _. ⌜ refusalNumber Room ≡ 9 ⌝ }
+    ensures { λ r. ⌜ r ≡ NotAnnotated Typing ⌝ }
+    ensures { λ _. ⌜ refusalNumber Typing ≡ 3 ⌝ }
     ensures { λ _. ⌜ now (out .exit) ≡ now (out .entry) ⌝ }
 {
     annotate(&u(), out)
 }
 
-// "A to the annotator: 6".
+// .. with 143: 3.
+pub fn annotate_u_in_143(out: &mut [u8; 143]) -> Annotated
+    ensures { λ r. ⌜ r ≡ NotAnnotated Typing ⌝ }
+    ensures { λ _. ⌜ refusalNumber Typing ≡ 3 ⌝ }
+    ensures { λ _. ⌜ now (out .exit) ≡ now (out .entry) ⌝ }
+{
+    annotate(&u(), out)
+}
+
+// A to the annotator: 3.
 pub fn annotate_a(out: &mut [u8; MAX_BYTES]) -> Annotated
-    ensures { λ r. ⌜ r ≡ NotAnnotated Marked ⌝ }
-    ensures { λ _. ⌜ refusalNumber Marked ≡ 6 ⌝ }
+    ensures { λ r. ⌜ r ≡ NotAnnotated Typing ⌝ }
+    ensures { λ _. ⌜ refusalNumber Typing ≡ 3 ⌝ }
     ensures { λ _. ⌜ now (out .exit) ≡ now (out .entry) ⌝ }
 {
     annotate(&a(), out)
 }
 
-// "A checked: accepted".
+// A checked: 3.
 pub fn check_a() -> Verdict
-    ensures { λ r. ⌜ r ≡ Accepted ⌝ }
+    ensures { λ r. ⌜ r ≡ Refused Typing ⌝ }
 {
     check(&a())
 }
 
-// "U checked: 8".
+// U checked: 3.
 pub fn check_u() -> Verdict
-    ensures { λ r. ⌜ r ≡ Refused Rules ⌝ }
-    ensures { λ _. ⌜ refusalNumber Rules ≡ 8 ⌝ }
+    ensures { λ r. ⌜ r ≡ Refused Typing ⌝ }
 {
     check(&u())
 }
 
-// "A with create, remove, construct: 8".
+// "A with create, remove, construct": 3.
 pub fn check_removed_early() -> Verdict
-    ensures { λ r. ⌜ r ≡ Refused Rules ⌝ }
-    ensures { λ _. ⌜ refusalNumber Rules ≡ 8 ⌝ }
+    ensures { λ r. ⌜ r ≡ Refused Typing ⌝ }
 {
     check(&removed_early())
 }
 
-// "A with a second remove: 8".
+// "A with a second remove": 3.
 pub fn check_removed_twice() -> Verdict
-    ensures { λ r. ⌜ r ≡ Refused Rules ⌝ }
-    ensures { λ _. ⌜ refusalNumber Rules ≡ 8 ⌝ }
+    ensures { λ r. ⌜ r ≡ Refused Typing ⌝ }
 {
     check(&removed_twice())
 }
 
-// "A run: "finished 3"".
+// A run: 3.
 pub fn run_a(
     cells: &mut [u32; CELLS],
     regions: &mut [u32; REGIONS],
     frames: &mut [u32; FRAMES],
     prints: &mut [u32; PRINTS],
 ) -> Outcome
-    ensures { λ r. ⌜ r ≡ quiet Finished 3 ⌝ }
+    ensures { λ r. ⌜ r ≡ quiet (NotRun Typing) 0 ⌝ }
     ensures { λ _. ⌜ now (prints .exit) ≡ now (prints .entry) ⌝ }
 {
     run(&a(), cells, regions, frames, prints, STEPS)
 }
 
-// ".. with 2 steps: stop 10 after 2".
+// .. with 2 steps: 3.
 pub fn run_a_two_steps(
     cells: &mut [u32; CELLS],
     regions: &mut [u32; REGIONS],
     frames: &mut [u32; FRAMES],
     prints: &mut [u32; PRINTS],
 ) -> Outcome
-    ensures { λ r. ⌜ r ≡ quiet (Stopped Steps) 2 ⌝ }
-    ensures { λ _. ⌜ stopNumber Steps ≡ 10 ⌝ }
+    ensures { λ r. ⌜ r ≡ quiet (NotRun Typing) 0 ⌝ }
     ensures { λ _. ⌜ now (prints .exit) ≡ now (prints .entry) ⌝ }
 {
     run(&a(), cells, regions, frames, prints, 2)
 }
 
-// ".. with no cells: stop 11 after 1".
+// .. with no cells: 3.
 pub fn run_a_no_cells(
     cells: &mut [u32; 0],
     regions: &mut [u32; REGIONS],
     frames: &mut [u32; FRAMES],
     prints: &mut [u32; PRINTS],
 ) -> Outcome
-    ensures { λ r. ⌜ r ≡ quiet (Stopped Cells) 1 ⌝ }
-    ensures { λ _. ⌜ stopNumber Cells ≡ 11 ⌝ }
+    ensures { λ r. ⌜ r ≡ quiet (NotRun Typing) 0 ⌝ }
     ensures { λ _. ⌜ now (prints .exit) ≡ now (prints .entry) ⌝ }
 {
     run(&a(), cells, regions, frames, prints, STEPS)
 }
 
-// ".. no frame and no steps: stop 13 after 0".
+// .. no frame and no steps: 3.
 pub fn run_a_no_frame(
+    cells: &mut [u32; CELLS],
+    regions: &mut [u32; REGIONS],
+    frames: &mut [u32; 0],
+    prints: &mut [u32; PRINTS],
+) -> Outcome
+    ensures { λ r. ⌜ r ≡ quiet (NotRun Typing) 0 ⌝ }
+    ensures { λ _. ⌜ now (prints .exit) ≡ now (prints .entry) ⌝ }
+{
+    run(&a(), cells, regions, frames, prints, 0)
+}
+
+// "File U then has no region record and comes back from the annotator unchanged with six records".
+pub fn annotate_new_u_in_96(out: &mut [u8; 96]) -> Annotated
+    ensures { λ r. ⌜ r ≡ Written 96 ⌝ }
+    ensures { λ _. ⌜ now (out .exit) ≡ newU ⌝ }
+{
+    annotate(&new_u(), out)
+}
+
+// .. with 95 bytes: 9.
+pub fn annotate_new_u_in_95(out: &mut [u8; 95]) -> Annotated
+    ensures { λ r. ⌜ r ≡ NotAnnotated Room ⌝ }
+    ensures { λ _. ⌜ refusalNumber Room ≡ 9 ⌝ }
+    ensures { λ _. ⌜ now (out .exit) ≡ now (out .entry) ⌝ }
+{
+    annotate(&new_u(), out)
+}
+
+// .. checked: accepted.
+pub fn check_new_u() -> Verdict
+    ensures { λ r. ⌜ r ≡ Accepted ⌝ }
+{
+    check(&new_u())
+}
+
+// ".. and it runs in one step".
+pub fn run_new_u(
+    cells: &mut [u32; CELLS],
+    regions: &mut [u32; REGIONS],
+    frames: &mut [u32; FRAMES],
+    prints: &mut [u32; PRINTS],
+) -> Outcome
+    ensures { λ r. ⌜ r ≡ quiet Finished 1 ⌝ }
+    ensures { λ _. ⌜ now (prints .exit) ≡ now (prints .entry) ⌝ }
+{
+    run(&new_u(), cells, regions, frames, prints, STEPS)
+}
+
+// .. with no steps: stop 10 after 0.
+pub fn run_new_u_no_steps(
+    cells: &mut [u32; CELLS],
+    regions: &mut [u32; REGIONS],
+    frames: &mut [u32; FRAMES],
+    prints: &mut [u32; PRINTS],
+) -> Outcome
+    ensures { λ r. ⌜ r ≡ quiet (Stopped Steps) 0 ⌝ }
+    ensures { λ _. ⌜ stopNumber Steps ≡ 10 ⌝ }
+    ensures { λ _. ⌜ now (prints .exit) ≡ now (prints .entry) ⌝ }
+{
+    run(&new_u(), cells, regions, frames, prints, 0)
+}
+
+// .. with no cells: finished, for a constant "stop 11 is never given".
+pub fn run_new_u_no_cells(
+    cells: &mut [u32; 0],
+    regions: &mut [u32; REGIONS],
+    frames: &mut [u32; FRAMES],
+    prints: &mut [u32; PRINTS],
+) -> Outcome
+    ensures { λ r. ⌜ r ≡ quiet Finished 1 ⌝ }
+    ensures { λ _. ⌜ now (prints .exit) ≡ now (prints .entry) ⌝ }
+{
+    run(&new_u(), cells, regions, frames, prints, STEPS)
+}
+
+// .. with no frame and no steps: stop 13 after 0.
+pub fn run_new_u_no_frame(
     cells: &mut [u32; CELLS],
     regions: &mut [u32; REGIONS],
     frames: &mut [u32; 0],
@@ -153,7 +228,7 @@ pub fn run_a_no_frame(
     ensures { λ _. ⌜ stopNumber Frames ≡ 13 ⌝ }
     ensures { λ _. ⌜ now (prints .exit) ≡ now (prints .entry) ⌝ }
 {
-    run(&a(), cells, regions, frames, prints, 0)
+    run(&new_u(), cells, regions, frames, prints, 0)
 }
 
 // "2,147,483,647 + 1 is −2,147,483,648": a run that prints both.

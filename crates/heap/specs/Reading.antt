@@ -9,16 +9,16 @@ use lib.IntN.{ℤ}
 use lib.ListN.{length}
 use Rattle.language.specs.Lists.{all, upFrom}
 use Rattle.language.specs.Program.{Program}
-use Rattle.language.specs.Frames.{Value, numeral, cellAt, noCell, cellIn}
-use Rattle.language.specs.AcceptedRun.{RegionCell, cellOf, Memory, liesIn, withPrinted, state, start}
+use Rattle.language.specs.Frames.{cellAt, noCell, cellIn}
+use Rattle.language.specs.AcceptedRun.{RegionCell, cellOf, Memory, liesIn, readable, withPrinted, state, start}
 use Rattle.language.specs.Machine.{Lent, Room, holds, roomIn, cellsHeld, countAlive, regionsHeld}
 use Rattle.laws.specs.Lists.{nth-past, nth-map}
 use Rattle.memory.specs.declared.Heap.{Heap}
 use Rattle.memory.specs.Memory.{cellWords, regionWords, unused, emptyHeap}
 use Rattle.heap.specs.Labels.{fresh}
-use Rattle.heap.specs.Labelled.{start-labelled}
+use Rattle.heap.specs.Labelled.{start-labelled, cell-low}
 use Rattle.heap.specs.Standing.{StandsFor}
-use Rattle.heap.specs.Represents.{numbered, Represents, Reads}
+use Rattle.heap.specs.Represents.{numbered, Represents, Reads, Spot}
 
 -- ---- whatever stands in the lent words, an empty heap in them stands for the memory of a run's start
 module _ (P : Program) (l : Lent) (m rs : List ℕ) (ec : l .cellWords ≡ length m) (er : l .regionWords ≡ length rs) where
@@ -48,15 +48,19 @@ module _ {k : Room} {h : Heap} {m rs : List ℕ} {M : Memory} {ρ χ : ℕ → �
     | no f ↦ absurd (alive-made _ e (ap (λ (c : RegionCell). c .region) (nth-past (record { cell = noCell; region = 0 }) (M .cells) j (omega arith))))
   ]
 
-  -- ---- "a switch reads where X's cell lies": the words at X's word say what X's cell has
-  read-cell : (j : ℕ) → M .alive (numbered (M .cells) j .region) ≡ true → Reads m χ (length (M .cells)) (χ j) (numbered (M .cells) j .cell)
-  read-cell j e = R .spots j (cell-made j e) e .says
+  -- ---- "a switch reads where X's cell lies": the words at X's word say what X's cell has, and X's word is a place, below all constants
+  abbrev spot : (j : ℕ) → M .alive (numbered (M .cells) j .region) ≡ true
+      → Spot (R .own) m χ (length (M .cells)) (χ j) (ρ (numbered (M .cells) j .region)) (numbered (M .cells) j .cell)
+  spot j e = R .spots j (cell-made j e) e
 
-  pub reads : (w : ℕ) (x : Value) → StandsFor χ (length (M .cells)) w x → M .alive (liesIn (M .cells) x) ≡ true
-      → Reads m χ (length (M .cells)) w (cellIn (map cellOf (M .cells)) x)
-  unfolding StandsFor liesIn cellIn cellOf
-  reads w (numeral z) s e = absurd (alive-made 0 e refl)
-  reads w (cellAt j) s e = rw (s .0, nth-map cellOf (record { cell = noCell; region = 0 }) (M .cells) j) (read-cell j e)
+  pub reads : (w j : ℕ) → StandsFor χ (length (M .cells)) w (cellAt j) → readable M (cellAt j) ≡ true
+      → Reads m χ (length (M .cells)) w (cellIn (map cellOf (M .cells)) (cellAt j))
+  unfolding StandsFor readable liesIn cellIn cellOf
+  reads w j s e = rw (s .0, nth-map cellOf (record { cell = noCell; region = 0 }) (M .cells) j) (spot j e .says)
+
+  pub place-low : (w j : ℕ) → StandsFor χ (length (M .cells)) w (cellAt j) → readable M (cellAt j) ≡ true → w < k .cells
+  unfolding StandsFor readable liesIn
+  place-low w j s e = omega (arith, s .0, R .cellRoom, cell-low (R .labelled) _ _ _ (spot j e .label))
 
   -- ---- a print changes no cell and no region
   pub prints : (z : ℤ) → Represents k h m rs (withPrinted M z) ρ χ

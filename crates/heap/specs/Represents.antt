@@ -48,7 +48,7 @@ pub record Represents (k : Room) (h : Heap) (m rs : List ℕ) (M : Memory) (ρ �
   pub spots : (j : ℕ) → j < length (M .cells) → M .alive (numbered (M .cells) j .region) ≡ true
       → Spot own m χ (length (M .cells)) (χ j) (ρ (numbered (M .cells) j .region)) (numbered (M .cells) j .cell)
 
--- ---- what is proved of it: `starts`, `reads` and `prints` in Reading, `create-ok`, `build-ok` and `remove-ok` in the modules of their names
+-- ---- what is proved of it: `starts`, `reads`, `place-low` and `prints` in Reading, `create-ok`, `build-ok` and `remove-ok` in the modules of their names
 -- a create stops exactly if no region fits, and then nothing changes; else the new region's number has the new place
 pub data Creates (k : Room) (m rs : List ℕ) (M : Memory) (ρ χ : ℕ → ℕ) : Made → List ℕ → Type 0 where
   stops-12 : ltb (regionsHeld M) (k .regions) ≡ false → Creates k m rs M ρ χ NoRoom rs

@@ -1,5 +1,5 @@
--- What a word says: a number as its 32 bits, a cell as its place.
-use Prim.Native.Nat.{ℕ, zero, suc, _≤_, _<_}
+-- What a word says: a number as its 32 bits, a cell as its place, a constant as its functor above all places.
+use Prim.Native.Nat.{ℕ, zero, suc, _+_, _≤_, _<_}
 use mathlib.Core.Path.{_≡_, refl, sym, _∙_}
 use mathlib.Core.Bool.{true}
 use mathlib.Core.List.{List, [], _∷_, map}
@@ -11,14 +11,16 @@ use mir.Val.{toZ}
 use Rattle.sets.specs.Members.{inList, cons-here, cons-later}
 use Rattle.language.specs.Lists.{put}
 use Rattle.language.specs.Program.{Four, fourWords, trimOnto, trimmed, argumentsOf}
-use Rattle.language.specs.Frames.{Value, numeral, cellAt}
+use Rattle.language.specs.Frames.{Value, numeral, cellAt, constant}
 use Rattle.language.specs.AcceptedRun.{RegionCell, Memory, withCell}
+use Rattle.memory.specs.Memory.{constantsFrom}
 use Rattle.laws.specs.Choices.{put-same, put-other}
 
 -- word w stands for a value; n cells are made so far, and `place` has the place of each by its number
 unfoldable pub StandsFor : (ℕ → ℕ) → ℕ → ℕ → Value → Type 0
 StandsFor place n w (numeral z) = toZ w32 w ≡ z
 StandsFor place n w (cellAt j) = (w ≡ place j) × (j < n)
+StandsFor place n w (constant k) = w ≡ constantsFrom + k
 
 -- the first words stand for the values in turn
 unfoldable pub StandEach : (ℕ → ℕ) → ℕ → List ℕ → List Value → Type 0
@@ -32,6 +34,7 @@ module _ (place place′ : ℕ → ℕ) (n n′ : ℕ) (e : (j : ℕ) → j < n 
   unfolding StandsFor
   stands-more w (numeral z) s = s
   stands-more w (cellAt j) s = (s .0 ∙ sym (e j (s .1)), omega (arith, s .1))
+  stands-more w (constant k) s = s
 
   pub each-more : (ws : List ℕ) (vs : List Value) → StandEach place n ws vs → StandEach place′ n′ ws vs
   unfolding StandEach

@@ -4,12 +4,13 @@ use mathlib.Core.Bool.{Bool, true, false}
 use mathlib.Core.List.{List, [], _∷_, _++_, map}
 use lib.IntN.{ℤ}
 use lib.ListN.{length}
+use Rattle.sets.specs.Tests.{_or_}
 use Rattle.sets.specs.Members.{members}
-use Rattle.language.specs.Lists.{nth, choose, put}
+use Rattle.language.specs.Lists.{nth, choose, put, isNone}
 use Rattle.language.specs.Program.{argumentsOf, Step, literal, sum, assign, construct, call, print, create, remove, Goals, done, _then_, Goal, step, switch, ifLess, Signature, Program, regionOf, signatureOf}
 use Rattle.language.specs.Regions.{Mapping, mapping, imageIn}
 use Rattle.language.specs.Lifetimes.{born, startHeld}
-use Rattle.language.specs.Frames.{Value, numeral, cellAt, Frame, Cell, numberIn, withGoals, giving, literalIn, sumIn, assignIn, cellFor, branchIn, noCell, cellIn, openCell, calleeFrame, returning, entryFrame, settle}
+use Rattle.language.specs.Frames.{Value, numeral, cellAt, constant, Frame, Cell, numberIn, withGoals, literalIn, sumIn, assignIn, cellFor, buildIn, branchIn, noCell, cellIn, openCell, calleeFrame, returning, entryFrame, settle}
 
 -- "A frame also says what region each region number stands for."
 pub record RegionFrame : Type 0 where
@@ -35,15 +36,26 @@ pub record State : Type 0 where
 unfoldable pub cellOf : RegionCell → Cell
 cellOf c = c .cell
 
--- the region that X's cell lies in
-unfoldable pub liesIn : List RegionCell → Value → ℕ
-liesIn cells (numeral z) = 0
-liesIn cells (cellAt c) = nth (record { cell = noCell; region = 0 }) cells c .region
+-- the region that cell c lies in
+unfoldable pub liesIn : List RegionCell → ℕ → ℕ
+liesIn cells c = nth (record { cell = noCell; region = 0 }) cells c .region
 
--- one cell more, one number more
+-- a cell is read in its region; a constant "is built and read in no region" (C-14)
+unfoldable pub readable : Memory → Value → Bool
+readable m (numeral z) = true
+readable m (cellAt c) = m .alive (liesIn (m .cells) c)
+readable m (constant k) = true
+
+-- one cell more
 unfoldable pub withCell : Memory → RegionCell → Memory
 withCell m c = record { cells = m .cells ++ (c ∷ []); made = m .made; alive = m .alive; printed = m .printed }
 
+-- a construct of frame f in region r: "Constructing one makes no cell" (C-14)
+unfoldable pub withBuilt : Memory → ℕ → Frame → ℕ → List ℕ → Memory
+withBuilt m r f k [] = m
+withBuilt m r f k (y ∷ ys) = withCell m (record { cell = cellFor f k (y ∷ ys); region = r })
+
+-- one number more
 unfoldable pub withPrinted : Memory → ℤ → Memory
 withPrinted m z = record { cells = m .cells; made = m .made; alive = m .alive; printed = m .printed ++ (z ∷ []) }
 
@@ -99,17 +111,17 @@ module _ (P : Program) where
   unfoldable pub regionFor : RegionFrame → ℕ → ℕ
   regionFor f x = f .stands (regionOf (signatureOf P (f .frame .procedure)) x)
 
-  -- "A step that would build or read in a region never created or already removed, or remove such a one, is not taken"
+  -- "A step that would build or read in a region never created or already removed, or remove such a one, is not taken"; a constant touches none
   unfoldable pub allowed : Goal → RegionFrame → Memory → Bool
   allowed (step (literal x v)) f m = true
   allowed (step (sum x o y z)) f m = true
   allowed (step (assign x y)) f m = true
-  allowed (step (construct x k ys)) f m = m .alive (regionFor f x)
+  allowed (step (construct x k ys)) f m = isNone (argumentsOf ys) or m .alive (regionFor f x)
   allowed (step (call q ys)) f m = true
   allowed (step (print y)) f m = true
   allowed (step (create r)) f m = true
   allowed (step (remove r)) f m = m .alive (f .stands r)
-  allowed (switch x cs) f m = m .alive (liesIn (m .cells) (f .frame .values x))
+  allowed (switch x cs) f m = readable m (f .frame .values x)
   allowed (ifLess y z a b) f m = true
 
   -- a goal of the newest frame f, which has the others still to do
@@ -118,8 +130,8 @@ module _ (P : Program) where
   take (step (sum x o y z)) f fs m = state (withFrame f (sumIn (f .frame) x o y z)) fs m
   take (step (assign x y)) f fs m = state (withFrame f (assignIn (f .frame) x y)) fs m
   take (step (construct x k ys)) f fs m =
-      state (withFrame f (giving (f .frame) x (cellAt (length (m .cells))))) fs
-      (withCell m (record { cell = cellFor (f .frame) k (argumentsOf ys); region = regionFor f x }))
+      state (withFrame f (buildIn (f .frame) x k (argumentsOf ys) (length (m .cells)))) fs
+      (withBuilt m (regionFor f x) (f .frame) k (argumentsOf ys))
   take (step (call q ys)) f fs m = state (calleeRegions f q ys) (f ∷ fs) m
   take (step (print y)) f fs m = state f fs (withPrinted m (numberIn (f .frame .values y)))
   take (step (create r)) f fs m = state (record { frame = f .frame; stands = put (f .stands) r (suc (m .made)) }) fs (withRegion m)

@@ -86,15 +86,15 @@ unfolding Checking.requireRule Checking.carryOn Checking.joinArms Checking.sound
 checkingOpen = tt
 
 unfoldable pub framesOpen : Unit {0}
-unfolding Frames.numberIn Frames.giveEach Frames.withGoals Frames.giving Frames.literalIn Frames.sumIn Frames.assignIn Frames.cellFor Frames.branchIn Frames.pick Frames.enterArm Frames.noCell Frames.cellIn Frames.openCell Frames.calleeFrame Frames.returning Frames.entryFrame Frames.settle
+unfolding Frames.numberIn Frames.giveEach Frames.withGoals Frames.giving Frames.literalIn Frames.sumIn Frames.assignIn Frames.cellFor Frames.builtValue Frames.buildIn Frames.branchIn Frames.pick Frames.enterArm Frames.noCell Frames.cellIn Frames.openCell Frames.calleeFrame Frames.returning Frames.entryFrame Frames.settle
 framesOpen = tt
 
 unfoldable pub plainRunOpen : Unit {0}
-unfolding PlainRun.thenIf PlainRun.stripGoals PlainRun.stripGoal PlainRun.stripArms PlainRun.stripProcedure PlainRun.stripped PlainRun.plainState PlainRun.plainStart PlainRun.plainTake PlainRun.plainNext PlainRun.plainFrom PlainRun.plainStepOf PlainRun.plainSteps
+unfolding PlainRun.thenIf PlainRun.stripGoals PlainRun.stripGoal PlainRun.stripArms PlainRun.stripProcedure PlainRun.stripped PlainRun.builtCells PlainRun.plainState PlainRun.plainStart PlainRun.plainTake PlainRun.plainNext PlainRun.plainFrom PlainRun.plainStepOf PlainRun.plainSteps
 plainRunOpen = tt
 
 unfoldable pub acceptedRunOpen : Unit {0}
-unfolding AcceptedRun.cellOf AcceptedRun.liesIn AcceptedRun.withCell AcceptedRun.withPrinted AcceptedRun.withRegion AcceptedRun.withoutRegion AcceptedRun.standEach AcceptedRun.withFrame AcceptedRun.calleeStands AcceptedRun.returnStands AcceptedRun.mappingFrom AcceptedRun.calleeRegions AcceptedRun.returningRegions AcceptedRun.state AcceptedRun.start AcceptedRun.regionFor AcceptedRun.allowed AcceptedRun.take AcceptedRun.next AcceptedRun.stepFrom AcceptedRun.stepOf AcceptedRun.steps
+unfolding AcceptedRun.cellOf AcceptedRun.liesIn AcceptedRun.readable AcceptedRun.withCell AcceptedRun.withBuilt AcceptedRun.withPrinted AcceptedRun.withRegion AcceptedRun.withoutRegion AcceptedRun.standEach AcceptedRun.withFrame AcceptedRun.calleeStands AcceptedRun.returnStands AcceptedRun.mappingFrom AcceptedRun.calleeRegions AcceptedRun.returningRegions AcceptedRun.state AcceptedRun.start AcceptedRun.regionFor AcceptedRun.allowed AcceptedRun.take AcceptedRun.next AcceptedRun.stepFrom AcceptedRun.stepOf AcceptedRun.steps
 acceptedRunOpen = tt
 
 unfoldable pub machineOpen : Unit {0}

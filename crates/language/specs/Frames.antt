@@ -7,10 +7,11 @@ use Rattle.language.specs.Lists.{nth, choose, put}
 use Rattle.language.specs.Numbers.{literalNumber, sumNumber, less}
 use Rattle.language.specs.Program.{argumentsOf, Goals, done, _then_, Arms, noArms, arm, _before_, Program, procedureAt, signatureOf, parametersOf, inMode, outMode, argumentsIn, variablesIn}
 
--- "its variables' values, each a number or a cell"
+-- "a value in demand 3's runs being a number, a cell or a constant" (C-14): a constant is its functor
 pub data Value : Type 0 where
   numeral : ℤ → Value
   cellAt : ℕ → Value
+  constant : ℕ → Value
 
 -- "A frame has the goals still to do and its variables' values": also its procedure and the arguments of the call that made it
 pub record Frame : Type 0 where
@@ -24,10 +25,11 @@ pub record Cell : Type 0 where
   pub functor : ℕ
   pub contents : List Value
 
--- the number that a value is; number 3 keeps cells away from sums, ifs and prints
+-- the number that a value is; number 3 keeps cells and constants away from sums, ifs and prints
 unfoldable pub numberIn : Value → ℤ
 numberIn (numeral z) = z
 numberIn (cellAt c) = pos 0
+numberIn (constant k) = pos 0
 
 -- variables get values in turn
 unfoldable pub giveEach : List ℕ → List Value → (ℕ → Value) → ℕ → Value
@@ -56,6 +58,14 @@ assignIn f x y = giving f x (f .values y)
 unfoldable pub cellFor : Frame → ℕ → List ℕ → Cell
 cellFor f k ys = record { functor = k; contents = map (f .values) ys }
 
+-- "Constructing one makes no cell" (C-14): X's value for functor k and arguments ys, n cells having been made before
+unfoldable pub builtValue : ℕ → List ℕ → ℕ → Value
+builtValue k [] n = constant k
+builtValue k (y ∷ ys) n = cellAt n
+
+unfoldable pub buildIn : Frame → ℕ → ℕ → List ℕ → ℕ → Frame
+buildIn f x k ys n = giving f x (builtValue k ys n)
+
 -- "that arm's goals, or those of an if's part, go before the rest"
 unfoldable pub branchIn : Frame → ℕ → ℕ → Goals → Goals → Frame
 branchIn f y z a b = withGoals f (choose (less (numberIn (f .values y)) (numberIn (f .values z))) a b before f .goals)
@@ -79,10 +89,11 @@ enterArm (picked ys gs) vs f =
 unfoldable pub noCell : Cell
 noCell = record { functor = 0; contents = [] }
 
--- X's cell; a number has none
+-- X's functor and its arguments' values, of X's cell or of the constant; a number has none
 unfoldable pub cellIn : List Cell → Value → Cell
 cellIn cells (numeral z) = noCell
 cellIn cells (cellAt c) = nth noCell cells c
+cellIn cells (constant k) = record { functor = k; contents = [] }
 
 -- into the arm of X's cell
 unfoldable pub openCell : Cell → Arms → Frame → Frame

@@ -5,13 +5,14 @@ use mathlib.Core.List.{List, [], _∷_, map}
 use lib.Dec.{ltb}
 use lib.IntN.{ℤ}
 use lib.ListN.{length}
+use Rattle.sets.specs.Tests.{_or_}
 use Rattle.language.specs.declared.Stop.{Stop}
 use Rattle.language.specs.declared.Stop.the-variants.{Steps, Cells, Places, Frames, Prints}
 use Rattle.language.specs.declared.Ending.{Ending}
 use Rattle.language.specs.declared.Ending.the-variants.{Finished, Stopped}
-use Rattle.language.specs.Lists.{one, upFrom, frontWritten}
+use Rattle.language.specs.Lists.{one, upFrom, frontWritten, isNone}
 use Rattle.language.specs.Numbers.{residue}
-use Rattle.language.specs.Program.{Step, literal, sum, assign, construct, call, print, create, remove, Goals, done, _then_, Goal, step, switch, ifLess, Program}
+use Rattle.language.specs.Program.{argumentsOf, Step, literal, sum, assign, construct, call, print, create, remove, Goals, done, _then_, Goal, step, switch, ifLess, Program}
 use Rattle.language.specs.AcceptedRun.{RegionFrame, RegionCell, Memory, State, start, stepOf}
 
 -- what is lent: words of memory for each sort, and steps
@@ -64,12 +65,13 @@ unfoldable pub roomOr : Bool → Stop → Outlook
 roomOr true c = goes
 roomOr false c = lacks c
 
--- "11 no free cell, 12 no free region, 13 no free frame, 14 no place for a printed number"
+-- "11 no free cell, 12 no free region, 13 no free frame, 14 no place for a printed number"; for a constant "stop 11 is never given" (C-14)
 unfoldable pub outlookFor : Room → Goal → State → Outlook
 outlookFor k (step (literal x v)) s = goes
 outlookFor k (step (sum x o y z)) s = goes
 outlookFor k (step (assign x y)) s = goes
-outlookFor k (step (construct x f ys)) s = roomOr (ltb (cellsHeld (s .memory .alive) (s .memory .cells)) (k .cells)) Cells
+outlookFor k (step (construct x f ys)) s =
+    roomOr (isNone (argumentsOf ys) or ltb (cellsHeld (s .memory .alive) (s .memory .cells)) (k .cells)) Cells
 outlookFor k (step (call q ys)) s = roomOr (ltb (length (s .frames)) (k .frames)) Frames
 outlookFor k (step (print y)) s = roomOr (ltb (length (s .memory .printed)) (k .prints)) Prints
 outlookFor k (step (create r)) s = roomOr (ltb (regionsHeld (s .memory)) (k .regions)) Places

@@ -6,7 +6,7 @@ use lib.IntN.{ℤ}
 use lib.ListN.{length}
 use Rattle.language.specs.Program.{argumentsOf, Step, literal, sum, assign, construct, call, print, create, remove, Goals, done, _then_, Goal, step, switch, ifLess, Arms, noArms, arm, Procedure, Program}
 use Rattle.language.specs.Annotation.{plainStep}
-use Rattle.language.specs.Frames.{cellAt, Frame, Cell, numberIn, withGoals, giving, literalIn, sumIn, assignIn, cellFor, branchIn, cellIn, openCell, calleeFrame, returning, entryFrame, settle}
+use Rattle.language.specs.Frames.{Frame, Cell, numberIn, withGoals, literalIn, sumIn, assignIn, cellFor, buildIn, branchIn, cellIn, openCell, calleeFrame, returning, entryFrame, settle}
 
 -- "The plain run is fed the program's goals without creates and removes."
 unfoldable pub thenIf : Bool → Goal → Goals → Goals
@@ -39,6 +39,11 @@ pub record PlainState : Type 0 where
   pub cells : List Cell
   pub printed : List ℤ
 
+-- a construct of frame f: "Constructing one makes no cell" (C-14)
+unfoldable pub builtCells : List Cell → Frame → ℕ → List ℕ → List Cell
+builtCells cells f k [] = cells
+builtCells cells f k (y ∷ ys) = cells ++ (cellFor f k (y ∷ ys) ∷ [])
+
 module _ (P : Program) where
   -- the state with newest frame f, once frames that are done have gone
   unfoldable pub plainState : Frame → List Frame → List Cell → List ℤ → PlainState
@@ -54,7 +59,7 @@ module _ (P : Program) where
   plainTake (step (sum x o y z)) f fs cells printed = plainState (sumIn f x o y z) fs cells printed
   plainTake (step (assign x y)) f fs cells printed = plainState (assignIn f x y) fs cells printed
   plainTake (step (construct x k ys)) f fs cells printed =
-      plainState (giving f x (cellAt (length cells))) fs (cells ++ (cellFor f k (argumentsOf ys) ∷ [])) printed
+      plainState (buildIn f x k (argumentsOf ys) (length cells)) fs (builtCells cells f k (argumentsOf ys)) printed
   plainTake (step (call q ys)) f fs cells printed = plainState (calleeFrame P f q ys) (f ∷ fs) cells printed
   plainTake (step (print y)) f fs cells printed = plainState f fs cells (printed ++ (numberIn (f .values y) ∷ []))
   plainTake (step (create r)) f fs cells printed = plainState f fs cells printed

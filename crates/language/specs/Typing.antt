@@ -4,7 +4,7 @@ use mathlib.Core.Bool.{Bool, true, false}
 use mathlib.Core.List.{List, [], _∷_, _++_}
 use lib.Dec.{eqb, leb, ltb}
 use lib.ListN.{length, take, drop}
-use Rattle.sets.specs.Tests.{_&_}
+use Rattle.sets.specs.Tests.{_&_, neg}
 use Rattle.language.specs.Lists.{all, among, choose}
 use Rattle.language.specs.Format.{maxTypes, maxFunctors, maxArity, maxProcedures, maxVariables, maxRegions}
 use Rattle.language.specs.Program.{Four, fourWords, argumentsOf, Functor, Variable, Edge, Region, Step, literal, sum, assign, construct, call, print, create, remove, Goals, done, _then_, Goal, step, switch, ifLess, Arms, noArms, arm, Signature, Procedure, Program, typeOf, regionAt, signatureOf, functorsOf, functorAt, parametersOf, parameterVariables}
@@ -55,9 +55,9 @@ module _ (T : List (List Functor)) where
   unfoldable pub isType : ℕ → Bool
   isType t = leb t (length T)
 
-  -- t has regions: "Type 0 .. has no region"
+  -- t has regions: "A type all of whose functors have arity 0 has no regions" (C-14); "Type 0 .. has no region", and no functors
   unfoldable pub regioned : ℕ → Bool
-  regioned t = leb 1 t
+  regioned t = neg (all (λ f. eqb (f .arity) 0) (functorsOf T t))
 
   -- "arity 0 to 4, w3 to w6 argument types"
   unfoldable pub functorOk : Functor → Bool
@@ -70,7 +70,8 @@ module _ (T : List (List Functor)) where
   unfoldable pub typesOk : Bool
   typesOk = leb (length T) maxTypes & all typeOk T
 
-  -- "An edge stands for each functor and each argument position whose type is not 0, once, in rising order."
+  -- "An edge stands for each functor and each argument position whose type is not 0, once, in rising order": whose type has regions,
+  -- for of the others "no edge leads to it" (C-14)
   unfoldable pub placesIn : ℕ → ℕ → List ℕ → List Place
   placesIn f k [] = []
   placesIn f k (t ∷ ts) = placeIf (regioned t) (record { functor = f; position = k; type = t }) (placesIn f (suc k) ts)

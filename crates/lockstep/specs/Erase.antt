@@ -5,12 +5,12 @@ use mathlib.Core.Bool.{Bool, true, false}
 use mathlib.Core.List.{List, [], _∷_, map, map-append}
 use Prim.Native.Nat.{ℕ}
 use lib.IntN.{ℤ}
-use lib.ListN.{length-map}
-use Rattle.language.specs.Program.{Step, literal, sum, assign, construct, call, print, create, remove, Goals, done, _then_, Goal, step, switch, ifLess, Arms, Program}
+use lib.ListN.{length, length-map}
+use Rattle.language.specs.Program.{argumentsOf, Step, literal, sum, assign, construct, call, print, create, remove, Goals, done, _then_, Goal, step, switch, ifLess, Arms, Program}
 use Rattle.language.specs.Annotation.{plainStep}
-use Rattle.language.specs.Frames.{Value, Frame, Cell, withGoals, giving, literalIn, sumIn, assignIn, cellFor, branchIn, Picked, noArm, picked, pick, enterArm, openCell, calleeFrame, returning, entryFrame, settle}
-use Rattle.language.specs.PlainRun.{stripGoals, stripArms, stripped, PlainState, plainState, plainStart, plainTake}
-use Rattle.language.specs.AcceptedRun.{RegionFrame, Memory, State, cellOf, withCell, withPrinted, withRegion, withoutRegion, withFrame, calleeRegions, returningRegions, state, start, take}
+use Rattle.language.specs.Frames.{Value, Frame, Cell, withGoals, giving, literalIn, sumIn, assignIn, cellFor, builtValue, buildIn, branchIn, Picked, noArm, picked, pick, enterArm, openCell, calleeFrame, returning, entryFrame, settle}
+use Rattle.language.specs.PlainRun.{stripGoals, stripArms, stripped, PlainState, plainState, plainStart, plainTake, builtCells}
+use Rattle.language.specs.AcceptedRun.{RegionFrame, Memory, State, cellOf, withCell, withBuilt, withPrinted, withRegion, withoutRegion, withFrame, calleeRegions, returningRegions, state, start, take}
 use Rattle.laws.specs.Choices.{choose-map}
 use Rattle.laws.specs.Goals.{strip-before}
 use Rattle.lockstep.specs.Counted.{isPlain}
@@ -90,12 +90,20 @@ module _ (P : Program) where
   Same true g f fs m = erase P (take P g f fs m) ≡ seen (plainTake (stripped P) (strippedGoal g)) f fs m
   Same false g f fs m = erase P (take P g f fs m) ≡ seen (plainState (stripped P)) f fs m
 
+  -- a construct makes no cell in either run, or one in both
+  erase-built : (x k r : ℕ) (ys : List ℕ) (f : RegionFrame) (fs : List RegionFrame) (m : Memory) →
+      seen (plainState (stripped P)) (withFrame f (buildIn (f .frame) x k ys (length (m .cells)))) fs (withBuilt m r (f .frame) k ys)
+      ≡ seen (λ e es cells. plainState (stripped P) (buildIn e x k ys (length cells)) es (builtCells cells e k ys)) f fs m
+  unfolding withBuilt builtCells buildIn builtValue eraseFrame withFrame withGoals giving cellFor cellOf withCell
+  erase-built x k r [] f fs m = refl
+  erase-built x k r (y ∷ ys) f fs m = rw (length-map, map-append)
+
   erase-step : (g : Step) (f : RegionFrame) (fs : List RegionFrame) (m : Memory) → Same (plainStep g) (step g) f fs m
-  unfolding plainStep strippedGoal take plainTake eraseFrame withFrame withGoals giving literalIn sumIn assignIn cellFor cellOf withCell withPrinted withRegion withoutRegion
+  unfolding plainStep strippedGoal take plainTake eraseFrame withFrame withGoals giving literalIn sumIn assignIn withPrinted withRegion withoutRegion
   erase-step (literal x v) f fs m = erase-state _ fs m
   erase-step (sum x o y z) f fs m = erase-state _ fs m
   erase-step (assign x y) f fs m = erase-state _ fs m
-  erase-step (construct x k ys) f fs m = erase-state _ fs _ ∙ rw (length-map, map-append)
+  erase-step (construct x k ys) f fs m = erase-state _ fs _ ∙ erase-built x k _ (argumentsOf ys) f fs m
   erase-step (call q ys) f fs m = erase-state _ (f ∷ fs) m ∙ rw (erase-callee f q ys)
   erase-step (print y) f fs m = erase-state f fs _
   erase-step (create r) f fs m = erase-state _ fs _

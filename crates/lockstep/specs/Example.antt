@@ -12,14 +12,14 @@ use Rattle.lockstep.specs.Erase.{eraseFrame, eraseFrames, erase}
 
 unfoldable small : Program
 small = record {
-  types = (record { arity = 0; argumentTypes = four 0 0 0 0 } ∷ []) ∷ [];
+  types = (record { arity = 1; argumentTypes = four 0 0 0 0 } ∷ []) ∷ [];
   procedures =
       record {
         signature = record {
           variables = record { mode = 0; type = 1; region = 1 } ∷ record { mode = 0; type = 0; region = 0 } ∷ [];
           regions = record { type = 1; class = 0; edges = [] } ∷ [];
         };
-        body = step (create 1) then step (construct 1 0 (four 0 0 0 0)) then step (print 2) then step (remove 1) then done;
+        body = step (create 1) then step (construct 1 0 (four 2 0 0 0)) then step (print 2) then step (remove 1) then done;
       }
       ∷ [];
 }

@@ -1,22 +1,28 @@
 -- A construct, as the code puts it together: a cell is taken, its words are put into it up to the first argument that is numbered 0, and it is hung into
 -- its region. A switch, likewise.
-use Prim.Native.Nat.{ℕ, zero, suc, _+_, _*_, _<_}
+use Prim.Native.Nat.{ℕ, zero, suc, _+_, _-_, _*_, _≤_, _<_}
 use native.Mathlib.Omega.{arith}
 use mathlib.Core.Path.{_≡_, refl, sym, ap, _∙_}
+use mathlib.Core.Bool.{Bool, true, false}
 use mathlib.Core.List.{List, [], _∷_}
-use lib.ListN.{getD, set}
+use lib.Dec.{leb, ltb}
+use lib.ListN.{length, getD, set}
 use lib.Seq.{getD-set-other}
+use borrow.Author.Tests.{ltb-true, leb-true, lt-ltb, le-ltb, le-leb, lt-leb}
+use Rattle.sets.specs.Tests.{_&_, and-true}
+use Rattle.language.specs.Lists.{choose}
 use Rattle.language.specs.File.{word}
-use Rattle.language.specs.Format.{goalX, switchArms, termFunctor}
+use Rattle.language.specs.Format.{goalX, switchArms, termFunctor, termArguments}
 use Rattle.chains.specs.Records.{chainRecords}
+use Rattle.memory.specs.declared.Contents.{Contents}
 use Rattle.memory.specs.declared.Heap.{Heap}
 use Rattle.memory.specs.declared.Made.{Made}
 use Rattle.memory.specs.declared.Made.the-variants.{At, NoRoom}
-use Rattle.memory.specs.Memory.{cellWords, cellWord, withWord, withLink, first, filled, hung, built, builtCells, builtRegions}
+use Rattle.memory.specs.Memory.{cellWords, constantsFrom, cellWord, withWord, withLink, first, filled, hung, built, builtCells, builtRegions}
 use Rattle.memory.specs.Building.{built-none, built-made, built-place, still}
 use Rattle.plans.specs.Plan.{sidesFrom}
 use Rattle.word_machine.specs.Machine.{regionsFrom, termOf, armOf}
-use Rattle.machine.specs.Places.{valueIn, termIn, poursEach, argumentsFrom, poured, homeFor, placed, armFor, armValues}
+use Rattle.machine.specs.Places.{valueIn, termIn, poursEach, argumentsFrom, poured, homeFor, termMade, cellsMade, regionsMade, placed, functorIn, armFor, armValues, termValues}
 
 -- ---- words put up to the first 0, and the link, are the whole cell: the others are filled with what stands there
 module _ (value : ℕ → ℕ) (m : List ℕ) (x : ℕ) where
@@ -64,37 +70,89 @@ module _ (f plan : List ℕ) (i k : ℕ) (h : Heap) (m rs fw : List ℕ) where
   abbrev home : ℕ
   home = homeFor plan i k fw
 
-  -- what the functions promise that are called: r is the answer, m₁, rs₁ and fx are the words afterwards
+  abbrev term : Contents
+  term = termIn f i k fw m (h .cells .head)
+
+  abbrev argument : ℕ
+  argument = word f i termArguments
+
+  -- what is made: r is the answer, m₁ and rs₁ are the words of cells and regions afterwards
+  abbrev pub Makes : Made → List ℕ → List ℕ → Type 0
+  Makes r m₁ rs₁ =
+      (r ≡ termMade (word f i termFunctor) argument h m) × (m₁ ≡ cellsMade argument h m rs home term) × (rs₁ ≡ regionsMade argument h m rs home)
+
+  pub make-constant : (a t : ℕ) → a ≡ word f i termArguments → a ≡ 0 → t ≡ word f i termFunctor → Makes (At (constantsFrom + t) h) m rs
+  unfolding termMade cellsMade regionsMade
+  make-constant a t e z et = rw (← e, z, et) (refl, refl, refl)
+
+  -- a construct with arguments makes a cell
+  some-made : (b : ℕ) → (b ≡ 0 → ⊥) → (r : Made) (m₁ rs₁ : List ℕ) → r ≡ built h m → m₁ ≡ builtCells h m rs home term → rs₁ ≡ builtRegions h m rs home
+      → (r ≡ termMade (word f i termFunctor) b h m) × (m₁ ≡ cellsMade b h m rs home term) × (rs₁ ≡ regionsMade b h m rs home)
+  unfolding termMade cellsMade regionsMade
+  some-made zero n r m₁ rs₁ er em es = absurd (n refl)
+  some-made (suc b) n r m₁ rs₁ er em es = (er, em, es)
+
+  module _ (a : ℕ) (e : a ≡ word f i termArguments) (n : a ≡ 0 → ⊥) where
+    pub make-none : (md : Made) → md ≡ built h m → md ≡ NoRoom → Makes NoRoom m rs
+    make-none md d z = let b = built-none h m rs home term (sym z ∙ d) in some-made argument (λ x. n (e ∙ x)) NoRoom m rs (sym z ∙ d) (sym (b .0)) (sym (b .1))
+
+    pub make-cell : (md : Made) (y : ℕ) (l : Heap) → md ≡ built h m → md ≡ At y l → (m₁ m₂ rs₁ : List ℕ) (p x : ℕ) → m₁ ≡ poured f i k fw y m → p ≡ home
+        → x ≡ h .cells .limit → m₂ ≡ withLink m₁ y (first rs p) → rs₁ ≡ hung rs p y x → Makes (At y l) m₂ rs₁
+    make-cell md y l d z m₁ m₂ rs₁ p x e₁ ep ex e₂ er =
+        let c = sym z ∙ d in
+        let b = built-made h m rs home term y l c in
+        some-made argument (λ q. n (e ∙ q)) (At y l) m₂ rs₁ c
+        (rw (b .0, e₂, e₁, ep) (poured-filled f i k fw y (first rs home) m ∙ ap (λ x. filled m y (termIn f i k fw m x) (first rs home)) (built-place h m y l c)))
+        (rw (b .1, er, ep, ex))
+
+  -- .. and X gets it: fx are the words of frames afterwards
   abbrev pub Constructs : Made → List ℕ → List ℕ → List ℕ → Type 0
-  Constructs r m₁ rs₁ fx =
-      (r ≡ built h m) × ((m₁ ≡ builtCells h m rs home (termIn f i k fw m (h .cells .head))) × ((rs₁ ≡ builtRegions h m rs home) × (fx ≡ placed (k + word f i goalX) r fw)))
+  Constructs r m₁ rs₁ fx = Makes r m₁ rs₁ × (fx ≡ placed (k + word f i goalX) r fw)
 
-  pub construct-none : (md : Made) → md ≡ built h m → md ≡ NoRoom → Constructs NoRoom m rs fw
-  unfolding placed
-  construct-none md e z = let b = built-none h m rs home (termIn f i k fw m (h .cells .head)) (sym z ∙ e) in (sym z ∙ e, (sym (b .0), (sym (b .1), refl)))
+  module _ (md : Made) (m₁ rs₁ : List ℕ) (M : Makes md m₁ rs₁) where
+    pub construct-none : md ≡ NoRoom → Constructs NoRoom m₁ rs₁ fw
+    unfolding placed
+    construct-none z = (rw z at M, refl)
 
-  pub construct-made : (md : Made) (y : ℕ) (l : Heap) → md ≡ built h m → md ≡ At y l → (m₁ m₂ rs₁ fx : List ℕ) (p x n : ℕ) → m₁ ≡ poured f i k fw y m → p ≡ home
-      → n ≡ h .cells .limit → m₂ ≡ withLink m₁ y (first rs p) → rs₁ ≡ hung rs p y n → x ≡ word f i goalX → fx ≡ set fw (k + x) y → Constructs (At y l) m₂ rs₁ fx
-  unfolding placed
-  construct-made md y l e z m₁ m₂ rs₁ fx p x n e₁ ep en e₂ er ex ef =
-      let a = sym z ∙ e in
-      let b = built-made h m rs home (termIn f i k fw m (h .cells .head)) y l a in (
-        a,
-        (
-          rw (b .0, e₂, e₁, ep) (poured-filled f i k fw y (first rs home) m ∙ ap (λ c. filled m y (termIn f i k fw m c) (first rs home)) (built-place h m y l a)),
-          (rw (b .1, er, ep, en), rw (ef, ex)),
-        ),
-      )
+    pub construct-made : (y : ℕ) (l : Heap) → md ≡ At y l → (x : ℕ) (fx : List ℕ) → x ≡ word f i goalX → fx ≡ set fw (k + x) y → Constructs (At y l) m₁ rs₁ fx
+    unfolding placed
+    construct-made y l z x fx ex ef = (rw z at M, rw (ef, ex))
 
 -- ---- a switch
-pub arm-as : (f : List ℕ) (i k x p n start j : ℕ) (m fw : List ℕ) → p ≡ getD fw (k + x) 0 → x ≡ word f i goalX → start ≡ word f i switchArms → n ≡ getD m (cellWords * p) 0
-    → j ≡ armOf f n (chainRecords f start) → j ≡ armFor f i k m fw
-unfolding armFor
-arm-as f i k x p n start j m fw ep ex es en ej =
-    let z : cellWords * p ≡ cellWords * p + 0 = omega arith in
-    let e : n ≡ cellWord m p 0 = en ∙ ap (λ q. getD m q 0) z in
-    rw (ej, e, ep, ex, es)
+-- v is the place of a cell that is there whole
+unfoldable pub wholeCell : List ℕ → ℕ → Bool
+wholeCell m v = leb (cellWords * v + cellWords) (length m) & ltb v constantsFrom
 
-pub arms-at : (f : List ℕ) (i k x p j : ℕ) (m fw fx : List ℕ) → fx ≡ armValues f j p k m fw → p ≡ getD fw (k + x) 0 → x ≡ word f i goalX
-    → fx ≡ armValues f j (getD fw (k + word f i goalX) 0) k m fw
-arms-at f i k x p j m fw fx e ep ex = rw (e, ep, ex)
+pub whole-short : (m : List ℕ) (v : ℕ) → length m < cellWords * v + cellWords → false ≡ wholeCell m v
+unfolding wholeCell _&_
+whole-short m v l = rw (lt-leb _ _ l)
+
+pub whole-long : (m : List ℕ) (v : ℕ) → cellWords * v + cellWords ≤ length m → ltb v constantsFrom ≡ wholeCell m v
+unfolding wholeCell _&_
+whole-long m v l = rw (le-leb _ _ l)
+
+pub whole-is : (m : List ℕ) (v : ℕ) (b : Bool) → b ≡ wholeCell m v → b ≡ true → (v < constantsFrom) × (cellWords * v + cellWords ≤ length m)
+unfolding wholeCell
+whole-is m v b e z = let a = and-true (sym e ∙ z) in (ltb-true _ _ (a .1), leb-true _ _ (a .0))
+
+-- the functor of a cell, of a constant
+pub functor-cell : (m : List ℕ) (v n : ℕ) → v < constantsFrom → n ≡ getD m (cellWords * v) 0 → n ≡ functorIn m v
+unfolding functorIn choose
+functor-cell m v n l e = let z : cellWords * v ≡ cellWords * v + 0 = omega arith in rw (lt-ltb _ _ l) (e ∙ ap (λ q. getD m q 0) z)
+
+pub functor-constant : (m : List ℕ) (v : ℕ) → constantsFrom ≤ v → v - constantsFrom ≡ functorIn m v
+unfolding functorIn choose
+functor-constant m v l = rw (le-ltb _ _ l)
+
+module _ (f : List ℕ) (i k x v : ℕ) (m fw : List ℕ) (ev : v ≡ getD fw (k + x) 0) (ex : x ≡ word f i goalX) where
+  pub arm-as : (n start j : ℕ) → start ≡ word f i switchArms → n ≡ functorIn m v → j ≡ armOf f n (chainRecords f start) → j ≡ armFor f i k m fw
+  unfolding armFor
+  arm-as n start j es en ej = rw (ej, en, ev, ex, es)
+
+  pub values-cell : (j : ℕ) (fx : List ℕ) → v < constantsFrom → fx ≡ armValues f j v k m fw → fx ≡ termValues f j (getD fw (k + word f i goalX) 0) k m fw
+  unfolding termValues choose
+  values-cell j fx l e = rw (← ex, ← ev, lt-ltb _ _ l) e
+
+  pub values-constant : (j : ℕ) → constantsFrom ≤ v → fw ≡ termValues f j (getD fw (k + word f i goalX) 0) k m fw
+  unfolding termValues choose
+  values-constant j l = rw (← ex, ← ev, le-ltb _ _ l)

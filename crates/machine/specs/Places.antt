@@ -1,15 +1,18 @@
 -- What the goals with cells and regions do to words, one function for each part.
-use Prim.Native.Nat.{ℕ, zero, suc, _+_, _≤_, _<_}
+use Prim.Native.Nat.{ℕ, zero, suc, _+_, _-_, _≤_, _<_}
 use mathlib.Core.Path.{_≡_}
 use mathlib.Core.List.{List, [], _∷_}
+use lib.Dec.{ltb}
 use lib.ListN.{getD, set}
+use Rattle.language.specs.Lists.{choose}
 use Rattle.language.specs.File.{word}
 use Rattle.language.specs.Format.{maxArity, maxVariables, goalX, termFunctor, termArguments, switchArms, lifetimeRegion}
 use Rattle.chains.specs.Records.{chainRecords}
 use Rattle.memory.specs.declared.Contents.{Contents}
+use Rattle.memory.specs.declared.Heap.{Heap}
 use Rattle.memory.specs.declared.Made.{Made}
 use Rattle.memory.specs.declared.Made.the-variants.{At, NoRoom}
-use Rattle.memory.specs.Memory.{cellWord, withWord}
+use Rattle.memory.specs.Memory.{constantsFrom, cellWord, withWord, built, builtCells, builtRegions}
 use Rattle.plans.specs.Plan.{sidesFrom}
 use Rattle.word_machine.specs.Machine.{regionsFrom, armOf, givesEach, termOf}
 
@@ -58,14 +61,36 @@ homeFor plan i k fw = getD fw (k + regionsFrom + getD plan (sidesFrom + i) 0) 0
 unfoldable pub regionFor : List ℕ → ℕ → ℕ → List ℕ → ℕ
 regionFor f i k fw = getD fw (k + regionsFrom + word f i lifetimeRegion) 0
 
+-- What a construct of functor t makes, by its first argument: a constant, which leaves the heap and the words of cells and regions alone, or a cell
+-- in the region at place r.
+unfoldable pub termMade : ℕ → ℕ → Heap → List ℕ → Made
+termMade t zero h m = At (constantsFrom + t) h
+termMade t (suc a) h m = built h m
+
+unfoldable pub cellsMade : ℕ → Heap → List ℕ → List ℕ → ℕ → Contents → List ℕ
+cellsMade zero h m rs r c = m
+cellsMade (suc a) h m rs r c = builtCells h m rs r c
+
+unfoldable pub regionsMade : ℕ → Heap → List ℕ → List ℕ → ℕ → List ℕ
+regionsMade zero h m rs r = rs
+regionsMade (suc a) h m rs r = builtRegions h m rs r
+
 -- what was made is put into word a
 unfoldable pub placed : ℕ → Made → List ℕ → List ℕ
 placed a (At y h) fw = set fw a y
 placed a NoRoom fw = fw
 
--- the arm that the switch at record i takes, and what its arguments get from cell p
-unfoldable pub armFor : List ℕ → ℕ → ℕ → List ℕ → List ℕ → ℕ
-armFor f i k m fw = armOf f (cellWord m (valueIn k fw (word f i goalX)) 0) (chainRecords f (word f i switchArms))
+-- the functor of a term's word v: of the cell at that place, or of the constant
+unfoldable pub functorIn : List ℕ → ℕ → ℕ
+functorIn m v = choose (ltb v constantsFrom) (cellWord m v 0) (v - constantsFrom)
 
+-- the arm that the switch at record i takes
+unfoldable pub armFor : List ℕ → ℕ → ℕ → List ℕ → List ℕ → ℕ
+armFor f i k m fw = armOf f (functorIn m (valueIn k fw (word f i goalX))) (chainRecords f (word f i switchArms))
+
+-- what the arguments of the arm at record j get from cell p, and from a term's word v: a constant has no values
 unfoldable pub armValues : List ℕ → ℕ → ℕ → ℕ → List ℕ → List ℕ → List ℕ
 armValues f j p k m fw = givesEach k (argumentsFrom f j maxArity 0) (wordsFrom m p maxArity 0) fw
+
+unfoldable pub termValues : List ℕ → ℕ → ℕ → ℕ → List ℕ → List ℕ → List ℕ
+termValues f j v k m fw = choose (ltb v constantsFrom) (armValues f j v k m fw) fw

@@ -1,7 +1,8 @@
 -- What each kind of goal comes to, from what its function promises.
-use Prim.Native.Nat.{ℕ, suc, _+_, _*_, _≤_, _<_}
+use Prim.Native.Nat.{ℕ, suc, _+_, _-_, _*_, _≤_, _<_}
 use native.Mathlib.Omega.{arith}
 use mathlib.Core.Path.{_≡_, refl, sym, ap, _∙_}
+use mathlib.Core.Bool.{Bool, true, false}
 use mathlib.Core.List.{List}
 use borrow.Author.Tests.{lt-ltb, le-ltb}
 use lib.ListN.{length, set}
@@ -16,16 +17,18 @@ use Rattle.language.specs.declared.Stop.{Stop}
 use Rattle.language.specs.declared.Stop.the-variants.{Frames, Prints}
 use Rattle.records.specs.Records.{recordAt, recordAs, record-as}
 use Rattle.records.specs.declared.Record.the-variants.{Literal, Sum, Assign, Construct, Switch, If, Call, Print, Create, Remove}
+use Rattle.chains.specs.Records.{chainRecords}
 use Rattle.chains.specs.Shapes.{goal-number}
 use Rattle.memory.specs.declared.Heap.{Heap}
+use Rattle.memory.specs.Memory.{constantsFrom, cellWord}
 use Rattle.word_machine.specs.Tables.{Tables, onto}
-use Rattle.word_machine.specs.Machine.{printWords, Went, went, stops, frameWords, literalWord, sumWord, given, withFrames, valueOf, printsWord, ifRoom, switches, entersArm, armWords, calls, calleeWords, steps}
+use Rattle.word_machine.specs.Machine.{printWords, Went, went, stops, frameWords, literalWord, sumWord, given, withFrames, valueOf, printsWord, ifRoom, armOf, switches, switchesOn, entersArm, armWords, calls, calleeWords, steps}
 use Rattle.word_machine.specs.Machine
 use Rattle.machine.specs.declared.State.{State}
 use Rattle.machine.specs.declared.Step.{Step}
 use Rattle.machine.specs.declared.Step.the-variants.{Went as WentTo, Stops}
 use Rattle.machine.specs.Words.{FramePlaced, wordsOf, cameTo, onwardTo, onward-placed, Goes}
-use Rattle.machine.specs.Places.{valueIn, argumentsFrom, wordsFrom, armFor, armValues}
+use Rattle.machine.specs.Places.{valueIn, argumentsFrom, wordsFrom, functorIn, armFor, armValues, termValues}
 
 -- ---- the record by the number of its kind, w
 module _ (f : List ℕ) (i w : ℕ) (ew : w ≡ word f i kindWord) where
@@ -171,14 +174,21 @@ module _ (f : List ℕ) (T : Tables) (s : State) (m fw ps : List ℕ) (D : Frame
         }
 
   module _ (w : ℕ) (ew : w ≡ word f (s .goal) kindWord) where
+    -- by X's word, v: a cell, or a constant
+    switch-as : (h : Heap) (rs fx : List ℕ) (b : Bool) (v cs j g : ℕ) → j ≡ armOf f (choose b (cellWord m v 0) (v - constantsFrom)) (chainRecords f cs)
+        → fx ≡ choose b (armValues f j v (s .at) m fw) fw → g ≡ T .entry j → wordsOf h m rs fx ps (onwardTo s g) ≡ switchesOn f T b (wordsOf h m rs fw ps s) v cs
+    unfolding switchesOn entersArm armWords withFrames wordsOf armValues argumentsFrom wordsFrom choose
+    switch-as h rs fx true v cs j g ej ex eg = rw (eg, ex, ej, D .place)
+    switch-as h rs fx false v cs j g ej ex eg = rw (eg, ex, ej)
+
     switch-step : (k : Room) (h : Heap) (rs fx : List ℕ) (j g : ℕ) → w ≡ switchKind → j ≡ armFor f (s .goal) (s .at) m fw
-        → fx ≡ armValues f j (valueIn (s .at) fw (word f (s .goal) goalX)) (s .at) m fw → g ≡ T .entry j
+        → fx ≡ termValues f j (valueIn (s .at) fw (word f (s .goal) goalX)) (s .at) m fw → g ≡ T .entry j
         → went (wordsOf h m rs fx ps (onwardTo s g)) ≡ Steps k h rs
-    unfolding steps switches entersArm armWords withFrames wordsOf valueOf armFor armValues argumentsFrom wordsFrom
-    switch-step k h rs fx j g z ej ex eg = rw (switch-record f (s .goal) w ew z, eg, ex, ej, D .place)
+    unfolding steps switches switchesOn valueOf armFor functorIn termValues wordsOf
+    switch-step k h rs fx j g z ej ex eg = rw (switch-record f (s .goal) w ew z, ← D .place) (ap went (switch-as h rs fx _ _ _ j g ej ex eg))
 
     pub switch-goes : (fx : List ℕ) (j g : ℕ) → w ≡ switchKind → j ≡ armFor f (s .goal) (s .at) m fw
-        → fx ≡ armValues f j (valueIn (s .at) fw (word f (s .goal) goalX)) (s .at) m fw → g ≡ T .entry j
+        → fx ≡ termValues f j (valueIn (s .at) fw (word f (s .goal) goalX)) (s .at) m fw → g ≡ T .entry j
         → Goes f T s m fw ps (WentTo (onwardTo s g)) fx ps
     switch-goes fx j g z ej ex eg = goes-on _ fx ps (λ k h rs. switch-step k h rs fx j g z ej ex eg) (onward-placed _ D)
 

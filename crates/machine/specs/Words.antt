@@ -40,7 +40,7 @@ pub record Goes (f : List ℕ) (T : Tables) (s : State) (m fw ps : List ℕ) (r 
   pub kept : (c : Stop) → r ≡ Stops c → (fx ≡ fw) × (px ≡ ps)
   pub stays : (v : State) → r ≡ WentTo v → FramePlaced v (length fw)
 
--- whether the goals of the kind w change the heap: constructs, creates and removes
+-- whether goals of the kind w change the heap: constructs with arguments, creates and removes
 abbrev pub Changes : ℕ → Bool → Type 0
 Changes w true = (w ≡ constructKind) ⊎ ((w ≡ createKind) ⊎ (w ≡ removeKind))
 Changes w false = (w ≡ constructKind → ⊥) × (w ≡ createKind → ⊥) × (w ≡ removeKind → ⊥)

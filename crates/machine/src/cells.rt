@@ -1,4 +1,4 @@
-// Constructs: "a construct makes one cell".
+// Constructs: "a construct makes one cell", one without arguments none.
 use frames::give;
 use frames::region;
 use frames::store;
@@ -9,6 +9,7 @@ use language::format::TERM_ARGUMENTS;
 use language::format::TERM_FUNCTOR;
 use memory::CELL_ARGUMENTS;
 use memory::CELL_WORDS;
+use memory::CONSTANTS;
 use memory::Heap;
 use memory::Made;
 use memory::hang_cell;
@@ -26,7 +27,7 @@ ghost use Rattle.memory.specs.Memory.{cellWords};
 ghost use Rattle.plans.specs.Plan.{sidesFrom};
 ghost use Rattle.word_machine.specs.Machine.{frameWords};
 ghost use Rattle.machine.specs.Places.{Low, poured};
-ghost use Rattle.machine.specs.Cells.{Constructs};
+ghost use Rattle.machine.specs.Cells.{Makes, Constructs};
 
 // A cell that is there whole gets the functor of the construct at record i and the values of its arguments, up to the first that is numbered 0.
 fn fill(file: &[u8], i: usize, at: usize, cell: u32, cells: &mut [u32], frames: &[u32])
@@ -79,7 +80,38 @@ fn fill_cell(file: &[u8], i: usize, at: usize, cell: u32, cells: &mut [u32], fra
     }
 }
 
-// "A construct makes one cell", in the region of X.
+// What a construct makes: with arguments a cell, in the region of X; without any a constant, "in the word itself", which takes no cell and touches
+// no region.
+fn make_term(
+    file: &[u8],
+    plan: &[usize; PLAN],
+    i: usize,
+    at: usize,
+    heap: Heap,
+    cells: &mut [u32],
+    regions: &mut [u32],
+    frames: &[u32],
+) -> Made
+    requires { ⌜ (i < maxRecords) × (recordBytes * i + recordBytes ≤ length (now file)) × (at + frameWords ≤ length (now frames)) ⌝ }
+    requires { ⌜ Low (now file) i × (getD (now plan) (sidesFrom + i) 0 ≤ maxRegions) ⌝ }
+    ensures { λ r. ⌜ Makes (now (file .entry)) (now (plan .entry)) i at heap (now (cells .entry)) (now (regions .entry)) (now (frames .entry))
+        r (now (cells .exit)) (now (regions .exit)) ⌝ }
+{
+    if word_in(file, i, TERM_ARGUMENTS) == 0 {
+        let constant = CONSTANTS + (word_in(file, i, TERM_FUNCTOR) as u32);
+        return Made::At(constant, heap);
+    }
+    let Made::At(cell, left) = take_cell(heap, &cells[..]) else {
+        return Made::NoRoom;
+    };
+    fill_cell(file, i, at, cell, &mut cells[..], frames);
+    let home = region(frames, at, plan[SIDES + i]);
+    let free = heap.cells;
+    hang_cell(&mut cells[..], &mut regions[..], home, cell, free.limit);
+    Made::At(cell, left)
+}
+
+// X gets what is made.
 pub fn construct(
     file: &[u8],
     plan: &[usize; PLAN],
@@ -95,13 +127,19 @@ pub fn construct(
     ensures { λ r. ⌜ Constructs (now (file .entry)) (now (plan .entry)) i at heap (now (cells .entry)) (now (regions .entry)) (now (frames .entry))
         r (now (cells .exit)) (now (regions .exit)) (now (frames .exit)) ⌝ }
 {
-    let Made::At(cell, left) = take_cell(heap, &cells[..]) else {
+    let made = make_term(
+        file,
+        plan,
+        i,
+        at,
+        heap,
+        &mut cells[..],
+        &mut regions[..],
+        &frames[..],
+    );
+    let Made::At(term, left) = made else {
         return Made::NoRoom;
     };
-    fill_cell(file, i, at, cell, &mut cells[..], &frames[..]);
-    let home = region(&frames[..], at, plan[SIDES + i]);
-    let free = heap.cells;
-    hang_cell(&mut cells[..], &mut regions[..], home, cell, free.limit);
-    give(&mut frames[..], at, word_in(file, i, GOAL_X), cell);
-    Made::At(cell, left)
+    give(&mut frames[..], at, word_in(file, i, GOAL_X), term);
+    Made::At(term, left)
 }

@@ -24,7 +24,7 @@ ghost use Rattle.chains.specs.Shapes.{IsConstruct, IsCreate};
 ghost use Rattle.plans.specs.Plan.{Numbered, tablesIn};
 ghost use Rattle.machine.specs.Words.{FramePlaced, Changes, Keeps};
 
-// Whether goals of a kind change the heap.
+// Whether goals of a kind change the heap; of constructs, those with arguments.
 pub fn changes_heap(kind: usize) -> bool
     ensures { λ b. ⌜ Changes kind b ⌝ }
 {

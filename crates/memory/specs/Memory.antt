@@ -35,6 +35,11 @@ regionLast = 1
 abbrev pub most : ℕ
 most = 65535
 
+-- A term's word is the place of its cell or, above all places, a constant, "in the word itself" (C-14): this number and its functor. Of numbers, which
+-- take any word, the variable's type tells both.
+abbrev pub constantsFrom : ℕ
+constantsFrom = 65536
+
 -- word k of a cell
 abbrev pub cellWord : List ℕ → ℕ → ℕ → ℕ
 cellWord m x k = getD m (cellWords * x + k) 0

@@ -30,6 +30,9 @@ pub const REGION_LAST: usize = 1;
 // "More than 65,535 of a sort count as 65,535".
 const MOST: u32 = 65535;
 
+// A term's word is the place of its cell or, above all places, a constant: this number and its functor.
+pub const CONSTANTS: u32 = 65536;
+
 // The free places of a sort: a chain from `head` that ends at `top`, and the places from `top` on, never used yet. There are `limit` places.
 pub struct Pool {
     pub head: u32,

@@ -12,19 +12,19 @@ use Rattle.needed.specs.Computing.{computing}
 
 -- "At the end: .. kept regions held". A kept region is held from the start, and neither a remove nor a dead image takes it away: `endKept-follows`
 -- in `AtTheEnd`. Where kept regions may be removed as well, the caller removes what is gone.
---     main: create 1 · X := unit · q(X) · remove 1
+--     main: create 1 · N := 1 · X := box(N) · q(X) · remove 1
 --     q(in X), region 1 kept: remove 1
 unfoldable pub keptGone : List ℕ
 keptGone =
     file (
-    (1 ∷ 3 ∷ 1 ∷ 15 ∷ []) ∷ (2 ∷ 0 ∷ 2 ∷ []) ∷ (3 ∷ []) ∷ (4 ∷ 11 ∷ 4 ∷ 5 ∷ 6 ∷ []) ∷ (5 ∷ 0 ∷ 0 ∷ 1 ∷ 1 ∷ []) ∷
-    (6 ∷ 0 ∷ 1 ∷ []) ∷ (18 ∷ 7 ∷ 1 ∷ []) ∷ (11 ∷ 8 ∷ 1 ∷ []) ∷ (15 ∷ 10 ∷ 1 ∷ 9 ∷ []) ∷ (16 ∷ 0 ∷ 1 ∷ []) ∷
-    (19 ∷ 0 ∷ 1 ∷ []) ∷ (4 ∷ 0 ∷ 12 ∷ 13 ∷ 14 ∷ []) ∷ (5 ∷ 0 ∷ 1 ∷ 1 ∷ 1 ∷ []) ∷ (6 ∷ 0 ∷ 1 ∷ []) ∷
-    (19 ∷ 0 ∷ 1 ∷ []) ∷ [])
+    (1 ∷ 3 ∷ 1 ∷ 17 ∷ []) ∷ (2 ∷ 0 ∷ 2 ∷ []) ∷ (3 ∷ 0 ∷ 1 ∷ []) ∷ (4 ∷ 13 ∷ 4 ∷ 6 ∷ 7 ∷ []) ∷
+    (5 ∷ 5 ∷ 0 ∷ 1 ∷ 1 ∷ []) ∷ (5 ∷ []) ∷ (6 ∷ 0 ∷ 1 ∷ []) ∷ (18 ∷ 8 ∷ 1 ∷ []) ∷ (8 ∷ 9 ∷ 2 ∷ 1 ∷ []) ∷
+    (11 ∷ 10 ∷ 1 ∷ 0 ∷ 2 ∷ []) ∷ (15 ∷ 12 ∷ 1 ∷ 11 ∷ []) ∷ (16 ∷ 0 ∷ 1 ∷ []) ∷ (19 ∷ 0 ∷ 1 ∷ []) ∷
+    (4 ∷ 0 ∷ 14 ∷ 15 ∷ 16 ∷ []) ∷ (5 ∷ 0 ∷ 1 ∷ 1 ∷ 1 ∷ []) ∷ (6 ∷ 0 ∷ 1 ∷ []) ∷ (19 ∷ 0 ∷ 1 ∷ []) ∷ [])
 
 pub keptGone-needs : Needed (endKept ∷ removeNotKept ∷ [])
 unfolding computing keptGone
-keptGone-needs = record { bytes = keptGone; refused = refl; accepted = refl; wrong = stays 4 refl }
+keptGone-needs = record { bytes = keptGone; refused = refl; accepted = refl; wrong = stays 5 refl }
 
 -- each of the two refuses it
 pub keptGone-twice : (checkedWithout (endKept ∷ []) keptGone ≡ Refused Rules) × (checkedWithout (removeNotKept ∷ []) keptGone ≡ Refused Rules)

@@ -1,9 +1,11 @@
--- What number 3 sees to and the theorems need: the numbers that a step's rules look up are from 1 to 64, and each switch has an arm.
+-- What number 3 sees to and the theorems need: the numbers that a step's rules look up are from 1 to 64, or 0 for the region of a type that has
+-- none, and each switch has an arm.
 -- `Typed` proves that a file past number 3 is so.
 use Prim.Native.Nat.{ℕ}
 use mathlib.Core.Bool.{Bool, true, false, false≢true}
 use mathlib.Core.List.{[], _∷_}
 use mathlib.Core.Path.{_≡_, refl}
+use lib.Dec.{leb}
 use Rattle.sets.specs.Tests.{_&_, and-true}
 use Rattle.language.specs.Lists.{all, among, isNone}
 use Rattle.language.specs.Program.{Step, literal, sum, assign, construct, call, print, create, remove, Goals, done, _then_, Goal, step, switch, ifLess, Arms, noArms, arm, Signature, Program, regionOf}
@@ -18,7 +20,7 @@ module _ (P : Program) (S : Signature) where
   regionNamed (literal x v) = true
   regionNamed (sum x o y z) = true
   regionNamed (assign x y) = true
-  regionNamed (construct x f ys) = among 64 (regionOf S x)
+  regionNamed (construct x f ys) = leb (regionOf S x) 64
   regionNamed (call q ys) = true
   regionNamed (print y) = true
   regionNamed (create r) = among 64 r

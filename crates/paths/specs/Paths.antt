@@ -85,9 +85,9 @@ module _ (P : Program) (S : Signature) where
   unfoldable pub readSound : List ℕ → Set → Bool
   readSound ys sound = all (member sound) ys
 
-  -- "A construct's region is held."
+  -- "A construct's region is held", if X's type has regions: of the others "its variables have region word 0" (C-14)
   unfoldable pub constructHeld : ℕ → Set → Bool
-  constructHeld x held = member held (regionOf S x)
+  constructHeld x held = eqb (regionOf S x) 0 or member held (regionOf S x)
 
   -- "Call: images of dead and kept regions are held."
   unfoldable pub callHeld : ℕ → List ℕ → Set → Bool

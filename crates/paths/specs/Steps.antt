@@ -1,11 +1,15 @@
 -- Each event does what the checker does with it: the conjunction of the rules that speak of a step is `stepRules`, and the held regions and
 -- sound variables after it are the checker's.
-use Prim.Native.Nat.{ℕ}
+use Prim.Native.Nat.{ℕ, zero, suc}
 use mathlib.Core.Bool.{Bool, true}
 use mathlib.Core.List.{List, [], _∷_}
-use mathlib.Core.Path.{_≡_, refl, ap, ap₂, _∙_}
-use Rattle.sets.specs.Tests.{_&_, neg, same-truth, and-true, true-and, neg-true, true-neg}
-use Rattle.sets.specs.Sets.{member, emptySet, single, _∪_, _∖_, subset, apart, Small, single-mk, subset-in}
+use mathlib.Core.Path.{_≡_, refl, sym, ap, ap₂, _∙_}
+use native.Mathlib.Nat.{suc-ne-zero}
+use native.Mathlib.Omega.{arith}
+use borrow.Author.Tests.{leb-true, ne-eqb}
+use lib.Dec.{leb, eqb}
+use Rattle.sets.specs.Tests.{_&_, _or_, neg, same-truth, and-true, true-and, neg-true, true-neg}
+use Rattle.sets.specs.Sets.{member, emptySet, single, _∪_, _∖_, subset, apart, Small, single-mk, single-zero, subset-in}
 use Rattle.sets.specs.SetLaws.{subset-trans, empty-subset, single-subset, left-union, right-union, union-least, union-empty, apart-in, small-union, small-difference}
 use Rattle.sets.specs.Members.{setOf}
 use Rattle.sets.specs.MemberLaws.{small-keep}
@@ -17,7 +21,7 @@ use Rattle.language.specs.Regions.{reach}
 use Rattle.language.specs.Lifetimes.{kept, noEffect, unsharedIn, callEffect, effect, heldAfter}
 use Rattle.language.specs.Checking.{carries, requireRule, soundGiven, soundWithout, stepRules, checkStep}
 use Rattle.laws.specs.Tests.{and-yes}
-use Rattle.laws.specs.Numbers.{among-in}
+use Rattle.laws.specs.Numbers.{among-in, among-mk}
 use Rattle.laws.specs.MoreSets.{difference-empty, no-change, empty-apart, apart-empty, keep-empty, keep-all, single-apart}
 use Rattle.paths.specs.Paths.{Event, does, takes, compares, readBy, givenBy, imageAt, imagesAt, createNotHeld, removeHeld, removeNotKept, readSound, constructHeld, callHeld, callNotKept, callNotHeld, callUnshared, regionRules, eventRules, heldThen, notReaching, stillSound, soundThen}
 use Rattle.paths.specs.Named.{regionNamed, stepNamed}
@@ -27,6 +31,14 @@ pub held-one : (s : Set) (n : ℕ) → among 64 n ≡ true → subset (single n)
 held-one s n e =
     let i = among-in 64 n e in
     same-truth (λ h. subset-in (single n) s h n (single-mk n (i .0) (i .1))) (single-subset n s)
+
+-- a region, if it is one
+held-if : (s : Set) (r : ℕ) → leb r 64 ≡ true → subset (single r) s ≡ (eqb r 0 or member s r)
+unfolding _or_
+held-if s zero e = ap (λ (a : Set). subset a s) single-zero ∙ empty-subset s
+held-if s (suc r) e =
+    held-one s (suc r) (among-mk 64 (suc r) (omega arith) (leb-true (suc r) 64 e))
+    ∙ sym (ap (λ (b : Bool). b or member s (suc r)) (ne-eqb (suc r) 0 (suc-ne-zero r)))
 
 pub not-held-one : (s : Set) (n : ℕ) → among 64 n ≡ true → apart (single n) s ≡ neg (member s n)
 not-held-one s n e =
@@ -60,7 +72,7 @@ module _ (P : Program) (S : Signature) where
   region-rules (sum x o y z) h n = no-rules h
   region-rules (assign x y) h n = no-rules h
   region-rules (construct x f ys) h n =
-      ap₂ _&_ (held-one h (regionOf S x) n) (true-and (empty-apart (kept S)) (true-and (empty-apart h) refl)) ∙ and-yes (member h (regionOf S x))
+      ap₂ _&_ (held-if h (regionOf S x) n) (true-and (empty-apart (kept S)) (true-and (empty-apart h) refl)) ∙ and-yes _
   region-rules (call q ys) h n = refl
   region-rules (print y) h n = no-rules h
   region-rules (create r) h n =

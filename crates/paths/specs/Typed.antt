@@ -1,10 +1,12 @@
--- A procedure that passes number 3 names numbers from 1 to 64 only, and each of its switches has an arm.
+-- A procedure that passes number 3 names numbers to 64 only, as `Named` says, and each of its switches has an arm.
 use Prim.Native.Nat.{ℕ, suc}
 use mathlib.Core.Bool.{Bool, true, false, false≢true}
 use mathlib.Core.List.{List, [], _∷_}
+use mathlib.Core.Logic.{⊎-elim}
 use mathlib.Core.Path.{_≡_, refl}
-use borrow.Author.Tests.{ltb-true}
-use lib.Dec.{ltb, eqb}
+use native.Mathlib.Omega.{arith}
+use borrow.Author.Tests.{le-leb}
+use lib.Dec.{leb, eqb}
 use lib.ListN.{length}
 use Rattle.sets.specs.Tests.{and-true, true-and}
 use Rattle.sets.specs.Members.{consIf}
@@ -13,8 +15,8 @@ use Rattle.language.specs.Program.{Functor, argumentsOf, Step, literal, sum, as
 use Rattle.language.specs.Values.{access, accessing}
 use Rattle.language.specs.Typing.{isVariable, isRegion, hasType, haveTypes, argumentsOk, typesOk, signatureOk, functorsFor, parameterTypes, stepOk, goalsOk, goalOk, armsOk}
 use Rattle.laws.specs.Numbers.{among-wider}
-use Rattle.region_graph.specs.Typed.{variables-few, regions-few, functors-some, functor-typed, arms-some}
-use Rattle.region_graph.specs.Procedure.{cell-region}
+use Rattle.region_graph.specs.Typed.{variables-few, regions-few, region-small, functors-some, arms-some}
+use Rattle.region_graph.specs.Procedure
 use Rattle.paths.specs.Named.{regionNamed, stepNamed, goalsNamed, goalNamed, armsNamed}
 
 -- ---- what number 3 says of a procedure
@@ -52,11 +54,11 @@ module _ (P : Program) (S : Signature) (types : typesOk (P .types) ≡ true) (de
       let r = and-true e in
       consIf-named (eqb (a .mode) m) x (argumentsIn m ps xs) (r .0) (some-named m ps xs (r .1))
 
-  -- a construct's region
-  built-named : (x f : ℕ) → ltb f (length (functorsFor P S x)) ≡ true → among 64 (regionOf S x) ≡ true
-  unfolding functorsFor
-  built-named x f l =
-      region-named (regionOf S x) (cell-region (P .types) S declared x (functor-typed (P .types) (typeOf S x) f (ltb-true f _ l)) .0)
+  -- a construct's region, if it has one
+  built-named : (x : ℕ) → leb (regionOf S x) 64 ≡ true
+  built-named x =
+      ⊎-elim (λ z. le-leb (regionOf S x) 64 (omega (arith, z))) (λ r. le-leb _ 64 (region-small S (regions-few (P .types) S declared) (regionOf S x) r .1))
+      (Procedure.declared (P .types) S declared .own x)
 
   step-named : (g : Step) → stepOk P S g ≡ true → stepNamed P S g ≡ true
   unfolding stepOk stepNamed regionNamed access accessing all argumentsOk
@@ -66,9 +68,7 @@ module _ (P : Program) (S : Signature) (types : typesOk (P .types) ≡ true) (de
       true-and (true-and (typed-named 0 y (r .0)) (true-and (typed-named 0 z (r .1)) refl)) refl
   step-named (assign x y) e = true-and (true-and (typed-named (typeOf S x) y (and-true e .1)) refl) refl
   step-named (construct x f ys) e =
-      let r = and-true e in
-      let q = and-true (r .1) in
-      true-and (arguments-named _ (argumentsOf ys) (q .1)) (built-named x f (q .0))
+      true-and (arguments-named _ (argumentsOf ys) (and-true (and-true e .1) .1)) (built-named x)
   step-named (call q ys) e =
       true-and (some-named inMode (parametersOf (signatureOf P q)) ys (arguments-named (parameterTypes (signatureOf P q)) ys (and-true e .1))) refl
   step-named (print y) e = true-and (true-and (typed-named 0 y e) refl) refl

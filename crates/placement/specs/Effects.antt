@@ -27,7 +27,7 @@ pub record Home (P : Program) (S : Signature) : Type 0 where
   pub declared : Declared (P .types) S
   pub called : (q : ℕ) (ys : List ℕ) → stepOk P S (call q ys) ≡ true → stepRegions P S (call q ys) ≡ true → Called S (signatureOf P q) ys
   pub classes : (q : ℕ) → classesOk (signatureOf P q) ≡ true
-  -- a type that has regions has a functor
+  -- a type but that of numbers has a functor
   pub functors : (x : ℕ) → isVariable S x ≡ true → leb 1 (typeOf S x) ≡ true → 1 ≤ length (functorsFor P S x)
 
 -- the regions that a step needs and bears are the procedure's, and it bears none that it needs

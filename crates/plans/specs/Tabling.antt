@@ -1,5 +1,5 @@
 -- The plan, the images and the callees, as they are filled, are tables of the file.
-use Prim.Native.Nat.{ℕ, _+_, _-_, _≤_, _<_}
+use Prim.Native.Nat.{ℕ, suc, _+_, _-_, _≤_, _<_}
 use native.Mathlib.Omega.{arith}
 use mathlib.Core.Bool.{true}
 use mathlib.Core.List.{List, [], _∷_, map}
@@ -210,7 +210,7 @@ module _ {f table : List ℕ} (R : TypedAndFilled f table) (plan₀ : List ℕ) 
     if-else = λ i m y z a b e q.
         (O .if-else i m y z a b e q .0 ∙ sym (successor-same i (if-at F refl e .below) kIf (kind i ∙ ap kindIn e)), if-owned F refl e .to-else q);
     bodies = bodies;
-    region = region-here;
+    region = λ i m x k a b c d e. region-here i m x k (suc a) b c d e;
     arm-entry = λ i s z. entry-same i s z ∙ O .arm-entry i s z;
     slots = λ i m q ys k e p. slots-here i m q ys k e p;
     givens = λ i m q ys k e p. givens-here i m q ys k e p;

@@ -1,14 +1,16 @@
 -- What a goal does to the counts of cells and regions held: as the words count it, and as the definition does.
-use Prim.Native.Nat.{ℕ, suc, _-_}
+use Prim.Native.Nat.{ℕ, zero, suc, _-_}
 use native.Mathlib.Omega.{arith}
 use mathlib.Core.Path.{_≡_, refl, ap, _∙_}
 use mathlib.Core.Bool.{true}
 use mathlib.Core.List.{List}
+use Rattle.sets.specs.Tests.{_or_, and-true}
+use Rattle.language.specs.Lists.{isNone}
 use Rattle.language.specs.File.{GoalKind, kLiteral, kSum, kAssign, kConstruct, kSwitch, kIf, kCall, kPrint, kCreate, kRemove, kGoal, word}
-use Rattle.language.specs.Program.{Goals, _then_, Goal}
-use Rattle.language.specs.Typing.{goalOk, stepOk}
+use Rattle.language.specs.Program.{four, fourWords, trimOnto, trimmed, argumentsOf, Goals, _then_, Goal}
+use Rattle.language.specs.Typing.{functorsFor, argumentsOk, goalOk, stepOk}
 use Rattle.language.specs.Frames.{withGoals}
-use Rattle.language.specs.AcceptedRun.{RegionFrame, RegionCell, Memory, withCell, withPrinted, withRegion, withoutRegion, withFrame, state, regionFor, allowed}
+use Rattle.language.specs.AcceptedRun.{RegionFrame, RegionCell, Memory, withCell, withBuilt, withPrinted, withRegion, withoutRegion, withFrame, state, regionFor, allowed}
 use Rattle.language.specs.AcceptedRun as Run
 use Rattle.language.specs.Machine.{Room, cellsHeld, regionsHeld}
 use Rattle.language.specs.Answers.{program}
@@ -18,7 +20,9 @@ use Rattle.records.specs.declared.Record.the-variants.{Header, «Type» as Type
 use Rattle.chains.specs.Formed.{Formed}
 use Rattle.chains.specs.Goals.{literal-at, sum-at, assign-at, construct-at, print-at, create-at, remove-at}
 use Rattle.chains.specs.Parts.{switch-at, if-at, call-at}
-use Rattle.safety.specs.Premises.{Accepted}
+use Rattle.region_graph.specs.Shared.{variable-top}
+use Rattle.safety.specs.Premises.{Accepted, laws}
+use Rattle.safety.specs.Variables.{types-variables}
 use Rattle.safety.specs.Invariant.{Inv}
 use Rattle.memory.specs.declared.Heap.{Heap}
 use Rattle.heap.specs.Counts.{held-built}
@@ -28,6 +32,7 @@ use Rattle.heap.specs.Removing as Removing
 use Rattle.word_machine.specs.Tables.{Tables, Tabled}
 use Rattle.word_machine.specs.Machine.{MachineWords}
 use Rattle.word_machine.specs.Machine as M
+use Rattle.word_machine.specs.Trimmed.{no-arguments}
 use Rattle.word_machine.specs.GoalKinds.{goal-is}
 use Rattle.word_machine.specs.Premises.{next-typed, next-allowed}
 use Rattle.word_machine.specs.Successors.{GoalOnward, todo-next}
@@ -41,9 +46,14 @@ use Rattle.profiling.specs.Walking.{sizeAt, size-is}
 unfoldable pub countsIn : Memory → Counts
 countsIn m = record { cells = cellsHeld (m .alive) (m .cells); regions = regionsHeld m }
 
+-- the counts after a construct, by its first argument: a constant takes no cell
+unfoldable pub termCounted : ℕ → Counts → Counts
+termCounted zero k = k
+termCounted (suc a) k = record { cells = suc (k .cells); regions = k .regions }
+
 -- the counts after the goal at a record, from those before it and the words before it
 unfoldable pub counted : MachineWords → Record → Counts → Counts
-counted w (Construct n x t a b c d) k = record { cells = suc (k .cells); regions = k .regions }
+counted w (Construct n x t a b c d) k = termCounted a k
 counted w (Create n r) k = record { cells = k .cells; regions = suc (k .regions) }
 counted w (Remove n r) k =
     record { cells = k .cells - sizeAt (w .heap .cells .limit) (w .cells) (w .regions) (M.regionFor w r); regions = k .regions - 1 }
@@ -113,8 +123,13 @@ module _ {f : List ℕ} {T : Tables} (B : Tabled f T) (A : Accepted (program f))
   goals-are a z = q ∙ ap (λ b. b then rest) z
 
   is-construct : (n x k a b c d : ℕ) → recordAt f i ≡ Construct n x k a b c d → Counted
-  unfolding Run.take state counted allowed withFrame withGoals regionFor
-  is-construct n x k a b c d r =
+  unfolding Run.take state counted termCounted withBuilt goalOk stepOk functorsFor argumentsOk argumentsOf fourWords trimmed trimOnto allowed isNone _or_ withFrame withGoals regionFor
+  is-construct n x k zero b c d r =
+      let z = O .is ∙ construct-at F refl r .goal in
+      let v = types-variables _ _ (argumentsOf (four zero b c d)) (and-true (and-true (rw z at (next-typed A e fs m I g rest q)) .1) .1) in
+      let o = no-arguments b c d (λ y h. variable-top _ _ (laws A (e .frame .procedure)) y (v y h)) in
+      rw (z, r, o)
+  is-construct n x k (suc a) b c d r =
       let z = O .is ∙ construct-at F refl r .goal in
       rw (z, r) (built-counts m _ (next-allowed A e fs m I _ rest (goals-are _ z)))
 

@@ -1,11 +1,11 @@
 -- The counts after a goal, by the number of its record's kind.
-use Prim.Native.Nat.{ℕ, _+_, _-_}
+use Prim.Native.Nat.{ℕ, zero, suc, _+_, _-_}
 use native.Mathlib.Omega.{arith}
 use mathlib.Core.Path.{_≡_, refl, _∙_}
 use mathlib.Core.List.{List}
 use lib.ListN.{getD}
 use Rattle.language.specs.File.{Kind, kNone, kHeader, kType, kFunctor, kProcedure, kVariable, kRegion, kEdge, kArm, kArgument, kGoal, kLiteral, kSum, kAssign, kConstruct, kSwitch, kIf, kCall, kPrint, kCreate, kRemove, kindOf, row, rowIn, word}
-use Rattle.language.specs.Format.{constructKind, createKind, removeKind, kindWord, lifetimeRegion}
+use Rattle.language.specs.Format.{constructKind, createKind, removeKind, kindWord, termArguments, lifetimeRegion}
 use Rattle.records.specs.Records.{recordAt, record-as}
 use Rattle.chains.specs.Shapes.{goal-number}
 use Rattle.memory.specs.declared.Heap.{Heap}
@@ -15,15 +15,25 @@ use Rattle.machine.specs.Words.{wordsOf}
 use Rattle.machine.specs.Steps.{construct-record, create-record, remove-record}
 use Rattle.profiling.specs.declared.Counts.{Counts}
 use Rattle.profiling.specs.Walking.{sizeAt}
-use Rattle.profiling.specs.Counting.{counted, same-counts}
+use Rattle.profiling.specs.Counting.{termCounted, counted, same-counts}
 
 module _ (f : List ℕ) (m rs fw : List ℕ) (s : State) (k : Counts) (w : ℕ) (ew : w ≡ word f (s .goal) kindWord) (h : Heap) (ps : List ℕ) where
   abbrev After : Counts
   After = counted (wordsOf h m rs fw ps s) (recordAt f (s .goal)) k
 
-  pub count-construct : w ≡ constructKind → record { cells = k .cells + 1; regions = k .regions } ≡ After
-  unfolding counted
-  count-construct z = rw (construct-record f (s .goal) w ew z) (same-counts (omega arith) refl)
+  module _ (z : w ≡ constructKind) (a : ℕ) (ea : a ≡ word f (s .goal) termArguments) where
+    pub count-constant : a ≡ 0 → k ≡ After
+    unfolding counted termCounted
+    count-constant y = rw (construct-record f (s .goal) w ew z, ← ea, y)
+
+    one-more : (b : ℕ) → (b ≡ 0 → ⊥) → record { cells = k .cells + 1; regions = k .regions } ≡ termCounted b k
+    unfolding termCounted
+    one-more zero n = absurd (n refl)
+    one-more (suc b) n = same-counts (omega arith) refl
+
+    pub count-construct : (a ≡ 0 → ⊥) → record { cells = k .cells + 1; regions = k .regions } ≡ After
+    unfolding counted
+    count-construct n = rw (construct-record f (s .goal) w ew z) (one-more _ (λ y. n (ea ∙ y)))
 
   pub count-create : w ≡ createKind → record { cells = k .cells; regions = k .regions + 1 } ≡ After
   unfolding counted

@@ -8,6 +8,7 @@ use language::format::CREATE;
 use language::format::KIND;
 use language::format::LIFETIME_REGION;
 use language::format::REMOVE;
+use language::format::TERM_ARGUMENTS;
 use machine::State;
 use records::word;
 ghost use mathlib.Core.Path.{_≡_};
@@ -37,8 +38,8 @@ fn region_place(frames: &[u32], frame: u32, r: usize) -> u32
     memory::word(frames, FRAME_WORDS * (frame as usize) + REGIONS_FROM + r)
 }
 
-// The counts after the next goal, from those before it and the words before it: a construct has one cell more, a create one region more, a remove
-// as many cells less as the region has. There are `limit` places for cells.
+// The counts after the next goal, from those before it and the words before it: a construct with arguments has one cell more, a create one region
+// more, a remove as many cells less as the region has. There are `limit` places for cells.
 pub fn count(
     file: &[u8],
     state: State,
@@ -54,10 +55,15 @@ pub fn count(
 {
     let i = state.goal;
     match word(file, i, KIND) {
-        CONSTRUCT => Counts {
-            cells: counts.cells + 1,
-            regions: counts.regions,
-        },
+        CONSTRUCT => {
+            if word(file, i, TERM_ARGUMENTS) == 0 {
+                return counts;
+            }
+            Counts {
+                cells: counts.cells + 1,
+                regions: counts.regions,
+            }
+        }
         CREATE => Counts {
             cells: counts.cells,
             regions: counts.regions + 1,

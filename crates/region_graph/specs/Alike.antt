@@ -1,6 +1,6 @@
 -- A caller's and a callee's regions of one type: their edges stand for the same places, so they lead in parallel to regions of one type.
 -- So do the arguments of a call that passes number 3.
-use Prim.Native.Nat.{ℕ, _≤_}
+use Prim.Native.Nat.{ℕ}
 use mathlib.Core.Bool.{Bool, true, false≢true}
 use mathlib.Core.List.{List, [], _∷_, map, head-eq-of-cons-eq, tail-eq-of-cons-eq}
 use mathlib.Core.Logic.{_≢_, _⊎_, inl, inr}
@@ -8,13 +8,13 @@ use mathlib.Core.Path.{_≡_, sym, ap, ap₂, _∙_}
 use native.Mathlib.Omega.{arith}
 use borrow.Author.Tests.{eqb-true}
 use lib.Dec.{eqb}
-use Rattle.sets.specs.Tests.{_&_, and-true}
+use Rattle.sets.specs.Tests.{_&_, clash, and-true}
 use Rattle.language.specs.Lists.{choose}
 use Rattle.language.specs.Program.{Functor, Edge, Signature, regionOf, regionAt, typeOf, functorsOf, parametersOf, parameterVariables}
-use Rattle.language.specs.Typing.{Place, isRegion, hasType, haveTypes, typesOf, placesFrom, edgesOk, signatureOk}
+use Rattle.language.specs.Typing.{Place, isRegion, hasType, haveTypes, typesOf, regioned, placesFrom, edgesOk, signatureOk}
 use Rattle.language.specs.Regions.{targets, targetsIn, targetFor, regionsOf}
 use Rattle.laws.specs.Choices.{choose-map}
-use Rattle.region_graph.specs.Laws.{target}
+use Rattle.region_graph.specs.Laws.{Home, target}
 use Rattle.region_graph.specs.Typed.{region-in}
 use Rattle.region_graph.specs.Places.{region-of, edges-cons}
 use Rattle.region_graph.specs.Procedure.{placesOf, variable-region, region-edges}
@@ -108,14 +108,10 @@ module _ (T : List (List Functor)) (C Q : Signature) (okC : signatureOk T C ≡ 
       t : typeOf C y ≡ typeOf Q x
       t = eqb-true (typeOf C y) (typeOf Q x) (and-true h .1)
 
-      go : ((typeOf Q x ≡ 0) × (regionOf Q x ≡ 0))
-          ⊎ ((1 ≤ typeOf Q x) × (isRegion Q (regionOf Q x) ≡ true) × (regionAt Q (regionOf Q x) .type ≡ typeOf Q x))
-          → ((typeOf C y ≡ 0) × (regionOf C y ≡ 0))
-          ⊎ ((1 ≤ typeOf C y) × (isRegion C (regionOf C y) ≡ true) × (regionAt C (regionOf C y) .type ≡ typeOf C y))
-          → Alike C Q (regionOf Q x) (regionOf C y)
+      go : Home T Q (typeOf Q x) (regionOf Q x) → Home T C (typeOf C y) (regionOf C y) → Alike C Q (regionOf Q x) (regionOf C y)
       go (inl p) (inl q) = inl (p .1, q .1)
-      go (inl p) (inr q) = absurd (omega (arith, t))
-      go (inr p) (inl q) = absurd (omega (arith, t))
+      go (inl p) (inr q) = absurd (clash (q .0) (ap (regioned T) t ∙ p .0))
+      go (inr p) (inl q) = absurd (clash (ap (regioned T) t ∙ p .0) (q .0))
       go (inr p) (inr q) = inr (record { callee = p .1; caller = q .1; type = q .2 ∙ t ∙ sym (p .2) })
 
   pub arguments-alike : (xs ys : List ℕ) → haveTypes C (typesOf Q xs) ys ≡ true → Paired (Alike C Q) (regionsOf Q xs) (regionsOf C ys)

@@ -16,7 +16,7 @@ use Rattle.language.specs.Typing.{isRegion, haveTypes, parameterTypes, signatur
 use Rattle.language.specs.Regions.{targets, reachFrom, reach, Mapping, twoWays, images, oneWay, regionsOf, mapping, stepRegions}
 pub use Rattle.laws.specs.Lists.{image-listed, listed-image}
 use Rattle.region_graph.specs.Laws.{Called, shared}
-use Rattle.region_graph.specs.Typed.{regions-few, signature-typed}
+use Rattle.region_graph.specs.Typed.{types-had, regions-few, signature-typed}
 use Rattle.region_graph.specs.Procedure.{declared}
 use Rattle.region_graph.specs.Shared.{region-top, reach-step, reach-from, shared-from}
 use Rattle.region_graph.specs.Alike.{parameterRegions, Paired, paired-nil, paired-cons, paired-map, Matched, Alike, region-some, targets-alike, targets-follow, arguments-alike}
@@ -128,13 +128,14 @@ module _ (T : List (List Functor)) (C Q : Signature) (okC : signatureOk T C ≡ 
             ∙ among (s .0) (reach-step T Q (declared T Q okQ) r (o .0) (s .0) (M .matched r n .callee) (o .1) (s .1))
 
     called-by : mapping C Q ys ≡ images m → Called C Q ys
+    unfolding parameterTypes
     called-by e = record {
       image = m;
       mapped = e;
       nowhere = M .nowhere;
       arguments = M .arguments;
+      types = sym (types-had C _ ys typed);
       region = λ r h. M .matched r (shared-mapped r h) .caller;
-      type = λ r h. M .matched r (shared-mapped r h) .type;
       follows = λ r f k h.
           let n = shared-mapped r h in
           targets-follow T C Q okC okQ m (M .nowhere) r (m r) (M .matched r n) (M .followed r n) f k;

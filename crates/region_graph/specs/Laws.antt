@@ -1,16 +1,15 @@
 -- What holds of the regions of a procedure that passes number 3, and of the mapping of a call that passes numbers 3 and 5: the laws by
 -- which the theorems above go.
-use Prim.Native.Nat.{ℕ, suc, _≤_, _<_}
-use mathlib.Core.Bool.{Bool, true}
+use Prim.Native.Nat.{ℕ, _≤_}
+use mathlib.Core.Bool.{Bool, true, false}
 use mathlib.Core.List.{List, map}
 use mathlib.Core.Logic.{_≢_, _⊎_}
 use mathlib.Core.Path.{_≡_}
 use lib.ListN.{length}
 use Rattle.sets.specs.Sets.{member, emptySet, _∪_, subset}
 use Rattle.sets.specs.Members.{inList}
-use Rattle.language.specs.Program.{Functor, Signature, regionOf, regionAt, functorsOf, functorAt, parametersOf, parameterVariables}
-use Rattle.language.specs.Lists.{nth}
-use Rattle.language.specs.Typing.{typesIn, isRegion}
+use Rattle.language.specs.Program.{Functor, Signature, regionOf, regionAt, parametersOf, parameterVariables}
+use Rattle.language.specs.Typing.{isRegion, regioned, typesOf}
 use Rattle.language.specs.Regions.{targets, reachFrom, images, mapping, regionsOf, targetFor}
 use Rattle.language.specs.Lifetimes.{inputs, outputs}
 
@@ -21,6 +20,10 @@ shared Q r = member (inputs Q ∪ outputs Q) r ≡ true
 -- the target of region r's edge for functor f and position k, 0 for none
 abbrev pub target : Signature → ℕ → ℕ → ℕ → ℕ
 target S r f k = targetFor (regionAt S r .edges) f k
+
+-- r is the region word for a type: 0 if the type has no regions, else a region of it
+abbrev pub Home : List (List Functor) → Signature → ℕ → ℕ → Type 0
+Home T S t r = ((regioned T t ≡ false) × (r ≡ 0)) ⊎ ((regioned T t ≡ true) × (isRegion S r ≡ true) × (regionAt S r .type ≡ t))
 
 -- a procedure that declares S, with types T
 pub record Declared (T : List (List Functor)) (S : Signature) : Type 0 where
@@ -38,11 +41,6 @@ pub record Declared (T : List (List Functor)) (S : Signature) : Type 0 where
   pub least : (r : ℕ) (within : ℕ → Bool) → within r ≡ true → ((u t : ℕ) → within u ≡ true → inList t (targets S u) ≡ true → within t ≡ true)
       → (u : ℕ) → member (reachFrom S r) u ≡ true → within u ≡ true
   pub edge : (r f k : ℕ) → target S r f k ≢ 0 → inList (target S r f k) (targets S r) ≡ true
-  -- an argument position of a functor: a number's has no edge, any other's leads to a region of its type. Positions count from 1
-  pub place : (r f k : ℕ) → isRegion S r ≡ true → f < length (functorsOf T (regionAt S r .type))
-      → k < length (typesIn (functorAt (functorsOf T (regionAt S r .type)) f))
-      → ((nth 0 (typesIn (functorAt (functorsOf T (regionAt S r .type)) f)) k ≡ 0) × (target S r f (suc k) ≡ 0))
-      ⊎ ((isRegion S (target S r f (suc k)) ≡ true) × (regionAt S (target S r f (suc k)) .type ≡ nth 0 (typesIn (functorAt (functorsOf T (regionAt S r .type)) f)) k))
 
 -- a call of Q with arguments ys from a procedure that declares C
 pub record Called (C Q : Signature) (ys : List ℕ) : Type 0 where
@@ -50,8 +48,8 @@ pub record Called (C Q : Signature) (ys : List ℕ) : Type 0 where
   pub mapped : mapping C Q ys ≡ images image
   pub nowhere : image 0 ≡ 0
   pub arguments : map image (regionsOf Q (parameterVariables (parametersOf Q))) ≡ regionsOf C ys
+  pub types : typesOf Q (parameterVariables (parametersOf Q)) ≡ typesOf C ys
   pub region : (r : ℕ) → shared Q r → isRegion C (image r) ≡ true
-  pub type : (r : ℕ) → shared Q r → regionAt C (image r) .type ≡ regionAt Q r .type
   -- "along equal edges"
   pub follows : (r f k : ℕ) → shared Q r → target C (image r) f k ≡ image (target Q r f k)
   pub targets-follow : (r : ℕ) → shared Q r → targets C (image r) ≡ map image (targets Q r)

@@ -19,7 +19,7 @@ use Rattle.laws.specs.Lists
 use Rattle.laws.specs.Lists.{nth-past}
 use Rattle.region_graph.specs.Laws.{target}
 use Rattle.region_graph.specs.Places.{typeFor, region-of, edges-cons, edges-found, choose-first, choose-second, Single, single-cons, places-single}
-use Rattle.region_graph.specs.Procedure.{placesOf, region-type, region-edges}
+use Rattle.region_graph.specs.Procedure.{placesOf, region-numbers, region-edges}
 pub use Rattle.region_graph.specs.Shared.{none-target}
 use Rattle.region_graph.specs.Alike.{parameterRegions, Paired, paired-nil, paired-cons, Matched, Alike, edges-there}
 use Rattle.region_graph.specs.Calls.{regions-map, arguments-paired}
@@ -71,8 +71,7 @@ module _ (T : List (List Functor)) (S : Signature) (ok : signatureOk T S ≡ tru
       none : isRegionOf S (typeFor ps f k) (targetFor es f k) ≡ true → ⊥
       none q =
           let r = region-of S (typeFor ps f k) (targetFor es f k) q in
-          let t = region-type T S ok (targetFor es f k) (r .0) in
-          omega (arith, r .1)
+          region-numbers T S ok (targetFor es f k) (r .0) (r .1 ∙ z)
 
   edge-some : typeFor ps f k ≢ 0 → (isRegion S (targetFor es f k) ≡ true) × (regionAt S (targetFor es f k) .type ≡ typeFor ps f k)
   edge-some n = ⊎-elim (λ p. absurd (n (p .0))) (region-of S (typeFor ps f k) (targetFor es f k)) (edges-found T S ps es h f k)

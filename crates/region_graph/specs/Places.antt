@@ -1,17 +1,17 @@
 -- Edges and places: number 3 says that a region's edges are the places of its type, in order, so an edge is found exactly where the type
 -- has a place with a region, and leads to a region of the argument's type.
-use Prim.Native.Nat.{ℕ, zero, suc, _+_, _≤_, _<_}
+use Prim.Native.Nat.{ℕ, suc, _+_, _≤_, _<_}
 use mathlib.Core.Bool.{Bool, true, false, false≢true}
 use mathlib.Core.List.{List, [], _∷_, _++_}
 use mathlib.Core.Logic.{_≢_, _⊎_, inl, inr, ⊎-elim}
 use mathlib.Core.Path.{_≡_, refl, sym, ap, _∙_}
 use native.Mathlib.Omega.{arith}
-use borrow.Author.Tests.{eqb-true, eq-eqb, ne-eqb, le-leb}
+use borrow.Author.Tests.{eqb-true, ne-eqb}
 use lib.Dec.{eqb}
-use Rattle.sets.specs.Tests.{_&_, and-true, true-and}
+use Rattle.sets.specs.Tests.{_&_, and-true}
 use Rattle.sets.specs.Members.{inList, nil-in, cons-here, cons-later, cons-in}
-use Rattle.language.specs.Lists.{nth, choose}
-use Rattle.language.specs.Program.{Functor, Edge, Signature, regionAt, functorAt}
+use Rattle.language.specs.Lists.{choose}
+use Rattle.language.specs.Program.{Functor, Edge, Signature, regionAt}
 use Rattle.language.specs.Typing.{Place, typesIn, placeIf, isRegion, isRegionOf, regioned, placesIn, placesFrom, edgesOk}
 use Rattle.language.specs.Regions.{targetsIn, targetFor}
 use Rattle.laws.specs.Tests.{and-no, no-and}
@@ -100,52 +100,12 @@ module _ (T : List (List Functor)) where
   other-position : (f j k : ℕ) → j ≢ k → (eqb f f & eqb j k) ≡ false
   other-position f j k h = and-no (eqb f f) (ne-eqb j k h)
 
-  -- the place for position j + i, if the type there has regions
-  places-at : (f j : ℕ) (ts : List ℕ) (ps : List Place) → ((k : ℕ) → typeFor ps f k ≡ 0)
-      → (i : ℕ) → typeFor (placesIn T f j ts ++ ps) f (j + i) ≡ nth 0 ts i
-  unfolding placesIn nth regioned
-  places-at f j [] ps h i = h (j + i)
-  places-at f j (zero ∷ ts) ps h zero =
-      place-if (regioned T 0) _ (placesIn T f (suc j) ts) ps f (j + 0)
-      ∙ choose-second _ 0 _ (no-and _ refl)
-      ∙ places-skip f (suc j) ts ps f (j + 0) (λ i l. other-position f i (j + 0) (omega arith))
-      ∙ h (j + 0)
-  places-at f j (suc t ∷ ts) ps h zero =
-      place-if (regioned T (suc t)) _ (placesIn T f (suc j) ts) ps f (j + 0)
-      ∙ choose-first _ (suc t) _ (true-and (le-leb 1 (suc t) (omega arith)) (true-and (eq-eqb f f refl) (eq-eqb j (j + 0) (omega arith))))
-  places-at f j (t ∷ ts) ps h (suc i) =
-      let q : j + suc i ≡ suc j + i = omega arith in
-      place-if (regioned T t) _ (placesIn T f (suc j) ts) ps f (j + suc i)
-      ∙ choose-second _ t _ (and-no (regioned T t) (other-position f j (j + suc i) (omega arith)))
-      ∙ ap (typeFor (placesIn T f (suc j) ts ++ ps) f) q
-      ∙ places-at f (suc j) ts ps h i
-
   places-before : (g : ℕ) (fs : List Functor) (f k : ℕ) → f < g → typeFor (placesFrom T g fs) f k ≡ 0
   unfolding placesFrom typeFor
   places-before g [] f k h = refl
   places-before g (x ∷ fs) f k h =
       places-skip g 1 (typesIn x) (placesFrom T (suc g) fs) f k (λ i l. no-and (eqb i k) (ne-eqb g f (omega arith)))
       ∙ places-before (suc g) fs f k (omega arith)
-
-  -- functors numbered from g on, positions from 1
-  places-from : (g : ℕ) (fs : List Functor) (f k : ℕ) → typeFor (placesFrom T g fs) (g + f) (suc k) ≡ nth 0 (typesIn (functorAt fs f)) k
-  unfolding placesFrom typeFor functorAt nth typesIn
-  places-from g [] f k = refl
-  places-from g (x ∷ fs) zero k =
-      let q : g + 0 ≡ g = omega arith in
-      let r : suc k ≡ 1 + k = omega arith in
-      rw (q, r) (places-at g 1 (typesIn x) (placesFrom T (suc g) fs) (λ i. places-before (suc g) fs g i (omega arith)) k)
-  places-from g (x ∷ fs) (suc f) k =
-      let q : g + suc f ≡ suc g + f = omega arith in
-      places-skip g 1 (typesIn x) (placesFrom T (suc g) fs) (g + suc f) (suc k)
-      (λ i l. no-and (eqb i (suc k)) (ne-eqb g (g + suc f) (omega arith)))
-      ∙ ap (λ (j : ℕ). typeFor (placesFrom T (suc g) fs) j (suc k)) q
-      ∙ places-from (suc g) fs f k
-
-  pub places-type : (fs : List Functor) (f k : ℕ) → typeFor (placesFrom T 0 fs) f (suc k) ≡ nth 0 (typesIn (functorAt fs f)) k
-  places-type fs f k =
-      let q : f ≡ 0 + f = omega arith in
-      ap (λ (j : ℕ). typeFor (placesFrom T 0 fs) j (suc k)) q ∙ places-from 0 fs f k
 
 -- ---- no place stands twice
 pub data Single : List Place → Type 0 where

@@ -3,19 +3,20 @@
 use Prim.Native.Nat.{ℕ, zero, suc, _≤_, _<_}
 use mathlib.Core.Bool.{Bool, true, false, false≢true}
 use mathlib.Core.List.{List, [], _∷_}
-use mathlib.Core.Path.{_≡_, refl}
+use mathlib.Core.Logic.{⊎-elim}
+use mathlib.Core.Path.{_≡_, refl, ap, ap₂}
 use native.Mathlib.Omega.{arith}
-use borrow.Author.Tests.{leb-true}
-use lib.Dec.{leb}
-use lib.ListN.{length}
-use Rattle.sets.specs.Tests.{_&_, and-true, true-and}
+use borrow.Author.Tests.{eqb-true, leb-true}
+use lib.Dec.{leb, eqb}
+use lib.ListN.{length, take}
+use Rattle.sets.specs.Tests.{_&_, neg, truth, clash, and-true, true-and, true-neg}
 use Rattle.sets.specs.Sets.{member, emptySet, _∪_, eq-same}
 use Rattle.sets.specs.SetLaws.{empty-subset}
 use Rattle.sets.specs.Members.{setOf}
 use Rattle.sets.specs.MemberLaws.{setOf-in, setOf-mk}
 use Rattle.language.specs.Lists.{nth1, all, among, upFrom, isNone}
-use Rattle.language.specs.Program.{Functor, Signature, Procedure, Program, done, Arms, noArms, arm, variableAt, typeOf, regionAt, functorsOf, procedureAt, signatureOf, parametersOf, parametersFrom, parameterVariables, argumentsIn, variablesIn}
-use Rattle.language.specs.Typing.{isVariable, isRegion, isType, typeOk, typesOk, armsOk, variableOk, regionOk, signatureOk, goalsOk, procedureOk, typingOk}
+use Rattle.language.specs.Program.{Functor, Signature, Procedure, Program, done, Arms, noArms, arm, fourWords, variableAt, typeOf, regionAt, functorsOf, functorAt, procedureAt, signatureOf, parametersOf, parametersFrom, parameterVariables, argumentsIn, variablesIn}
+use Rattle.language.specs.Typing.{typesIn, isVariable, isRegion, hasType, haveTypes, typesOf, isType, regioned, typeOk, typesOk, armsOk, variableOk, regionOk, signatureOk, goalsOk, procedureOk, typingOk}
 use Rattle.language.specs.Values.{insOf, outsOf, goalsValues, outsValued, procedureValues, valuesOk}
 use Rattle.language.specs.Regions.{goalsRegions, regionsOk}
 use Rattle.language.specs.Lifetimes.{ofClass, declared, born, dead, kept, startHeld, classesOk, goalsClasses, declaredClassesOk, callClassesOk}
@@ -63,6 +64,16 @@ module _ (S : Signature) where
       let i = region-in r h in
       setOf-mk (upFrom 1 (length (S .regions))) r (upFrom-mk 1 (length (S .regions)) r (i .0) (omega arith)) (i .0) (omega arith)
 
+  -- variables of given types
+  pub types-had : (ts ys : List ℕ) → haveTypes S ts ys ≡ true → typesOf S ys ≡ ts
+  unfolding haveTypes hasType typesOf
+  types-had [] [] h = refl
+  types-had [] (y ∷ ys) h = absurd (false≢true h)
+  types-had (t ∷ ts) [] h = absurd (false≢true h)
+  types-had (t ∷ ts) (y ∷ ys) h =
+      let a = and-true h in
+      ap₂ _∷_ (eqb-true (typeOf S y) t (and-true (a .0) .1)) (types-had ts ys (a .1))
+
   -- a number that is none finds the empty one
   pub variable-past : (x : ℕ) → isVariable S x ≡ false → variableAt S x ≡ record { mode = 0; type = 0; region = 0 }
   unfolding isVariable variableAt
@@ -89,7 +100,7 @@ module _ (T : List (List Functor)) (S : Signature) (ok : signatureOk T S ≡ tru
   unfolding signatureOk isRegion regionAt
   region-typed r h = all-nth1 _ (S .regions) (regionOk T S) r (and-true (and-true (and-true ok .1) .1) .1) h
 
-  -- a type that has regions has a functor, and so a switch on it an arm
+  -- a type but that of numbers has a functor, and so a switch on it an arm
   pub functors-some : typesOk T ≡ true → (x : ℕ) → isVariable S x ≡ true → leb 1 (typeOf S x) ≡ true → 1 ≤ length (functorsOf T (typeOf S x))
   unfolding functorsOf typeOf variableOk isType among typesOk typeOk
   functors-some types x h l =
@@ -102,6 +113,30 @@ pub functor-typed : (T : List (List Functor)) (t k : ℕ) → k < length (functo
 unfolding functorsOf nth1
 functor-typed T zero k l = absurd (omega arith)
 functor-typed T (suc t) k l = omega arith
+
+-- ---- types that have regions: a functor with arguments makes the difference
+module _ (T : List (List Functor)) where
+  pub number-plain : regioned T 0 ≡ false
+  unfolding regioned functorsOf nth1 all neg
+  number-plain = refl
+
+  -- in a type that has none every functor is a constant
+  pub plain-types : (t k : ℕ) → regioned T t ≡ false → typesIn (functorAt (functorsOf T t) k) ≡ []
+  unfolding regioned typesIn functorAt
+  plain-types t k h = ap (λ n. take n (fourWords (g .argumentTypes))) (eqb-true (g .arity) 0 (all-or-default _ _ refl (functorsOf T t) k constants))
+    where
+      g : Functor
+      g = functorAt (functorsOf T t) k
+
+      constants : all (λ f. eqb (f .arity) 0) (functorsOf T t) ≡ true
+      constants = ⊎-elim (λ e. e) (λ e. absurd (clash (true-neg e) h)) (truth (all (λ f. eqb (f .arity) 0) (functorsOf T t)))
+
+  -- so a construct or an arm with arguments is one of a type that has regions
+  pub arguments-regioned : (S : Signature) (t k y : ℕ) (ys : List ℕ) → haveTypes S (typesIn (functorAt (functorsOf T t) k)) (y ∷ ys) ≡ true
+      → regioned T t ≡ true
+  unfolding haveTypes
+  arguments-regioned S t k y ys h =
+      ⊎-elim (λ e. e) (λ e. absurd (false≢true (rw (plain-types t k e) at h))) (truth (regioned T t))
 
 pub arms-some : (P : Program) (S : Signature) (cs : Arms) (fs : List Functor) (n : ℕ) → armsOk P S cs fs n ≡ true → 1 ≤ length fs
     → someArm cs ≡ true

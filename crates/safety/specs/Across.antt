@@ -5,10 +5,11 @@ use mathlib.Core.Bool.{true, false≢true}
 use mathlib.Core.List.{List, [], _∷_, map}
 use mathlib.Core.Logic.{inl, inr}
 use Prim.Native.Nat.{ℕ, zero, suc}
+use lib.ListN.{length}
 use Rattle.sets.specs.Sets.{member, subset-in}
 use Rattle.sets.specs.Members.{inList, cons-here, cons-later}
-use Rattle.language.specs.Program.{Functor, Signature, regionAt, parametersOf, parameterVariables}
-use Rattle.language.specs.Typing.{isRegion}
+use Rattle.language.specs.Program.{Functor, Signature, parametersOf, parameterVariables}
+use Rattle.language.specs.Typing.{isRegion, typesOf}
 use Rattle.language.specs.Regions.{mapping, imageIn, regionsOf, reachFrom}
 use Rattle.language.specs.Frames.{Value}
 use Rattle.language.specs.AcceptedRun.{RegionCell}
@@ -16,21 +17,21 @@ use Rattle.region_graph.specs.Laws.{shared, target, Declared, Called}
 use Rattle.region_graph.specs.Alike.{region-some}
 use Rattle.region_graph.specs.Shared.{target-known, target-reach}
 use Rattle.safety.specs.Signatures.{KnownRegion}
-use Rattle.safety.specs.Places.{cellOn, along, along-in, choices, width, PlacedValue, is-number, is-cell, PlacedAll, placed-none, placed-more}
+use Rattle.safety.specs.Places.{cellOn, along, along-in, typesAt, PlacedValue, is-number, is-constant, is-cell, PlacedAll, placed-none, placed-more}
 
 -- what the values need of a call's mapping m
 pub record Across (C Q : Signature) (ys : List ℕ) (m : ℕ → ℕ) : Type 0 where
   pub nowhere : m 0 ≡ 0
   pub arguments : map m (regionsOf Q (parameterVariables (parametersOf Q))) ≡ regionsOf C ys
+  pub types : typesOf Q (parameterVariables (parametersOf Q)) ≡ typesOf C ys
   pub region : (r : ℕ) → shared Q r → isRegion C (m r) ≡ true
-  pub type : (r : ℕ) → shared Q r → regionAt C (m r) .type ≡ regionAt Q r .type
   pub follows : (r f k : ℕ) → shared Q r → target C (m r) f k ≡ m (target Q r f k)
 
 pub called-along : {C Q : Signature} {ys : List ℕ} → Called C Q ys → Across C Q ys (imageIn (mapping C Q ys))
 unfolding imageIn
 called-along {C} {Q} {ys} K =
     subst (λ (m : ℕ → ℕ). Across C Q ys m) (sym (ap imageIn (K .mapped)))
-    (record { nowhere = K .nowhere; arguments = K .arguments; region = K .region; type = K .type; follows = K .follows })
+    (record { nowhere = K .nowhere; arguments = K .arguments; types = K .types; region = K .region; follows = K .follows })
 
 -- what r reaches in the callee Q is shared with the caller, where it stands for what its image does
 abbrev pub Comes : Signature → (ℕ → ℕ) → (ℕ → ℕ) → (ℕ → ℕ) → ℕ → Type 0
@@ -42,30 +43,15 @@ ComesAll Q m ρ ρ′ rs = (t : ℕ) → inList t rs ≡ true → KnownRegion Q 
 module _ {T : List (List Functor)} {C Q : Signature} {ys : List ℕ} {m : ℕ → ℕ} (D : Declared T Q)
     (A : Across C Q ys m) where
   -- ---- a region and its image have equal edges
-  choices-same : (r : ℕ) → shared Q r → choices T C (m r) ≡ choices T Q r
-  unfolding choices
-  choices-same r i = rw (A .type r i)
-
-  width-same : (r f : ℕ) → shared Q r → width T C (m r) f ≡ width T Q r f
-  unfolding width
-  width-same r f i = rw (A .type r i)
-
   along-from : (r f k n : ℕ) → shared Q r → along C (m r) f k n ≡ map m (along Q r f k n)
   unfolding along
   along-from r f k zero i = refl
   along-from r f k (suc n) i = cc (A .follows r f k i, along-from r f (suc k) n i)
 
-  along-same : (r f : ℕ) → shared Q r → along C (m r) f 1 (width T C (m r) f) ≡ map m (along Q r f 1 (width T Q r f))
-  along-same r f i = ap (along C (m r) f 1) (width-same r f i) ∙ along-from r f 1 (width T Q r f) i
-
   comes-along : (ρ ρ′ : ℕ → ℕ) (r f k n : ℕ) → isRegion Q r ≡ true → Comes Q m ρ ρ′ r → ComesAll Q m ρ ρ′ (along Q r f k n)
   comes-along ρ ρ′ r f k n i g t e =
       let j = along-in Q r f k n t e in
       (rw (j .1) at (target-known _ _ D r f (j .0) i), λ u x. g u (subset-in _ _ (target-reach _ _ D r f (j .0) (inr i)) u (rw (j .1) x)))
-
-  zero-back : (ρ ρ′ : ℕ → ℕ) (r : ℕ) → KnownRegion Q r → Comes Q m ρ ρ′ r → 0 ≡ m r → r ≡ 0
-  zero-back ρ ρ′ r (inl z) g e = z
-  zero-back ρ ρ′ r (inr i) g e = absurd (region-some C 0 (rw e (A .region r (g r (D .self r i) .0))) refl)
 
   region-back : (r k : ℕ) → KnownRegion Q r → k ≡ m r → isRegion C k ≡ true → isRegion Q r ≡ true
   region-back r k (inl z) e i = absurd (region-some C 0 (sym (ap (isRegion C) (e ∙ ap m z ∙ A .nowhere)) ∙ i) refl)
@@ -74,17 +60,19 @@ module _ {T : List (List Functor)} {C Q : Signature} {ys : List ℕ} {m : ℕ �
   module _ {ρ ρ′ : ℕ → ℕ} {H : List RegionCell} where
     -- ---- into the callee
     mutual
-      pub enter : {k : ℕ} {v : Value} → PlacedValue T C ρ H k v → (r : ℕ) → k ≡ m r → KnownRegion Q r → Comes Q m ρ ρ′ r → PlacedValue T Q ρ′ H r v
-      enter is-number r e w g = rw (zero-back ρ ρ′ r w g e) is-number
-      enter (is-cell {r = k} {c = c} {vs = vs} f i l t s p) r e w g =
+      pub enter : {t k : ℕ} {v : Value} → PlacedValue T C ρ H t k v → (r : ℕ) → k ≡ m r → KnownRegion Q r → Comes Q m ρ ρ′ r
+          → PlacedValue T Q ρ′ H t r v
+      enter is-number r e w g = is-number
+      enter (is-constant f s n) r e w g = is-constant f s n
+      enter (is-cell {t = t} {r = k} {c = c} {vs = vs} f i l h s p) r e w g =
+          let n = length (typesAt T t f) in
           let j = region-back r k w e i in
           let b = g r (D .self r j) in
-          is-cell f j l (t ∙ ap (λ (x : ℕ). cellOn x f vs) (ap ρ e ∙ b .1)) (rw (e, choices-same r (b .0)) at s)
-          (enter-all p (along Q r f 1 (width T Q r f)) (ap (λ (x : ℕ). along C x f 1 (width T C x f)) e ∙ along-same r f (b .0))
-          (comes-along ρ ρ′ r f 1 (width T Q r f) j g))
+          is-cell f j l (h ∙ ap (λ (x : ℕ). cellOn x f vs) (ap ρ e ∙ b .1)) s
+          (enter-all p (along Q r f 1 n) (ap (λ (x : ℕ). along C x f 1 n) e ∙ along-from r f 1 n (b .0)) (comes-along ρ ρ′ r f 1 n j g))
 
-      pub enter-all : {ks : List ℕ} {vs : List Value} → PlacedAll T C ρ H ks vs → (rs : List ℕ) → ks ≡ map m rs → ComesAll Q m ρ ρ′ rs
-          → PlacedAll T Q ρ′ H rs vs
+      pub enter-all : {ts ks : List ℕ} {vs : List Value} → PlacedAll T C ρ H ts ks vs → (rs : List ℕ) → ks ≡ map m rs → ComesAll Q m ρ ρ′ rs
+          → PlacedAll T Q ρ′ H ts rs vs
       enter-all placed-none [] e g = placed-none
       enter-all placed-none (r ∷ rs) e g = absurd (false≢true (cc))
       enter-all (placed-more p q) [] e g = absurd (false≢true (cc))
@@ -94,14 +82,17 @@ module _ {T : List (List Functor)} {C Q : Signature} {ys : List ℕ} {m : ℕ �
 
     -- ---- back to the caller
     mutual
-      pub leave : {r : ℕ} {v : Value} → PlacedValue T Q ρ′ H r v → Comes Q m ρ ρ′ r → PlacedValue T C ρ H (m r) v
-      leave is-number g = rw (A .nowhere) is-number
-      leave (is-cell {r = r} {c = c} {vs = vs} f i l t s p) g =
+      pub leave : {t r : ℕ} {v : Value} → PlacedValue T Q ρ′ H t r v → Comes Q m ρ ρ′ r → PlacedValue T C ρ H t (m r) v
+      leave is-number g = is-number
+      leave (is-constant f s n) g = is-constant f s n
+      leave (is-cell {t = t} {r = r} {c = c} {vs = vs} f i l h s p) g =
+          let n = length (typesAt T t f) in
           let b = g r (D .self r i) in
-          is-cell f (A .region r (b .0)) l (t ∙ ap (λ (x : ℕ). cellOn x f vs) (sym (b .1))) (rw (choices-same r (b .0)) s)
-          (rw (along-same r f (b .0)) (leave-all p (comes-along ρ ρ′ r f 1 (width T Q r f) i g)))
+          is-cell f (A .region r (b .0)) l (h ∙ ap (λ (x : ℕ). cellOn x f vs) (sym (b .1))) s
+          (rw (along-from r f 1 n (b .0)) (leave-all p (comes-along ρ ρ′ r f 1 n i g)))
 
-      pub leave-all : {rs : List ℕ} {vs : List Value} → PlacedAll T Q ρ′ H rs vs → ComesAll Q m ρ ρ′ rs → PlacedAll T C ρ H (map m rs) vs
+      pub leave-all : {ts rs : List ℕ} {vs : List Value} → PlacedAll T Q ρ′ H ts rs vs → ComesAll Q m ρ ρ′ rs
+          → PlacedAll T C ρ H ts (map m rs) vs
       leave-all placed-none g = placed-none
       leave-all (placed-more {r = r} {rs = rs} p q) g =
           placed-more (leave p (g r (cons-here r r rs refl) .1)) (leave-all q (λ t x. g t (cons-later t r rs x)))

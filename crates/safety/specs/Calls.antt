@@ -15,6 +15,7 @@ use Rattle.sets.specs.Members.{members-mk}
 use Rattle.sets.specs.MemberLaws.{setOf-in, image-in, image-mk}
 use Rattle.sets.specs.declared.Set.{Set}
 use Rattle.language.specs.Program.{call, Signature, Program, signatureOf, parametersOf, inMode, variablesIn}
+use Rattle.language.specs.Typing.{typesOf}
 use Rattle.language.specs.Values.{insOf, reads, gives, access, accessing}
 use Rattle.language.specs.Regions.{regionsOf, mapping, reach}
 use Rattle.language.specs.Lifetimes.{inputs, outputs, born, dead, kept, startHeld, effect, callEffect}
@@ -33,7 +34,7 @@ use Rattle.safety.specs.Variables.{AllVariables, Vars, give-placed, plac
 use Rattle.safety.specs.Owners.{Owner, owner, Covered, Away, Owns, Ownership}
 use Rattle.safety.specs.Invariant.{imageAt, givenBy, readBy, Hung, Now, hang}
 use Rattle.safety.specs.Quiet.{Obeyed}
-use Rattle.safety.specs.Arguments.{variables-member, arguments-regions, regions-in, stand-new}
+use Rattle.safety.specs.Arguments.{variables-member, arguments-regions, arguments-types, regions-in, stand-new}
 
 -- the waiting frame e calls procedure q with arguments ys
 module _ {P : Program} (A : Accepted P) (e : RegionFrame) (q : ℕ) (ys : List ℕ)
@@ -182,12 +183,13 @@ module _ {P : Program} (A : Accepted P) (e : RegionFrame) (q : ℕ) (ys : List �
                 (start-shared F u i, sym (callee-stands u i)),
           )
 
-      entered : PlacedAll (P .types) Q ρ′ H (regionsOf Q (variablesIn inMode Q)) (map (e .frame .values) (readBy P q ys))
+      entered : PlacedAll (P .types) Q ρ′ H (typesOf Q (variablesIn inMode Q)) (regionsOf Q (variablesIn inMode Q))
+          (map (e .frame .values) (readBy P q ys))
       unfolding variablesIn reads access accessing
       entered =
-          enter-all (laws-of F) via
+          rw (arguments-types C Q inMode (parametersOf Q) ys (via .types)) (enter-all (laws-of F) via
           (placed-each X (readBy P q ys) (read-sound (laws A (e .frame .procedure)) s (readBy P q ys) variables (R .reads-sound)))
-          (regionsOf Q (variablesIn inMode Q)) (sym (arguments-regions C Q m inMode (parametersOf Q) ys (via .arguments))) comes
+          (regionsOf Q (variablesIn inMode Q)) (sym (arguments-regions C Q m inMode (parametersOf Q) ys (via .arguments))) comes)
 
       vars-callee : Vars (P .types) Q (startHeld Q) (insOf Q) ρ′ H
           (giveEach (variablesIn inMode Q) (map (e .frame .values) (readBy P q ys)) (λ x. numeral (pos 0)))

@@ -1,23 +1,22 @@
--- Where values lie: a number has no region, a cell lies in the region that a region number of the frame stands for, and its contents lie
--- where
--- that region's edges lead.
+-- Where values lie: a number or a constant in no region, a cell in the region that a region number of the frame stands for, and its contents
+-- where that region's edges lead.
 use mathlib.Core.Path.{_≡_, refl, ap, _∙_}
 use mathlib.Core.Bool.{true}
-use mathlib.Core.List.{List, [], _∷_, _++_}
-use mathlib.Core.Logic.{_≢_, inr, ⊎-elim}
-use Prim.Native.Nat.{ℕ, zero, suc, _<_}
+use mathlib.Core.List.{List, [], _∷_, _++_, map}
+use mathlib.Core.Logic.{_⊎_, inl, inr, ⊎-elim}
+use Prim.Native.Nat.{ℕ, zero, suc, _≤_, _<_}
 use native.Mathlib.Omega.{arith}
 use lib.IntN.{ℤ}
 use lib.ListN.{length, length-append}
 use Rattle.sets.specs.Sets.{member, subset-in}
 use Rattle.sets.specs.Members.{inList, nil-in, cons-in, cons-here, cons-later}
 use Rattle.language.specs.Lists.{nth}
-use Rattle.language.specs.Program.{Functor, Signature, regionAt, functorsOf, functorAt}
+use Rattle.language.specs.Program.{Functor, Signature, functorsOf, functorAt}
 use Rattle.language.specs.Typing.{typesIn, isRegion}
 use Rattle.language.specs.Regions.{reachFrom}
-use Rattle.language.specs.Frames.{Value, numeral, cellAt, noCell}
-use Rattle.language.specs.AcceptedRun.{RegionCell}
-use Rattle.laws.specs.Lists.{nth-front}
+use Rattle.language.specs.Frames.{Value, numeral, cellAt, constant, noCell, cellIn}
+use Rattle.language.specs.AcceptedRun.{RegionCell, cellOf}
+use Rattle.laws.specs.Lists.{nth-front, nth-map}
 use Rattle.region_graph.specs.Laws.{target, Declared}
 use Rattle.region_graph.specs.Shared.{target-reach}
 
@@ -50,40 +49,59 @@ along-in S r f k zero t e = absurd (nil-in t e)
 along-in S r f k (suc n) t e =
     ⊎-elim (λ q. (k, q)) (λ q. along-in S r f (suc k) n t q) (cons-in t (target S r f k) (along S r f (suc k) n) e)
 
-module _ (T : List (List Functor)) where
-  -- how many functors the type of region r has, and how many arguments one of them
-  unfoldable pub choices : Signature → ℕ → ℕ
-  choices S r = length (functorsOf T (regionAt S r .type))
+-- the types of the arguments of functor k of type t
+abbrev pub typesAt : List (List Functor) → ℕ → ℕ → List ℕ
+typesAt T t k = typesIn (functorAt (functorsOf T t) k)
 
-  unfoldable pub width : Signature → ℕ → ℕ → ℕ
-  width S r f = length (typesIn (functorAt (functorsOf T (regionAt S r .type)) f))
+module _ (T : List (List Functor)) (S : Signature) (ρ : ℕ → ℕ) (H : List RegionCell) where
+  -- a value of type t whose region is r, and several
+  mutual
+    pub data PlacedValue : ℕ → ℕ → Value → Type 0 where
+      is-number : {r : ℕ} {z : ℤ} → PlacedValue 0 r (numeral z)
+      is-constant : {t r : ℕ} (k : ℕ) → k < length (functorsOf T t) → typesAt T t k ≡ [] → PlacedValue t r (constant k)
+      is-cell : {t r c : ℕ} {vs : List Value} (f : ℕ) → isRegion S r ≡ true → c < length H → cellNo H c ≡ cellOn (ρ r) f vs
+          → f < length (functorsOf T t) → PlacedAll (typesAt T t f) (along S r f 1 (length (typesAt T t f))) vs → PlacedValue t r (cellAt c)
 
-  module _ (S : Signature) (ρ : ℕ → ℕ) (H : List RegionCell) where
-    mutual
-      pub data PlacedValue : ℕ → Value → Type 0 where
-        is-number : {z : ℤ} → PlacedValue 0 (numeral z)
-        is-cell : {r c : ℕ} {vs : List Value} (f : ℕ) → isRegion S r ≡ true → c < length H → cellNo H c ≡ cellOn (ρ r) f vs
-            → f < choices S r → PlacedAll (along S r f 1 (width S r f)) vs → PlacedValue r (cellAt c)
+    pub data PlacedAll : List ℕ → List ℕ → List Value → Type 0 where
+      placed-none : PlacedAll [] [] []
+      placed-more : {t r : ℕ} {v : Value} {ts rs : List ℕ} {vs : List Value} → PlacedValue t r v → PlacedAll ts rs vs
+          → PlacedAll (t ∷ ts) (r ∷ rs) (v ∷ vs)
 
-      pub data PlacedAll : List ℕ → List Value → Type 0 where
-        placed-none : PlacedAll [] []
-        placed-more : {r : ℕ} {v : Value} {rs : List ℕ} {vs : List Value} → PlacedValue r v → PlacedAll rs vs → PlacedAll (r ∷ rs) (v ∷ vs)
+  -- v is a cell in region r
+  pub record InCell (r functor : ℕ) (contents : List Value) (v : Value) : Type 0 where
+    pub number : ℕ
+    pub is : v ≡ cellAt number
+    pub region : isRegion S r ≡ true
+    pub there : cellNo H number ≡ cellOn (ρ r) functor contents
 
-    -- a value that lies in a region is a cell there
-    pub record Lies (r : ℕ) (v : Value) : Type 0 where
-      pub number : ℕ
-      pub functor : ℕ
-      pub contents : List Value
-      pub is : v ≡ cellAt number
-      pub there : cellNo H number ≡ cellOn (ρ r) functor contents
-      pub small : functor < choices S r
-      pub inside : PlacedAll (along S r functor 1 (width S r functor)) contents
+  -- a value of a type but that of numbers is a cell or a constant
+  pub record Lies (t r : ℕ) (v : Value) : Type 0 where
+    pub functor : ℕ
+    pub contents : List Value
+    pub kind : InCell r functor contents v ⊎ ((v ≡ constant functor) × (contents ≡ []))
+    pub small : functor < length (functorsOf T t)
+    pub inside : PlacedAll (typesAt T t functor) (along S r functor 1 (length (typesAt T t functor))) contents
 
-pub lies : {T : List (List Functor)} {S : Signature} {ρ : ℕ → ℕ} {H : List RegionCell} {r : ℕ} {v : Value} → PlacedValue T S ρ H r v → r ≢ 0
-    → Lies T S ρ H r v
-lies is-number ne = absurd (ne refl)
-lies (is-cell {c = c} {vs = vs} f i l e s p) ne =
-    record { number = c; functor = f; contents = vs; is = refl; there = e; small = s; inside = p }
+module _ {T : List (List Functor)} {S : Signature} {ρ : ℕ → ℕ} {H : List RegionCell} where
+  pub lies : {t r : ℕ} {v : Value} → PlacedValue T S ρ H t r v → 1 ≤ t → Lies T S ρ H t r v
+  unfolding along
+  lies is-number l = absurd (omega arith)
+  lies (is-constant k s e) l =
+      record { functor = k; contents = []; kind = inr (refl, refl); small = s; inside = rw e placed-none }
+  lies (is-cell {c = c} {vs = vs} f i h e s p) l =
+      record { functor = f; contents = vs; kind = inl (record { number = c; is = refl; region = i; there = e }); small = s; inside = p }
+
+  -- as a switch finds it
+  pub cell-found : {t r : ℕ} {v : Value} (c : Lies T S ρ H t r v)
+      → cellIn (map cellOf H) v ≡ record { functor = c .functor; contents = c .contents }
+  unfolding cellIn cellOf
+  cell-found {r = r} {v = v} c = ⊎-elim cell one (c .kind)
+    where
+      cell : InCell T S ρ H r (c .functor) (c .contents) v → cellIn (map cellOf H) v ≡ record { functor = c .functor; contents = c .contents }
+      cell k = ap (cellIn (map cellOf H)) (k .is) ∙ nth-map cellOf _ H (k .number) ∙ ap cellOf (k .there)
+
+      one : (v ≡ constant (c .functor)) × (c .contents ≡ []) → cellIn (map cellOf H) v ≡ record { functor = c .functor; contents = c .contents }
+      one k = rw (k .0, k .1)
 
 -- ---- cells are added, and region numbers outside the reach stand for something else
 abbrev pub Agree : Signature → (ℕ → ℕ) → (ℕ → ℕ) → ℕ → Type 0
@@ -97,14 +115,15 @@ module _ {T : List (List Functor)} {S : Signature} (D : Declared T S) where
 
   module _ {ρ ρ′ : ℕ → ℕ} {H H′ : List RegionCell} (grows : Grows H H′) where
     mutual
-      pub move : {r : ℕ} {v : Value} → PlacedValue T S ρ H r v → Agree S ρ ρ′ r → PlacedValue T S ρ′ H′ r v
+      pub move : {t r : ℕ} {v : Value} → PlacedValue T S ρ H t r v → Agree S ρ ρ′ r → PlacedValue T S ρ′ H′ t r v
       move is-number g = is-number
-      move (is-cell {r = r} {c = c} {vs = vs} f i l e s p) g =
+      move (is-constant k s e) g = is-constant k s e
+      move (is-cell {t = t} {r = r} {c = c} {vs = vs} f i l e s p) g =
           is-cell f i (grows c l .0) (grows c l .1 ∙ e ∙ ap (λ (k : ℕ). cellOn k f vs) (g r (D .self r i))) s
-          (move-all p (λ t m. agree-along ρ ρ′ r f 1 (width T S r f) t i g m))
+          (move-all p (λ u m. agree-along ρ ρ′ r f 1 (length (typesAt T t f)) u i g m))
 
-      pub move-all : {rs : List ℕ} {vs : List Value} → PlacedAll T S ρ H rs vs → ((t : ℕ) → inList t rs ≡ true → Agree S ρ ρ′ t)
-          → PlacedAll T S ρ′ H′ rs vs
+      pub move-all : {ts rs : List ℕ} {vs : List Value} → PlacedAll T S ρ H ts rs vs → ((u : ℕ) → inList u rs ≡ true → Agree S ρ ρ′ u)
+          → PlacedAll T S ρ′ H′ ts rs vs
       move-all placed-none g = placed-none
       move-all (placed-more {r = r} {rs = rs} p q) g =
-          placed-more (move p (g r (cons-here r r rs refl))) (move-all q (λ t m. g t (cons-later t r rs m)))
+          placed-more (move p (g r (cons-here r r rs refl))) (move-all q (λ u m. g u (cons-later u r rs m)))

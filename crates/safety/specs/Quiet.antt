@@ -12,7 +12,7 @@ use Rattle.sets.specs.MemberLaws.{keep-subset}
 use Rattle.sets.specs.declared.Set.{Set}
 use Rattle.language.specs.Lists.{put}
 use Rattle.language.specs.Program.{Step, Signature, Program, signatureOf}
-use Rattle.language.specs.Typing.{isRegion}
+use Rattle.language.specs.Typing.{isRegion, typesOf}
 use Rattle.language.specs.Values.{reads, gives}
 use Rattle.language.specs.Regions.{regionsOf, reach}
 use Rattle.language.specs.Lifetimes.{kept, effect, heldAfter}
@@ -80,7 +80,8 @@ module _ {P : Program}
   now-fewer w N = record { regions = N .regions; vars = vars-fewer w (N .vars); stack = N .stack }
 
   pub now-given : {vr : ℕ → Value} {H : List RegionCell} {s : Set} (xs : List ℕ) {vs : List Value}
-      → PlacedAll (P .types) (signatureOf P p) ρ H (regionsOf (signatureOf P p) xs) vs → Now P p zs ρ vr fs H made live h s os
+      → PlacedAll (P .types) (signatureOf P p) ρ H (typesOf (signatureOf P p) xs) (regionsOf (signatureOf P p) xs) vs
+      → Now P p zs ρ vr fs H made live h s os
       → Now P p zs ρ (giveEach xs vs vr) fs H made live h (soundGiven (signatureOf P p) (setOf xs) h s) os
   now-given xs q N = record { regions = N .regions; vars = vars-given xs q (N .vars); stack = N .stack }
 
@@ -96,7 +97,8 @@ module _ {P : Program}
 
   -- a step that changes no region, counts on t sound and gives xs the values vs
   pub now-quiet : {vr : ℕ → Value} {H : List RegionCell} {s : Set} (t : Set) (xs : List ℕ) {vs : List Value} → subset t s ≡ true
-      → PlacedAll (P .types) (signatureOf P p) ρ H (regionsOf (signatureOf P p) xs) vs → Now P p zs ρ vr fs H made live h s os
+      → PlacedAll (P .types) (signatureOf P p) ρ H (typesOf (signatureOf P p) xs) (regionsOf (signatureOf P p) xs) vs
+      → Now P p zs ρ vr fs H made live h s os
       → Now P p zs ρ (giveEach xs vs vr) fs H made live h
       (soundGiven (signatureOf P p) (setOf xs) h (soundWithout (signatureOf P p) emptySet t)) os
   now-quiet {s = s} t xs w q N =
@@ -112,7 +114,7 @@ module _ {P : Program}
     pub now-created : apart (single r) h ≡ true → h′ ≡ (h ∖ emptySet) ∪ single r
         → Now P p zs (put ρ r (suc made)) vr fs H (suc made) (put live (suc made) true) h′
         (soundGiven (signatureOf P p) (setOf []) h′ (soundWithout (signatureOf P p) emptySet t)) os
-    unfolding giveEach regionsOf
+    unfolding giveEach typesOf regionsOf
     now-created f q = record {
       regions = created (N .regions) h′ r fresh back old new;
       vars = vars-given [] placed-none (vars-without (laws A p) emptySet (λ u j k. j) moved);
@@ -143,7 +145,7 @@ module _ {P : Program}
     pub now-removed : subset (single r) h ≡ true → apart (single r) (kept (signatureOf P p)) ≡ true → h′ ≡ (h ∖ single r) ∪ emptySet
         → Now P p zs ρ vr fs H made (put live (ρ r) false) h′
         (soundGiven (signatureOf P p) (setOf []) h′ (soundWithout (signatureOf P p) (single r) t)) os
-    unfolding giveEach regionsOf
+    unfolding giveEach typesOf regionsOf
     now-removed f k q = record {
       regions = removed (N .regions) h′ r here own back old;
       vars = vars-given [] placed-none (vars-without (laws A p) (single r) still (vars-fewer w (N .vars)));

@@ -11,6 +11,7 @@ use Rattle.sets.specs.Members.{members-mk, members-in}
 use Rattle.sets.specs.MemberLaws.{image-in}
 use Rattle.sets.specs.declared.Set.{Set}
 use Rattle.language.specs.Program.{Signature, Program, signatureOf, parametersOf, outMode, variablesIn}
+use Rattle.language.specs.Typing.{typesOf}
 use Rattle.language.specs.Values.{outsOf}
 use Rattle.language.specs.Regions.{regionsOf, mapping, reach}
 use Rattle.language.specs.Lifetimes.{born, kept}
@@ -27,7 +28,7 @@ use Rattle.safety.specs.Across.{Across, called-along, ComesAll, leave-al
 use Rattle.safety.specs.Variables.{Vars, placed-each, vars-given, vars-moved}
 use Rattle.safety.specs.Owners.{Owner, owner, Covered, Away, Owns, Ownership}
 use Rattle.safety.specs.Invariant.{imageAt, givenBy, Hung, Stack, stack-stands, Now}
-use Rattle.safety.specs.Arguments.{variables-member, arguments-regions, regions-in, stand-new, stand-old}
+use Rattle.safety.specs.Arguments.{variables-member, arguments-regions, arguments-types, regions-in, stand-new, stand-old}
 use Rattle.safety.specs.Calls.{image-member}
 
 module _ {P : Program} (A : Accepted P) (q : ℕ) (zs : List ℕ) (ρ : ℕ → ℕ) (vr : ℕ → Value) (e : RegionFrame)
@@ -138,11 +139,13 @@ module _ {P : Program} (A : Accepted P) (q : ℕ) (zs : List ℕ) (ρ : ℕ → 
         λ u r. let l = ended u (outs-reach F (x .0) u (variables-member (laws-of F) outMode (x .0) (x .1)) (rw (x .2) r)) in (l .0, l .1),
       )
 
-  left : PlacedAll (P .types) C ρ₂ H (regionsOf C (givenBy P q zs)) (map vr (variablesIn outMode Q))
+  left : PlacedAll (P .types) C ρ₂ H (typesOf C (givenBy P q zs)) (regionsOf C (givenBy P q zs)) (map vr (variablesIn outMode Q))
   unfolding variablesIn outsOf
-  left = rw (arguments-regions C Q m outMode (parametersOf Q) zs (via .arguments)) at images
+  left =
+      rw (arguments-types C Q outMode (parametersOf Q) zs (via .types), arguments-regions C Q m outMode (parametersOf Q) zs (via .arguments)) at images
     where
-      images : PlacedAll (P .types) C ρ₂ H (map m (regionsOf Q (variablesIn outMode Q))) (map vr (variablesIn outMode Q))
+      images : PlacedAll (P .types) C ρ₂ H (typesOf Q (variablesIn outMode Q)) (map m (regionsOf Q (variablesIn outMode Q)))
+          (map vr (variablesIn outMode Q))
       images =
           leave-all (laws-of F) via
           (placed-each X (variablesIn outMode Q) (λ y i. subset-in (outsOf Q) s (Z .outs) y (variables-member (laws-of F) outMode y i))) comes

@@ -3,7 +3,7 @@ use mathlib.Core.Path.{_≡_, refl, sym, ap, _∙_}
 use mathlib.Core.Bool.{Bool, true, false}
 use mathlib.Core.List.{List, [], _∷_, _++_, map}
 use mathlib.Core.Logic.{⊎-elim}
-use Prim.Native.Nat.{ℕ, suc, _≤_}
+use Prim.Native.Nat.{ℕ, suc}
 use native.Mathlib.Omega.{arith}
 use borrow.Author.Tests.{eqb-true, leb-true}
 use lib.ListN.{length}
@@ -14,32 +14,32 @@ use Rattle.sets.specs.Members.{setOf, nil-in, cons-in}
 use Rattle.sets.specs.declared.Set.{Set}
 use Rattle.language.specs.Lists.{choose, put}
 use Rattle.language.specs.Program.{Four, argumentsOf, Functor, Step, literal, sum, assign, construct, call, print, create, remove, Goals, Goal, step, switch, ifLess, Arms, _before_, Signature, Program, typeOf, regionOf, signatureOf, functorsOf, functorAt, parametersOf, inMode}
-use Rattle.language.specs.Typing.{typesIn, isVariable, functorsFor, parameterTypes, stepOk, goalsOk, goalOk}
+use Rattle.language.specs.Typing.{isVariable, isRegion, functorsFor, typesOf, parameterTypes, stepOk, goalsOk, goalOk}
 use Rattle.language.specs.Values.{reads, gives, access, accessing}
-use Rattle.language.specs.Regions.{regionsOf, stepRegions, goalsRegions, goalRegions}
+use Rattle.language.specs.Regions.{regionsOf, inTargets, stepRegions, goalsRegions, goalRegions}
 use Rattle.language.specs.Lifetimes.{noEffect, effect}
 use Rattle.language.specs.Checking.{carries, soundGiven, soundWithout, checkStep, checkGoals, checkGoal}
-use Rattle.language.specs.Frames.{Value, cellAt, Frame, Cell, withGoals, giving, giveEach, literalIn, sumIn, assignIn, cellFor, branchIn, picked, pick, enterArm, cellIn, openCell, calleeFrame}
-use Rattle.language.specs.AcceptedRun.{RegionFrame, Memory, cellOf, withCell, withPrinted, withRegion, withoutRegion, withFrame, mappingFrom, calleeRegions, regionFor, take}
-use Rattle.laws.specs.Lists.{nth-map}
+use Rattle.language.specs.Frames.{Value, cellAt, Frame, Cell, withGoals, giving, giveEach, literalIn, sumIn, assignIn, cellFor, builtValue, buildIn, branchIn, picked, pick, enterArm, cellIn, openCell, calleeFrame}
+use Rattle.language.specs.AcceptedRun.{RegionFrame, Memory, cellOf, withCell, withBuilt, withPrinted, withRegion, withoutRegion, withFrame, mappingFrom, calleeRegions, regionFor, take}
 use Rattle.region_graph.specs.Parameters.{arguments-in}
+use Rattle.region_graph.specs.Typed.{types-had, arguments-regioned}
 use Rattle.region_graph.specs.Procedure.{cell-region}
 use Rattle.safety.specs.Walks.{require-in, Joined, join-in}
 use Rattle.safety.specs.Doing.{Doing, segment, NextGoal, ArmTaken, arms-in}
 use Rattle.safety.specs.Signatures.{Fit, laws-of}
 use Rattle.safety.specs.Premises.{Accepted, calling, fit, start-doing}
-use Rattle.safety.specs.Places.{cellOn, grows-more, PlacedValue, PlacedAll, placed-none, placed-more, Lies}
+use Rattle.safety.specs.Places.{cellOn, grows-more, PlacedValue, is-constant, PlacedAll, placed-none, placed-more, Lies, cell-found}
 use Rattle.safety.specs.Variables.{AllVariables, type-in, types-variables, read-sound, placed-each, placed-new}
 use Rattle.safety.specs.Owners.{Owner}
 use Rattle.safety.specs.Invariant.{Now, Inv, inv, Fine}
 use Rattle.safety.specs.Quiet.{Obeyed, obeyed, quiet, now-fewer, now-given, now-grown, now-quiet, now-created, now-removed}
 use Rattle.safety.specs.Calls.{now-called}
 use Rattle.safety.specs.Settling.{settled}
-use Rattle.safety.specs.Allowed.{number-placed, fits-along, choices-typed, cell-of, Built, constructed}
+use Rattle.safety.specs.Allowed.{number-placed, fits-along, cell-of, Built, constructed}
 
 -- how a step is checked and described, opened together
 unfoldable described : Unit {0}
-unfolding goalOk goalRegions checkGoal effect noEffect reads gives access accessing giveEach regionsOf
+unfolding goalOk goalRegions checkGoal effect noEffect reads gives access accessing giveEach typesOf regionsOf
 described = tt
 
 -- a frame that has entered an arm
@@ -74,7 +74,7 @@ module _ {P : Program} (A : Accepted P) (f : RegionFrame) (fs : List RegionFrame
 
   -- sound variables that are read
   read-placed : (g : Step) (counted : Set) (ys : List ℕ) {h₁ s₁ : Set} → subset counted s ≡ true → AllVariables S ys → reads P g ≡ setOf ys
-      → Obeyed P S g h counted h₁ s₁ → PlacedAll T S (f .stands) (m .cells) (regionsOf S ys) (map (f .frame .values) ys)
+      → Obeyed P S g h counted h₁ s₁ → PlacedAll T S (f .stands) (m .cells) (typesOf S ys) (regionsOf S ys) (map (f .frame .values) ys)
   read-placed g counted ys w a e R =
       placed-each (N .vars) ys (λ y i. subset-in counted s w y (read-sound (laws-of F) counted ys a (rw e at (R .reads-sound)) y i))
 
@@ -83,13 +83,13 @@ module _ {P : Program} (A : Accepted P) (f : RegionFrame) (fs : List RegionFrame
   unfolding described withFrame literalIn giving stepOk
   literal-ok x v X =
       inv (quiet-doing (literal x v) (X .counted) (f .frame .goals) refl refl (X .goes) (X .onward))
-      (now-quiet A (X .counted) (x ∷ []) (X .fewer) (number-placed P F x _ (X .typed)) N)
+      (now-quiet A (X .counted) (x ∷ []) (X .fewer) (number-placed P S x _ (X .typed)) N)
 
   sum-ok : (x o y z : ℕ) → NextGoal P S (step (sum x o y z)) (f .frame .goals) h s → Inv P (withFrame f (sumIn (f .frame) x o y z)) fs m
   unfolding described withFrame sumIn giving stepOk
   sum-ok x o y z X =
       inv (quiet-doing (sum x o y z) (X .counted) (f .frame .goals) refl refl (X .goes) (X .onward))
-      (now-quiet A (X .counted) (x ∷ []) (X .fewer) (number-placed P F x _ (and-true (X .typed) .0)) N)
+      (now-quiet A (X .counted) (x ∷ []) (X .fewer) (number-placed P S x _ (and-true (X .typed) .0)) N)
 
   assign-ok : (x y : ℕ) → NextGoal P S (step (assign x y)) (f .frame .goals) h s → Inv P (withFrame f (assignIn (f .frame) x y)) fs m
   unfolding described withFrame assignIn giving stepOk stepRegions
@@ -97,16 +97,17 @@ module _ {P : Program} (A : Accepted P) (f : RegionFrame) (fs : List RegionFrame
       inv (quiet-doing (assign x y) (X .counted) (f .frame .goals) refl refl (X .goes) (X .onward))
       (now-quiet A (X .counted) (x ∷ []) (X .fewer) given N)
     where
-      one : AllVariables S (y ∷ [])
-      one z i =
-          ⊎-elim (λ q. ap (isVariable S) (sym q) ∙ type-in S (typeOf S x) y (and-true (X .typed) .1) .0) (λ q. absurd (nil-in z q))
-          (cons-in z y [] i)
+      type : (isVariable S y ≡ true) × (typeOf S y ≡ typeOf S x)
+      type = type-in S (typeOf S x) y (and-true (X .typed) .1)
 
-      placed : PlacedAll T S (f .stands) (m .cells) (regionsOf S (y ∷ [])) (map (f .frame .values) (y ∷ []))
+      one : AllVariables S (y ∷ [])
+      one z i = ⊎-elim (λ q. ap (isVariable S) (sym q) ∙ type .0) (λ q. absurd (nil-in z q)) (cons-in z y [] i)
+
+      placed : PlacedAll T S (f .stands) (m .cells) (typesOf S (y ∷ [])) (regionsOf S (y ∷ [])) (map (f .frame .values) (y ∷ []))
       placed = read-placed (assign x y) (X .counted) (y ∷ []) (X .fewer) one refl (obeyed P S (assign x y) (X .goes))
 
-      given : PlacedAll T S (f .stands) (m .cells) (regionsOf S (x ∷ [])) (f .frame .values y ∷ [])
-      given = rw (eqb-true (regionOf S x) (regionOf S y) (X .regioned)) placed
+      given : PlacedAll T S (f .stands) (m .cells) (typesOf S (x ∷ [])) (regionsOf S (x ∷ [])) (f .frame .values y ∷ [])
+      given = rw (← type .1, eqb-true (regionOf S x) (regionOf S y) (X .regioned)) placed
 
   print-ok : (y : ℕ) (z : ℤ) → NextGoal P S (step (print y)) (f .frame .goals) h s → Inv P f fs (withPrinted m z)
   unfolding described withPrinted
@@ -114,28 +115,36 @@ module _ {P : Program} (A : Accepted P) (f : RegionFrame) (fs : List RegionFrame
       inv (quiet-doing (print y) (X .counted) (f .frame .goals) refl refl (X .goes) (X .onward))
       (now-quiet A (X .counted) [] (X .fewer) placed-none N)
 
-  construct-ok : (x k : ℕ) (ys : Four) → NextGoal P S (step (construct x k ys)) (f .frame .goals) h s
-      → Inv P (withFrame f (giving (f .frame) x (cellAt (length (m .cells))))) fs
-      (withCell m (record { cell = cellFor (f .frame) k (argumentsOf ys); region = regionFor P f x }))
-  unfolding described withFrame giving withCell cellFor regionFor stepRegions
-  construct-ok x k ys X =
-      inv (quiet-doing (construct x k ys) (X .counted) (f .frame .goals) refl refl (X .goes) (X .onward))
-      (now-quiet A (X .counted) (x ∷ []) (X .fewer) (placed-more new placed-none) (now-grown A (grows-more (m .cells) _) N))
+  -- X gets functor k with arguments zs: a constant, or a new cell
+  built-ok : (x k : ℕ) (zs : List ℕ) (counted : Set) → Built T S x k zs → inTargets P S (regionOf S x) k 1 zs ≡ true
+      → PlacedAll T S (f .stands) (m .cells) (typesOf S zs) (regionsOf S zs) (map (f .frame .values) zs) → subset counted s ≡ true
+      → Doing P S (f .frame .goals) h (soundGiven S (setOf (x ∷ [])) h (soundWithout S emptySet counted))
+      → Inv P (withFrame f (buildIn (f .frame) x k zs (length (m .cells)))) fs (withBuilt m (regionFor P f x) (f .frame) k zs)
+  unfolding described withFrame buildIn builtValue giving withBuilt withCell cellFor regionFor
+  built-ok x k [] counted t r p w d =
+      inv d (now-quiet A counted (x ∷ []) w (placed-more (is-constant k (t .small) (sym (types-had S _ [] (t .have)))) placed-none) N)
+  built-ok x k (y ∷ zs) counted t r p w d =
+      inv d (now-quiet A counted (x ∷ []) w (placed-more new placed-none) (now-grown A (grows-more (m .cells) _) N))
     where
-      t : Built T S x k (argumentsOf ys)
-      t = constructed A f fs m N x k ys (X .typed)
+      own : isRegion S (regionOf S x) ≡ true
+      own = cell-region _ _ (F .typed) x (arguments-regioned T S (typeOf S x) k y zs (t .have)) .0
 
-      arguments : PlacedAll T S (f .stands) (m .cells) (regionsOf S (argumentsOf ys)) (map (f .frame .values) (argumentsOf ys))
-      arguments =
-          read-placed (construct x k ys) (X .counted) (argumentsOf ys) (X .fewer)
-          (types-variables S (typesIn (functorAt (functorsOf T (typeOf S x)) k)) (argumentsOf ys) (t .have)) refl
-          (obeyed P S (construct x k ys) (X .goes))
-
-      new : PlacedValue T S (f .stands) (m .cells ++ (cellOn (f .stands (regionOf S x)) k (map (f .frame .values) (argumentsOf ys)) ∷ []))
-          (regionOf S x) (cellAt (length (m .cells)))
+      new : PlacedValue T S (f .stands) (m .cells ++ (cellOn (f .stands (regionOf S x)) k (map (f .frame .values) (y ∷ zs)) ∷ []))
+          (typeOf S x) (regionOf S x) (cellAt (length (m .cells)))
       new =
-          placed-new (laws-of F) (regionOf S x) k (cell-region _ _ (F .typed) x (t .typed) .0) (rw (choices-typed P F x (t .typed)) (t .small))
-          (rw (fits-along P F x k (argumentsOf ys) (t .typed) (t .have) (X .regioned)) at arguments)
+          placed-new (laws-of F) (typeOf S x) (regionOf S x) k own (t .small)
+          (rw (types-had S _ (y ∷ zs) (t .have), fits-along P S x k (y ∷ zs) (t .have) r) at p)
+
+  construct-ok : (x k : ℕ) (ys : Four) → NextGoal P S (step (construct x k ys)) (f .frame .goals) h s
+      → Inv P (withFrame f (buildIn (f .frame) x k (argumentsOf ys) (length (m .cells)))) fs
+      (withBuilt m (regionFor P f x) (f .frame) k (argumentsOf ys))
+  unfolding described stepRegions
+  construct-ok x k ys X =
+      let t = constructed P S x k ys (X .typed) in
+      built-ok x k (argumentsOf ys) (X .counted) t (X .regioned)
+      (read-placed (construct x k ys) (X .counted) (argumentsOf ys) (X .fewer) (types-variables S _ (argumentsOf ys) (t .have)) refl
+      (obeyed P S (construct x k ys) (X .goes)))
+      (X .fewer) (quiet-doing (construct x k ys) (X .counted) (f .frame .goals) refl refl (X .goes) (X .onward))
 
   create-ok : (r : ℕ) → NextGoal P S (step (create r)) (f .frame .goals) h s
       → Inv P (record { frame = f .frame; stands = put (f .stands) r (suc (m .made)) }) fs (withRegion m)
@@ -159,28 +168,23 @@ module _ {P : Program} (A : Accepted P) (f : RegionFrame) (fs : List RegionFrame
       inv (branch-doing _ a b (f .frame .goals) (o .0) (o .1) (r .0) (r .1) (join-in (require-in (X .goes) .1)) (X .onward))
       (now-fewer A (X .fewer) N)
 
-  -- X's cell, as a switch finds it
-  cell-found : (x : ℕ) (c : Lies T S (f .stands) (m .cells) (regionOf S x) (f .frame .values x))
-      → cellIn (map cellOf (m .cells)) (f .frame .values x) ≡ record { functor = c .functor; contents = c .contents }
-  unfolding cellIn cellOf
-  cell-found x c = ap (cellIn (map cellOf (m .cells))) (c .is) ∙ nth-map cellOf _ (m .cells) (c .number) ∙ ap cellOf (c .there)
-
   arm-entered : (cs : Arms) (k : Cell) (found : Cell) (ys : List ℕ) (gs : Goals) → found ≡ k → pick cs (k .functor) ≡ picked ys gs
       → openCell found cs (f .frame) ≡ inArm (f .frame) ys (k .contents) gs
   unfolding openCell enterArm
   arm-entered cs k found ys gs e q = ap (λ (j : Cell). openCell j cs (f .frame)) e ∙ (rw q)
 
-  enter-ok : (x : ℕ) (cs : Arms) (counted : Set) {h₁ s₁ : Set} → 1 ≤ typeOf S x
-      → (c : Lies T S (f .stands) (m .cells) (regionOf S x) (f .frame .values x))
+  enter-ok : (x : ℕ) (cs : Arms) (counted : Set) {h₁ s₁ : Set}
+      → (c : Lies T S (f .stands) (m .cells) (typeOf S x) (regionOf S x) (f .frame .values x))
       → ArmTaken P S cs (regionOf S x) (functorAt (functorsOf T (typeOf S x)) (c .functor)) (c .functor) h counted h₁ s₁
       → subset counted s ≡ true → Doing P S (f .frame .goals) h₁ s₁
       → Inv P (withFrame f (openCell (cellIn (map cellOf (m .cells)) (f .frame .values x)) cs (f .frame))) fs m
   unfolding withFrame
-  enter-ok x cs counted l c t w d =
+  enter-ok x cs counted c t w d =
       rw (arm-entered cs (record { functor = c .functor; contents = c .contents }) (cellIn (map cellOf (m .cells)) (f .frame .values x))
-      (t .arguments) (t .goals) (cell-found x c) (t .picks))
+      (t .arguments) (t .goals) (cell-found c) (t .picks))
       (inv (segment (t .goals) refl (t .typed) (t .regioned) (t .goes) (t .more) d)
-      (now-given A (t .arguments) (rw (← fits-along P F x (c .functor) (t .arguments) l (t .have) (t .targets)) at (c .inside))
+      (now-given A (t .arguments)
+      (rw (← fits-along P S x (c .functor) (t .arguments) (t .have) (t .targets), ← types-had S _ (t .arguments) (t .have)) at (c .inside))
       (now-fewer A w N)))
 
   switch-ok : (x : ℕ) (cs : Arms) → NextGoal P S (switch x cs) (f .frame .goals) h s
@@ -191,9 +195,8 @@ module _ {P : Program} (A : Accepted P) (f : RegionFrame) (fs : List RegionFrame
       let l = leb-true 1 (typeOf S x) (o .0) in
       let r = require-in (X .goes) in
       let c = cell-of A f fs m N x l (subset-in (X .counted) s (X .fewer) x (r .0)) in
-      enter-ok x cs (X .counted) l c
-      (arms-in P S cs (functorsOf T (typeOf S x)) (regionOf S x) 0 (c .functor) (c .functor) (omega arith)
-      (rw (choices-typed P F x l) at (c .small)) (o .1) (X .regioned) (r .1))
+      enter-ok x cs (X .counted) c
+      (arms-in P S cs (functorsOf T (typeOf S x)) (regionOf S x) 0 (c .functor) (c .functor) (omega arith) (c .small) (o .1) (X .regioned) (r .1))
       (X .fewer) (X .onward)
 
   call-ok : (q : ℕ) (ys : List ℕ) → NextGoal P S (step (call q ys)) (f .frame .goals) h s → Inv P (calleeRegions P f q ys) (f ∷ fs) m

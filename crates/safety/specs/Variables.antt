@@ -14,8 +14,8 @@ use Rattle.sets.specs.Members.{setOf, keep, inList, nil-in, cons-in, cons-here,
 use Rattle.sets.specs.MemberLaws.{setOf-in, setOf-mk, keep-in}
 use Rattle.sets.specs.declared.Set.{Set}
 use Rattle.language.specs.Lists.{put}
-use Rattle.language.specs.Program.{Functor, Signature, Program, typeOf, regionOf}
-use Rattle.language.specs.Typing.{isVariable, isRegion, hasType, haveTypes}
+use Rattle.language.specs.Program.{Functor, Signature, Program, typeOf, regionOf, functorsOf}
+use Rattle.language.specs.Typing.{isVariable, isRegion, hasType, haveTypes, typesOf}
 use Rattle.language.specs.Regions.{regionsOf, reach, inTargets}
 use Rattle.language.specs.Checking.{soundGiven, soundWithout}
 use Rattle.language.specs.Frames.{Value, cellAt, giveEach}
@@ -24,7 +24,7 @@ use Rattle.laws.specs.Choices.{put-same, put-other}
 use Rattle.laws.specs.Lists.{nth-last}
 use Rattle.region_graph.specs.Laws.{target, Declared}
 use Rattle.region_graph.specs.Shared.{variable-top}
-use Rattle.safety.specs.Places.{cellOn, Grows, grows-more, grows-last, along, choices, width, PlacedValue, is-cell, PlacedAll, placed-none, placed-more, move, move-all}
+use Rattle.safety.specs.Places.{cellOn, Grows, grows-more, grows-last, along, typesAt, PlacedValue, is-cell, PlacedAll, placed-none, placed-more, move, move-all}
 
 -- each of a list is a variable
 abbrev pub AllVariables : Signature → List ℕ → Type 0
@@ -60,7 +60,7 @@ targets-along P S r f k (y ∷ ys) e =
 
 -- h is held and s is sound, in a frame with region numbers ρ and values vr; H has the cells
 pub record Vars (T : List (List Functor)) (S : Signature) (h s : Set) (ρ : ℕ → ℕ) (H : List RegionCell) (vr : ℕ → Value) : Type 0 where
-  pub placed : (x : ℕ) → member s x ≡ true → PlacedValue T S ρ H (regionOf S x) (vr x)
+  pub placed : (x : ℕ) → member s x ≡ true → PlacedValue T S ρ H (typeOf S x) (regionOf S x) (vr x)
   pub closed : (x u : ℕ) → member s x ≡ true → member (reach S x) u ≡ true → member h u ≡ true
 
 module _ {T : List (List Functor)} {S : Signature} where
@@ -71,22 +71,23 @@ module _ {T : List (List Functor)} {S : Signature} where
 
   -- ---- values are given
   pub give-placed : {ρ : ℕ → ℕ} {H : List RegionCell} (xs : List ℕ) {vs : List Value} (vr : ℕ → Value) (x : ℕ)
-      → PlacedAll T S ρ H (regionsOf S xs) vs
-      → (inList x xs ≡ true) ⊎ PlacedValue T S ρ H (regionOf S x) (vr x) → PlacedValue T S ρ H (regionOf S x) (giveEach xs vs vr x)
-  unfolding giveEach regionsOf
+      → PlacedAll T S ρ H (typesOf S xs) (regionsOf S xs) vs → (inList x xs ≡ true) ⊎ PlacedValue T S ρ H (typeOf S x) (regionOf S x) (vr x)
+      → PlacedValue T S ρ H (typeOf S x) (regionOf S x) (giveEach xs vs vr x)
+  unfolding giveEach typesOf regionsOf
   give-placed [] vr x placed-none (inl i) = absurd (nil-in x i)
   give-placed [] vr x placed-none (inr p) = p
   give-placed {ρ} {H} (y ∷ xs) vr x (placed-more {v = v} p q) c = give-placed xs (put vr y v) x q (go (ℕ-discrete y x) c)
     where
-      go : Dec (y ≡ x) → (inList x (y ∷ xs) ≡ true) ⊎ PlacedValue T S ρ H (regionOf S x) (vr x)
-          → (inList x xs ≡ true) ⊎ PlacedValue T S ρ H (regionOf S x) (put vr y v x)
+      go : Dec (y ≡ x) → (inList x (y ∷ xs) ≡ true) ⊎ PlacedValue T S ρ H (typeOf S x) (regionOf S x) (vr x)
+          → (inList x xs ≡ true) ⊎ PlacedValue T S ρ H (typeOf S x) (regionOf S x) (put vr y v x)
       go (yes e) d = inr (rw (← e) (rw (put-same vr y v) p))
       go (no ne) (inl i) = ⊎-elim (λ e. absurd (ne e)) (λ j. inl j) (cons-in x y xs i)
       go (no ne) (inr r) = inr (rw (put-other vr _ v _ ne) r)
 
   -- "A variable given a value is sound if its whole reach is then held."
   pub vars-given : {h s : Set} {ρ : ℕ → ℕ} {H : List RegionCell} {vr : ℕ → Value} (xs : List ℕ) {vs : List Value}
-      → PlacedAll T S ρ H (regionsOf S xs) vs → Vars T S h s ρ H vr → Vars T S h (soundGiven S (setOf xs) h s) ρ H (giveEach xs vs vr)
+      → PlacedAll T S ρ H (typesOf S xs) (regionsOf S xs) vs → Vars T S h s ρ H vr
+      → Vars T S h (soundGiven S (setOf xs) h s) ρ H (giveEach xs vs vr)
   unfolding soundGiven
   vars-given {h} {s} {ρ} {H} {vr} xs {vs} p X = record {
     placed =
@@ -107,8 +108,8 @@ module _ {T : List (List Functor)} {S : Signature} where
 
   -- ---- variables are read
   pub placed-each : {h s : Set} {ρ : ℕ → ℕ} {H : List RegionCell} {vr : ℕ → Value} → Vars T S h s ρ H vr → (ys : List ℕ)
-      → ((y : ℕ) → inList y ys ≡ true → member s y ≡ true) → PlacedAll T S ρ H (regionsOf S ys) (map vr ys)
-  unfolding regionsOf
+      → ((y : ℕ) → inList y ys ≡ true → member s y ≡ true) → PlacedAll T S ρ H (typesOf S ys) (regionsOf S ys) (map vr ys)
+  unfolding typesOf regionsOf
   placed-each X [] f = placed-none
   placed-each X (y ∷ ys) f = placed-more (X .placed y (f y (cons-here y y ys refl))) (placed-each X ys (λ z i. f z (cons-later z y ys i)))
 
@@ -143,9 +144,10 @@ module _ {T : List (List Functor)} {S : Signature} where
         left : (x : ℕ) → member (keep (λ y. apart (reach S y) gone) s) x ≡ true → (member s x ≡ true) × (apart (reach S x) gone ≡ true)
         left x i = keep-in (λ y. apart (reach S y) gone) s x i
 
-    -- a new cell in region r
-    pub placed-new : {ρ : ℕ → ℕ} {H : List RegionCell} (r f : ℕ) {vs : List Value} → isRegion S r ≡ true → f < choices T S r
-        → PlacedAll T S ρ H (along S r f 1 (width T S r f)) vs → PlacedValue T S ρ (H ++ (cellOn (ρ r) f vs ∷ [])) r (cellAt (length H))
-    placed-new {ρ} {H} r f {vs} i l p =
+    -- a new cell of type t in region r
+    pub placed-new : {ρ : ℕ → ℕ} {H : List RegionCell} (t r f : ℕ) {vs : List Value} → isRegion S r ≡ true → f < length (functorsOf T t)
+        → PlacedAll T S ρ H (typesAt T t f) (along S r f 1 (length (typesAt T t f))) vs
+        → PlacedValue T S ρ (H ++ (cellOn (ρ r) f vs ∷ [])) t r (cellAt (length H))
+    placed-new {ρ} {H} t r f {vs} i l p =
         let k : RegionCell = cellOn (ρ r) f vs in
-        is-cell f i (grows-last H k) (nth-last _ H k) l (move-all D (grows-more H k) p (λ t m u e. refl))
+        is-cell f i (grows-last H k) (nth-last _ H k) l (move-all D (grows-more H k) p (λ w m u e. refl))

@@ -1,9 +1,9 @@
 -- Ifs, switches and calls: the goals that other goals follow.
 use Prim.Native.Nat.{ℕ, suc, _+_, _*_, _≤_, _<_}
 use native.Mathlib.Omega.{arith}
-use mathlib.Core.Path.{_≡_, refl, ap, _∙_}
+use mathlib.Core.Path.{_≡_, refl, sym, ap, _∙_}
 use mathlib.Core.Bool.{Bool, true, false}
-use mathlib.Core.List.{List, _∷_, map}
+use mathlib.Core.List.{List, [], _∷_, map}
 use mathlib.Core.Logic.{_⊎_, inl, inr}
 use borrow.Author.Tests.{ltb-true}
 use lib.Dec.{ltb}
@@ -16,8 +16,8 @@ use Rattle.language.specs.File.{goals, word}
 use Rattle.language.specs.Numbers.{less}
 use Rattle.language.specs.Program.{fourWords, trimmed, argumentsOf, call, Goals, step, switch, ifLess, Arms, _before_}
 use Rattle.language.specs.Typing.{isVariable}
-use Rattle.language.specs.Frames.{Value, Cell, Frame, numberIn, withGoals, giveEach, branchIn, picked, pick, enterArm, cellIn, openCell, calleeFrame}
-use Rattle.language.specs.AcceptedRun.{RegionFrame, Memory, liesIn, cellOf, withFrame, calleeRegions, state}
+use Rattle.language.specs.Frames.{Value, numeral, cellAt, constant, Cell, numberIn, withGoals, giveEach, branchIn, picked, pick, enterArm, cellIn, openCell, calleeFrame}
+use Rattle.language.specs.AcceptedRun.{RegionFrame, Memory, readable, cellOf, withFrame, calleeRegions, state}
 use Rattle.language.specs.AcceptedRun as Run
 use Rattle.language.specs.Machine.{Room, goes, roomOr}
 use Rattle.language.specs.Answers.{program}
@@ -30,9 +30,9 @@ use Rattle.chains.specs.Parts.{fourAt, if-at, switch-at}
 use Rattle.safety.specs.Premises.{Accepted, laws}
 use Rattle.region_graph.specs.Shared.{variable-top}
 use Rattle.heap.specs.Words.{argumentWords, arguments-are}
-use Rattle.heap.specs.Standing.{StandEach}
+use Rattle.heap.specs.Standing.{StandsFor, StandEach}
 use Rattle.heap.specs.Represents.{Reads}
-use Rattle.heap.specs.Reading.{reads}
+use Rattle.heap.specs.Reading.{reads, place-low}
 use Rattle.word_machine.specs.Tables.{Tables, Tabled, onto, Continues}
 use Rattle.word_machine.specs.Machine.{frameWords, MachineWords, valuePlace, regionPlace, callPlace, withFrames, valueOf, went, ifRoom, armOf, givesEach, entersArm, switches, calls}
 use Rattle.word_machine.specs.Trimmed.{RangedMembers}
@@ -41,7 +41,7 @@ use Rattle.word_machine.specs.Premises.{Number, ArmFits}
 use Rattle.word_machine.specs.Relation.{Where, whereIn, Means, not-later, sig, FrameOk, CallLinked, Waiting, waiting-later, waiting-depth, Running, MemoryStored}
 use Rattle.word_machine.specs.Stepping.{frame-goals}
 use Rattle.word_machine.specs.Arms.{ArmFound, arm-found}
-use Rattle.word_machine.specs.Switching.{arm-each, each-length, each-other, each-means}
+use Rattle.word_machine.specs.Switching.{switch-place, switch-constant, arm-each, each-length, each-other, give-none, each-means}
 use Rattle.word_machine.specs.Calls.{callee-is, longe, called-frame, called-waiting}
 use Rattle.word_machine.specs.Steps.{After, onward, halts, value-means, value-number}
 
@@ -76,7 +76,7 @@ module _ {f : List ℕ} {T : Tables} (B : Tabled f T) (A : Accepted (program f))
             (B .if-then i n y z a b e) (B .if-else i n y z a b e));
         waiting = W;
       })
-      (record { represents = Q .represents; printed = Q .printed; frame-room = Q .frame-room; print-room = Q .print-room }))
+      (record { represents = Q .represents; cell-room = Q .cell-room; printed = Q .printed; frame-room = Q .frame-room; print-room = Q .print-room }))
 
   -- ---- a call
   module _ (q ys : ℕ) (N : CallLinked B i (u .frame .procedure) q (argumentsAt f ys)) (room : frameWords * suc (suc (w .top)) ≤ length (w .frames)) where
@@ -90,6 +90,7 @@ module _ {f : List ℕ} {T : Tables} (B : Tabled f T) (A : Accepted (program f))
     unfolding calls
     call-stored = record {
       represents = Q .represents;
+      cell-room = Q .cell-room;
       printed = Q .printed;
       frame-room = rw (callee-is B A F G W N room, longe B A F G W N room) (Q .frame-room);
       print-room = Q .print-room;
@@ -108,75 +109,107 @@ module _ {f : List ℕ} {T : Tables} (B : Tabled f T) (A : Accepted (program f))
       (ifRoom (ltb (suc (w .top)) (K .frames)) Frames (calls f T w i q))
   call-after q ys N = rw (← waiting-depth B W) (call-by q ys N (ltb (suc (w .top)) (K .frames)) refl)
 
-  -- ---- a switch on X, whose cell stands at place p and has functor c: the arm at record j has arguments ys and goals gs
-  module _ (j : ℕ) (ys : List ℕ) (gs : Goals) (vs : List Value) (p : ℕ) (found : ArmFound B F (T .successor i) (u .frame .procedure) ys gs j)
-      (words : StandEach χ (length (m .cells)) (argumentWords (w .cells) p) vs) (count : length vs ≡ length ys) (range : RangedMembers ys) where
+  -- ---- a switch: the arm at record j has arguments ys, which get the values vs, and goals gs
+  module _ (j : ℕ) (ys : List ℕ) (gs : Goals) (vs : List Value) (found : ArmFound B F (T .successor i) (u .frame .procedure) ys gs j) where
     -- the frame in the arm
     abbrev inArm : RegionFrame
     inArm = withFrame u (record { procedure = u .frame .procedure; arguments = u .frame .arguments; goals = gs before u .frame .goals; values = giveEach ys vs (u .frame .values) })
 
+    arm-taken : (cs : Arms) (c : Cell) → c .contents ≡ vs → pick cs (c .functor) ≡ picked ys gs → withFrame u (openCell c cs (u .frame)) ≡ inArm
+    unfolding openCell enterArm
+    arm-taken cs c d q = rw (q, d)
+
+    -- the frames' words fw have what the arguments get, and else what they had
+    module _ (fw : List ℕ) (long : length fw ≡ length (w .frames))
+        (values : (x : ℕ) → 1 ≤ x → x ≤ maxVariables → isVariable (sig f (u .frame .procedure)) x ≡ true
+        → Means L (getD fw (valuePlace (w .top) x) 0) (giveEach ys vs (u .frame .values) x))
+        (other : (k : ℕ) → (k < frameWords * w .top) ⊎ (frameWords * w .top + maxVariables < k) → getD fw k 0 ≡ getD (w .frames) k 0) where
+      arm-running : Running B (withFrames w fw (T .entry j)) L inArm fs
+      unfolding withFrames withFrame
+      arm-running = record {
+        newest = record {
+          fits = omega (arith, G .fits, long);
+          values = values;
+          regions = λ r l h. rw (other (regionPlace (w .top) r) (inr (omega arith))) (G .regions r l h);
+          todo = rw (found .goals-are, found .entered) (todo-before B F _ _ _ (G .todo) (word f j armGoals) (found .stands) (found .starts));
+        };
+        waiting = waiting-later B (not-later L) long (λ k h. other k (inl h)) (other (callPlace (w .top)) (inr (omega arith))) W;
+      }
+
+      arm-stored : MemoryStored K qs (withFrames w fw (T .entry j)) m ρ χ
+      unfolding withFrames
+      arm-stored = record { represents = Q .represents; cell-room = Q .cell-room; printed = Q .printed; frame-room = rw long (Q .frame-room); print-room = Q .print-room }
+
+      arm-after : (x : ℕ) (cs : Arms) (c : Cell) → cellIn (map cellOf (m .cells)) (u .frame .values x) ≡ c → c .contents ≡ vs → pick cs (c .functor) ≡ picked ys gs
+          → After B A F K qs (switch x cs) u fs m goes (went (withFrames w fw (T .entry j)))
+      unfolding Run.take
+      arm-after x cs c e d q =
+          onward (ap (λ (k : Cell). state (program f) (withFrame u (openCell k cs (u .frame))) fs m) e ∙ ap (λ (b : RegionFrame). state (program f) b fs m) (arm-taken cs c d q))
+          arm-running arm-stored
+
+  -- ---- X's cell stands at place p: the arguments get its words
+  module _ (j : ℕ) (ys : List ℕ) (gs : Goals) (vs : List Value) (p : ℕ) (found : ArmFound B F (T .successor i) (u .frame .procedure) ys gs j)
+      (words : StandEach χ (length (m .cells)) (argumentWords (w .cells) p) vs) (count : length vs ≡ length ys) (range : RangedMembers ys) where
     abbrev four′ : List ℕ
     four′ = fourWords (fourAt f j)
-
-    abbrev fw : List ℕ
-    fw = givesEach (frameWords * w .top) four′ (argumentWords (w .cells) p) (w .frames)
-
-    long : length fw ≡ length (w .frames)
-    long = each-length (frameWords * w .top) four′ (argumentWords (w .cells) p) (w .frames)
 
     trimmed-are : ys ≡ trimmed four′
     unfolding argumentsOf
     trimmed-are = found .arguments
 
-    arm-values : (x : ℕ) → 1 ≤ x → x ≤ maxVariables → isVariable (sig f (u .frame .procedure)) x ≡ true → Means L (getD fw (valuePlace (w .top) x) 0) (giveEach ys vs (u .frame .values) x)
+    cell-values : (x : ℕ) → 1 ≤ x → x ≤ maxVariables → isVariable (sig f (u .frame .procedure)) x ≡ true
+        → Means L (getD (givesEach (frameWords * w .top) four′ (argumentWords (w .cells) p) (w .frames)) (valuePlace (w .top) x) 0) (giveEach ys vs (u .frame .values) x)
     unfolding fourWords
-    arm-values x l h v =
+    cell-values x l h v =
         rw trimmed-are
         (each-means (frameWords * w .top) L x four′ (argumentWords (w .cells) p) vs (w .frames) (u .frame .values) (rw (arguments-are (w .cells) p) (omega arith))
         (omega (arith, G .fits)) words (count ∙ ap length trimmed-are) (rw trimmed-are at range) (G .values x l h v))
 
-    other : (k : ℕ) → (k < frameWords * w .top) ⊎ (frameWords * w .top + maxVariables < k) → getD fw k 0 ≡ getD (w .frames) k 0
-    other k = each-other (frameWords * w .top) four′ (argumentWords (w .cells) p) (w .frames) k (rw trimmed-are at range)
+    cell-after : (x : ℕ) (cs : Arms) (c : Cell) → cellIn (map cellOf (m .cells)) (u .frame .values x) ≡ c → c .contents ≡ vs → pick cs (c .functor) ≡ picked ys gs
+        → After B A F K qs (switch x cs) u fs m goes (went (entersArm f T w p j))
+    unfolding entersArm
+    cell-after x cs c e d q =
+        rw (arm-each f T w p j)
+        (arm-after j ys gs vs found _ (each-length (frameWords * w .top) four′ (argumentWords (w .cells) p) (w .frames)) cell-values
+        (λ k. each-other (frameWords * w .top) four′ (argumentWords (w .cells) p) (w .frames) k (rw trimmed-are at range)) x cs c e d q)
 
-    arm-frame : FrameOk B fw (w .top) L (T .entry j) inArm
-    unfolding withFrame
-    arm-frame = record {
-      fits = omega (arith, G .fits, long);
-      values = arm-values;
-      regions = λ r l h. rw (other (regionPlace (w .top) r) (inr (omega arith))) (G .regions r l h);
-      todo = rw (found .goals-are, found .entered) (todo-before B F _ _ _ (G .todo) (word f j armGoals) (found .stands) (found .starts));
-    }
+  -- ---- X is a constant: the arm has no arguments, and no words change
+  constant-after : (j : ℕ) (ys : List ℕ) (gs : Goals) → ArmFound B F (T .successor i) (u .frame .procedure) ys gs j → (x : ℕ) (cs : Arms) (c : Cell)
+      → cellIn (map cellOf (m .cells)) (u .frame .values x) ≡ c → c .contents ≡ [] → pick cs (c .functor) ≡ picked ys gs
+      → After B A F K qs (switch x cs) u fs m goes (went (withFrames w (w .frames) (T .entry j)))
+  constant-after j ys gs found x cs c e d q =
+      arm-after j ys gs [] found (w .frames) refl (λ y l h v. rw (give-none ys (u .frame .values)) (G .values y l h v)) (λ k o. refl) x cs c e d q
 
-    arm-waiting : Waiting B fw L (u .frame .procedure) (u .frame .arguments) (w .top) fs
-    arm-waiting = waiting-later B (not-later L) long (λ k h. other k (inl h)) (other (callPlace (w .top)) (inr (omega arith))) W
+  module _ (n x cs : ℕ) (e : recordAt f i ≡ Switch n x cs) where
+    abbrev records : List ℕ
+    records = chainRecords f cs
 
-    arm-running : Running B (entersArm f T w p j) L inArm fs
-    unfolding entersArm withFrames withFrame
-    arm-running = let e = arm-each f T w p j in record { newest = rw e arm-frame; waiting = rw e arm-waiting }
+    -- X has the value t, which the arm fits
+    module _ (t : Value) (q : u .frame .values x ≡ t) (H : ArmFits (sig f (u .frame .procedure)) (m .cells) t (armsAt f cs)) where
+      found-arm : ArmFound B F (T .successor i) (u .frame .procedure) (H .arguments) (H .goals) (armOf f (H .cell .functor) records)
+      found-arm =
+          arm-found B F (T .successor i) (u .frame .procedure) (H .cell .functor) (H .arguments) (H .goals) cs (switch-at F refl e .to-arms .stands)
+          (λ z. let b = B .switch-arms i n x cs e z in (b .0, b .1 ∙ mine)) (H .picks)
 
-    arm-stored : MemoryStored K qs (entersArm f T w p j) m ρ χ
-    unfolding entersArm withFrames
-    arm-stored = record { represents = Q .represents; printed = Q .printed; frame-room = rw (arm-each f T w p j, long) (Q .frame-room); print-room = Q .print-room }
+      has : cellIn (map cellOf (m .cells)) (u .frame .values x) ≡ H .cell
+      has = ap (cellIn (map cellOf (m .cells))) q ∙ H .is
 
-  arm-taken : (cs : Arms) (c found : Cell) (ys : List ℕ) (gs : Goals) → found ≡ c → pick cs (c .functor) ≡ picked ys gs
-      → openCell found cs (u .frame)
-      ≡ record { procedure = u .frame .procedure; arguments = u .frame .arguments; goals = gs before u .frame .goals; values = giveEach ys (c .contents) (u .frame .values) }
-  unfolding openCell enterArm
-  arm-taken cs c found ys gs e q = ap (λ (k : Cell). openCell k cs (u .frame)) e ∙ (rw q)
+    by-value : (t : Value) → u .frame .values x ≡ t → ArmFits (sig f (u .frame .procedure)) (m .cells) t (armsAt f cs) → Means L (valueOf w x) t → readable m t ≡ true
+        → After B A F K qs (switch x (armsAt f cs)) u fs m goes (went (switches f T w (valueOf w x) cs))
+    unfolding StandsFor cellIn
+    by-value (numeral z) q H s l = absurd (H .no-number z refl)
+    by-value (cellAt j) q H s l =
+        let R : Reads (w .cells) χ (length (m .cells)) (valueOf w x) (H .cell) = rw (H .is) at (reads (Q .represents) (valueOf w x) j s l) in
+        let r : RangedMembers (H .arguments) = λ y h. variable-top _ _ (laws A (u .frame .procedure)) y (H .variables y h) in
+        rw (switch-place f T w (valueOf w x) cs (omega (arith, place-low (Q .represents) (valueOf w x) j s l, Q .cell-room)), R .functor)
+        (cell-after (armOf f (H .cell .functor) records) (H .arguments) (H .goals) (H .cell .contents) (valueOf w x) (found-arm (cellAt j) q H) (R .contents) (H .count) r x
+        (armsAt f cs) (H .cell) (has (cellAt j) q H) refl (H .picks))
+    by-value (constant k) q H s l =
+        rw (switch-constant f T w (valueOf w x) cs k s, ap (λ (c : Cell). c .functor) (H .is))
+        (constant-after (armOf f (H .cell .functor) records) (H .arguments) (H .goals) (found-arm (constant k) q H) x (armsAt f cs) (H .cell) (has (constant k) q H)
+        (sym (ap (λ (c : Cell). c .contents) (H .is))) (H .picks))
 
-  pub switch-after : (n x cs : ℕ) → recordAt f i ≡ Switch n x cs → isVariable (sig f (u .frame .procedure)) x ≡ true
-      → m .alive (liesIn (m .cells) (u .frame .values x)) ≡ true → ArmFits (sig f (u .frame .procedure)) (m .cells) (u .frame .values x) (armsAt f cs)
-      → After B A F K qs (switch x (armsAt f cs)) u fs m goes (went (switches f T w (valueOf w x) cs))
-  unfolding switches Run.take
-  switch-after n x cs e v l H =
-      let R = reads (Q .represents) (valueOf w x) (u .frame .values x) (value-means B A F K qs w u fs m ρ χ i G W Q x v) l in
-      let R′ : Reads (w .cells) χ (length (m .cells)) (valueOf w x) (H .cell) = rw (H .is) at R in
-      let j = armOf f (H .cell .functor) (chainRecords f cs) in
-      let D = arm-found B F (T .successor i) (u .frame .procedure) (H .cell .functor) (H .arguments) (H .goals) cs (switch-at F refl e .to-arms .stands)
-      (λ z. let t = B .switch-arms i n x cs e z in (t .0, t .1 ∙ mine)) (H .picks) in
-      let r : RangedMembers (H .arguments) = λ y h. variable-top _ _ (laws A (u .frame .procedure)) y (H .variables y h) in
-      rw (R′ .functor)
-      (onward (ap (λ (b : Frame). state (program f) (withFrame u b) fs m)
-      (arm-taken (armsAt f cs) (H .cell) (cellIn (map cellOf (m .cells)) (u .frame .values x)) (H .arguments) (H .goals) (H .is) (H .picks)))
-      (arm-running j (H .arguments) (H .goals) (H .cell .contents) (valueOf w x) D (R′ .contents) (H .count) r)
-      (arm-stored j (H .arguments) (H .goals) (H .cell .contents) (valueOf w x) D (R′ .contents) (H .count) r))
+    pub switch-after : isVariable (sig f (u .frame .procedure)) x ≡ true → readable m (u .frame .values x) ≡ true
+        → ArmFits (sig f (u .frame .procedure)) (m .cells) (u .frame .values x) (armsAt f cs)
+        → After B A F K qs (switch x (armsAt f cs)) u fs m goes (went (switches f T w (valueOf w x) cs))
+    switch-after v l H = by-value (u .frame .values x) refl H (value-means B A F K qs w u fs m ρ χ i G W Q x v) l

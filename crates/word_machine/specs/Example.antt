@@ -10,7 +10,7 @@ use Rattle.language.specs.declared.Ending.the-variants.{Finished, Stopped}
 use Rattle.language.specs.declared.Stop.the-variants.{Steps, Cells, Frames}
 use Rattle.language.specs.Machine.{Run}
 use Rattle.language.specs.Computing.{computing}
-use Rattle.language.specs.Table.{eight, rows, file, five, with5, A}
+use Rattle.language.specs.Table.{eight, rows, file, newU}
 use Rattle.chains.specs.Layout.Steps
 use Rattle.records.specs.Records.{recordAt}
 use Rattle.chains.specs.Formed.{argumentsAt}
@@ -23,7 +23,7 @@ use Rattle.word_machine.specs.Filling.{stores, referred, onwardWords, ow
 use Rattle.word_machine.specs.Machine as M
 
 unfoldable pub opened : Unit {0}
-unfolding computing slotOf givenOf packed ofMode Steps.argumentsAt argumentsAt recordAt fieldOf recordsUpTo chainRecords onto stores referred onwardWords ownerWords filled matched matchedBy matches onwards owners slots modes tablesOf Memory.unused Memory.taken Memory.emptyHeap Memory.createdOf Memory.createdRegionsOf Memory.created Memory.createdRegions Memory.filled Memory.hung Memory.builtOf Memory.builtCellsOf Memory.builtRegionsOf Memory.built Memory.builtCells Memory.builtRegions Memory.removed Memory.removedCells Memory.removedRegions M.literalWord M.sumWord M.copied M.cleared M.blocks M.armOf M.givesEach M.withFrames M.given M.valueOf M.regionFor M.ifRoom M.termOf M.contentsOf M.constructedBy M.constructed M.createdBy M.makesRegion M.dropsRegion M.printsWord M.armWords M.entersArm M.switches M.valuesIn M.regionsIn M.calleeWords M.calls M.valuesOut M.regionsOut M.returnWords M.returned M.settledFrom M.settled M.settledIf M.steps M.stepped M.endedWith M.afterStep M.runOn M.startWords M.noFrame M.runFrom M.lentWords M.wordRun
+unfolding computing slotOf givenOf packed ofMode Steps.argumentsAt argumentsAt recordAt fieldOf recordsUpTo chainRecords onto stores referred onwardWords ownerWords filled matched matchedBy matches onwards owners slots modes tablesOf Memory.unused Memory.taken Memory.emptyHeap Memory.createdOf Memory.createdRegionsOf Memory.created Memory.createdRegions Memory.filled Memory.hung Memory.builtOf Memory.builtCellsOf Memory.builtRegionsOf Memory.built Memory.builtCells Memory.builtRegions Memory.removed Memory.removedCells Memory.removedRegions M.literalWord M.sumWord M.copied M.cleared M.blocks M.armOf M.givesEach M.withFrames M.given M.valueOf M.regionFor M.ifRoom M.termOf M.contentsOf M.constructedBy M.constructed M.constructs M.createdBy M.makesRegion M.dropsRegion M.printsWord M.armWords M.entersArm M.switchesOn M.switches M.valuesIn M.regionsIn M.calleeWords M.calls M.valuesOut M.regionsOut M.returnWords M.returned M.settledFrom M.settled M.settledIf M.steps M.stepped M.endedWith M.afterStep M.runOn M.startWords M.noFrame M.runFrom M.lentWords M.wordRun
 opened = tt
 
 -- what a run ended with and printed
@@ -34,21 +34,18 @@ outcome r = record { ending = r .ending; steps = r .done; printed = map (toZ w32
 unfoldable pub tried : List ℕ → ℕ → ℕ → ℕ → ℕ → ℕ → Run
 tried f c r k p l = outcome (M.wordRun f (tablesOf f) (replicate c 77) (replicate r 78) (replicate k 79) (replicate p 80) l)
 
-pub A-run : tried A 16 4 136 2 10 ≡ record { ending = Finished; steps = 3; printed = [] }
-unfolding opened outcome tried eight rows file five with5 A
-A-run = refl
+-- a constant takes no cell and no region
+pub newU-run : tried newU 0 0 136 2 10 ≡ record { ending = Finished; steps = 1; printed = [] }
+unfolding opened outcome tried eight rows file newU
+newU-run = refl
 
-pub A-steps : tried A 16 4 136 2 2 ≡ record { ending = Stopped Steps; steps = 2; printed = [] }
-unfolding opened outcome tried eight rows file five with5 A
-A-steps = refl
+pub newU-steps : tried newU 0 0 136 2 0 ≡ record { ending = Stopped Steps; steps = 0; printed = [] }
+unfolding opened outcome tried eight rows file newU
+newU-steps = refl
 
-pub A-cells : tried A 7 4 136 2 10 ≡ record { ending = Stopped Cells; steps = 1; printed = [] }
-unfolding opened outcome tried eight rows file five with5 A
-A-cells = refl
-
-pub A-frames : tried A 16 4 135 2 0 ≡ record { ending = Stopped Frames; steps = 0; printed = [] }
-unfolding opened outcome tried eight rows file five with5 A
-A-frames = refl
+pub newU-frames : tried newU 16 4 135 2 0 ≡ record { ending = Stopped Frames; steps = 0; printed = [] }
+unfolding opened outcome tried eight rows file newU
+newU-frames = refl
 
 -- a program with recursion: `make` bears a list, `show` prints it and keeps it, `drop` prints it again and ends its region
 unfoldable pub listed : List ℕ
@@ -70,3 +67,8 @@ listed =
 pub listed-run : tried listed 80 8 1360 8 100 ≡ record { ending = Finished; steps = 35; printed = pos 2 ∷ pos 1 ∷ pos 2 ∷ pos 1 ∷ [] }
 unfolding opened outcome tried eight rows file listed
 listed-run = refl
+
+-- the list has a constant and two cells: there is room for one
+pub listed-cells : tried listed 15 8 1360 8 100 ≡ record { ending = Stopped Cells; steps = 17; printed = [] }
+unfolding opened outcome tried eight rows file listed
+listed-cells = refl

@@ -2,7 +2,7 @@
 --
 -- A frame is 136 words at 136 * k, k counting from 0 at the entry: word 0 the record of the next goal while the frame waits, word x the value of
 -- variable x, word 64 + r the place of what region number r stands for, word 129 the record of the call that made the frame.
-use Prim.Native.Nat.{ℕ, zero, suc, _+_, _*_}
+use Prim.Native.Nat.{ℕ, zero, suc, _+_, _-_, _*_}
 use mathlib.Core.Bool.{Bool, true, false}
 use mathlib.Core.List.{List, [], _∷_}
 use lib.Dec.{eqb, ltb}
@@ -29,7 +29,7 @@ use Rattle.memory.specs.declared.Contents.{Contents}
 use Rattle.memory.specs.declared.Heap.{Heap}
 use Rattle.memory.specs.declared.Made.{Made}
 use Rattle.memory.specs.declared.Made.the-variants.{At, NoRoom}
-use Rattle.memory.specs.Memory.{cellWords, regionWords, cellWord, emptyHeap, created, createdRegions, built, builtCells, builtRegions, removed, removedCells, removedRegions}
+use Rattle.memory.specs.Memory.{cellWords, regionWords, constantsFrom, cellWord, emptyHeap, created, createdRegions, built, builtCells, builtRegions, removed, removedCells, removedRegions}
 use Rattle.word_machine.specs.Tables.{Tables, onto, slotOf, givenOf}
 
 -- the lent words and what a run keeps beside them: the newest frame's number, its next goal's record, and how many numbers are printed
@@ -131,7 +131,7 @@ unfoldable pub ifRoom : Bool → Stop → MachineWords → Went
 ifRoom true c w = went w
 ifRoom false c w = stops c
 
--- ---- constructs and creates
+-- ---- constructs and creates: a construct without arguments gives a constant, any other a cell
 -- a cell's words for functor k: the values of its arguments, up to the first that is numbered 0; behind them, what stands there
 unfoldable pub termOf : (ℕ → ℕ) → (ℕ → ℕ) → ℕ → ℕ → ℕ → ℕ → ℕ → Contents
 termOf value old k zero b c d = record { functor = k; a = old 1; b = old 2; c = old 3; d = old 4 }
@@ -154,6 +154,11 @@ constructedBy w x i m rs NoRoom = stops Cells
 unfoldable pub constructed : MachineWords → ℕ → ℕ → ℕ → Contents → Went
 constructed w x i r c =
     constructedBy w x i (builtCells (w .heap) (w .cells) (w .regions) r c) (builtRegions (w .heap) (w .cells) (w .regions) r) (built (w .heap) (w .cells))
+
+-- X gets functor t with arguments a, b, c and d, up to the first that is numbered 0, in what region number r stands for
+unfoldable pub constructs : MachineWords → ℕ → ℕ → ℕ → ℕ → ℕ → ℕ → ℕ → ℕ → Went
+constructs w x i r t zero b c d = went (given w x (constantsFrom + t) i)
+constructs w x i r t (suc a) b c d = constructed w x i (regionFor w r) (contentsOf w t (suc a) b c d)
 
 unfoldable pub createdBy : MachineWords → ℕ → ℕ → List ℕ → Made → Went
 createdBy w r i rs (At p h) =
@@ -195,7 +200,7 @@ afterStep (went w) onward halt = onward w
 afterStep (stops c) onward halt = halt c
 
 module _ (f : List ℕ) (T : Tables) where
-  -- ---- a switch: the arm of X's cell at record j; the cell at place p
+  -- ---- a switch: the arm at record j, with the words of the cell at place p
   unfoldable pub armWords : MachineWords → ℕ → ℕ → List ℕ
   armWords w p j =
       givesEach (goalPlace (w .top)) (word f j termArguments ∷ word f j (termArguments + 1) ∷ word f j (termArguments + 2) ∷ word f j (termArguments + 3) ∷ [])
@@ -204,8 +209,13 @@ module _ (f : List ℕ) (T : Tables) where
   unfoldable pub entersArm : MachineWords → ℕ → ℕ → MachineWords
   entersArm w p j = withFrames w (armWords w p j) (T .entry j)
 
+  -- X's word is a cell's place, or a constant, which has no words
+  unfoldable pub switchesOn : Bool → MachineWords → ℕ → ℕ → MachineWords
+  switchesOn true w v cs = entersArm w v (armOf f (cellWord (w .cells) v 0) (chainRecords f cs))
+  switchesOn false w v cs = withFrames w (w .frames) (T .entry (armOf f (v - constantsFrom) (chainRecords f cs)))
+
   unfoldable pub switches : MachineWords → ℕ → ℕ → MachineWords
-  switches w p cs = entersArm w p (armOf f (cellWord (w .cells) p 0) (chainRecords f cs))
+  switches w v cs = switchesOn (ltb v constantsFrom) w v cs
 
   -- ---- a call at record i: the callee's frame k over the caller's, with its in values and what its dead and kept regions stand for
   unfoldable pub valuesIn : ℕ → ℕ → List ℕ → List ℕ
@@ -273,7 +283,7 @@ module _ (f : List ℕ) (T : Tables) where
   steps k i (Literal n x v) w = went (given w x (literalWord v) (T .successor i))
   steps k i (Sum n x o y z) w = went (given w x (sumWord o (valueOf w y) (valueOf w z)) (T .successor i))
   steps k i (Assign n x y) w = went (given w x (valueOf w y) (T .successor i))
-  steps k i (Construct n x t a b c d) w = constructed w x (T .successor i) (regionFor w (T .region i)) (contentsOf w t a b c d)
+  steps k i (Construct n x t a b c d) w = constructs w x (T .successor i) (T .region i) t a b c d
   steps k i (Switch n x cs) w = went (switches w (valueOf w x) cs)
   steps k i (If n y z a b) w =
       went (withFrames w (w .frames) (onto (choose (less (toZ w32 (valueOf w y)) (toZ w32 (valueOf w z))) a b) (T .successor i)))

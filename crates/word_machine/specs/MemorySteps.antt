@@ -12,13 +12,14 @@ use lib.ListN.{length, set, take, drop, length-set, length-append}
 use lib.Seq.{take-suc-set, drop-set-lt, drop-drop}
 use mir.Syntax.{w32}
 use mir.Val.{toZ}
+use Rattle.sets.specs.Tests.{_or_}
 use Rattle.sets.specs.Members.{inList}
 use Rattle.language.specs.declared.Stop.the-variants.{Cells, Places, Prints}
-use Rattle.language.specs.Lists.{put}
-use Rattle.language.specs.Program.{four, argumentsOf, construct, print, create, remove, step, regionOf}
+use Rattle.language.specs.Lists.{put, isNone}
+use Rattle.language.specs.Program.{four, fourWords, trimOnto, trimmed, argumentsOf, construct, print, create, remove, step, regionOf}
 use Rattle.language.specs.Typing.{isVariable, isRegion}
-use Rattle.language.specs.Frames.{cellAt, numberIn, giving, cellFor}
-use Rattle.language.specs.AcceptedRun.{RegionFrame, RegionCell, Memory, withCell, withPrinted, withRegion, withoutRegion, withFrame, regionFor}
+use Rattle.language.specs.Frames.{cellAt, constant, numberIn, giving, cellFor, builtValue, buildIn}
+use Rattle.language.specs.AcceptedRun.{RegionFrame, RegionCell, Memory, withCell, withBuilt, withPrinted, withRegion, withoutRegion, withFrame, regionFor, state}
 use Rattle.language.specs.AcceptedRun as Run
 use Rattle.language.specs.Machine.{Room, goes, roomOr, cellsHeld, regionsHeld}
 use Rattle.language.specs.Answers.{program}
@@ -29,23 +30,23 @@ use Rattle.region_graph.specs.Shared.{variable-top, region-top}
 use Rattle.memory.specs.declared.Contents.{Contents}
 use Rattle.memory.specs.declared.Made.{Made}
 use Rattle.memory.specs.declared.Made.the-variants.{At, NoRoom}
-use Rattle.memory.specs.Memory.{built, builtCells, builtRegions, created, createdRegions}
+use Rattle.memory.specs.Memory.{constantsFrom, built, builtCells, builtRegions, created, createdRegions}
 use Rattle.heap.specs.Words.{wordsOf}
-use Rattle.heap.specs.Standing.{StandEach, stands-new, each-argument}
+use Rattle.heap.specs.Standing.{StandsFor, StandEach, stands-new, each-argument}
 use Rattle.heap.specs.Represents.{Creates, stops-12, creates, Builds, stops-11, builds}
 use Rattle.heap.specs.Reading.{alive-made, prints}
 use Rattle.heap.specs.Creating.{create-ok}
 use Rattle.heap.specs.Building.{build-ok}
 use Rattle.heap.specs.Removing.{remove-ok}
 use Rattle.word_machine.specs.Tables.{Tables, Tabled}
-use Rattle.word_machine.specs.Machine.{MachineWords, valuePlace, regionPlace, valueOf, went, ifRoom, contentsOf, constructedBy, constructed, createdBy, makesRegion, dropsRegion, printsWord}
+use Rattle.word_machine.specs.Machine.{MachineWords, valuePlace, regionPlace, valueOf, went, ifRoom, contentsOf, constructedBy, constructed, constructs, createdBy, makesRegion, dropsRegion, printsWord}
 use Rattle.word_machine.specs.Machine as M
-use Rattle.word_machine.specs.Trimmed.{term-functor, term-words}
+use Rattle.word_machine.specs.Trimmed.{first-argument, term-functor, term-words}
 use Rattle.word_machine.specs.Statement.{Printed}
 use Rattle.word_machine.specs.Premises.{Number}
 use Rattle.word_machine.specs.Relation.{whereIn, Later, Names, sig, FrameOk, Waiting, MemoryStored}
 use Rattle.word_machine.specs.Stepping.{frame-more, waiting-more, set-frame, set-waiting, name-frame, name-waiting}
-use Rattle.word_machine.specs.Steps.{After, onward, halts, value-means, value-number}
+use Rattle.word_machine.specs.Steps.{After, onward, halts, stored-given, given-running, value-means, value-number}
 
 -- ---- one number more is printed
 map-one : (g : ℕ → ℤ) (xs : List ℕ) (x : ℕ) → map g (xs ++ (x ∷ [])) ≡ map g xs ++ (g x ∷ [])
@@ -77,6 +78,7 @@ module _ {f : List ℕ} {T : Tables} (B : Tabled f T) (A : Accepted (program f))
       onward refl (record { newest = G; waiting = W })
       (record {
         represents = prints (Q .represents) (numberIn (u .frame .values y));
+        cell-room = Q .cell-room;
         printed =
             printed-more (Q .printed) (omega (arith, ltb-true (w .printed) (K .prints) e, Q .print-room)) (valueOf w y) (numberIn (u .frame .values y))
             (value-number B A F K qs w u fs m ρ χ i G W Q y o n);
@@ -109,6 +111,7 @@ module _ {f : List ℕ} {T : Tables} (B : Tabled f T) (A : Accepted (program f))
       rw e (onward refl (record { newest = name-frame B A G′ r v p (suc (m .made)) named; waiting = name-waiting B A G′ r v p (waiting-more B A t W) })
       (record {
         represents = R;
+        cell-room = Q .cell-room;
         printed = same-printed;
         frame-room = omega (arith, Q .frame-room, length-set (w .frames) (regionPlace (w .top) r) p);
         print-room = Q .print-room;
@@ -138,14 +141,35 @@ module _ {f : List ℕ} {T : Tables} (B : Tabled f T) (A : Accepted (program f))
   remove-after r v l =
       rw (region-word r v l)
       (onward refl (record { newest = G; waiting = W })
-      (record { represents = remove-ok (Q .represents) (u .stands r) l; printed = Q .printed; frame-room = Q .frame-room; print-room = Q .print-room }))
+      (record {
+        represents = remove-ok (Q .represents) (u .stands r) l;
+        cell-room = Q .cell-room;
+        printed = Q .printed;
+        frame-room = Q .frame-room;
+        print-room = Q .print-room;
+      }))
 
-  -- ---- a construct of X, whose region is r
+  -- ---- a construct of X without arguments: a constant
+  module _ (x k b c d : ℕ) (e : argumentsOf (four 0 b c d) ≡ []) where
+    constant-taken : Run.take (program f) (step (construct x k (four 0 b c d))) u fs m ≡ state (program f) (withFrame u (giving (u .frame) x (constant k))) fs m
+    unfolding Run.take buildIn builtValue withBuilt
+    constant-taken = rw e
+
+    pub constant-after : isVariable (sig f (u .frame .procedure)) x ≡ true → (r : ℕ)
+        → After B A F K qs (step (construct x k (four 0 b c d))) u fs m
+        (roomOr (isNone (argumentsOf (four 0 b c d)) or ltb (cellsHeld (m .alive) (m .cells)) (K .cells)) Cells) (constructs w x (T .successor i) r k 0 b c d)
+    unfolding roomOr isNone _or_ constructs StandsFor
+    constant-after v r =
+        rw e
+        (onward constant-taken (given-running B A F K qs w u fs m ρ χ i G W Q x (constantsFrom + k) (constant k) v refl)
+        (stored-given B A F K qs w u fs m ρ χ i G W Q x (constantsFrom + k)))
+
+  -- ---- a construct of X with arguments, the first of them suc a: a cell in X's region r
   module _ (x k a b c d r : ℕ) (v : isVariable (sig f (u .frame .procedure)) x ≡ true)
-      (vs : (y : ℕ) → inList y (argumentsOf (four a b c d)) ≡ true → isVariable (sig f (u .frame .procedure)) y ≡ true) (is : r ≡ regionOf (sig f (u .frame .procedure)) x)
+      (vs : (y : ℕ) → inList y (argumentsOf (four (suc a) b c d)) ≡ true → isVariable (sig f (u .frame .procedure)) y ≡ true) (is : r ≡ regionOf (sig f (u .frame .procedure)) x)
       (o : isRegion (sig f (u .frame .procedure)) (regionOf (sig f (u .frame .procedure)) x) ≡ true) (l : m .alive (regionFor (program f) u x) ≡ true) where
     abbrev new : RegionCell
-    new = record { cell = cellFor (u .frame) k (argumentsOf (four a b c d)); region = regionFor (program f) u x }
+    new = record { cell = cellFor (u .frame) k (argumentsOf (four (suc a) b c d)); region = regionFor (program f) u x }
 
     later-cell : (p : ℕ) → Later (whereIn m ρ χ) (whereIn (withCell m new) ρ (put χ (length (m .cells)) p))
     unfolding withCell
@@ -156,10 +180,10 @@ module _ {f : List ℕ} {T : Tables} (B : Tabled f T) (A : Accepted (program f))
       more-regions = omega arith;
     }
 
-    construct-by : (h : Made) (ms rs : List ℕ) → Builds K (w .cells) (w .regions) m ρ χ (regionFor (program f) u x) (cellFor (u .frame) k (argumentsOf (four a b c d))) h ms rs
-        → After B A F K qs (step (construct x k (four a b c d))) u fs m (roomOr (ltb (cellsHeld (m .alive) (m .cells)) (K .cells)) Cells)
+    construct-by : (h : Made) (ms rs : List ℕ) → Builds K (w .cells) (w .regions) m ρ χ (regionFor (program f) u x) (cellFor (u .frame) k (argumentsOf (four (suc a) b c d))) h ms rs
+        → After B A F K qs (step (construct x k (four (suc a) b c d))) u fs m (roomOr (ltb (cellsHeld (m .alive) (m .cells)) (K .cells)) Cells)
         (constructedBy w x (T .successor i) ms rs h)
-    unfolding roomOr constructedBy Run.take withFrame giving withCell
+    unfolding roomOr constructedBy Run.take buildIn builtValue withBuilt argumentsOf trimmed trimOnto fourWords withFrame giving withCell
     construct-by NoRoom ms rs (stops-11 e) = rw e halts
     construct-by (At p h) ms rs (builds e R) =
         let t = later-cell p in
@@ -168,6 +192,7 @@ module _ {f : List ℕ} {T : Tables} (B : Tabled f T) (A : Accepted (program f))
         (record { newest = set-frame B A G′ x v p (cellAt (length (m .cells))) (stands-new m new χ p); waiting = set-waiting B A G′ x v p (waiting-more B A t W) })
         (record {
           represents = R;
+          cell-room = Q .cell-room;
           printed = same-printed;
           frame-room = omega (arith, Q .frame-room, length-set (w .frames) (valuePlace (w .top) x) p);
           print-room = Q .print-room;
@@ -176,26 +201,26 @@ module _ {f : List ℕ} {T : Tables} (B : Tabled f T) (A : Accepted (program f))
         same-printed : Printed qs (w .prints) (w .printed) (withCell m new .printed)
         same-printed = Q .printed
 
-    argument-words : StandEach χ (length (m .cells)) (wordsOf (contentsOf w k a b c d)) (map (u .frame .values) (argumentsOf (four a b c d)))
+    argument-words : StandEach χ (length (m .cells)) (wordsOf (contentsOf w k (suc a) b c d)) (map (u .frame .values) (argumentsOf (four (suc a) b c d)))
     unfolding contentsOf
     argument-words =
-        term-words χ (length (m .cells)) (valueOf w) _ (u .frame .values) k a b c d (λ y h. variable-top _ _ (laws A (u .frame .procedure)) y (vs y h))
-        (each-argument χ (length (m .cells)) (valueOf w) (u .frame .values) (four a b c d) (λ y h. value-means B A F K qs w u fs m ρ χ i G W Q y (vs y h)))
+        term-words χ (length (m .cells)) (valueOf w) _ (u .frame .values) k (suc a) b c d (λ y h. variable-top _ _ (laws A (u .frame .procedure)) y (vs y h))
+        (each-argument χ (length (m .cells)) (valueOf w) (u .frame .values) (four (suc a) b c d) (λ y h. value-means B A F K qs w u fs m ρ χ i G W Q y (vs y h)))
 
-    functor-word : contentsOf w k a b c d .functor ≡ k
+    functor-word : contentsOf w k (suc a) b c d .functor ≡ k
     unfolding contentsOf
-    functor-word = term-functor (valueOf w) _ k a b c d
+    functor-word = term-functor (valueOf w) _ k (suc a) b c d
 
-    pub construct-after : After B A F K qs (step (construct x k (four a b c d))) u fs m (roomOr (ltb (cellsHeld (m .alive) (m .cells)) (K .cells)) Cells)
-        (constructed w x (T .successor i) (M.regionFor w r) (contentsOf w k a b c d))
-    unfolding constructed cellFor regionFor
+    pub construct-after : After B A F K qs (step (construct x k (four (suc a) b c d))) u fs m
+        (roomOr (isNone (argumentsOf (four (suc a) b c d)) or ltb (cellsHeld (m .alive) (m .cells)) (K .cells)) Cells) (constructs w x (T .successor i) r k (suc a) b c d)
+    unfolding constructs constructed cellFor regionFor isNone _or_
     construct-after =
-        rw (is, region-word (regionOf (sig f (u .frame .procedure)) x) o l)
-        (construct-by (built (w .heap) (w .cells)) _ _ (of-functor k (contentsOf w k a b c d) functor-word argument-words))
+        rw (first-argument a b c d, is, region-word (regionOf (sig f (u .frame .procedure)) x) o l)
+        (construct-by (built (w .heap) (w .cells)) _ _ (of-functor k (contentsOf w k (suc a) b c d) functor-word argument-words))
       where
-        of-functor : (t : ℕ) (C : Contents) → C .functor ≡ t → StandEach χ (length (m .cells)) (wordsOf C) (map (u .frame .values) (argumentsOf (four a b c d)))
+        of-functor : (t : ℕ) (C : Contents) → C .functor ≡ t → StandEach χ (length (m .cells)) (wordsOf C) (map (u .frame .values) (argumentsOf (four (suc a) b c d)))
             → Builds K (w .cells) (w .regions) m ρ χ (regionFor (program f) u x)
-            (record { functor = t; contents = map (u .frame .values) (argumentsOf (four a b c d)) }) (built (w .heap) (w .cells))
+            (record { functor = t; contents = map (u .frame .values) (argumentsOf (four (suc a) b c d)) }) (built (w .heap) (w .cells))
             (builtCells (w .heap) (w .cells) (w .regions) (ρ (regionFor (program f) u x)) C)
             (builtRegions (w .heap) (w .cells) (w .regions) (ρ (regionFor (program f) u x)))
-        of-functor t C e s = rw (← e) (build-ok (Q .represents) (regionFor (program f) u x) l C (map (u .frame .values) (argumentsOf (four a b c d))) s)
+        of-functor t C e s = rw (← e) (build-ok (Q .represents) (regionFor (program f) u x) l C (map (u .frame .values) (argumentsOf (four (suc a) b c d))) s)

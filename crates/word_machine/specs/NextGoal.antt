@@ -1,10 +1,10 @@
 -- The newest frame's next goal, whichever it is.
-use Prim.Native.Nat.{ℕ}
+use Prim.Native.Nat.{ℕ, zero, suc}
 use mathlib.Core.Path.{_≡_, refl, ap, _∙_}
-use mathlib.Core.Bool.{true}
+use mathlib.Core.Bool.{Bool, true}
 use mathlib.Core.List.{List, _∷_}
-use borrow.Author.Tests.{ltb-true}
-use Rattle.sets.specs.Tests.{and-true}
+use Rattle.sets.specs.Tests.{_or_, and-true}
+use Rattle.language.specs.Lists.{isNone}
 use Rattle.language.specs.File.{GoalKind, kLiteral, kSum, kAssign, kConstruct, kSwitch, kIf, kCall, kPrint, kCreate, kRemove, kGoal, word}
 use Rattle.language.specs.Program.{four, argumentsOf, Goals, _then_, Goal, typeOf, regionOf}
 use Rattle.language.specs.Typing.{functorsFor, argumentsOk, stepOk, goalOk}
@@ -13,26 +13,28 @@ use Rattle.language.specs.Frames.{withGoals}
 use Rattle.language.specs.AcceptedRun.{RegionFrame, Memory, withFrame, regionFor, allowed}
 use Rattle.language.specs.Machine.{Room, outlookFor}
 use Rattle.language.specs.Answers.{program}
-use Rattle.region_graph.specs.Typed.{functor-typed}
+use Rattle.region_graph.specs.Typed.{arguments-regioned}
 use Rattle.region_graph.specs.Procedure.{cell-region}
+use Rattle.region_graph.specs.Shared.{variable-top}
 use Rattle.records.specs.Records.{recordAs, recordAt}
 use Rattle.records.specs.declared.Record.the-variants.{Literal, Sum, Assign, Construct, Switch, If, Call, Print, Create, Remove}
 use Rattle.chains.specs.Formed.{Formed, goalsAt, armsAt}
 use Rattle.word_machine.specs.GoalKinds.{goal-is}
 use Rattle.chains.specs.Goals.{literal-at, sum-at, assign-at, construct-at, print-at, create-at, remove-at}
 use Rattle.chains.specs.Parts.{switch-at, if-at, call-at}
-use Rattle.safety.specs.Premises.{Accepted, fit}
+use Rattle.safety.specs.Premises.{Accepted, fit, laws}
 use Rattle.safety.specs.Variables.{type-in, types-variables}
 use Rattle.safety.specs.Invariant.{Inv}
 use Rattle.word_machine.specs.Tables.{Tables, Tabled}
 use Rattle.word_machine.specs.Machine.{MachineWords, steps}
+use Rattle.word_machine.specs.Trimmed.{no-arguments, first-argument}
 use Rattle.word_machine.specs.Successors.{GoalOnward, todo-next}
 use Rattle.word_machine.specs.Premises.{next-typed, next-regioned, next-allowed, sum-numbers, print-number, if-numbers, switch-found}
 use Rattle.word_machine.specs.Relation.{whereIn, sig, FrameOk, Waiting, MemoryStored}
 use Rattle.word_machine.specs.Links.{linked}
 use Rattle.word_machine.specs.Stepping.{frame-goals}
 use Rattle.word_machine.specs.Steps.{After, literal-after, sum-after, assign-after}
-use Rattle.word_machine.specs.MemorySteps.{print-after, create-after, remove-after, construct-after}
+use Rattle.word_machine.specs.MemorySteps.{print-after, create-after, remove-after, constant-after, construct-after}
 use Rattle.word_machine.specs.ControlSteps.{if-after, call-after, switch-after}
 
 module _ {f : List ℕ} {T : Tables} (B : Tabled f T) (A : Accepted (program f)) (F : Formed f) (K : Room) (qs : List ℕ) (w : MachineWords) (e : RegionFrame)
@@ -63,6 +65,11 @@ module _ {f : List ℕ} {T : Tables} (B : Tabled f T) (A : Accepted (program f))
   goals-are : (a : Goal) → g ≡ a → e .frame .goals ≡ a then rest
   goals-are a z = q ∙ ap (λ b. b then rest) z
 
+  -- a construct with arguments is one in a region that is alive
+  some-alive : (ys : List ℕ) {y : ℕ} {zs : List ℕ} (b : Bool) → ys ≡ y ∷ zs → isNone ys or b ≡ true → b ≡ true
+  unfolding isNone _or_
+  some-alive ys b q h = rw q at h
+
   is-literal : (n x v : ℕ) → recordAt f i ≡ Literal n x v → Goes g
   unfolding outlookFor steps goalOk stepOk withFrame withGoals
   is-literal n x v r =
@@ -86,17 +93,25 @@ module _ {f : List ℕ} {T : Tables} (B : Tabled f T) (A : Accepted (program f))
       let t = and-true (typed _ z) in
       rw (z, r) (assign-after B A F K qs w u fs m ρ χ i G′ W′ Q x y (t .0) (type-in _ _ y (t .1) .0))
 
+  -- without arguments a construct touches no region
   is-construct : (n x k a b c d : ℕ) → recordAt f i ≡ Construct n x k a b c d → Goes g
   unfolding outlookFor steps goalOk stepOk functorsFor argumentsOk allowed withFrame withGoals regionFor
-  is-construct n x k a b c d r =
+  is-construct n x k zero b c d r =
       let z = O .is ∙ construct-at F refl r .goal in
       let t = and-true (typed _ z) in
-      let s = and-true (t .1) in
-      let l = functor-typed (program f .types) (typeOf (sig f (e .frame .procedure)) x) k (ltb-true k _ (s .0)) in
+      let v = types-variables _ _ (argumentsOf (four zero b c d)) (and-true (t .1) .1) in
+      let o = no-arguments b c d (λ y h. variable-top _ _ (laws A (e .frame .procedure)) y (v y h)) in
+      rw (z, r) (constant-after B A F K qs w u fs m ρ χ i G′ W′ Q x k b c d o (t .0) (T .region i))
+  is-construct n x k (suc a) b c d r =
+      let z = O .is ∙ construct-at F refl r .goal in
+      let t = and-true (typed _ z) in
+      let s = and-true (t .1) .1 in
+      let o = first-argument a b c d in
+      let l = arguments-regioned (program f .types) _ (typeOf (sig f (e .frame .procedure)) x) k (suc a) _ (rw o at s) in
       let h : T .region i ≡ regionOf (sig f (e .frame .procedure)) x = rw (O .mine) at (B .region i n x k a b c d r) in
       rw (z, r)
-      (construct-after B A F K qs w u fs m ρ χ i G′ W′ Q x k a b c d (T .region i) (t .0) (types-variables _ _ (argumentsOf (four a b c d)) (s .1)) h
-      (cell-region _ _ (fit A (e .frame .procedure) .typed) x l .0) (next-allowed A e fs m I _ rest (goals-are _ z)))
+      (construct-after B A F K qs w u fs m ρ χ i G′ W′ Q x k a b c d (T .region i) (t .0) (types-variables _ _ (argumentsOf (four (suc a) b c d)) s) h
+      (cell-region _ _ (fit A (e .frame .procedure) .typed) x l .0) (some-alive _ _ o (next-allowed A e fs m I _ rest (goals-are _ z))))
 
   is-switch : (n x cs : ℕ) → recordAt f i ≡ Switch n x cs → Goes g
   unfolding outlookFor steps goalOk allowed withFrame withGoals

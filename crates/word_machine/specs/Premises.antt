@@ -1,8 +1,8 @@
 -- What the invariant of the accepted file's run says of the newest frame's next goal: it is allowed, sums, ifs and prints read numbers, and a
--- switch finds a cell and its arm.
-use Prim.Native.Nat.{ℕ, suc, _≤_}
+-- switch finds a cell or a constant and its arm.
+use Prim.Native.Nat.{ℕ, suc}
 use native.Mathlib.Omega.{arith}
-use mathlib.Core.Path.{_≡_, refl, ap, _∙_}
+use mathlib.Core.Path.{_≡_, refl, sym, ap, _∙_}
 use mathlib.Core.Bool.{true}
 use mathlib.Core.List.{List, [], _∷_, map}
 use mathlib.Core.Logic.{inl, inr}
@@ -16,29 +16,28 @@ use Rattle.sets.specs.declared.Set.{Set}
 use Rattle.language.specs.Program.{Functor, Step, sum, print, Goals, _then_, Goal, step, switch, ifLess, Arms, Signature, Program, typeOf, regionOf, signatureOf, functorsOf, functorAt}
 use Rattle.language.specs.Typing.{isVariable, hasType, functorsFor, goalOk, stepOk}
 use Rattle.language.specs.Values.{reads, access, accessing}
-use Rattle.language.specs.Regions.{regionsOf, goalRegions}
+use Rattle.language.specs.Regions.{goalRegions}
 use Rattle.language.specs.Checking.{checkGoal}
 use Rattle.language.specs.Frames.{Value, numeral, Cell, picked, pick, cellIn}
 use Rattle.language.specs.AcceptedRun.{RegionFrame, RegionCell, Memory, cellOf, allowed}
-use Rattle.laws.specs.Lists.{nth-map}
-use Rattle.region_graph.specs.Procedure.{number-region}
-use Rattle.region_graph.specs.Alike.{region-some}
+use Rattle.region_graph.specs.Typed.{functor-typed}
 use Rattle.safety.specs.Walks.{require-in}
 use Rattle.safety.specs.Doing.{NextGoal, next-in, ArmTaken, arms-in}
 use Rattle.safety.specs.Signatures.{laws-of}
 use Rattle.safety.specs.Premises.{Accepted, fit}
-use Rattle.safety.specs.Places.{PlacedValue, is-number, is-cell, PlacedAll, placed-none, placed-more, Lies}
-use Rattle.safety.specs.Variables.{AllVariables, type-in, types-variables, read-sound}
+use Rattle.safety.specs.Places.{PlacedValue, is-number, is-constant, is-cell, PlacedAll, placed-none, placed-more, Lies, cell-found}
+use Rattle.safety.specs.Variables.{AllVariables, type-in, types-variables, types-length, read-sound}
 use Rattle.safety.specs.Owners.{Owner}
 use Rattle.safety.specs.Invariant.{Now, Inv, inv}
 use Rattle.safety.specs.Quiet.{obeyed}
-use Rattle.safety.specs.Allowed.{allowed-ok, cell-of, fits-along, choices-typed}
+use Rattle.safety.specs.Allowed.{allowed-ok, cell-of}
 
 abbrev pub Number : Value → Type 0
 Number v = (z : ℤ) × (v ≡ numeral z)
 
--- a switch on X finds a cell, and the arm of its functor has as many arguments as the cell
+-- a switch on X finds a cell or a constant, and the arm of its functor has as many arguments
 pub record ArmFits (S : Signature) (cells : List RegionCell) (v : Value) (cs : Arms) : Type 0 where
+  pub no-number : (z : ℤ) → v ≡ numeral z → ⊥
   pub cell : Cell
   pub arguments : List ℕ
   pub goals : Goals
@@ -48,18 +47,21 @@ pub record ArmFits (S : Signature) (cells : List RegionCell) (v : Value) (cs : A
   pub variables : AllVariables S arguments
 
 module _ {T : List (List Functor)} {S : Signature} {ρ : ℕ → ℕ} {H : List RegionCell} where
-  placed-number : {r : ℕ} {v : Value} → PlacedValue T S ρ H r v → r ≡ 0 → Number v
+  placed-number : {t r : ℕ} {v : Value} → PlacedValue T S ρ H t r v → t ≡ 0 → Number v
   placed-number (is-number {z = z}) e = (z, refl)
-  placed-number (is-cell f i l c s p) e = absurd (region-some S _ i e)
+  placed-number (is-constant k l n) e = absurd (omega (arith, functor-typed T _ k l))
+  placed-number (is-cell f i l c s p) e = absurd (omega (arith, functor-typed T _ f s))
 
-  placed-length : {rs : List ℕ} {vs : List Value} → PlacedAll T S ρ H rs vs → length vs ≡ length rs
+  placed-length : {ts rs : List ℕ} {vs : List Value} → PlacedAll T S ρ H ts rs vs → length vs ≡ length ts
   placed-length placed-none = refl
   placed-length (placed-more p q) = ap suc (placed-length q)
 
-regions-length : (S : Signature) (ys : List ℕ) → length (regionsOf S ys) ≡ length ys
-unfolding regionsOf
-regions-length S [] = refl
-regions-length S (y ∷ ys) = ap suc (regions-length S ys)
+  -- what lies somewhere is no number
+  no-number : {t r : ℕ} {v : Value} → Lies T S ρ H t r v → (z : ℤ) → v ≡ numeral z → ⊥
+  no-number c z e = elim (c .kind) [
+    | inl k ↦ let i = k .is in let x : _≡_ {A = ℕ} 0 1 = cc in omega arith
+    | inr k ↦ let i = k .0 in let x : _≡_ {A = ℕ} 0 1 = cc in omega arith
+  ]
 
 module _ {P : Program} (A : Accepted P) (e : RegionFrame) (fs : List RegionFrame) (m : Memory) where
   abbrev S : Signature
@@ -69,7 +71,7 @@ module _ {P : Program} (A : Accepted P) (e : RegionFrame) (fs : List RegionFrame
       (N : Now P (e .frame .procedure) (e .frame .arguments) (e .stands) (e .frame .values) fs (m .cells) (m .made) (m .alive) h s os) where
     -- a sound variable of type 0
     number-of : (y : ℕ) → hasType S 0 y ≡ true → member s y ≡ true → Number (e .frame .values y)
-    number-of y t i = placed-number (N .vars .placed y i) (number-region _ _ (fit A (e .frame .procedure) .typed) y (type-in S 0 y t .1))
+    number-of y t i = placed-number (N .vars .placed y i) (type-in S 0 y t .1)
 
     -- the variables that a step reads are sound
     read-in : (g : Step) (ys : List ℕ) (rest : Goals) → NextGoal P S (step g) rest h s → reads P g ≡ setOf ys → AllVariables S ys → (y : ℕ) → inList y ys ≡ true
@@ -79,20 +81,18 @@ module _ {P : Program} (A : Accepted P) (e : RegionFrame) (fs : List RegionFrame
         subset-in (X .counted) s (X .fewer) y
         (read-sound (laws-of (fit A (e .frame .procedure))) (X .counted) ys a (rw q at (obeyed P S g (X .goes) .reads-sound)) y i)
 
-    -- the cell c that X has, and the arm t of its functor
-    found-in : (x : ℕ) (cs : Arms) {h₁ s₁ t₁ : Set} → 1 ≤ typeOf S x → (c : Lies (P .types) S (e .stands) (m .cells) (regionOf S x) (e .frame .values x))
+    -- the cell or constant c that X has, and the arm t of its functor
+    found-in : (x : ℕ) (cs : Arms) {h₁ s₁ t₁ : Set} → (c : Lies (P .types) S (e .stands) (m .cells) (typeOf S x) (regionOf S x) (e .frame .values x))
         → ArmTaken P S cs (regionOf S x) (functorAt (functorsOf (P .types) (typeOf S x)) (c .functor)) (c .functor) h t₁ h₁ s₁
         → ArmFits S (m .cells) (e .frame .values x) cs
-    unfolding cellIn cellOf
-    found-in x cs l c t = record {
+    found-in x cs c t = record {
+      no-number = no-number c;
       cell = record { functor = c .functor; contents = c .contents };
       arguments = t .arguments;
       goals = t .goals;
-      is = ap (cellIn (map cellOf (m .cells))) (c .is) ∙ nth-map cellOf _ (m .cells) (c .number) ∙ ap cellOf (c .there);
+      is = cell-found c;
       picks = t .picks;
-      count =
-          placed-length (rw (← fits-along P (fit A (e .frame .procedure)) x (c .functor) (t .arguments) l (t .have) (t .targets)) at (c .inside))
-          ∙ regions-length S (t .arguments);
+      count = placed-length (c .inside) ∙ sym (types-length S _ (t .arguments) (t .have));
       variables = types-variables S _ (t .arguments) (t .have);
     }
 
@@ -100,12 +100,10 @@ module _ {P : Program} (A : Accepted P) (e : RegionFrame) (fs : List RegionFrame
     unfolding goalOk goalRegions checkGoal functorsFor
     found x cs rest X =
         let o = and-true (and-true (X .typed) .1) in
-        let l = leb-true 1 (typeOf S x) (o .0) in
         let r = require-in (X .goes) in
-        let c = cell-of A e fs m N x l (subset-in (X .counted) s (X .fewer) x (r .0)) in
-        found-in x cs l c
-        (arms-in P S cs (functorsOf (P .types) (typeOf S x)) (regionOf S x) 0 (c .functor) (c .functor) (omega arith)
-        (rw (choices-typed P (fit A (e .frame .procedure)) x l) at (c .small)) (o .1) (X .regioned) (r .1))
+        let c = cell-of A e fs m N x (leb-true 1 (typeOf S x) (o .0)) (subset-in (X .counted) s (X .fewer) x (r .0)) in
+        found-in x cs c
+        (arms-in P S cs (functorsOf (P .types) (typeOf S x)) (regionOf S x) 0 (c .functor) (c .functor) (omega arith) (c .small) (o .1) (X .regioned) (r .1))
 
   -- ---- of the frame's next goal g
   module _ (I : Inv P e fs m) (g : Goal) (rest : Goals) (q : e .frame .goals ≡ g then rest) where

@@ -18,6 +18,7 @@ use Rattle.language.specs.AcceptedRun.{RegionFrame, Memory}
 use Rattle.language.specs.Machine.{Room}
 use Rattle.language.specs.Answers.{program}
 use Rattle.language.specs.Format.{callProcedure, maxVariables, maxRegions}
+use Rattle.memory.specs.Memory.{most}
 use Rattle.heap.specs.Standing.{StandsFor, stands-more}
 use Rattle.heap.specs.Represents.{Represents}
 use Rattle.word_machine.specs.Tables.{Tables, slotOf, givenOf, PassingMode, Tabled}
@@ -118,9 +119,10 @@ module _ {f : List ℕ} {T : Tables} (B : Tabled f T) where
     pub newest : FrameOk (w .frames) (w .top) L (w .goal) e
     pub waiting : Waiting (w .frames) L (e .frame .procedure) (e .frame .arguments) (w .top) fs
 
--- the lent words stand for the memory M; qs are the words lent for printed numbers
+-- the lent words stand for the memory M; qs are the words lent for printed numbers. The places of cells are below all constants
 pub record MemoryStored (k : Room) (qs : List ℕ) (w : MachineWords) (M : Memory) (ρ χ : ℕ → ℕ) : Type 0 where
   pub represents : Represents k (w .heap) (w .cells) (w .regions) M ρ χ
+  pub cell-room : k .cells ≤ most
   pub printed : Printed qs (w .prints) (w .printed) (M .printed)
   pub frame-room : frameWords * k .frames ≤ length (w .frames)
   pub print-room : k .prints ≤ length (w .prints)

@@ -15,7 +15,7 @@ use Rattle.language.specs.AcceptedRun.{RegionFrame, Memory, withFrame, state}
 use Rattle.language.specs.AcceptedRun as Run
 use Rattle.language.specs.Machine.{Room, Outlook, goes, lacks}
 use Rattle.language.specs.Answers.{program}
-use Rattle.chains.specs.Formed.{Formed, Stands}
+use Rattle.chains.specs.Formed.{Formed}
 use Rattle.safety.specs.Premises.{Accepted, laws}
 use Rattle.region_graph.specs.Shared.{variable-top}
 use Rattle.heap.specs.Standing as Standing
@@ -42,6 +42,7 @@ module _ {f : List ℕ} {T : Tables} (B : Tabled f T) (A : Accepted (program f))
     unfolding given withFrames
     stored-given x v = record {
       represents = Q .represents;
+      cell-room = Q .cell-room;
       printed = Q .printed;
       frame-room = omega (arith, Q .frame-room, length-set (w .frames) (valuePlace (w .top) x) v);
       print-room = Q .print-room;

@@ -1,9 +1,10 @@
--- A switch: the arm's arguments get the words of X's cell, up to the first that is numbered 0.
-use Prim.Native.Nat.{ℕ, zero, suc, _+_, _*_, _≤_, _<_}
+-- A switch: X's word is a place or a constant; the arm's arguments get the words of X's cell, up to the first that is numbered 0.
+use Prim.Native.Nat.{ℕ, zero, suc, _+_, _-_, _*_, _≤_, _<_}
 use native.Mathlib.Omega.{arith}
 use mathlib.Core.Path.{_≡_, refl, _∙_}
 use mathlib.Core.List.{List, [], _∷_}
 use mathlib.Core.Logic.{_⊎_, inl, inr}
+use borrow.Author.Tests.{lt-ltb, le-ltb}
 use lib.ListN.{length, getD, set, length-set}
 use lib.Seq.{getD-set-other}
 use Rattle.sets.specs.Members.{cons-here}
@@ -11,15 +12,28 @@ use Rattle.language.specs.Lists.{put}
 use Rattle.language.specs.Program.{fourWords, trimOnto, trimmed}
 use Rattle.language.specs.Frames.{Value, giveEach}
 use Rattle.language.specs.Format.{maxVariables}
+use Rattle.memory.specs.Memory.{constantsFrom, cellWord}
 use Rattle.heap.specs.Words.{argumentWords, arguments-are}
 use Rattle.heap.specs.Standing.{StandEach}
 use Rattle.chains.specs.Parts.{fourAt}
+use Rattle.chains.specs.Records.{chainRecords}
 use Rattle.word_machine.specs.Tables.{Tables}
-use Rattle.word_machine.specs.Machine.{frameWords, MachineWords, givesEach, armWords}
+use Rattle.word_machine.specs.Machine.{frameWords, MachineWords, withFrames, armOf, givesEach, armWords, entersArm, switchesOn, switches}
 use Rattle.word_machine.specs.Copies.{set-related}
 use Rattle.word_machine.specs.Trimmed.{RangedMembers, ranged-rest, none-behind}
 use Rattle.word_machine.specs.Relation.{Where, Means}
 
+-- ---- which of the two X's word is
+module _ (f : List ℕ) (T : Tables) (w : MachineWords) (v cs : ℕ) where
+  pub switch-place : v < constantsFrom → switches f T w v cs ≡ entersArm f T w v (armOf f (cellWord (w .cells) v 0) (chainRecords f cs))
+  unfolding switches switchesOn
+  switch-place l = rw (lt-ltb v constantsFrom l)
+
+  pub switch-constant : (k : ℕ) → v ≡ constantsFrom + k → switches f T w v cs ≡ withFrames w (w .frames) (T .entry (armOf f k (chainRecords f cs)))
+  unfolding switches switchesOn
+  switch-constant k e = let z : v - constantsFrom ≡ k = omega arith in rw (le-ltb v constantsFrom (omega arith), z)
+
+-- ---- the words of X's cell
 pub arm-each : (f : List ℕ) (T : Tables) (w : MachineWords) (p j : ℕ)
     → armWords f T w p j ≡ givesEach (frameWords * w .top) (fourWords (fourAt f j)) (argumentWords (w .cells) p) (w .frames)
 unfolding armWords fourWords
@@ -31,6 +45,12 @@ each-length base [] ws fw = refl
 each-length base (y ∷ ys) [] fw = refl
 each-length base (zero ∷ ys) (w ∷ ws) fw = refl
 each-length base (suc y ∷ ys) (w ∷ ws) fw = each-length base ys ws (set fw (base + suc y) w) ∙ length-set fw (base + suc y) w
+
+-- values that are none change none
+pub give-none : (ys : List ℕ) (t : ℕ → Value) → giveEach ys [] t ≡ t
+unfolding giveEach
+give-none [] t = refl
+give-none (y ∷ ys) t = refl
 
 module _ (base : ℕ) where
   -- ---- words that are no variable's stay

@@ -23,7 +23,7 @@ use Rattle.chains.specs.Records.{chainRecords}
 pub record Tables : Type 0 where
   pub successor : ℕ → ℕ  -- of a goal's record: the record of the goal that comes next, 0 at the procedure's end
   pub entry : ℕ → ℕ  -- of an arm's record: the record of its first goal; where it has none, of the goal after the switch
-  pub region : ℕ → ℕ  -- of a construct's record: the region number of X
+  pub region : ℕ → ℕ  -- of a construct's record, if it has arguments: the region number of X
   pub passes : ℕ → ℕ → List ℕ  -- of a mode and a call's record: what its arguments of that mode pass, a word for each (slotOf, givenOf)
   pub image : ℕ → ℕ → ℕ  -- of a call's record and a region of the callee: the caller's region
   pub body : ℕ → ℕ  -- of a procedure's number: the record of its first goal
@@ -75,7 +75,7 @@ pub record Tabled (f : List ℕ) (T : Tables) : Type 0 where
   pub if-then : (i n y z a b : ℕ) → recordAt f i ≡ If n y z a b → Continues onward owner a (T .successor i) (owner i)
   pub if-else : (i n y z a b : ℕ) → recordAt f i ≡ If n y z a b → Continues onward owner b (T .successor i) (owner i)
   pub bodies : (p : ℕ) → p < length (program f .procedures) → Continues onward owner (T .body p) 0 p
-  pub region : (i n x k a b c d : ℕ) → recordAt f i ≡ Construct n x k a b c d → T .region i ≡ regionOf (signatureOf (program f) (owner i)) x
+  pub region : (i n x k a b c d : ℕ) → recordAt f i ≡ Construct n x k (suc a) b c d → T .region i ≡ regionOf (signatureOf (program f) (owner i)) x
   pub arm-entry : (i : ℕ) → Stands f arms i → (i ≡ 0 → ⊥) → T .entry i ≡ onto (word f i armGoals) (onward i)
   pub slots : (i n q ys m : ℕ) → recordAt f i ≡ Call n q ys → PassingMode m → map slotOf (T .passes m i) ≡ variablesIn m (signatureOf (program f) q)
   pub givens : (i n q ys m : ℕ) → recordAt f i ≡ Call n q ys → PassingMode m

@@ -25,6 +25,15 @@ unfolding trimOnto
 none-behind [] r = refl
 none-behind (z ∷ zs) r = absurd (let q = r 0 (cons-here 0 0 (z ∷ zs) refl) in omega (arith, q .0))
 
+-- ---- a construct has no arguments exactly if the first number is 0
+pub no-arguments : (b c d : ℕ) → RangedMembers (argumentsOf (four zero b c d)) → argumentsOf (four zero b c d) ≡ []
+unfolding argumentsOf trimmed fourWords
+no-arguments b c d r = none-behind (trimmed (b ∷ c ∷ d ∷ [])) r
+
+pub first-argument : (a b c d : ℕ) → argumentsOf (four (suc a) b c d) ≡ suc a ∷ trimmed (b ∷ c ∷ d ∷ [])
+unfolding argumentsOf trimmed trimOnto fourWords
+first-argument a b c d = refl
+
 -- ---- a new cell
 pub term-functor : (value old : ℕ → ℕ) (k a b c d : ℕ) → termOf value old k a b c d .functor ≡ k
 unfolding termOf

@@ -21,6 +21,7 @@ use Rattle.chains.specs.Formed.{Formed}
 use Rattle.safety.specs.Premises.{Accepted, laws}
 use Rattle.safety.specs.Invariant.{Inv, Fine, running, over}
 use Rattle.safety.specs.Safety.{steps-fine, taken, busy}
+use Rattle.memory.specs.Memory.{most}
 use Rattle.heap.specs.Standing.{StandsFor}
 use Rattle.heap.specs.Reading.{starts}
 use Rattle.word_machine.specs.Tables.{Tables, Tabled}
@@ -63,6 +64,7 @@ module _ {f : List ℕ} {T : Tables} (B : Tabled f T) (A : Accepted (program f))
   settled-stored zero i w s = s
   settled-stored (suc k) zero w s = settled-stored k _ (returned f T k w) (record {
     represents = s .represents;
+    cell-room = s .cell-room;
     printed = s .printed;
     frame-room = rw (return-length f T k (getD (w .frames) _ 0) (w .frames)) (s .frame-room);
     print-room = s .print-room;
@@ -173,10 +175,15 @@ module _ {f : List ℕ} {T : Tables} (B : Tabled f T) (A : Accepted (program f))
     unfolding roomIn lentWords holds
     print-words = rw k (omega arith)
 
+    cell-most : K .cells ≤ most
+    unfolding roomIn lentWords holds
+    cell-most = rw k (omega arith)
+
     entry-stored : MemoryStored K qs (startWords f T m rs fw qs) (start (program f) .memory) (λ r. 0) (λ j. 0)
     unfolding startWords start state lentWords
     entry-stored = record {
       represents = rw k (starts (program f) (lentWords m rs fw qs l) m rs refl refl);
+      cell-room = cell-most;
       printed = record { count = refl; long = refl; room = omega arith; front = refl; behind = refl };
       frame-room = rw (cleared-length (blocks (T .size 0)) 1 fw) room;
       print-room = print-words;

@@ -1,14 +1,13 @@
 -- `check_removed_early` meets its contract.
-use mathlib.Core.Path.{refl, ap, _∙_}
+use mathlib.Core.Path.{ap, _∙_}
 use borrow.Author.Needs.{needs}
-use Rattle.language.specs.Answers.{refusalNumber, checked}
+use Rattle.language.specs.Answers.{checked}
 use Rattle.language.specs.Table.{table}
 use Rattle.hand_sized.proofs.check_removed_early.Statement.{statement}
 use Rattle.hand_sized.proofs.check_removed_early.Tie as tie
 
 returns : tie.Need-returns
-unfolding refusalNumber
-returns c = (c .check .ensures ∙ ap checked (c .before .before .removed-early .ensures) ∙ table .removed-early, refl)
+returns c = c .check .ensures ∙ ap checked (c .before .before .removed-early .ensures) ∙ table .removed-early
 
 pub check-removed-early-spec : {M : Type 1} → statement M
 check-removed-early-spec = tie.close (tie.spec (search needs) (search needs) (search needs) returns)

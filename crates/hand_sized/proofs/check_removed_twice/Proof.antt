@@ -1,14 +1,13 @@
 -- `check_removed_twice` meets its contract.
-use mathlib.Core.Path.{refl, ap, _∙_}
+use mathlib.Core.Path.{ap, _∙_}
 use borrow.Author.Needs.{needs}
-use Rattle.language.specs.Answers.{refusalNumber, checked}
+use Rattle.language.specs.Answers.{checked}
 use Rattle.language.specs.Table.{table}
 use Rattle.hand_sized.proofs.check_removed_twice.Statement.{statement}
 use Rattle.hand_sized.proofs.check_removed_twice.Tie as tie
 
 returns : tie.Need-returns
-unfolding refusalNumber
-returns c = (c .check .ensures ∙ ap checked (c .before .before .removed-twice .ensures) ∙ table .removed-twice, refl)
+returns c = c .check .ensures ∙ ap checked (c .before .before .removed-twice .ensures) ∙ table .removed-twice
 
 pub check-removed-twice-spec : {M : Type 1} → statement M
 check-removed-twice-spec = tie.close (tie.spec (search needs) (search needs) (search needs) returns)

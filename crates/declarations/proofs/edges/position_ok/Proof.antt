@@ -1,20 +1,28 @@
 -- `position_ok` meets its contract.
-use Rattle.declarations.specs.EdgeLaws.{position-past, position-number, position-cell}
-use borrow.Author.Needs.{needs}
+use native.Mathlib.Omega.{arith}
+use mathlib.Core.Path.{refl}
+use Rattle.declarations.specs.Declares.{functor-low}
+use Rattle.declarations.specs.EdgeLaws.{position-bare, position-regioned}
 use Rattle.declarations.proofs.edges.position_ok.Statement.{statement}
 use Rattle.declarations.proofs.edges.position_ok.Tie as tie
 
-returns : tie.Need-returns
-returns c = position-past _ _ _ _ (c .before .before .pre .1) (c .if1 .taken)
+first-functor-requires : tie.Need-first-functor-requires
+first-functor-requires c κs = c .before .pre .1 .1
 
-returns-2 : tie.Need-returns-2
-returns-2 c = position-number _ _ _ _ (c .before .if1 .left) (c .before .before .before .pre .1) (c .if2 .taken)
+mul-if1 : tie.Need-mul-if1
+mul-if1 c = omega (arith, c .first-functor .ensures, functor-low (c .before .before .pre .0 .0) (c .before .before .args .t) 0)
+
+element-copy-out-if1 : tie.Need-element-copy-out-if1
+element-copy-out-if1 c = omega (arith, c .first-functor .ensures, functor-low (c .before .before .pre .0 .0) (c .before .before .args .t) 0)
+
+returns : tie.Need-returns
+returns c = position-bare _ _ _ (c .before .before .before .before .pre .0 .0) (c .before .before .first-functor .ensures) refl (c .before .before .before .before .pre .1 .0) (c .if1 .taken)
 
 place-ok-requires : tie.Need-place-ok-requires
-place-ok-requires c κs = search needs
+place-ok-requires c κs = ((c .before .before .before .before .pre .0 .0 .formed, c .before .before .before .before .pre .0 .1), c .before .before .before .before .pre .1 .0)
 
-returns-3 : tie.Need-returns-3
-returns-3 c = position-cell _ _ _ _ (c .before .before .if1 .left) (c .before .if2 .left) (c .place-ok .ensures)
+returns-2 : tie.Need-returns-2
+returns-2 c = position-regioned _ _ _ (c .before .before .before .before .before .pre .0 .0) (c .before .before .before .first-functor .ensures) refl (c .before .if1 .left) (c .place-ok .ensures)
 
 pub position-ok-spec : {M : Type 1} → statement M
-position-ok-spec = tie.close (tie.spec returns returns-2 place-ok-requires returns-3)
+position-ok-spec = tie.close (tie.spec first-functor-requires mul-if1 element-copy-out-if1 returns place-ok-requires returns-2)

@@ -24,7 +24,7 @@ word-requires : tie.Need-word-requires Inv-loop μ-loop
 word-requires c κs = (c .before .pre .0, (omega arith, counted (c .before .pre .0) .some))
 
 loop-holds : tie.Need-loop-holds Inv-loop μ-loop
-loop-holds c = (functors-none _ (c .before .before .pre .1 .1 .1), rw (c .word .ensures .0) (left-all _ _), stands-same (c .word .ensures .0) (types-stand (c .before .before .pre .0)))
+loop-holds c = (functors-none _ (c .before .before .pre .1 .1 .1) (c .before .before .pre .1 .1 .2), rw (c .word .ensures .0) (left-all _ _), stands-same (c .word .ensures .0) (types-stand (c .before .before .pre .0)))
 
 add-t : tie.Need-add-t Inv-loop μ-loop
 add-t c = search (needs, type-room (c .before .before .before .before .pre .0) (c .before .before .before .before .pre .1 .0) (c .before .loop .inv .1) (c .loop-test .taken) (c .before .loop .inv .2 .below))
@@ -45,18 +45,31 @@ list-records-requires c κs = let l = c .before .before .before .loop .inv in
     let few = functors-few F (c .before .before .before .before .before .before .pre .1 .0) _ (left-here (l .1) F z (l .2 .below)) z (c .before .word2 .ensures .0) in
     (F, (stands-same (c .before .word2 .ensures .0) (type-at F refl (type-is (l .2) z) .to-functors .stands) .below, omega (arith, few, c .before .before .before .before .before .before .pre .1 .1 .0, l .0 .kept, type-room F (c .before .before .before .before .before .before .pre .1 .0) (l .1) z (l .2 .below))))
 
+regioned-start-requires : tie.Need-regioned-start-requires Inv-loop μ-loop
+regioned-start-requires c κs = let F = c .before .before .before .before .before .before .before .pre .0 in
+    (F, stands-same (c .before .before .word2 .ensures .0) (type-at F refl (type-is (c .before .before .before .before .loop .inv .2) (c .before .before .before .loop-test .taken)) .to-functors .stands))
+
+mul-table : tie.Need-mul-table Inv-loop μ-loop
+mul-table c = let F = c .before .before .before .before .before .before .before .before .pre .0 in
+    omega (arith, counted F .most, stands-same (c .before .before .before .word2 .ensures .0) (type-at F refl (type-is (c .before .before .before .before .before .loop .inv .2) (c .before .before .before .before .loop-test .taken)) .to-functors .stands) .below)
+
+element-write-table : tie.Need-element-write-table Inv-loop μ-loop
+element-write-table c = let F = c .before .before .before .before .before .before .before .before .pre .0 in
+    omega (arith, counted F .most, stands-same (c .before .before .before .word2 .ensures .0) (type-at F refl (type-is (c .before .before .before .before .before .loop .inv .2) (c .before .before .before .before .loop-test .taken)) .to-functors .stands) .below)
+
 word-requires-3 : tie.Need-word-requires-3 Inv-loop μ-loop
-word-requires-3 c κs = (c .before .before .before .before .before .before .before .pre .0, (omega arith, c .before .before .before .before .loop .inv .2 .below))
+word-requires-3 c κs = (c .before .before .before .before .before .before .before .before .pre .0, (omega arith, c .before .before .before .before .before .loop .inv .2 .below))
 
 loop-less : tie.Need-loop-less Inv-loop μ-loop
-loop-less c = chain-next (c .before .before .before .before .before .before .before .before .pre .0) (c .before .before .before .before .before .loop .inv .2) (c .before .before .before .before .loop-test .taken) (c .word3 .ensures .0) .falls
+loop-less c = chain-next (c .before .before .before .before .before .before .before .before .before .pre .0) (c .before .before .before .before .before .before .loop .inv .2) (c .before .before .before .before .before .loop-test .taken) (c .word3 .ensures .0) .falls
 
 loop-again : tie.Need-loop-again Inv-loop μ-loop
-loop-again c = let l = c .before .before .before .before .before .loop .inv in
-    let z = c .before .before .before .before .loop-test .taken in
-    let F = c .before .before .before .before .before .before .before .before .pre .0 in
+loop-again c = let l = c .before .before .before .before .before .before .loop .inv in
+    let z = c .before .before .before .before .before .loop-test .taken in
+    let F = c .before .before .before .before .before .before .before .before .before .pre .0 in
     let h = left-here (l .1) F z (l .2 .below) in
-    (functors-next (l .0) h z (c .before .before .before .word2 .ensures .0) refl (add-one _) (functors-few F (c .before .before .before .before .before .before .before .before .pre .1 .0) _ h z (c .before .before .before .word2 .ensures .0)) (c .before .list-records .ensures), left-next (l .1) F z (l .2 .below) (c .word3 .ensures .0) (add-one _), chain-next F (l .2) z (c .word3 .ensures .0) .stands)
+    let start = c .before .before .before .before .word2 .ensures .0 in
+    (functors-next (l .0) F h z start refl (add-one _) (functors-few F (c .before .before .before .before .before .before .before .before .before .pre .1 .0) _ h z start) (c .before .before .before .before .before .before .before .before .before .pre .1 .1 .0) (c .before .before .list-records .ensures) (c .before .regioned-start .ensures), left-next (l .1) F z (l .2 .below) (c .word3 .ensures .0) (add-one _), chain-next F (l .2) z (c .word3 .ensures .0) .stands)
 
 returns : tie.Need-returns Inv-loop μ-loop
 returns c = functors-all (c .before .loop .inv .0) (c .before .before .before .before .pre .0) (c .before .before .before .before .pre .1 .0) (left-end (c .before .loop .inv .1) (c .loop-test .left))
@@ -64,4 +77,4 @@ returns c = functors-all (c .before .loop .inv .0) (c .before .before .before .b
 pub list-functors-spec : {M : Type 1} → statement M
 list-functors-spec =
     tie.close (tie.spec Inv-loop μ-loop word-requires loop-holds add-t word-requires-2 mul-list-records add-list-records list-records-requires
-    word-requires-3 loop-less loop-again returns)
+    regioned-start-requires mul-table element-write-table word-requires-3 loop-less loop-again returns)

@@ -1,6 +1,6 @@
 -- `list_parameters` meets its contract: after a turn the links of the records from i on are right.
 use native.Mathlib.Omega.{arith}
-use mathlib.Core.Path.{_∙_}
+use mathlib.Core.Path.{sym, _∙_}
 use Prim.Native.Nat.{_≤_}
 use Rattle.language.specs.File.{recordCount}
 use Rattle.chains.specs.Formed.{counted}
@@ -40,7 +40,7 @@ loop-less : tie.Need-loop-less Inv-loop μ-loop
 loop-less c = omega arith
 
 loop-again : tie.Need-loop-again Inv-loop μ-loop
-loop-again c = (linked-variable (c .before .before .before .before .before .before .before .before .pre .0) (c .before .before .before .before .before .loop .inv .0) _ (omega arith) (λ z. omega arith) (omega (arith, c .before .before .before .before .before .loop .inv .1)) (c .before .before .before .before .before .before .before .before .pre .1 .0) (c .link .ensures), omega (arith, c .before .before .before .before .before .loop .inv .1))
+loop-again c = (linked-variable (c .before .before .before .before .before .before .before .before .pre .0) (c .before .before .before .before .before .loop .inv .0) _ (omega arith) (λ z. omega arith) (sym (c .before .before .before .word .ensures .0) ∙ c .before .before .if1 .taken) (omega (arith, c .before .before .before .before .before .loop .inv .1)) (c .before .before .before .before .before .before .before .before .pre .1 .0) (c .link .ensures), omega (arith, c .before .before .before .before .before .loop .inv .1))
 
 loop-less-2 : tie.Need-loop-less-2 Inv-loop μ-loop
 loop-less-2 c = omega arith

@@ -1,5 +1,5 @@
 -- `count` meets its contract.
-use Rattle.profiling.specs.Kinds.{count-construct, count-create, count-remove, count-same}
+use Rattle.profiling.specs.Kinds.{count-constant, count-construct, count-create, count-remove, count-same}
 use borrow.Author.Needs.{needs}
 use Rattle.profiling.proofs.counting.count.Statement.{statement}
 use Rattle.profiling.proofs.counting.count.Tie as tie
@@ -7,14 +7,20 @@ use Rattle.profiling.proofs.counting.count.Tie as tie
 word-requires : tie.Need-word-requires
 word-requires c κs = search needs
 
-add-t13 : tie.Need-add-t13
-add-t13 c = search needs
-
-add-t14 : tie.Need-add-t14
-add-t14 c = search needs
-
 word-requires-2 : tie.Need-word-requires-2
 word-requires-2 c κs = search needs
+
+returns : tie.Need-returns
+returns c h ps e = count-constant _ _ _ _ _ _ _ (c .before .before .before .word .ensures .0) h ps (c .before .before .match .keys1) _ (c .before .word2 .ensures .0) (c .if1 .taken)
+
+add-t15 : tie.Need-add-t15
+add-t15 c = search needs
+
+add-t16 : tie.Need-add-t16
+add-t16 c = search needs
+
+word-requires-3 : tie.Need-word-requires-3
+word-requires-3 c κs = search needs
 
 region-place-requires : tie.Need-region-place-requires
 region-place-requires c κs = search needs
@@ -28,33 +34,35 @@ less-requires c κs = search needs
 less-requires-2 : tie.Need-less-requires-2
 less-requires-2 c κs = search needs
 
-returns : tie.Need-returns
-returns c h ps e = count-construct _ _ _ _ _ _ _ (c .before .before .word .ensures .0) h ps (c .before .match .keys1)
-
 returns-2 : tie.Need-returns-2
-returns-2 c h ps e = count-create _ _ _ _ _ _ _ (c .before .before .word .ensures .0) h ps (c .before .match .keys2)
+returns-2 c h ps e = count-construct _ _ _ _ _ _ _ (c .before .before .before .before .word .ensures .0) h ps (c .before .before .before .match .keys1) _ (c .before .before .word2 .ensures .0) (c .before .if1 .left)
 
 returns-3 : tie.Need-returns-3
-returns-3 c h ps e =
-    count-remove _ _ _ _ _ _ _ (c .before .before .before .before .before .before .word .ensures .0) h ps (c .before .before .before .before .before .match .keys3) _ _ _ _ _ _ e (c .before .before .before .before .word2 .ensures .0) (c .before .before .before .region-place .ensures)
-    (c .before .before .region-size .ensures) (c .before .less .ensures) (c .less2 .ensures)
+returns-3 c h ps e = count-create _ _ _ _ _ _ _ (c .before .before .word .ensures .0) h ps (c .before .match .keys2)
 
 returns-4 : tie.Need-returns-4
-returns-4 c h ps e = count-same _ _ _ _ _ _ _ (c .before .word .ensures .0) h ps (λ z. c .match .rest .0 .0 .1 z) (λ z. c .match .rest .0 .1 z) (λ z. c .match .rest .1 z)
+returns-4 c h ps e =
+    count-remove _ _ _ _ _ _ _ (c .before .before .before .before .before .before .word .ensures .0) h ps (c .before .before .before .before .before .match .keys3) _ _ _ _ _ _ e (c .before .before .before .before .word3 .ensures .0) (c .before .before .before .region-place .ensures)
+    (c .before .before .region-size .ensures) (c .before .less .ensures) (c .less2 .ensures)
+
+returns-5 : tie.Need-returns-5
+returns-5 c h ps e = count-same _ _ _ _ _ _ _ (c .before .word .ensures .0) h ps (λ z. c .match .rest .0 .0 .1 z) (λ z. c .match .rest .0 .1 z) (λ z. c .match .rest .1 z)
 
 pub count-spec : {M : Type 1} → statement M
 count-spec =
     tie.close
     (tie.spec
     word-requires
-    add-t13
-    add-t14
     word-requires-2
+    returns
+    add-t15
+    add-t16
+    word-requires-3
     region-place-requires
     region-size-requires
     less-requires
     less-requires-2
-    returns
     returns-2
     returns-3
-    returns-4)
+    returns-4
+    returns-5)
