@@ -7,7 +7,7 @@ static const char *const cause[] = {
     "done",
     "the length or the header is wrong",
     "a reference, a kind or an unused word is wrong",
-    "a number out of range, a wrong type, count or order",
+    "a number out of range, a wrong type, count or order, or a region of a type of constants only",
     "a variable read before it has a value, or given one twice",
     "regions that do not fit at an assign, construct, arm or call",
     "the job has creates or removes already",

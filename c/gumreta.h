@@ -19,7 +19,7 @@ enum gumreta_answer {
     GUMRETA_DONE = 0,       /* written, accepted, or run to its end */
     GUMRETA_HEADER = 1,     /* the length or the header is wrong */
     GUMRETA_FORM = 2,       /* a reference, a kind or an unused word is wrong */
-    GUMRETA_TYPING = 3,     /* a number out of range, a wrong type, count or order */
+    GUMRETA_TYPING = 3,     /* a number out of range, a wrong type, count or order, or a region of a type of constants only */
     GUMRETA_VALUES = 4,     /* a variable read before it has a value, or given one twice */
     GUMRETA_REGIONS = 5,    /* regions that do not fit at an assign, construct, arm or call */
     GUMRETA_ANNOTATED = 6,  /* annotator: the job has creates or removes already */

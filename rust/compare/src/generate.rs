@@ -1,7 +1,8 @@
 //! Random job files that pass numbers 1 to 5, most of them: types, procedures with families of regions, goals by what has a value.
 //!
-//! A family is a set of regions of a procedure that has one region for each type, its edges lead to its own regions alone. Variables lie in a family, so
-//! that terms fit their edges; a call maps each family of the callee to one of the caller.
+//! A family is a set of regions of a procedure that has one region for each type that has any, its edges lead to its own regions alone. Variables lie in a
+//! family, so that terms fit their edges; a call maps each family of the callee to one of the caller. Some types have constants only, and so no regions;
+//! now and then a file gives such a type one.
 use crate::random::Random;
 
 const LITERAL: u16 = 8;
@@ -38,8 +39,24 @@ struct Procedure {
     families: usize,
 }
 
+/// What a file gets wrong about a type of constants only.
+#[derive(Clone, Copy, PartialEq)]
+enum Slip {
+    /// All of it as before C-14: regions, edges and region words.
+    AsBefore,
+    /// A region that nothing lies in.
+    Region,
+    /// Edges, to the region that holds the term.
+    Edges,
+    /// A variable's region word.
+    Variable,
+}
+
+const SLIPS: [Slip; 4] = [Slip::AsBefore, Slip::Region, Slip::Edges, Slip::Variable];
+
 pub struct Generator<'a> {
     random: &'a mut Random,
+    slip: Option<Slip>,
     types: Vec<Vec<Vec<u16>>>,
     procedures: Vec<Procedure>,
     /// The procedure at hand.
@@ -51,13 +68,39 @@ impl Generator<'_> {
     fn types(&mut self) {
         let n = 1 + self.random.below(3);
         for _ in 0..n {
-            let mut functors = vec![Vec::new()];
-            for _ in 0..self.random.below(3) {
+            if self.random.once_in(4) {
+                let constants = 1 + if self.random.once_in(8) { self.random.below(32) } else { self.random.below(4) };
+                self.types.push(vec![Vec::new(); constants]);
+                continue;
+            }
+            let mut functors = Vec::new();
+            for _ in 0..1 + self.random.below(3) {
                 let arity = self.random.below(4);
                 functors.push((0..arity).map(|_| self.random.below(n + 1) as u16).collect());
             }
+            let at = self.random.below(functors.len() + 1);
+            functors.insert(at, Vec::new());
             self.types.push(functors);
         }
+    }
+
+    fn only_constants(&self, ty: u16) -> bool {
+        ty != 0 && self.types[ty as usize - 1].iter().all(|f| f.is_empty())
+    }
+
+    fn has_regions(&self, ty: u16) -> bool {
+        ty != 0 && (self.slip == Some(Slip::AsBefore) || !self.only_constants(ty))
+    }
+
+    /// The types that have regions, in order: so lie the regions of a family.
+    fn regioned(&self) -> Vec<u16> {
+        (1..=self.types.len() as u16).filter(|&t| self.has_regions(t)).collect()
+    }
+
+    /// The region of a family's terms of a type, 0 where it has none.
+    fn home(&self, ty: u16, family: usize) -> u16 {
+        let regioned = self.regioned();
+        regioned.iter().position(|&t| t == ty).map_or(0, |k| (family * regioned.len() + k + 1) as u16)
     }
 
     fn signatures(&mut self) {
@@ -90,47 +133,70 @@ impl Generator<'_> {
 
     /// A variable with a value, of that type and family.
     fn valued(&mut self, known: &[u16], ty: u16, family: usize) -> Option<u16> {
+        let anywhere = !self.has_regions(ty);
         let own = &self.procedures[self.own].variables;
         let fit: Vec<u16> = known
             .iter()
             .copied()
             .filter(|&x| {
                 let v = &own[x as usize - 1];
-                v.ty == ty && (ty == 0 || v.family == family)
+                v.ty == ty && (anywhere || v.family == family)
             })
             .collect();
         (!fit.is_empty()).then(|| fit[self.random.below(fit.len())])
     }
 
-    /// Gives X a value by one goal.
-    fn give(&mut self, known: &[u16], x: u16) -> Node {
+    /// Gives X a value by a goal, behind those that give its arguments theirs.
+    fn give(&mut self, known: &[u16], x: u16, goals: &mut Vec<Node>) {
         let v = &self.procedures[self.own].variables[x as usize - 1];
         let (ty, family) = (v.ty, v.family);
-        if ty == 0 {
-            let two = (self.valued(known, 0, 0), self.valued(known, 0, 0));
-            return match (self.random.below(4), two) {
-                (0, (Some(y), Some(z))) => node(SUM, &[x, self.random.below(2) as u16, y, z]),
-                (1, (Some(y), _)) => node(ASSIGN, &[x, y]),
-                _ => node(LITERAL, &[x, [0, 1, 2, 65535, 32767, 32768][self.random.below(6)]]),
-            };
-        }
-        if self.random.once_in(5) {
-            if let Some(y) = self.valued(known, ty, family) {
-                return node(ASSIGN, &[x, y]);
+        let goal = if ty == 0 {
+            self.number(known, x)
+        } else {
+            match self.valued(known, ty, family) {
+                Some(y) if self.random.once_in(5) => node(ASSIGN, &[x, y]),
+                _ => self.term(known, x, ty, family, goals),
             }
+        };
+        goals.push(goal);
+    }
+
+    fn number(&mut self, known: &[u16], x: u16) -> Node {
+        let two = (self.valued(known, 0, 0), self.valued(known, 0, 0));
+        match (self.random.below(4), two) {
+            (0, (Some(y), Some(z))) => node(SUM, &[x, self.random.below(2) as u16, y, z]),
+            (1, (Some(y), _)) => node(ASSIGN, &[x, y]),
+            _ => node(LITERAL, &[x, [0, 1, 2, 65535, 32767, 32768][self.random.below(6)]]),
         }
+    }
+
+    /// A construct by any functor, or by a constant where arguments cannot be had.
+    fn term(&mut self, known: &[u16], x: u16, ty: u16, family: usize, goals: &mut Vec<Node>) -> Node {
         let functors = self.types[ty as usize - 1].clone();
         let f = self.random.below(functors.len());
-        let arguments: Option<Vec<u16>> = functors[f].iter().map(|&t| self.valued(known, t, family)).collect();
-        let (f, arguments) = arguments.map_or((0, Vec::new()), |a| (f, a));
+        let arguments: Option<Vec<u16>> = functors[f].iter().map(|&t| self.argument(known, t, family, goals)).collect();
+        let constant = functors.iter().position(|f| f.is_empty()).expect("every type has a constant");
+        let (f, arguments) = arguments.map_or((constant, Vec::new()), |a| (f, a));
         let mut words = vec![x, f as u16];
         words.extend(arguments);
         node(CONSTRUCT, &words)
     }
 
+    /// A variable with a value, of that type and family: one that has it, or a new one while there is room for more goals.
+    fn argument(&mut self, known: &[u16], ty: u16, family: usize, goals: &mut Vec<Node>) -> Option<u16> {
+        let old = self.valued(known, ty, family);
+        if self.budget == 0 || old.is_some() && !self.random.once_in(3) {
+            return old;
+        }
+        self.budget -= 1;
+        let x = self.new_variable(ty, family)?;
+        self.give(known, x, goals);
+        Some(x)
+    }
+
     fn goals(&mut self, known: &mut Vec<u16>, deep: usize) -> Vec<Node> {
         let mut goals = Vec::new();
-        for _ in 0..self.random.below(6) {
+        for _ in 0..self.random.below(6) + if deep == 0 { 2 } else { 0 } {
             if self.budget == 0 {
                 break;
             }
@@ -143,11 +209,11 @@ impl Generator<'_> {
                 _ => {
                     let families = self.procedures[self.own].families;
                     let v = self.variable(0, families);
-                    self.new_variable(v.ty, v.family).map(|x| {
-                        let goal = self.give(known, x);
+                    if let Some(x) = self.new_variable(v.ty, v.family) {
+                        self.give(known, x, &mut goals);
                         known.push(x);
-                        goal
-                    })
+                    }
+                    None
                 }
             };
             goals.extend(goal);
@@ -160,7 +226,7 @@ impl Generator<'_> {
         let mut inside = known.to_vec();
         let mut goals = self.goals(&mut inside, deep + 1);
         if let Some(x) = common {
-            goals.push(self.give(&inside, x));
+            self.give(&inside, x, &mut goals);
         }
         goals
     }
@@ -237,13 +303,28 @@ impl Generator<'_> {
         let outs = of_mode(&self.procedures[q], 2);
         let mut goals = self.goals(&mut known, 0);
         for x in outs {
-            goals.push(self.give(&known, x));
+            self.give(&known, x, &mut goals);
             known.push(x);
         }
         goals
     }
 
-    /// The regions of a procedure: family by family, one for each type, with classes that mostly fit.
+    /// The edges of a family's region of type t.
+    fn edges(&self, t: u16, family: usize) -> Vec<Node> {
+        let mut edges = Vec::new();
+        for (f, shape) in self.types[t as usize - 1].iter().enumerate() {
+            for (k, &a) in shape.iter().enumerate() {
+                let slip = self.slip == Some(Slip::Edges) && self.only_constants(a);
+                let target = self.home(if slip { t } else { a }, family);
+                if target != 0 {
+                    edges.push(node(7, &[f as u16, k as u16 + 1, target]));
+                }
+            }
+        }
+        edges
+    }
+
+    /// The regions of a procedure: family by family, one for each type that has any, with classes that mostly fit.
     fn regions(&mut self, q: usize) -> Vec<Node> {
         let n = self.types.len();
         let mut regions = Vec::new();
@@ -262,8 +343,8 @@ impl Generator<'_> {
             };
             let ins = reached(1, &self.procedures[q], &self.types);
             let outs = reached(2, &self.procedures[q], &self.types);
-            for t in 1..=n {
-                let mut class = match (ins[t], outs[t]) {
+            for t in self.regioned() {
+                let mut class = match (ins[t as usize], outs[t as usize]) {
                     (false, true) if !self.random.once_in(4) => 1,
                     (true, false) if !self.random.once_in(4) => 2,
                     _ => 0,
@@ -271,18 +352,19 @@ impl Generator<'_> {
                 if self.random.once_in(200) {
                     class = self.random.below(3) as u16;
                 }
-                let mut edges = Vec::new();
-                for (f, shape) in self.types[t - 1].iter().enumerate() {
-                    for (k, &a) in shape.iter().enumerate() {
-                        if a != 0 {
-                            edges.push(node(7, &[f as u16, k as u16 + 1, (family * n) as u16 + a]));
-                        }
-                    }
-                }
-                regions.push(Node(6, vec![Word::Number(t as u16), Word::Number(class), Word::Chain(edges)]));
+                let edges = self.edges(t, family);
+                regions.push(Node(6, vec![Word::Number(t), Word::Number(class), Word::Chain(edges)]));
             }
         }
+        if self.slip == Some(Slip::Region) {
+            regions.extend((1..=n as u16).find(|&t| self.only_constants(t)).map(|t| node(6, &[t, 0, 0])));
+        }
         regions
+    }
+
+    fn declared(&self, v: &Variable) -> Node {
+        let slip = self.slip == Some(Slip::Variable) && self.only_constants(v.ty);
+        node(5, &[v.mode, v.ty, if slip { 1 } else { self.home(v.ty, v.family) }])
     }
 
     fn program(&mut self) -> (Vec<Node>, Vec<Node>) {
@@ -292,12 +374,7 @@ impl Generator<'_> {
         let mut procedures = Vec::new();
         for (q, body) in bodies.into_iter().enumerate() {
             let regions = self.regions(q);
-            let n = self.types.len();
-            let variables = self.procedures[q]
-                .variables
-                .iter()
-                .map(|v| node(5, &[v.mode, v.ty, if v.ty == 0 { 0 } else { (v.family * n) as u16 + v.ty }]))
-                .collect();
+            let variables = self.procedures[q].variables.iter().map(|v| self.declared(v)).collect();
             procedures.push(Node(4, vec![Word::Chain(variables), Word::Chain(regions), Word::Chain(body)]));
         }
         let types = self
@@ -346,7 +423,8 @@ fn place(out: &mut Vec<[u16; 8]>, chain: Vec<Node>) -> u16 {
 
 /// A job file without creates and removes.
 pub fn job(random: &mut Random) -> Vec<u8> {
-    let mut g = Generator { random, types: Vec::new(), procedures: Vec::new(), own: 0, budget: 0 };
+    let slip = random.once_in(5).then(|| SLIPS[random.below(SLIPS.len())]);
+    let mut g = Generator { random, slip, types: Vec::new(), procedures: Vec::new(), own: 0, budget: 0 };
     let (types, procedures) = g.program();
     let mut out = vec![[1, 0, 0, 0, 0, 0, 0, 0]];
     out[0][2] = place(&mut out, types);

@@ -36,7 +36,7 @@ impl fmt::Display for Refusal {
         let cause = match self {
             Refusal::Header => "the length or the header is wrong",
             Refusal::Form => "a reference, a kind or an unused word is wrong",
-            Refusal::Typing => "a number out of range, a wrong type, count or order",
+            Refusal::Typing => "a number out of range, a wrong type, count or order, or a region of a type of constants only",
             Refusal::Values => "a variable read before it has a value, or given one twice",
             Refusal::Regions => "regions that do not fit at an assign, construct, arm or call",
             Refusal::Annotated => "the job has creates or removes already",

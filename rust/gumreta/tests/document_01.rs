@@ -1,34 +1,68 @@
-//! Document 01's hand-sized files through the safe functions, with what stands in lent memory afterwards.
+//! Document 01's hand-sized files, as C-14 leaves them, through the safe functions, with what stands in lent memory afterwards.
 use gumreta::{annotate, check, run, Ending, Lent, Refusal, Stop};
 
 fn file(rows: &[&[u16]]) -> Vec<u8> {
     rows.iter().flat_map(|r| (0..8).flat_map(|k| r.get(k).copied().unwrap_or(0).to_le_bytes())).collect()
 }
 
-fn u() -> Vec<u8> {
-    file(&[&[1, 3, 1, 7], &[2, 0, 2], &[3], &[4, 0, 4, 5, 6], &[5, 0, 0, 1, 1], &[6, 0, 1], &[11, 0, 1, 0]])
-}
+/// A constant, whose type has no region: nothing is to insert.
+const U: [&[u16]; 6] = [&[1, 3, 1, 6], &[2, 0, 2], &[3], &[4, 0, 4, 0, 5], &[5, 0, 0, 1], &[11, 0, 1, 0]];
 
-const A: [&[u16]; 9] =
+/// Document 01's A, which gives the constant's type a region.
+const OLD_A: [&[u16]; 9] =
     [&[1, 3, 1, 9], &[2, 0, 2], &[3], &[4, 0, 4, 5, 6], &[5, 0, 0, 1, 1], &[6, 0, 1], &[18, 7, 1], &[11, 8, 1, 0], &[19, 0, 1]];
+
+/// One cell, before the annotator and after it.
+const PLAIN: [&[u16]; 9] = [
+    &[1, 3, 1, 9],
+    &[2, 0, 2],
+    &[3, 0, 1],
+    &[4, 0, 4, 6, 7],
+    &[5, 5],
+    &[5, 0, 0, 1, 1],
+    &[6, 0, 1],
+    &[8, 8, 1, 7],
+    &[11, 0, 2, 0, 1],
+];
+
+const ANNOTATED: [&[u16]; 11] = [
+    &[1, 3, 1, 11],
+    &[2, 0, 2],
+    &[3, 0, 1],
+    &[4, 0, 4, 6, 7],
+    &[5, 5],
+    &[5, 0, 0, 1, 1],
+    &[6, 0, 1],
+    &[8, 8, 1, 7],
+    &[18, 9, 1],
+    &[11, 10, 2, 0, 1],
+    &[19, 0, 1],
+];
 
 #[test]
 fn annotated() {
-    let mut out = [7; 150];
-    assert_eq!(annotate(&u(), &mut out[..144]), Ok(&mut file(&A)[..]));
-    assert_eq!(out[144..], [7; 6]);
-    let mut out = [7; 143];
-    assert_eq!(annotate(&u(), &mut out), Err(Refusal::Room));
-    assert_eq!(annotate(&file(&A), &mut out), Err(Refusal::Annotated));
+    let mut out = [7; 182];
+    assert_eq!(annotate(&file(&PLAIN), &mut out[..176]), Ok(&mut file(&ANNOTATED)[..]));
+    assert_eq!(out[176..], [7; 6]);
+    let mut out = [7; 102];
+    assert_eq!(annotate(&file(&U), &mut out[..96]), Ok(&mut file(&U)[..]));
+    assert_eq!(out[96..], [7; 6]);
+    let mut out = [7; 175];
+    assert_eq!(annotate(&file(&PLAIN), &mut out), Err(Refusal::Room));
+    assert_eq!(annotate(&file(&U), &mut out[..95]), Err(Refusal::Room));
+    assert_eq!(annotate(&file(&ANNOTATED), &mut out), Err(Refusal::Annotated));
+    assert_eq!(annotate(&file(&OLD_A), &mut out), Err(Refusal::Typing));
     assert_eq!(annotate(&[], &mut out), Err(Refusal::Header));
-    assert_eq!(annotate(&u(), &mut []), Err(Refusal::Room));
-    assert_eq!(out, [7; 143]);
+    assert_eq!(annotate(&file(&U), &mut []), Err(Refusal::Room));
+    assert_eq!(out, [7; 175]);
 }
 
 #[test]
 fn checked() {
-    assert_eq!(check(&file(&A)), Ok(()));
-    assert_eq!(check(&u()), Err(Refusal::Rules));
+    assert_eq!(check(&file(&U)), Ok(()));
+    assert_eq!(check(&file(&ANNOTATED)), Ok(()));
+    assert_eq!(check(&file(&PLAIN)), Err(Refusal::Rules));
+    assert_eq!(check(&file(&OLD_A)), Err(Refusal::Typing));
     assert_eq!(check(&[]), Err(Refusal::Header));
     assert_eq!(Refusal::Rules.number(), 8);
 }
@@ -45,10 +79,16 @@ fn ran(file: &[u8], cells: usize, frames: usize, steps: usize) -> Result<(Ending
 
 #[test]
 fn runs() {
-    let a = file(&A);
-    assert_eq!(ran(&a, 8, 136, 3), Ok((Ending::Finished, 3)));
-    assert_eq!(ran(&a, 8, 136, 2), Ok((Ending::Stopped(Stop::Steps), 2)));
-    assert_eq!(ran(&a, 0, 136, 3), Ok((Ending::Stopped(Stop::Cells), 1)));
-    assert_eq!(ran(&a, 8, 0, 0), Ok((Ending::Stopped(Stop::Frames), 0)));
-    assert_eq!(ran(&u(), 8, 136, 3), Err(Refusal::Rules));
+    let u = file(&U);
+    assert_eq!(ran(&u, 8, 136, 1), Ok((Ending::Finished, 1)));
+    assert_eq!(ran(&u, 8, 136, 0), Ok((Ending::Stopped(Stop::Steps), 0)));
+    assert_eq!(ran(&u, 0, 136, 1), Ok((Ending::Finished, 1)));
+    assert_eq!(ran(&u, 8, 0, 0), Ok((Ending::Stopped(Stop::Frames), 0)));
+    let cell = file(&ANNOTATED);
+    assert_eq!(ran(&cell, 8, 136, 4), Ok((Ending::Finished, 4)));
+    assert_eq!(ran(&cell, 8, 136, 3), Ok((Ending::Stopped(Stop::Steps), 3)));
+    assert_eq!(ran(&cell, 0, 136, 4), Ok((Ending::Stopped(Stop::Cells), 2)));
+    assert_eq!(ran(&cell, 8, 0, 0), Ok((Ending::Stopped(Stop::Frames), 0)));
+    assert_eq!(ran(&file(&PLAIN), 8, 136, 3), Err(Refusal::Rules));
+    assert_eq!(ran(&file(&OLD_A), 8, 136, 3), Err(Refusal::Typing));
 }

@@ -64,6 +64,16 @@ pub struct Program {
 }
 
 impl Program {
+    /// The functors of a type, none of type 0.
+    pub fn functors(&self, ty: usize) -> &[Functor] {
+        ty.checked_sub(1).and_then(|t| self.types.get(t)).map_or(&[], |t| t)
+    }
+
+    /// C-14: "A type all of whose functors have arity 0 has no regions", as type 0 has none.
+    pub fn has_regions(&self, ty: usize) -> bool {
+        self.functors(ty).iter().any(|f| f.arity > 0)
+    }
+
     pub fn is_annotated(&self) -> bool {
         fn any(goals: &[Goal]) -> bool {
             goals.iter().any(|g| match g {
@@ -87,7 +97,7 @@ impl Procedure {
         self.variables[x - 1].mode
     }
 
-    /// The region of variable x, 0 for a number.
+    /// The region of variable x, 0 for one of a type without regions.
     pub fn home(&self, x: usize) -> usize {
         self.variables[x - 1].region
     }

@@ -77,6 +77,8 @@ impl Run {
 enum Value {
     Number(i32),
     Cell(usize),
+    /// C-14: a functor of arity 0, "in the word itself".
+    Constant(usize),
 }
 
 struct Cell {
@@ -160,7 +162,7 @@ impl<'a> Machine<'a> {
     /// What the next step lacks.
     fn lacks(&self, goal: &Goal, lent: &Lent) -> Option<u8> {
         match goal {
-            Goal::Construct(..) if self.cells_held >= holds(lent.cells, 8) => Some(11),
+            Goal::Construct(_, _, a) if !arguments(a).is_empty() && self.cells_held >= holds(lent.cells, 8) => Some(11),
             Goal::Create(_) if self.regions_held >= holds(lent.regions, 2) => Some(12),
             Goal::Call(..) if self.frames.len() >= holds(lent.frames, 136) => Some(13),
             Goal::Print(_) if self.printed.len() >= holds(lent.prints, 1) => Some(14),
@@ -171,7 +173,7 @@ impl<'a> Machine<'a> {
     fn number(&self, x: usize) -> i32 {
         match self.frames.last().unwrap().values[x] {
             Value::Number(n) => n,
-            Value::Cell(_) => unreachable!("number 3 has passed"),
+            Value::Cell(_) | Value::Constant(_) => unreachable!("number 3 has passed"),
         }
     }
 
@@ -185,6 +187,7 @@ impl<'a> Machine<'a> {
                 self.frames[top].values[*x] = Value::Number(n);
             }
             Goal::Assign(x, y) => self.frames[top].values[*x] = self.frames[top].values[*y],
+            Goal::Construct(x, f, a) if arguments(a).is_empty() => self.frames[top].values[*x] = Value::Constant(*f),
             Goal::Construct(x, f, a) => {
                 let frame = &mut self.frames[top];
                 let region = frame.regions[self.program.procedures[frame.procedure].home(*x)];
@@ -195,13 +198,19 @@ impl<'a> Machine<'a> {
                 self.cells_held += 1;
             }
             Goal::Switch(x, arms) => {
-                let Value::Cell(c) = self.frames[top].values[*x] else { unreachable!("number 3 has passed") };
-                let cell = &self.cells[c];
-                assert!(self.alive[cell.region].is_some(), "reads in a living region");
-                let arm: &Arm = &arms[cell.functor];
-                for (&y, &v) in arguments(&arm.arguments).iter().zip(&cell.values) {
-                    self.frames[top].values[y] = v;
-                }
+                let arm: &Arm = match self.frames[top].values[*x] {
+                    Value::Number(_) => unreachable!("number 3 has passed"),
+                    Value::Constant(f) => &arms[f],
+                    Value::Cell(c) => {
+                        let cell = &self.cells[c];
+                        assert!(self.alive[cell.region].is_some(), "reads in a living region");
+                        let arm = &arms[cell.functor];
+                        for (&y, &v) in arguments(&arm.arguments).iter().zip(&cell.values) {
+                            self.frames[top].values[y] = v;
+                        }
+                        arm
+                    }
+                };
                 self.frames[top].goals.push(&arm.goals);
             }
             Goal::If(y, z, a, b) => {

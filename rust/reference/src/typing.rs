@@ -28,13 +28,6 @@ impl Scope<'_> {
         self.is_region(r) && self.procedure.regions[r - 1].ty == ty
     }
 
-    fn functors(&self, ty: usize) -> &[Functor] {
-        if ty == 0 || ty > self.program.types.len() {
-            return &[];
-        }
-        &self.program.types[ty - 1]
-    }
-
     fn arguments_ok(&self, f: &Functor, words: &[usize; 4]) -> bool {
         words.iter().enumerate().all(|(k, &a)| if k < f.arity { self.has_type(f.types[k], a) } else { a == 0 })
     }
@@ -49,13 +42,13 @@ impl Scope<'_> {
             Goal::Sum(x, o, y, z) => *o <= 1 && [x, y, z].iter().all(|&&v| self.has_type(0, v)),
             Goal::Assign(x, y) => self.is_variable(*x) && self.has_type(self.ty(*x), *y),
             Goal::Construct(x, f, a) => {
-                self.is_variable(*x) && self.functors(self.ty(*x)).get(*f).is_some_and(|f| self.arguments_ok(f, a))
+                self.is_variable(*x) && self.program.functors(self.ty(*x)).get(*f).is_some_and(|f| self.arguments_ok(f, a))
             }
             Goal::Switch(x, arms) => {
                 if !self.is_variable(*x) || self.ty(*x) == 0 {
                     return false;
                 }
-                let functors = self.functors(self.ty(*x));
+                let functors = self.program.functors(self.ty(*x));
                 arms.len() == functors.len()
                     && arms
                         .iter()
@@ -81,19 +74,20 @@ impl Scope<'_> {
         p.variables.len() <= 64
             && p.regions.len() <= 64
             && p.variables.iter().all(|v| {
-                v.mode <= 2 && v.ty <= types && if v.ty == 0 { v.region == 0 } else { self.is_region_of(v.ty, v.region) }
+                v.mode <= 2
+                    && v.ty <= types
+                    && if self.program.has_regions(v.ty) { self.is_region_of(v.ty, v.region) } else { v.region == 0 }
             })
             && p.regions.iter().all(|r| {
                 let mut places = Vec::new();
-                for (f, functor) in self.functors(r.ty).iter().enumerate() {
+                for (f, functor) in self.program.functors(r.ty).iter().enumerate() {
                     for k in 0..functor.arity.min(4) {
-                        if functor.types[k] != 0 {
+                        if self.program.has_regions(functor.types[k]) {
                             places.push((f, k + 1, functor.types[k]));
                         }
                     }
                 }
-                r.ty >= 1
-                    && r.ty <= types
+                self.program.has_regions(r.ty)
                     && r.class <= 2
                     && places.len() == r.edges.len()
                     && places

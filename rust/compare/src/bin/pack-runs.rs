@@ -1,10 +1,18 @@
 //! Packs runs in lent memory of many sizes, with the lines that each must print, for the program `lent_runs`: pack-runs TABLE.tsv PACK STDOUT
 //!
-//! TABLE has a file a line, as tools/pack-jobs takes it. Of sixty accepted files of up to 64 records that run to their end in 4 to 5,000 steps: cells, regions,
-//! frames, printed numbers and steps lent in turn as 0, one word, one too few, just enough and more, the others just enough. A pack is files one behind the
-//! other: the length of the name in one byte, the name, the length of the file in three, the file, how many runs in one byte, and for each the words lent
-//! for cells, regions, frames and printed numbers and the steps, in three bytes each; low bytes first.
+//! TABLE has a file a line, as tools/pack-jobs takes it. Of the accepted files of up to 64 records that run to their end in 4 to 5,000 steps, within what
+//! `lent_runs` has, up to sixty that hold cells and twenty that hold none: cells, regions, frames, printed numbers and steps lent in turn as 0, one word,
+//! one too few, just enough and more, the others just enough. A pack is files one behind the other: the length of the name in one byte, the name, the
+//! length of the file in three, the file, how many runs in one byte, and for each the words lent for cells, regions, frames and printed numbers and the
+//! steps, in three bytes each; low bytes first.
 use reference::{run, Ending, Lent};
+
+/// As many words as `lent_runs` lends at most.
+const MOST: Lent = Lent { cells: 160, regions: 16, frames: 1000, prints: 16, steps: 5000 };
+
+fn fits(lent: &Lent) -> bool {
+    lent.cells <= MOST.cells && lent.regions <= MOST.regions && lent.frames <= MOST.frames && lent.prints <= MOST.prints
+}
 
 fn bytes(hex: &str) -> Vec<u8> {
     (0..hex.len() / 2).map(|k| u8::from_str_radix(&hex[2 * k..2 * k + 2], 16).unwrap()).collect()
@@ -14,7 +22,7 @@ fn bytes(hex: &str) -> Vec<u8> {
 fn enough(file: &[u8]) -> Option<Lent> {
     let done = run(file, &Lent::program());
     let most = done.most;
-    (done.ending == Ending::Finished && done.steps <= 5000).then_some(Lent {
+    (done.ending == Ending::Finished && (4..=MOST.steps).contains(&done.steps)).then_some(Lent {
         cells: 8 * most.cells,
         regions: 2 * most.regions,
         frames: 136 * most.frames,
@@ -66,23 +74,26 @@ fn main() {
     let [_, table, pack, stdout] = &words[..] else { panic!("pack-runs TABLE.tsv PACK STDOUT") };
     let mut data = Vec::new();
     let mut lines = String::new();
-    let mut files = 0;
-    let mut runs = 0;
+    let (mut with_cells, mut without, mut runs) = (0, 0, 0);
     for line in std::fs::read_to_string(table).unwrap().lines() {
         let [name, hex, _, answer, _] = line.split('\t').collect::<Vec<_>>()[..] else { panic!("{line}") };
         let file = bytes(hex);
-        if answer != "accepted" || file.len() > 64 * 16 || files == 60 {
+        if answer != "accepted" || file.len() > 64 * 16 {
             continue;
         }
-        let Some(lent) = enough(&file).filter(|lent| lent.steps >= 4) else { continue };
+        let Some(lent) = enough(&file) else { continue };
         let cases = cases(&lent);
+        let (count, most) = if lent.cells > 0 { (&mut with_cells, 60) } else { (&mut without, 20) };
+        if *count == most || !cases.iter().all(fits) {
+            continue;
+        }
+        *count += 1;
         data.extend(packed(name, &file, &cases));
         lines += &format!("{name}\n");
         lines.extend(cases.iter().map(|lent| run(&file, lent).lines()));
-        files += 1;
         runs += cases.len();
     }
-    println!("{files} files, {runs} runs, {} bytes", data.len());
+    println!("{with_cells} files with cells, {without} without, {runs} runs, {} bytes", data.len());
     std::fs::write(pack, data).unwrap();
     std::fs::write(stdout, lines).unwrap();
 }
