@@ -1,17 +1,18 @@
 -- Demand 3 about the runner's code. `run` promises `RanAs`: from that promise and the theorem about the definitions, what holds of every accepted file's run in
--- whatever memory and with whatever number of steps lent. With memory for all that it makes, nothing but its end or the steps lent stops it.
+-- whatever memory and with whatever number of steps lent. With memory for all that it makes, nothing but its end, the steps lent or a sum out of range stops it.
 use Prim.Native.Nat.{ℕ, _-_, _≤_}
-use mathlib.Core.Bool.{false}
+use mathlib.Core.Bool.{true, false}
 use mathlib.Core.List.{List, [], map}
 use mathlib.Core.Path.{_≡_, sym, _∙_}
 use lib.ListN.{take}
 use mir.Syntax.{w32}
 use mir.Val.{toZ}
 use Rattle.language.specs.declared.Verdict.the-variants.{Accepted}
-use Rattle.language.specs.declared.Stop.the-variants.{Steps}
+use Rattle.language.specs.declared.Stop.the-variants.{Steps, Sums}
 use Rattle.language.specs.declared.Ending.the-variants.{Finished, Stopped}
+use Rattle.language.specs.Frames.{staysAtSum}
 use Rattle.language.specs.PlainRun.{stripped, plainSteps}
-use Rattle.language.specs.AcceptedRun.{steps}
+use Rattle.language.specs.AcceptedRun.{frameOf, steps}
 use Rattle.language.specs.Answers.{program, checked}
 use Rattle.lockstep.specs.Counted.{spent}
 use Rattle.soundness.specs.Lent.{lent-run}
@@ -31,6 +32,9 @@ pub record AsPlain (f : List ℕ) (l : ℕ) (r : Outcome) (px : List ℕ) : Type
   -- steps spent: all that were lent, and the run has not ended
   pub all : r .ending ≡ Stopped Steps → r .steps ≡ l
   pub still : r .ending ≡ Stopped Steps → steps (program f) l .frames ≡ [] → ⊥
+  -- stopped with 15: both runs stay there at a sum out of range
+  pub atSum : r .ending ≡ Stopped Sums → staysAtSum (map frameOf (steps (program f) (r .steps) .frames)) ≡ true
+  pub plainAtSum : r .ending ≡ Stopped Sums → staysAtSum (plainSteps (stripped (program f)) (r .steps - spent (program f) (r .steps)) .frames) ≡ true
 
 pub as-plain : {f m rs fw ps px : List ℕ} {l : ℕ} {r : Outcome} → RanAs f m rs fw ps l r px → checked f ≡ Accepted → AsPlain f l r px
 unfolding lentWords
@@ -44,4 +48,6 @@ as-plain {f} {m} {rs} {fw} {ps} {px} {l} {r} R a =
       clean = λ e. rw (R .steps) (L .clean (sym (R .ending) ∙ e));
       all = λ e. R .steps ∙ L .all (sym (R .ending) ∙ e);
       still = λ e. L .still (sym (R .ending) ∙ e);
+      atSum = λ e. rw (R .steps) (L .atSum (sym (R .ending) ∙ e));
+      plainAtSum = λ e. rw (R .steps) (L .plainAtSum (sym (R .ending) ∙ e));
     }

@@ -1,20 +1,26 @@
 -- What the functions come to on each way through them.
-use Prim.Native.Nat.{ℕ, zero, suc, _+_, _-_, _%_, _^_, _≤_, _<_}
+use Prim.Native.Nat.{ℕ, zero, suc, _+_, _-_, _^_, _≤_, _<_}
 use native.Mathlib.Omega.{arith}
+use native.Mathlib.Decide.{decLt}
 use native.Mathlib.Nat.{zero-add}
 use native.Mathlib.Numerals.{add-one}
 use mathlib.Core.Path.{_≡_, refl, sym, ap, _∙_}
 use mathlib.Core.List.{List}
-use borrow.Author.Tests.{lt-ltb, le-ltb}
-use lib.IntN.{ℤ, pos, negsuc, _-ℤ_}
+use mathlib.Core.Bool.{true, false, false≢true}
+use borrow.Author.Tests.{leb-true, lt-ltb, le-ltb, le-leb}
+use lib.Dec.{T}
+use lib.IntN.{ℤ, pos, negsuc, natAbs, negℤ, subℕ, _+ℤ_, _-ℤ_}
+use lib.Signed.{mag, nonNeg, leZ}
 use lib.ListN.{set}
-use mir.Syntax.{Width, w32}
-use mir.Val.{SFits, bits, hbits, toZ, ofZ}
-use mir.Facts.{toZ-neg}
+use mir.Syntax.{Width, w32, w64}
+use mir.Val.{Fits, SFits, bits, hbits, toZ, ofZ}
+use mir.Facts.{toZ-pos, toZ-neg, toZ-ofZ, sfits-toZ, sfits-widen}
+use Rattle.sets.specs.Tests.{_&_, clash, and-true}
 use Rattle.language.specs.Lists.{choose}
 use Rattle.language.specs.Format.{maxVariables}
-use Rattle.word_machine.specs.Machine.{sumWord, cleared, blocks}
-use Rattle.word_machine.specs.WordLaws.{toZ-high, add-words, subtract-words}
+use Rattle.language.specs.Numbers.{residue, sumNumber, inRange}
+use Rattle.word_machine.specs.Machine.{sumOf, cleared, blocks}
+use Rattle.word_machine.specs.WordLaws.{toZ-high}
 
 -- ---- words that are cleared
 pub cleared-two : (p : ℕ) (t u v : List ℕ) → u ≡ set t p 0 → v ≡ set u (p + 1) 0 → v ≡ cleared p 2 t
@@ -57,10 +63,79 @@ pub complement : (w : Width) (n k : ℕ) (v : ℤ) → k < 2 ^ 31 → v ≡ pos 
     → SFits w32 (negsuc 0 -ℤ v) × (toZ w32 (ofZ w32 (negsuc 0 -ℤ v)) ≡ toZ w n)
 complement w n k v h e d up = rw (e, minus-pos k) (record { sfits = h }, toZ-neg w32 k h ∙ ap negsuc d ∙ sym (toZ-high w n up))
 
--- ---- sums and differences
-pub sum-added : (o a b r : ℕ) → o ≡ 0 → a < 2 ^ 32 → b < 2 ^ 32 → r ≡ (a + b) % 2 ^ 32 → r ≡ sumWord o a b
-sum-added o a b r z ha hb e = rw z (e ∙ sym (add-words a b ha hb))
+-- ---- sums and differences of 32-bit numbers, in 64 bits
+difference-fits : (a b : ℕ) → a ≤ 2 ^ 32 → b ≤ 2 ^ 32 → SFits w64 (subℕ a b)
+difference-fits a b ha hb = go (decLt a b)
+  where
+    go : Dec (a < b) → SFits w64 (subℕ a b)
+    go (yes l) = simp (lt-ltb a b l) (record { sfits = omega arith })
+    go (no l) = simp (le-ltb a b (omega arith)) (record { sfits = omega arith })
 
-pub sum-subtracted : (o a b r : ℕ) → (o ≡ 0 → ⊥) → a < 2 ^ 32 → b < 2 ^ 32 → r < 2 ^ 32 → (r + b) % 2 ^ 32 ≡ a → r ≡ sumWord o a b
-sum-subtracted zero a b r z ha hb hr e = absurd (z refl)
-sum-subtracted (suc o) a b r z ha hb hr e = sym (subtract-words o a b r ha hb hr e)
+sum-fits : (y z : ℤ) → mag y ≤ 2 ^ 31 → mag z ≤ 2 ^ 31 → SFits w64 (y +ℤ z)
+sum-fits (pos a) (pos b) ha hb = record { sfits = omega arith }
+sum-fits (pos a) (negsuc b) ha hb = difference-fits a (suc b) (omega arith) (omega arith)
+sum-fits (negsuc a) (pos b) ha hb = difference-fits b (suc a) (omega arith) (omega arith)
+sum-fits (negsuc a) (negsuc b) ha hb = record { sfits = omega arith }
+
+negative-fits : (z : ℤ) → mag z < 2 ^ 31 → mag (negℤ z) ≤ 2 ^ 31
+negative-fits (pos zero) h = omega arith
+negative-fits (pos (suc n)) h = omega arith
+negative-fits (negsuc n) h = h
+
+-- a word's number as 64 bits have it
+abbrev wide : ℤ → ℤ
+wide r = toZ w64 (ofZ w64 (toZ w32 (ofZ w32 r)))
+
+pub widens : (a : ℕ) (r : ℤ) → Fits w32 a → r ≡ toZ w32 a → SFits w64 (toZ w32 (ofZ w32 r)) × (wide r ≡ toZ w32 a)
+widens a r h e =
+    let s : SFits w64 (toZ w32 a) = sfits-widen tt (sfits-toZ h) in
+    rw (e, toZ-ofZ (sfits-toZ h)) (s, toZ-ofZ s)
+
+module _ (o a b : ℕ) (r s : ℤ) (ha : Fits w32 a) (hb : Fits w32 b) (er : r ≡ toZ w32 a) (es : s ≡ toZ w32 b) where
+  pub sum-added : o ≡ 0 → SFits w64 (wide r +ℤ wide s) × (toZ w64 (ofZ w64 (wide r +ℤ wide s)) ≡ sumOf o a b)
+  unfolding sumOf sumNumber
+  sum-added e =
+      let h : SFits w64 (toZ w32 a +ℤ toZ w32 b) = sum-fits (toZ w32 a) (toZ w32 b) (omega (arith, sfits-toZ ha .sfits)) (omega (arith, sfits-toZ hb .sfits)) in
+      rw (e, widens a r ha er .1, widens b s hb es .1) (h, toZ-ofZ h)
+
+  pub sum-subtracted : (o ≡ 0 → ⊥) → SFits w64 (wide r -ℤ wide s) × (toZ w64 (ofZ w64 (wide r -ℤ wide s)) ≡ sumOf o a b)
+  unfolding sumOf sumNumber
+  sum-subtracted n = go o n
+    where
+      h : SFits w64 (toZ w32 a -ℤ toZ w32 b)
+      h = sum-fits (toZ w32 a) (negℤ (toZ w32 b)) (omega (arith, sfits-toZ ha .sfits)) (negative-fits (toZ w32 b) (sfits-toZ hb .sfits))
+
+      go : (o : ℕ) → (o ≡ 0 → ⊥) → SFits w64 (wide r -ℤ wide s) × (toZ w64 (ofZ w64 (wide r -ℤ wide s)) ≡ sumOf o a b)
+      go zero n = absurd (n refl)
+      go (suc o) n = rw (widens a r ha er .1, widens b s hb es .1) (h, toZ-ofZ h)
+
+-- ---- numbers in range, and their words; v is the number z as it is read back from 64 bits
+module _ (z v : ℤ) (e : v ≡ z) where
+  pub below-range : leZ (negsuc 2147483647) v ≡ false → leZ (negsuc 2147483647) v ≡ inRange z
+  unfolding inRange _&_
+  below-range h = rw (← e, h)
+
+  pub above-least : leZ (negsuc 2147483647) v ≡ true → leZ v (pos 2147483647) ≡ inRange z
+  unfolding inRange _&_
+  above-least h = rw (← e, h)
+
+range-fits : (z : ℤ) → inRange z ≡ true → mag z < 2 ^ 31
+unfolding inRange
+range-fits (pos n) h = omega (arith, leb-true n 2147483647 (and-true h .1))
+range-fits (negsuc n) h = omega (arith, leb-true n 2147483647 (and-true h .0))
+
+pub high-word : (z v : ℤ) → v ≡ z → inRange z ≡ true → leZ (pos 0) v ≡ true → (T (nonNeg v) × Fits w32 (natAbs v)) × (natAbs v ≡ residue z)
+unfolding residue
+high-word (pos n) v e h t =
+    let l = range-fits (pos n) h in
+    rw e ((tt, record { fits = omega arith }), omega arith)
+high-word (negsuc n) v e h t = absurd (false≢true (ap (leZ (pos 0)) (sym e) ∙ t))
+
+pub low-word : (z v : ℤ) → v ≡ z → inRange z ≡ true → leZ (pos 0) v ≡ false → SFits w64 (v +ℤ pos 4294967296)
+    × ((T (nonNeg (toZ w64 (ofZ w64 (v +ℤ pos 4294967296)))) × Fits w32 (natAbs (toZ w64 (ofZ w64 (v +ℤ pos 4294967296)))))
+    × (natAbs (toZ w64 (ofZ w64 (v +ℤ pos 4294967296))) ≡ residue z))
+unfolding residue
+low-word (pos n) v e h t = absurd (clash (le-leb 0 n (omega arith)) (ap (leZ (pos 0)) (sym e) ∙ t))
+low-word (negsuc n) v e h t =
+    let l = range-fits (negsuc n) h in
+    rw (e, le-ltb 4294967296 (suc n) (omega arith), toZ-pos w64 {n = 4294967296 - suc n} (omega arith)) (record { sfits = omega arith }, ((tt, record { fits = omega arith }), omega arith))

@@ -1,11 +1,12 @@
 // Whole numbers of 32 bits, signed, kept as words.
 ghost use mathlib.Core.Path.{_≡_};
+ghost use mathlib.Core.Bool.{true};
 ghost use Prim.Native.Nat.{_<_};
 ghost use mir.Syntax.{w32};
 ghost use mir.Val.{toZ};
-ghost use Rattle.language.specs.Numbers.{less};
+ghost use Rattle.language.specs.Numbers.{residue, inRange, less};
 ghost use Rattle.records.specs.Sizes.{wordEnd};
-ghost use Rattle.word_machine.specs.Machine.{literalWord, sumWord};
+ghost use Rattle.word_machine.specs.Machine.{literalWord, sumOf};
 
 // A literal from the half on is negative, and its word has all bits of the high half.
 const LITERAL_HALF: u32 = 32768;
@@ -17,6 +18,14 @@ const NEGATIVE_FROM: u32 = 2147483648;
 
 const LAST_WORD: u32 = 4294967295;
 
+// "−2,147,483,648 to 2,147,483,647".
+const LEAST: i64 = -2147483648;
+
+const GREATEST: i64 = 2147483647;
+
+// How many words there are.
+const WORDS: i64 = 4294967296;
+
 // "A literal's 16 bits are read as two's complement."
 pub fn literal_word(v: u32) -> u32
     requires { ⌜ v < wordEnd ⌝ }
@@ -25,14 +34,31 @@ pub fn literal_word(v: u32) -> u32
     if v < LITERAL_HALF { v } else { v + HIGH_HALF }
 }
 
-// "Sums and differences wrap modulo 2^32."
-pub fn sum_word(operation: usize, a: u32, b: u32) -> u32
-    ensures { λ r. ⌜ r ≡ sumWord operation a b ⌝ }
+// The sum or difference of two words' numbers, in full.
+pub fn sum_of(operation: usize, a: u32, b: u32) -> i64
+    ensures { λ r. ⌜ r ≡ sumOf operation a b ⌝ }
 {
-    if operation == 0 {
-        std::num::wrapping_add_u32(a, b)
+    let y = signed(a) as i64;
+    let z = signed(b) as i64;
+    if operation == 0 { y + z } else { y - z }
+}
+
+// "A sum or difference outside .. now stops the run": whether it is not outside.
+pub fn in_range(sum: i64) -> bool
+    ensures { λ r. ⌜ r ≡ inRange sum ⌝ }
+{
+    LEAST <= sum && sum <= GREATEST
+}
+
+// The word of a number in range.
+pub fn word_of(sum: i64) -> u32
+    requires { ⌜ inRange sum ≡ true ⌝ }
+    ensures { λ r. ⌜ r ≡ residue sum ⌝ }
+{
+    if 0 <= sum {
+        sum as u32
     } else {
-        std::num::wrapping_sub_u32(a, b)
+        (sum + WORDS) as u32
     }
 }
 

@@ -10,7 +10,7 @@ use Rattle.language.specs.declared.Refusal.{Refusal}
 use Rattle.language.specs.declared.Verdict.{Verdict}
 use Rattle.language.specs.declared.Verdict.the-variants.{Refused as NotAccepted}
 use Rattle.language.specs.declared.Ending.{Ending}
-use Rattle.language.specs.declared.Ending.the-variants.{Refused as NotRun, Finished}
+use Rattle.language.specs.declared.Ending.the-variants.{Refused as NotRun}
 use Rattle.language.specs.Lists.{frontWritten}
 use Rattle.language.specs.Machine.{Lent, Run, runnerLent}
 use Rattle.language.specs.Answers.{AnnotatorAnswer, refuses, writes, annotated, annotatorBytes, annotatorMemory, checked, ran}
@@ -24,7 +24,6 @@ use Rattle.machine.specs.declared.Outcome.{Outcome}
 use Rattle.machine.specs.Joining.{RanAs}
 use Rattle.running.specs.Answer.{Kept}
 use Rattle.hand_sized.specs.declared.Answers.{Answers}
-use Rattle.hand_sized.specs.Wraps.{ends}
 
 -- ---- the annotator: f is the file g
 module _ (f before : List ℕ) {after : List ℕ} {r : Annotated} {g : List ℕ} (h : Annotates (annotated f (length before)) before after r) (e : f ≡ g) where
@@ -43,7 +42,7 @@ module _ (f before : List ℕ) {after : List ℕ} {r : Annotated} {g : List ℕ}
   refused n t l = answered n t l
 
 -- ---- the runner
-abbrev outcome : Ending → ℕ → ℕ → Outcome
+abbrev pub outcome : Ending → ℕ → ℕ → Outcome
 outcome e n k = record { ending = e; steps = n; printed = k }
 
 -- an outcome with nothing printed
@@ -73,12 +72,13 @@ module _ {f m rs fw ps px : List ℕ} {l : ℕ} {r : Outcome} {g : List ℕ} (h 
       let z : r .printed ≡ 0 = sym (a .2 .count) in
       (same-outcome (a .0) (a .1) z, rw z at (a .2 .behind))
 
-  pub printed-two : {n : ℕ} (L : Lent) → ran g L ≡ record { ending = Finished; steps = n; printed = ends } → lentWords m rs fw ps l ≡ L
-      → ((r .ending ≡ Finished) × (r .printed ≡ 2)) × ((map (toZ w32) (take 2 px) ≡ ends) × (drop 2 px ≡ drop 2 ps))
-  printed-two L t k =
-      let a = as-ran L t k in
-      let z : r .printed ≡ 2 = sym (a .2 .count) in
-      ((a .0, z), (rw z at (a .2 .front), rw z at (a .2 .behind)))
+  -- with k numbers printed
+  pub printing : {R : Run} (k : ℕ) (L : Lent) → ran g L ≡ R → length (R .printed) ≡ k → lentWords m rs fw ps l ≡ L
+      → (r ≡ outcome (R .ending) (R .steps) k) × ((map (toZ w32) (take k px) ≡ R .printed) × (drop k px ≡ drop k ps))
+  printing k L t n w =
+      let a = as-ran L t w in
+      let z : r .printed ≡ k = sym (a .2 .count) ∙ n in
+      (same-outcome (a .0) (a .1) z, (rw z at (a .2 .front), rw z at (a .2 .behind)))
 
 -- ---- all three
 abbrev answers : Annotated → Verdict → Outcome → Answers

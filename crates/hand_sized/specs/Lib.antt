@@ -1,3 +1,2 @@
 pub mod Files
-pub mod Wraps
 pub mod Joined

@@ -1,12 +1,16 @@
 // Document 01's table of hand-sized files ("Proved by hand-sized files"), about the code: each function puts a file to `annotate`, `check` or `run`, and its
 // contract states the answer outright. `language`'s Table has the same of the definitions. "The table keeps its cases with the answers that now follow and
-// gains the new U's" (C-14): U and A give a type of constants a region.
+// gains the new U's" (C-14): U and A give a type of constants a region. "The last of the table cases" is a run that stops (C-15).
+mod ends;
 mod files;
-mod wraps;
 
 use annotation::Annotated;
 use annotation::annotate;
 use checking::check;
+use ends::lower_end;
+use ends::over;
+use ends::under;
+use ends::upper_end;
 use files::a;
 use files::new_u;
 use files::past_arity;
@@ -23,21 +27,20 @@ use running::lent::PRINTS;
 use running::lent::REGIONS;
 use running::lent::STEPS;
 use running::run;
-use wraps::wraps;
 ghost use mathlib.Core.Path.{_≡_};
-ghost use mathlib.Core.List.{map};
+ghost use mathlib.Core.List.{[], _∷_, map};
+ghost use lib.IntN.{pos, negsuc};
 ghost use lib.ListN.{take, drop};
 ghost use mir.Syntax.{w32};
 ghost use mir.Val.{toZ};
 ghost use Rattle.language.specs.declared.Refusal.the-variants.{Header, Form, Typing, Room};
 ghost use Rattle.language.specs.declared.Verdict.the-variants.{Refused, Accepted};
-ghost use Rattle.language.specs.declared.Stop.the-variants.{Steps, Frames};
+ghost use Rattle.language.specs.declared.Stop.the-variants.{Steps, Frames, Sums};
 ghost use Rattle.language.specs.declared.Ending.the-variants.{Refused as NotRun, Finished, Stopped};
 ghost use Rattle.language.specs.Answers.{refusalNumber, stopNumber};
 ghost use Rattle.language.specs.Table.{newU};
 ghost use Rattle.annotation.specs.declared.Annotated.the-variants.{Refused as NotAnnotated, Written};
-ghost use Rattle.hand_sized.specs.Joined.{quiet, refusedBy, Untouched, IfAllRefuse};
-ghost use Rattle.hand_sized.specs.Wraps.{ends};
+ghost use Rattle.hand_sized.specs.Joined.{outcome, quiet, refusedBy, Untouched, IfAllRefuse};
 
 // What the annotator, the checker and the runner answer to one file.
 pub struct Answers {
@@ -231,18 +234,75 @@ pub fn run_new_u_no_frame(
     run(&new_u(), cells, regions, frames, prints, 0)
 }
 
-// "2,147,483,647 + 1 is −2,147,483,648": a run that prints both.
-pub fn run_wraps(
+// 2,147,483,647 + 1: stop 15 before that step, after the 21 before it; 2,147,483,647 is printed.
+pub fn run_over(
     cells: &mut [u32; CELLS],
     regions: &mut [u32; REGIONS],
     frames: &mut [u32; FRAMES],
     prints: &mut [u32; PRINTS],
 ) -> Outcome
-    ensures { λ r. ⌜ (r .ending ≡ Finished) × (r .printed ≡ 2) ⌝ }
-    ensures { λ _. ⌜ map (toZ w32) (take 2 (now (prints .exit))) ≡ ends ⌝ }
+    ensures { λ r. ⌜ r ≡ outcome (Stopped Sums) 21 1 ⌝ }
+    ensures { λ _. ⌜ stopNumber Sums ≡ 15 ⌝ }
+    ensures { λ _. ⌜ map (toZ w32) (take 1 (now (prints .exit))) ≡ pos 2147483647 ∷ [] ⌝ }
+    ensures { λ _. ⌜ drop 1 (now (prints .exit)) ≡ drop 1 (now (prints .entry)) ⌝ }
+{
+    run(&over(), cells, regions, frames, prints, STEPS)
+}
+
+// .. with 21 steps: stop 10, which comes before 15.
+pub fn run_over_in_21(
+    cells: &mut [u32; CELLS],
+    regions: &mut [u32; REGIONS],
+    frames: &mut [u32; FRAMES],
+    prints: &mut [u32; PRINTS],
+) -> Outcome
+    ensures { λ r. ⌜ r ≡ outcome (Stopped Steps) 21 1 ⌝ }
+    ensures { λ _. ⌜ map (toZ w32) (take 1 (now (prints .exit))) ≡ pos 2147483647 ∷ [] ⌝ }
+    ensures { λ _. ⌜ drop 1 (now (prints .exit)) ≡ drop 1 (now (prints .entry)) ⌝ }
+{
+    run(&over(), cells, regions, frames, prints, 21)
+}
+
+// -2,147,483,648 less 1: stop 15.
+pub fn run_under(
+    cells: &mut [u32; CELLS],
+    regions: &mut [u32; REGIONS],
+    frames: &mut [u32; FRAMES],
+    prints: &mut [u32; PRINTS],
+) -> Outcome
+    ensures { λ r. ⌜ r ≡ outcome (Stopped Sums) 21 1 ⌝ }
+    ensures { λ _. ⌜ map (toZ w32) (take 1 (now (prints .exit))) ≡ pos 2147483647 ∷ [] ⌝ }
+    ensures { λ _. ⌜ drop 1 (now (prints .exit)) ≡ drop 1 (now (prints .entry)) ⌝ }
+{
+    run(&under(), cells, regions, frames, prints, STEPS)
+}
+
+// 2,147,483,647 + 0: in range.
+pub fn run_upper_end(
+    cells: &mut [u32; CELLS],
+    regions: &mut [u32; REGIONS],
+    frames: &mut [u32; FRAMES],
+    prints: &mut [u32; PRINTS],
+) -> Outcome
+    ensures { λ r. ⌜ r ≡ outcome Finished 23 2 ⌝ }
+    ensures { λ _. ⌜ map (toZ w32) (take 2 (now (prints .exit))) ≡ pos 2147483647 ∷ pos 2147483647 ∷ [] ⌝ }
     ensures { λ _. ⌜ drop 2 (now (prints .exit)) ≡ drop 2 (now (prints .entry)) ⌝ }
 {
-    run(&wraps(), cells, regions, frames, prints, STEPS)
+    run(&upper_end(), cells, regions, frames, prints, STEPS)
+}
+
+// -2,147,483,648 less 0: in range.
+pub fn run_lower_end(
+    cells: &mut [u32; CELLS],
+    regions: &mut [u32; REGIONS],
+    frames: &mut [u32; FRAMES],
+    prints: &mut [u32; PRINTS],
+) -> Outcome
+    ensures { λ r. ⌜ r ≡ outcome Finished 23 2 ⌝ }
+    ensures { λ _. ⌜ map (toZ w32) (take 2 (now (prints .exit))) ≡ pos 2147483647 ∷ negsuc 2147483647 ∷ [] ⌝ }
+    ensures { λ _. ⌜ drop 2 (now (prints .exit)) ≡ drop 2 (now (prints .entry)) ⌝ }
+{
+    run(&lower_end(), cells, regions, frames, prints, STEPS)
 }
 
 // One file put to all three.

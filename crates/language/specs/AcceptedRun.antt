@@ -4,13 +4,13 @@ use mathlib.Core.Bool.{Bool, true, false}
 use mathlib.Core.List.{List, [], _∷_, _++_, map}
 use lib.IntN.{ℤ}
 use lib.ListN.{length}
-use Rattle.sets.specs.Tests.{_or_}
+use Rattle.sets.specs.Tests.{_&_, _or_}
 use Rattle.sets.specs.Members.{members}
 use Rattle.language.specs.Lists.{nth, choose, put, isNone}
-use Rattle.language.specs.Program.{argumentsOf, Step, literal, sum, assign, construct, call, print, create, remove, Goals, done, _then_, Goal, step, switch, ifLess, Signature, Program, regionOf, signatureOf}
+use Rattle.language.specs.Program.{argumentsOf, literal, sum, assign, construct, call, print, create, remove, Goals, done, _then_, Goal, step, switch, ifLess, Signature, Program, regionOf, signatureOf}
 use Rattle.language.specs.Regions.{Mapping, mapping, imageIn}
 use Rattle.language.specs.Lifetimes.{born, startHeld}
-use Rattle.language.specs.Frames.{Value, numeral, cellAt, constant, Frame, Cell, numberIn, withGoals, literalIn, sumIn, assignIn, cellFor, buildIn, branchIn, noCell, cellIn, openCell, calleeFrame, returning, entryFrame, settle}
+use Rattle.language.specs.Frames.{Value, numeral, cellAt, constant, Frame, Cell, numberIn, fits, withGoals, literalIn, sumIn, assignIn, cellFor, buildIn, branchIn, noCell, cellIn, openCell, calleeFrame, returning, entryFrame, settle}
 
 -- "A frame also says what region each region number stands for."
 pub record RegionFrame : Type 0 where
@@ -35,6 +35,9 @@ pub record State : Type 0 where
 
 unfoldable pub cellOf : RegionCell → Cell
 cellOf c = c .cell
+
+unfoldable pub frameOf : RegionFrame → Frame
+frameOf f = f .frame
 
 -- the region that cell c lies in
 unfoldable pub liesIn : List RegionCell → ℕ → ℕ
@@ -139,10 +142,10 @@ module _ (P : Program) where
   take (switch x cs) f fs m = state (withFrame f (openCell (cellIn (map cellOf (m .cells)) (f .frame .values x)) cs (f .frame))) fs m
   take (ifLess y z a b) f fs m = state (withFrame f (branchIn (f .frame) y z a b)) fs m
 
-  -- ".. is not taken: the run stays there and has not ended"
+  -- ".. is not taken: the run stays there and has not ended"; likewise at a sum out of range (C-15)
   unfoldable pub next : Goals → RegionFrame → List RegionFrame → State → State
   next done f fs s = s
-  next (g then gs) f fs s = choose (allowed g f (s .memory)) (take g (withFrame f (withGoals (f .frame) gs)) fs (s .memory)) s
+  next (g then gs) f fs s = choose (fits g (f .frame) & allowed g f (s .memory)) (take g (withFrame f (withGoals (f .frame) gs)) fs (s .memory)) s
 
   -- an ended run stays as it is
   unfoldable pub stepFrom : List RegionFrame → State → State

@@ -10,8 +10,7 @@ use Rattle.language.specs.declared.Refusal.the-variants.{Header, Form, T
 use Rattle.language.specs.declared.Verdict.{Verdict}
 use Rattle.language.specs.declared.Verdict.the-variants.{Refused, Accepted}
 use Rattle.language.specs.declared.Stop.{Stop}
-use Rattle.language.specs.declared.Stop.the-variants.{Steps, Cells, Places, Frames, Prints}
-use Rattle.language.specs.declared.Ending.{Ending}
+use Rattle.language.specs.declared.Stop.the-variants.{Steps, Cells, Places, Frames, Prints, Sums}
 use Rattle.language.specs.declared.Ending.the-variants.{Refused as RunRefused}
 use Rattle.language.specs.Lists.{frontWritten}
 use Rattle.language.specs.Format.{maxRecords}
@@ -47,6 +46,7 @@ stopNumber Cells = 11
 stopNumber Places = 12
 stopNumber Frames = 13
 stopNumber Prints = 14
+stopNumber Sums = 15
 
 -- a test of a file and the refusal that it stands for
 pub data Stage : Type 0 where

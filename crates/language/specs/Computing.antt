@@ -34,7 +34,7 @@ unfolding Lists.nth Lists.nth1 Lists.all Lists.upFrom Lists.one Lists.count List
 listsOpen = tt
 
 unfoldable pub numbersOpen : Unit {0}
-unfolding Numbers.literalNumber Numbers.residue Numbers.wrap Numbers.sumNumber Numbers.less
+unfolding Numbers.literalNumber Numbers.residue Numbers.sumNumber Numbers.inRange Numbers.less
 numbersOpen = tt
 
 unfoldable pub fileOpen : Unit {0}
@@ -86,7 +86,7 @@ unfolding Checking.requireRule Checking.carryOn Checking.joinArms Checking.sound
 checkingOpen = tt
 
 unfoldable pub framesOpen : Unit {0}
-unfolding Frames.numberIn Frames.giveEach Frames.withGoals Frames.giving Frames.literalIn Frames.sumIn Frames.assignIn Frames.cellFor Frames.builtValue Frames.buildIn Frames.branchIn Frames.pick Frames.enterArm Frames.noCell Frames.cellIn Frames.openCell Frames.calleeFrame Frames.returning Frames.entryFrame Frames.settle
+unfolding Frames.numberIn Frames.giveEach Frames.withGoals Frames.giving Frames.literalIn Frames.sumOf Frames.sumIn Frames.assignIn Frames.cellFor Frames.builtValue Frames.buildIn Frames.fitsStep Frames.fits Frames.overAhead Frames.staysAtSum Frames.branchIn Frames.pick Frames.enterArm Frames.noCell Frames.cellIn Frames.openCell Frames.calleeFrame Frames.returning Frames.entryFrame Frames.settle
 framesOpen = tt
 
 unfoldable pub plainRunOpen : Unit {0}
@@ -94,7 +94,7 @@ unfolding PlainRun.thenIf PlainRun.stripGoals PlainRun.stripGoal PlainRun.stripA
 plainRunOpen = tt
 
 unfoldable pub acceptedRunOpen : Unit {0}
-unfolding AcceptedRun.cellOf AcceptedRun.liesIn AcceptedRun.readable AcceptedRun.withCell AcceptedRun.withBuilt AcceptedRun.withPrinted AcceptedRun.withRegion AcceptedRun.withoutRegion AcceptedRun.standEach AcceptedRun.withFrame AcceptedRun.calleeStands AcceptedRun.returnStands AcceptedRun.mappingFrom AcceptedRun.calleeRegions AcceptedRun.returningRegions AcceptedRun.state AcceptedRun.start AcceptedRun.regionFor AcceptedRun.allowed AcceptedRun.take AcceptedRun.next AcceptedRun.stepFrom AcceptedRun.stepOf AcceptedRun.steps
+unfolding AcceptedRun.cellOf AcceptedRun.frameOf AcceptedRun.liesIn AcceptedRun.readable AcceptedRun.withCell AcceptedRun.withBuilt AcceptedRun.withPrinted AcceptedRun.withRegion AcceptedRun.withoutRegion AcceptedRun.standEach AcceptedRun.withFrame AcceptedRun.calleeStands AcceptedRun.returnStands AcceptedRun.mappingFrom AcceptedRun.calleeRegions AcceptedRun.returningRegions AcceptedRun.state AcceptedRun.start AcceptedRun.regionFor AcceptedRun.allowed AcceptedRun.take AcceptedRun.next AcceptedRun.stepFrom AcceptedRun.stepOf AcceptedRun.steps
 acceptedRunOpen = tt
 
 unfoldable pub machineOpen : Unit {0}

@@ -1,11 +1,13 @@
 -- "The two runs of demand 3": values, frames and cells, and what a goal does to a frame. Both runs share it.
-use Prim.Native.Nat.{ℕ, zero, suc}
+use Prim.Native.Nat.{ℕ}
+use mathlib.Core.Bool.{Bool, true, false}
 use mathlib.Core.List.{List, [], _∷_, map}
 use lib.Dec.{eqb}
 use lib.IntN.{ℤ, pos}
+use Rattle.sets.specs.Tests.{neg}
 use Rattle.language.specs.Lists.{nth, choose, put}
-use Rattle.language.specs.Numbers.{literalNumber, sumNumber, less}
-use Rattle.language.specs.Program.{argumentsOf, Goals, done, _then_, Arms, noArms, arm, _before_, Program, procedureAt, signatureOf, parametersOf, inMode, outMode, argumentsIn, variablesIn}
+use Rattle.language.specs.Numbers.{literalNumber, sumNumber, inRange, less}
+use Rattle.language.specs.Program.{argumentsOf, Step, literal, sum, assign, construct, call, print, create, remove, Goals, done, _then_, Goal, step, switch, ifLess, Arms, noArms, arm, _before_, Program, procedureAt, signatureOf, parametersOf, inMode, outMode, argumentsIn, variablesIn}
 
 -- "a value in demand 3's runs being a number, a cell or a constant" (C-14): a constant is its functor
 pub data Value : Type 0 where
@@ -48,8 +50,11 @@ giving f x v = record { procedure = f .procedure; arguments = f .arguments; goal
 unfoldable pub literalIn : Frame → ℕ → ℕ → Frame
 literalIn f x v = giving f x (numeral (literalNumber v))
 
+unfoldable pub sumOf : Frame → ℕ → ℕ → ℕ → ℤ
+sumOf f o y z = sumNumber o (numberIn (f .values y)) (numberIn (f .values z))
+
 unfoldable pub sumIn : Frame → ℕ → ℕ → ℕ → ℕ → Frame
-sumIn f x o y z = giving f x (numeral (sumNumber o (numberIn (f .values y)) (numberIn (f .values z))))
+sumIn f x o y z = giving f x (numeral (sumOf f o y z))
 
 unfoldable pub assignIn : Frame → ℕ → ℕ → Frame
 assignIn f x y = giving f x (f .values y)
@@ -65,6 +70,31 @@ builtValue k (y ∷ ys) n = cellAt n
 
 unfoldable pub buildIn : Frame → ℕ → ℕ → List ℕ → ℕ → Frame
 buildIn f x k ys n = giving f x (builtValue k ys n)
+
+-- "A sum or difference outside .. now stops the run before that step" (C-15): the next goal of frame f is no sum out of range
+unfoldable pub fitsStep : Step → Frame → Bool
+fitsStep (literal x v) f = true
+fitsStep (sum x o y z) f = inRange (sumOf f o y z)
+fitsStep (assign x y) f = true
+fitsStep (construct x k ys) f = true
+fitsStep (call q ys) f = true
+fitsStep (print y) f = true
+fitsStep (create r) f = true
+fitsStep (remove r) f = true
+
+unfoldable pub fits : Goal → Frame → Bool
+fits (step g) f = fitsStep g f
+fits (switch x cs) f = true
+fits (ifLess y z a b) f = true
+
+-- "Both runs of demand 3 stay at that goal, not ended": the newest frame's next goal is a sum out of range
+unfoldable pub overAhead : Goals → Frame → Bool
+overAhead done f = false
+overAhead (g then gs) f = neg (fits g f)
+
+unfoldable pub staysAtSum : List Frame → Bool
+staysAtSum [] = false
+staysAtSum (f ∷ fs) = overAhead (f .goals) f
 
 -- "that arm's goals, or those of an if's part, go before the rest"
 unfoldable pub branchIn : Frame → ℕ → ℕ → Goals → Goals → Frame

@@ -7,12 +7,13 @@ use lib.IntN.{ℤ}
 use lib.ListN.{length}
 use Rattle.sets.specs.Tests.{_or_}
 use Rattle.language.specs.declared.Stop.{Stop}
-use Rattle.language.specs.declared.Stop.the-variants.{Steps, Cells, Places, Frames, Prints}
+use Rattle.language.specs.declared.Stop.the-variants.{Steps, Cells, Places, Frames, Prints, Sums}
 use Rattle.language.specs.declared.Ending.{Ending}
 use Rattle.language.specs.declared.Ending.the-variants.{Finished, Stopped}
 use Rattle.language.specs.Lists.{one, upFrom, frontWritten, isNone}
 use Rattle.language.specs.Numbers.{residue}
-use Rattle.language.specs.Program.{argumentsOf, Step, literal, sum, assign, construct, call, print, create, remove, Goals, done, _then_, Goal, step, switch, ifLess, Program}
+use Rattle.language.specs.Program.{argumentsOf, literal, sum, assign, construct, call, print, create, remove, Goals, done, _then_, Goal, step, switch, ifLess, Program}
+use Rattle.language.specs.Frames.{fitsStep}
 use Rattle.language.specs.AcceptedRun.{RegionFrame, RegionCell, Memory, State, start, stepOf}
 
 -- what is lent: words of memory for each sort, and steps
@@ -54,39 +55,40 @@ countAlive alive (k ∷ ks) = one (alive k) + countAlive alive ks
 unfoldable pub regionsHeld : Memory → ℕ
 regionsHeld m = countAlive (m .alive) (upFrom 1 (m .made))
 
--- what can be said before a step: the run has ended, the step can be done, or there is no room for it
+-- what can be said before a step: the run has ended, the step can be done, or there is a cause to stop
 pub data Outlook : Type 0 where
   ended : Outlook
   goes : Outlook
   lacks : Stop → Outlook
 
--- there is room, or the step stops for want of it
+-- there is room, or the run stops for want of it; likewise for a number in range
 unfoldable pub roomOr : Bool → Stop → Outlook
 roomOr true c = goes
 roomOr false c = lacks c
 
--- "11 no free cell, 12 no free region, 13 no free frame, 14 no place for a printed number"; for a constant "stop 11 is never given" (C-14)
-unfoldable pub outlookFor : Room → Goal → State → Outlook
-outlookFor k (step (literal x v)) s = goes
-outlookFor k (step (sum x o y z)) s = goes
-outlookFor k (step (assign x y)) s = goes
-outlookFor k (step (construct x f ys)) s =
+-- "11 no free cell, 12 no free region, 13 no free frame, 14 no place for a printed number"; for a constant "stop 11 is never given" (C-14). "The
+-- new stop is 15, given for nothing else" (C-15). f is the newest frame
+unfoldable pub outlookFor : Room → Goal → RegionFrame → State → Outlook
+outlookFor k (step (literal x v)) f s = goes
+outlookFor k (step (sum x o y z)) f s = roomOr (fitsStep (sum x o y z) (f .frame)) Sums
+outlookFor k (step (assign x y)) f s = goes
+outlookFor k (step (construct x t ys)) f s =
     roomOr (isNone (argumentsOf ys) or ltb (cellsHeld (s .memory .alive) (s .memory .cells)) (k .cells)) Cells
-outlookFor k (step (call q ys)) s = roomOr (ltb (length (s .frames)) (k .frames)) Frames
-outlookFor k (step (print y)) s = roomOr (ltb (length (s .memory .printed)) (k .prints)) Prints
-outlookFor k (step (create r)) s = roomOr (ltb (regionsHeld (s .memory)) (k .regions)) Places
-outlookFor k (step (remove r)) s = goes
-outlookFor k (switch x cs) s = goes
-outlookFor k (ifLess y z a b) s = goes
+outlookFor k (step (call q ys)) f s = roomOr (ltb (length (s .frames)) (k .frames)) Frames
+outlookFor k (step (print y)) f s = roomOr (ltb (length (s .memory .printed)) (k .prints)) Prints
+outlookFor k (step (create r)) f s = roomOr (ltb (regionsHeld (s .memory)) (k .regions)) Places
+outlookFor k (step (remove r)) f s = goes
+outlookFor k (switch x cs) f s = goes
+outlookFor k (ifLess y z a b) f s = goes
 
 -- .. before the next goal of the newest frame; a run without a frame has ended
-unfoldable pub outlookIn : Room → Goals → State → Outlook
-outlookIn k done s = goes
-outlookIn k (g then gs) s = outlookFor k g s
+unfoldable pub outlookIn : Room → Goals → RegionFrame → State → Outlook
+outlookIn k done f s = goes
+outlookIn k (g then gs) f s = outlookFor k g f s
 
 unfoldable pub outlookAt : Room → List RegionFrame → State → Outlook
 outlookAt k [] s = ended
-outlookAt k (f ∷ fs) s = outlookIn k (f .frame .goals) s
+outlookAt k (f ∷ fs) s = outlookIn k (f .frame .goals) f s
 
 unfoldable pub outlook : Room → State → Outlook
 outlook k s = outlookAt k (s .frames) s

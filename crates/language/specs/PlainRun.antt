@@ -4,9 +4,10 @@ use mathlib.Core.Bool.{Bool, true, false}
 use mathlib.Core.List.{List, [], _∷_, _++_, map}
 use lib.IntN.{ℤ}
 use lib.ListN.{length}
-use Rattle.language.specs.Program.{argumentsOf, Step, literal, sum, assign, construct, call, print, create, remove, Goals, done, _then_, Goal, step, switch, ifLess, Arms, noArms, arm, Procedure, Program}
+use Rattle.language.specs.Lists.{choose}
+use Rattle.language.specs.Program.{argumentsOf, literal, sum, assign, construct, call, print, create, remove, Goals, done, _then_, Goal, step, switch, ifLess, Arms, noArms, arm, Procedure, Program}
 use Rattle.language.specs.Annotation.{plainStep}
-use Rattle.language.specs.Frames.{Frame, Cell, numberIn, withGoals, literalIn, sumIn, assignIn, cellFor, buildIn, branchIn, cellIn, openCell, calleeFrame, returning, entryFrame, settle}
+use Rattle.language.specs.Frames.{Frame, Cell, numberIn, fits, withGoals, literalIn, sumIn, assignIn, cellFor, buildIn, branchIn, cellIn, openCell, calleeFrame, returning, entryFrame, settle}
 
 -- "The plain run is fed the program's goals without creates and removes."
 unfoldable pub thenIf : Bool → Goal → Goals → Goals
@@ -67,10 +68,10 @@ module _ (P : Program) where
   plainTake (switch x cs) f fs cells printed = plainState (openCell (cellIn cells (f .values x)) cs f) fs cells printed
   plainTake (ifLess y z a b) f fs cells printed = plainState (branchIn f y z a b) fs cells printed
 
-  -- "A step takes the newest frame's next goal."
+  -- "A step takes the newest frame's next goal"; at a sum out of range the run stays (C-15)
   unfoldable pub plainNext : Goals → Frame → List Frame → PlainState → PlainState
   plainNext done f fs s = s
-  plainNext (g then gs) f fs s = plainTake g (withGoals f gs) fs (s .cells) (s .printed)
+  plainNext (g then gs) f fs s = choose (fits g f) (plainTake g (withGoals f gs) fs (s .cells) (s .printed)) s
 
   -- an ended run stays as it is
   unfoldable pub plainFrom : List Frame → PlainState → PlainState

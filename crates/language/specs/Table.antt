@@ -1,5 +1,5 @@
 -- "Proved by hand-sized files": the cases of document 01, together as one theorem. "The table keeps its cases with the answers that now follow and
--- gains the new U's" (C-14): U and A give a type of constants a region.
+-- gains the new U's" (C-14): U and A give a type of constants a region. "The last of the table cases" is a run that stops (C-15).
 use Prim.Native.Nat.{ℕ, zero, suc}
 use mathlib.Core.List.{List, [], _∷_, _++_}
 use mathlib.Core.Path.{_≡_, refl}
@@ -8,14 +8,13 @@ use lib.ListN.{set}
 use Rattle.language.specs.declared.Refusal.{Refusal}
 use Rattle.language.specs.declared.Refusal.the-variants.{Header, Form, Typing, Room}
 use Rattle.language.specs.declared.Verdict.the-variants.{Refused, Accepted}
-use Rattle.language.specs.declared.Stop.the-variants.{Steps, Frames}
+use Rattle.language.specs.declared.Stop.the-variants.{Steps, Frames, Sums}
 use Rattle.language.specs.declared.Ending.{Ending}
 use Rattle.language.specs.declared.Ending.the-variants.{Refused as RunRefused, Finished, Stopped}
-use Rattle.language.specs.Numbers.{sumNumber}
 use Rattle.language.specs.Layout.{bytesOf}
 use Rattle.language.specs.Machine.{Lent, Run, runnerLent}
 use Rattle.language.specs.Answers.{annotated, refuses, writes, annotatorBytes, checked, ran}
-use Rattle.language.specs.Output.{refusedWord, finishedWord, runnerOutput}
+use Rattle.language.specs.Output.{refusedWord, finishedWord, stoppedWord, runnerOutput}
 use Rattle.language.specs.Computing.{computing}
 
 -- a file from its records: "words left out are 0"
@@ -65,6 +64,29 @@ early = with5 9 ((18 ∷ 7 ∷ 1 ∷ []) ∷ (19 ∷ 8 ∷ 1 ∷ []) ∷ (11 ∷
 unfoldable pub twice : List ℕ
 twice = with5 10 ((18 ∷ 7 ∷ 1 ∷ []) ∷ (11 ∷ 8 ∷ 1 ∷ 0 ∷ []) ∷ (19 ∷ 9 ∷ 1 ∷ []) ∷ (19 ∷ 0 ∷ 1 ∷ []) ∷ [])
 
+-- n variables of type 0 from record i on; and n sums, of variable x with itself into the next, and so on
+unfoldable pub numberVariables : ℕ → ℕ → List (List ℕ)
+numberVariables zero i = []
+numberVariables (suc zero) i = (5 ∷ []) ∷ []
+numberVariables (suc (suc n)) i = (5 ∷ suc i ∷ []) ∷ numberVariables (suc n) (suc i)
+
+unfoldable pub doublings : ℕ → ℕ → ℕ → List (List ℕ)
+doublings zero i x = []
+doublings (suc n) i x = (9 ∷ suc i ∷ suc x ∷ 0 ∷ x ∷ x ∷ []) ∷ doublings n (suc i) (suc x)
+
+-- A run to both ends of the range and past them (C-15). Variable 17 becomes −2,147,483,648: −32,768 doubled sixteen times. 19 becomes 2,147,483,647: −1,
+-- which is 18, less that. 20 is a literal v; 19 is printed; then 21 is the sum or difference of y and z, and printed.
+unfoldable pub toTheEnds : ℕ → ℕ → ℕ → ℕ → List ℕ
+toTheEnds v o y z =
+    file (
+    (1 ∷ 1 ∷ 0 ∷ 46 ∷ []) ∷ (4 ∷ 0 ∷ 2 ∷ 0 ∷ 23 ∷ []) ∷ numberVariables 21 2 ++ ((8 ∷ 24 ∷ 1 ∷ 32768 ∷ []) ∷ doublings 16 24 1 ++ (
+    (8 ∷ 41 ∷ 18 ∷ 65535 ∷ []) ∷ (9 ∷ 42 ∷ 19 ∷ 1 ∷ 18 ∷ 17 ∷ []) ∷ (8 ∷ 43 ∷ 20 ∷ v ∷ []) ∷ (17 ∷ 44 ∷ 19 ∷ []) ∷ (9 ∷ 45 ∷ 21 ∷ o ∷ y ∷ z ∷ []) ∷
+    (17 ∷ 0 ∷ 21 ∷ []) ∷ [])))
+
+-- "2,147,483,647 + 1"
+unfoldable pub over : List ℕ
+over = toTheEnds 1 0 19 20
+
 -- what the runner program is lent, but for 2 steps; no steps; no cells; no frame and no steps
 unfoldable pub lending : ℕ → ℕ → ℕ → Lent
 lending cellWords frameWords n =
@@ -81,6 +103,16 @@ noCells = lending 0 (runnerLent .frameWords) (runnerLent .steps)
 
 unfoldable pub noFrames : Lent
 noFrames = lending (runnerLent .cellWords) 0 0
+
+unfoldable pub inSteps : ℕ → Lent
+inSteps n = lending (runnerLent .cellWords) (runnerLent .frameWords) n
+
+-- the runs of `toTheEnds`: stopped before the last sum, or finished with one number more
+unfoldable pub stoppedThere : Run
+stoppedThere = record { ending = Stopped Sums; steps = 21; printed = pos 2147483647 ∷ [] }
+
+unfoldable pub finishedWith : ℤ → Run
+finishedWith z = record { ending = Finished; steps = 23; printed = pos 2147483647 ∷ z ∷ [] }
 
 -- a run that printed nothing
 unfoldable pub silent : Ending → ℕ → Run
@@ -114,12 +146,22 @@ pub record Table : Type 0 where
   pub newU-no-steps : ran newU noSteps ≡ silent (Stopped Steps) 0
   pub newU-no-cell : ran newU noCells ≡ silent Finished 1
   pub newU-no-frame : ran newU noFrames ≡ silent (Stopped Frames) 0
-  pub sum-wraps : sumNumber 0 (pos 2147483647) (pos 1) ≡ negsuc 2147483647
-  pub sum-wraps-below : sumNumber 0 (negsuc 2147483647) (negsuc 0) ≡ pos 2147483647
-  pub difference-wraps : sumNumber 1 (negsuc 2147483647) (pos 1) ≡ pos 2147483647
+  -- 2,147,483,647 + 1: stopped before that step, all steps before it done; 10 comes before 15
+  pub sum-over : ran over runnerLent ≡ stoppedThere
+  pub sum-lines : runnerOutput (ran over runnerLent) ≡ 50 ∷ 49 ∷ 52 ∷ 55 ∷ 52 ∷ 56 ∷ 51 ∷ 54 ∷ 52 ∷ 55 ∷ 10 ∷ stoppedWord ++ (49 ∷ 53 ∷ 32 ∷ 50 ∷ 49 ∷ 10 ∷ [])
+  pub sum-steps-spent : ran over (inSteps 21) ≡ record { ending = Stopped Steps; steps = 21; printed = pos 2147483647 ∷ [] }
+  pub sum-one-step-more : ran over (inSteps 22) ≡ stoppedThere
+  pub sum-upper-end : ran (toTheEnds 0 0 19 20) runnerLent ≡ finishedWith (pos 2147483647)
+  pub sum-lower-end : ran (toTheEnds 0 0 17 20) runnerLent ≡ finishedWith (negsuc 2147483647)
+  pub sum-under : ran (toTheEnds 0 0 17 18) runnerLent ≡ stoppedThere
+  pub difference-upper-end : ran (toTheEnds 0 1 19 20) runnerLent ≡ finishedWith (pos 2147483647)
+  pub difference-lower-end : ran (toTheEnds 0 1 17 20) runnerLent ≡ finishedWith (negsuc 2147483647)
+  pub difference-over : ran (toTheEnds 0 1 19 18) runnerLent ≡ stoppedThere
+  pub difference-under : ran (toTheEnds 1 1 17 20) runnerLent ≡ stoppedThere
+  pub lower-end-negated : ran (toTheEnds 0 1 20 17) runnerLent ≡ stoppedThere
 
 pub table : Table
-unfolding computing eight rows file five with5 U A newU U5 U6 early twice lending twoSteps noSteps noCells noFrames silent
+unfolding computing eight rows file five with5 U A newU U5 U6 early twice numberVariables doublings toTheEnds over lending twoSteps noSteps noCells noFrames inSteps stoppedThere finishedWith silent
 table = record {
   annotated-144 = refl;
   annotated-143 = refl;
@@ -144,7 +186,16 @@ table = record {
   newU-no-steps = refl;
   newU-no-cell = refl;
   newU-no-frame = refl;
-  sum-wraps = refl;
-  sum-wraps-below = refl;
-  difference-wraps = refl;
+  sum-over = refl;
+  sum-lines = refl;
+  sum-steps-spent = refl;
+  sum-one-step-more = refl;
+  sum-upper-end = refl;
+  sum-lower-end = refl;
+  sum-under = refl;
+  difference-upper-end = refl;
+  difference-lower-end = refl;
+  difference-over = refl;
+  difference-under = refl;
+  lower-end-negated = refl;
 }

@@ -20,13 +20,14 @@ pub enum Verdict {
     Accepted,
 }
 
-// Why a run stops before a step that can't be done: numbers 10 to 14.
+// Why a run stops before a step that can't be done: numbers 10 to 15.
 pub enum Stop {
     Steps,
     Cells,
     Places,
     Frames,
     Prints,
+    Sums,
 }
 
 // How a run ends.

@@ -7,3 +7,4 @@ pub mod MoreSets
 pub mod Goals
 pub mod Stages
 pub mod Typed
+pub mod Runs

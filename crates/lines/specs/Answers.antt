@@ -9,7 +9,7 @@ use Rattle.language.specs.declared.Refusal.the-variants.{Header, Form, Typing, 
 use Rattle.language.specs.declared.Verdict.{Verdict}
 use Rattle.language.specs.declared.Verdict.the-variants.{Refused, Accepted}
 use Rattle.language.specs.declared.Stop.{Stop}
-use Rattle.language.specs.declared.Stop.the-variants.{Steps, Cells, Places, Frames, Prints}
+use Rattle.language.specs.declared.Stop.the-variants.{Steps, Cells, Places, Frames, Prints, Sums}
 use Rattle.language.specs.declared.Ending.{Ending}
 use Rattle.language.specs.declared.Ending.the-variants.{Refused as RunRefused, Finished, Stopped}
 use Rattle.language.specs.Answers.{refusalNumber, stopNumber}
@@ -37,6 +37,7 @@ stop-digits Cells = decimal-most 2 11 (omega arith) (omega arith)
 stop-digits Places = decimal-most 2 12 (omega arith) (omega arith)
 stop-digits Frames = decimal-most 2 13 (omega arith) (omega arith)
 stop-digits Prints = decimal-most 2 14 (omega arith) (omega arith)
+stop-digits Sums = decimal-most 2 15 (omega arith) (omega arith)
 
 -- a number of 64 bits
 pub word-digits : (n : ℕ) → n < 2 ^ 64 → length (decimal n) ≤ decimalBytes

@@ -45,6 +45,7 @@ pub fn stop_number(c: Stop) -> u64
         Stop::Places => 12,
         Stop::Frames => 13,
         Stop::Prints => 14,
+        Stop::Sums => 15,
     }
 }
 

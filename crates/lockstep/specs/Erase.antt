@@ -8,7 +8,7 @@ use lib.IntN.{ℤ}
 use lib.ListN.{length, length-map}
 use Rattle.language.specs.Program.{argumentsOf, Step, literal, sum, assign, construct, call, print, create, remove, Goals, done, _then_, Goal, step, switch, ifLess, Arms, Program}
 use Rattle.language.specs.Annotation.{plainStep}
-use Rattle.language.specs.Frames.{Value, Frame, Cell, withGoals, giving, literalIn, sumIn, assignIn, cellFor, builtValue, buildIn, branchIn, Picked, noArm, picked, pick, enterArm, openCell, calleeFrame, returning, entryFrame, settle}
+use Rattle.language.specs.Frames.{Value, Frame, Cell, withGoals, giving, literalIn, sumOf, sumIn, assignIn, cellFor, builtValue, buildIn, branchIn, Picked, noArm, picked, pick, enterArm, openCell, calleeFrame, returning, entryFrame, settle}
 use Rattle.language.specs.PlainRun.{stripGoals, stripArms, stripped, PlainState, plainState, plainStart, plainTake, builtCells}
 use Rattle.language.specs.AcceptedRun.{RegionFrame, Memory, State, cellOf, withCell, withBuilt, withPrinted, withRegion, withoutRegion, withFrame, calleeRegions, returningRegions, state, start, take}
 use Rattle.laws.specs.Choices.{choose-map}
@@ -99,7 +99,7 @@ module _ (P : Program) where
   erase-built x k r (y ∷ ys) f fs m = rw (length-map, map-append)
 
   erase-step : (g : Step) (f : RegionFrame) (fs : List RegionFrame) (m : Memory) → Same (plainStep g) (step g) f fs m
-  unfolding plainStep strippedGoal take plainTake eraseFrame withFrame withGoals giving literalIn sumIn assignIn withPrinted withRegion withoutRegion
+  unfolding plainStep strippedGoal take plainTake eraseFrame withFrame withGoals giving literalIn sumOf sumIn assignIn withPrinted withRegion withoutRegion
   erase-step (literal x v) f fs m = erase-state _ fs m
   erase-step (sum x o y z) f fs m = erase-state _ fs m
   erase-step (assign x y) f fs m = erase-state _ fs m

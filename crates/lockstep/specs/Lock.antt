@@ -1,18 +1,20 @@
 -- The accepted file's run and the plain run go in lock step: of n steps of the one, those that are no creates and removes are the steps
--- of the other; the two print the same, and one ends when the other does.
+-- of the other; the two print the same, one ends when the other does, and they stay at the same sum out of range.
 use mathlib.Core.Path.{_≡_, refl, ap, sym, _∙_}
 use mathlib.Core.Bool.{Bool, true, false}
-use mathlib.Core.List.{List, [], _∷_}
+use mathlib.Core.List.{List, [], _∷_, map}
 use mathlib.Core.Logic.{_↔_}
-use Prim.Native.Nat.{ℕ, zero, suc, _-_, _≤_}
+use Prim.Native.Nat.{ℕ, zero, suc, _+_, _-_, _≤_}
 use native.Mathlib.Omega.{arith}
 use Rattle.language.specs.Program.{Goal, Program}
+use Rattle.language.specs.Frames.{staysAtSum}
 use Rattle.language.specs.PlainRun.{stripped, plainState, plainStepOf, plainSteps}
-use Rattle.language.specs.AcceptedRun.{RegionFrame, Memory, stepOf, steps}
+use Rattle.language.specs.AcceptedRun.{RegionFrame, Memory, frameOf, stepOf, steps}
+use Rattle.laws.specs.Runs as Runs
 use Rattle.lockstep.specs.Counted.{isPlain, price, priceOf, nextGoal, spends, spent, Safe}
-use Rattle.lockstep.specs.Erase.{eraseFrames, erase, erase-start}
+use Rattle.lockstep.specs.Erase.{eraseFrame, eraseFrames, erase, erase-start}
 use Rattle.lockstep.specs.Ready.{ready-steps, toDo}
-use Rattle.lockstep.specs.Turn.{StepTurn, quiet, plain, turn, over-erased, seen-end}
+use Rattle.lockstep.specs.Turn.{StepTurn, quiet, plain, turn, over-erased, seen-end, sum-spends, sum-frames, seen-sum}
 
 -- ---- counting
 price-most : (gs : List Goal) → priceOf gs ≤ 1
@@ -115,3 +117,47 @@ module _ (P : Program) (safe : Safe P) where
       back e =
           let o = each (e .0) in
           let m = plainEnded (o .0) (ap (λ k. plainSteps (stripped P) k .frames) (o .1) ∙ e .1) in (m .0, m .2)
+
+  -- 6. a sum out of range: at which the run is after n steps, there the plain run is after the plain ones of them, with the same frames but for their creates
+  -- and removes ..
+  abbrev AtSum : ℕ → Type 0
+  AtSum n = staysAtSum (map frameOf (steps P n .frames)) ≡ true
+
+  abbrev PlainAtSum : ℕ → Type 0
+  PlainAtSum k = staysAtSum (plainSteps (stripped P) k .frames) ≡ true
+
+  pub sameSum : (n : ℕ) → AtSum n → PlainAtSum (n - spent P n) × (plainSteps (stripped P) (n - spent P n) .frames ≡ map eraseFrame (steps P n .frames))
+  sameSum n o =
+      let r = ready-steps P n in
+      let l = ap (λ t. t .frames) (lock n) in (
+        ap staysAtSum (sym l) ∙ seen-sum P (steps P n) r (sum-spends P (steps P n) r o) ∙ o,
+        sym l ∙ sum-frames P (steps P n) r o,
+      )
+
+  -- .. at which the plain run is there, at that the run is after creates and removes alone ..
+  pub plainSum : (n : ℕ) → PlainAtSum (n - spent P n) → (m : ℕ) × (m - spent P m ≡ n - spent P n) × AtSum m
+  plainSum n o =
+      let s = settles (toDo (steps P n .frames)) n (omega arith) in
+      let l = ap (λ t. t .frames) (lock (s .0)) ∙ ap (λ k. plainSteps (stripped P) k .frames) (s .1) in
+      (s .0, s .1, sym (seen-sum P (steps P (s .0)) (ready-steps P (s .0)) (s .2)) ∙ ap staysAtSum l ∙ o)
+
+  -- .. one run comes to one if and only if the other does ..
+  pub bothStay : ((n : ℕ) × AtSum n) ↔ ((k : ℕ) × PlainAtSum k)
+  bothStay = (forth, back)
+    where
+      forth : ((n : ℕ) × AtSum n) → ((k : ℕ) × PlainAtSum k)
+      forth o = (o .0 - spent P (o .0), sameSum (o .0) (o .1) .0)
+
+      back : ((k : ℕ) × PlainAtSum k) → ((n : ℕ) × AtSum n)
+      back o =
+          let n = each (o .0) in
+          let m = plainSum (n .0) (ap (λ k. staysAtSum (plainSteps (stripped P) k .frames)) (n .1) ∙ o .1) in (m .0, m .2)
+
+  -- .. and both stay there for good
+  pub stays : (n k : ℕ) → AtSum n → steps P (n + k) ≡ steps P n
+  unfolding steps
+  stays n k o = Runs.stays-on (stepOf P) (steps P) (λ m. refl) n (Runs.sum-stays P (steps P n) o) k
+
+  pub plainStays : (n k : ℕ) → PlainAtSum n → plainSteps (stripped P) (n + k) ≡ plainSteps (stripped P) n
+  unfolding plainSteps
+  plainStays n k o = Runs.stays-on (plainStepOf (stripped P)) (plainSteps (stripped P)) (λ m. refl) n (Runs.plain-sum-stays (stripped P) _ o) k

@@ -1,5 +1,5 @@
 -- Each state of the accepted file's run has ended or has a next goal, and its creates and removes run out: goals still to do fall.
-use mathlib.Core.Path.{_≡_, refl, ap, sym, _∙_}
+use mathlib.Core.Path.{_≡_, refl, sym}
 use mathlib.Core.Bool.{Bool, true, false, false≢true}
 use mathlib.Core.List.{List, [], _∷_}
 use Prim.Native.Nat.{ℕ, zero, suc, _+_}
@@ -8,7 +8,7 @@ use Rattle.language.specs.Lists.{choose}
 use Rattle.language.specs.Program.{Step, literal, sum, assign, construct, call, print, create, remove, Goals, done, _then_, Goal, step, switch, ifLess, Program}
 use Rattle.language.specs.Annotation.{plainStep}
 use Rattle.language.specs.Frames.{withGoals, returning, settle}
-use Rattle.language.specs.AcceptedRun.{RegionFrame, Memory, State, withFrame, returningRegions, state, start, allowed, take, next, stepFrom, stepOf, steps}
+use Rattle.language.specs.AcceptedRun.{RegionFrame, Memory, State, withFrame, returningRegions, state, start, take, next, stepFrom, stepOf, steps}
 use Rattle.lockstep.specs.Counted.{isPlain, firstGoal, nextIn, nextGoal, price, priceOf, spends}
 
 -- ---- a state of the run has ended, or its newest frame has a next goal
@@ -115,11 +115,7 @@ module _ (P : Program) (s : State) (f : RegionFrame) (fs : List RegionFrame) (g 
   unfolding spends nextGoal nextIn firstGoal priceOf
   ready-spends = rw (e, h)
 
-  -- the goal is taken, and if it is a create or a remove there is one goal less to do
-  pub taken : allowed P g f (s .memory) ≡ true → stepOf P s ≡ take P g (rest f gs) fs (s .memory)
-  unfolding stepOf stepFrom next choose
-  taken a = ap (λ l. stepFrom P l s) e ∙ ap (λ l. next P l f fs s) h ∙ ap (λ b. choose b (take P g (rest f gs) fs (s .memory)) s) a
-
-  pub falls : allowed P g f (s .memory) ≡ true → isPlain g ≡ false → suc (toDo (stepOf P s .frames)) ≡ toDo (s .frames)
+  -- once a create or a remove is taken, there is one goal less to do
+  pub falls : stepOf P s ≡ take P g (rest f gs) fs (s .memory) → isPlain g ≡ false → suc (toDo (stepOf P s .frames)) ≡ toDo (s .frames)
   unfolding toDo goalsLeft withFrame withGoals
-  falls a q = rw (taken a, left-take P g _ fs (s .memory) q, e, h) (omega arith)
+  falls t q = rw (t, left-take P g _ fs (s .memory) q, e, h) (omega arith)

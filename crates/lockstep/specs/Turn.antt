@@ -2,17 +2,20 @@
 use mathlib.Core.Path.{_≡_, refl, ap, sym, _∙_}
 use mathlib.Core.Bool.{Bool, true, false}
 use mathlib.Core.List.{List, [], _∷_, map}
+use mathlib.Core.Logic.{_⊎_, inl, inr}
 use Prim.Native.Nat.{suc}
 use native.Mathlib.Omega.{arith}
 use lib.IntN.{ℤ}
+use Rattle.sets.specs.Tests.{neg, neg-true, true-neg, truth, clash}
 use Rattle.language.specs.Program.{Goals, _then_, Goal, Program}
-use Rattle.language.specs.Frames.{Frame, Cell, withGoals, settle}
-use Rattle.language.specs.PlainRun.{thenIf, stripGoals, stripped, PlainState, plainState, plainTake, plainNext, plainFrom, plainStepOf}
-use Rattle.language.specs.AcceptedRun.{RegionFrame, State, cellOf, withFrame, allowed, stepFrom, stepOf}
+use Rattle.language.specs.Frames.{Frame, Cell, withGoals, fits, overAhead, staysAtSum, settle}
+use Rattle.language.specs.PlainRun.{thenIf, stripGoals, stripped, PlainState, plainState, plainTake, plainFrom, plainStepOf}
+use Rattle.language.specs.AcceptedRun.{RegionFrame, State, cellOf, frameOf, withFrame, allowed, stepFrom, stepOf}
+use Rattle.laws.specs.Runs.{taken, stays-at-sum, plain-taken, plain-sum-stays}
 use Rattle.lockstep.specs.Counted.{Free, isPlain, nextIn, nextGoal, price, priceOf, spends}
-use Rattle.lockstep.specs.Strip.{strippedGoal, strip-goal}
+use Rattle.lockstep.specs.Strip.{strippedGoal, strip-goal, fits-stripped, quiet-fits}
 use Rattle.lockstep.specs.Erase.{eraseFrame, eraseFrames, erase, erase-take, Same}
-use Rattle.lockstep.specs.Ready.{EndedOrNext, over, ready, toDo, rest, ready-spends, taken, falls}
+use Rattle.lockstep.specs.Ready.{EndedOrNext, over, ready, toDo, rest, ready-spends, falls}
 
 pub data StepTurn (P : Program) (s : State) : Type 0 where
   quiet : spends P s ≡ 1 → erase P (stepOf P s) ≡ erase P s → suc (toDo (stepOf P s .frames)) ≡ toDo (s .frames) → StepTurn P s
@@ -30,9 +33,10 @@ module _ (P : Program) (f : Frame) (fs : List Frame) (cells : List Cell) (printe
   unfolding plainState withGoals
   plain-frames = settle-then _ _ fs _ g gs
 
-  plain-next : plainStepOf P (plainState P (withGoals f (g then gs)) fs cells printed) ≡ plainTake P g (withGoals f gs) fs cells printed
-  unfolding plainStepOf plainState plainFrom plainNext withGoals
-  plain-next = rw settle-then
+  plain-next : fits g (withGoals f (g then gs)) ≡ true
+      → plainStepOf P (plainState P (withGoals f (g then gs)) fs cells printed) ≡ plainTake P g (withGoals f gs) fs cells printed
+  unfolding plainStepOf plainState plainFrom withGoals
+  plain-next n = rw settle-then (plain-taken P _ fs _ g gs n)
 
 module _ (P : Program) (s : State) where
   -- ---- an ended run
@@ -62,20 +66,49 @@ module _ (P : Program) (s : State) where
     unfolding thenIf
     erased-quiet p = rw p at erased
 
+    -- at a plain goal the two runs stay alike
+    plain-stays : isPlain g ≡ true → staysAtSum (erase P s .frames) ≡ neg (fits g (f .frame))
+    unfolding staysAtSum overAhead withGoals
+    plain-stays p =
+        ap (λ t. staysAtSum (t .frames)) (erased-plain p) ∙ ap staysAtSum (plain-frames (stripped P) (f .frame) _ _ _ _ _)
+        ∙ ap neg (fits-stripped g (f .frame) _)
+
+    stays : staysAtSum (map frameOf (s .frames)) ≡ neg (fits g (f .frame))
+    unfolding staysAtSum overAhead frameOf
+    stays = rw (e, h)
+
     ready-turn : (b : Bool) → isPlain g ≡ b → Same P b g (rest f gs) fs (s .memory) → allowed P g f (s .memory) ≡ true → StepTurn P s
     unfolding price eraseFrame withFrame withGoals
-    ready-turn true p t a =
-        plain (ready-spends P s f fs g gs e h ∙ ap price p)
-        (ap (erase P) (taken P s f fs g gs e h a) ∙ t ∙ sym (plain-next (stripped P) (f .frame) _ _ _ _ _)
-        ∙ ap (plainStepOf (stripped P)) (sym (erased-plain p)))
+    ready-turn true p t a = go (truth (fits g (f .frame)))
+      where
+        go : (fits g (f .frame) ≡ true) ⊎ (fits g (f .frame) ≡ false) → StepTurn P s
+        go (inl n) =
+            plain (ready-spends P s f fs g gs e h ∙ ap price p)
+            (ap (erase P) (taken P s f fs g gs e h n a) ∙ t ∙ sym (plain-next (stripped P) (f .frame) _ _ _ _ _ (fits-stripped g (f .frame) _ ∙ n))
+            ∙ ap (plainStepOf (stripped P)) (sym (erased-plain p)))
+        go (inr n) =
+            plain (ready-spends P s f fs g gs e h ∙ ap price p)
+            (ap (erase P) (stays-at-sum P s f fs g gs e h n) ∙ sym (plain-sum-stays (stripped P) (erase P s) (plain-stays p ∙ true-neg n)))
     ready-turn false p t a =
-        quiet (ready-spends P s f fs g gs e h ∙ ap price p) (ap (erase P) (taken P s f fs g gs e h a) ∙ t ∙ sym (erased-quiet p))
-        (falls P s f fs g gs e h a p)
+        let k = taken P s f fs g gs e h (quiet-fits g (f .frame) p) a in
+        quiet (ready-spends P s f fs g gs e h ∙ ap price p) (ap (erase P) k ∙ t ∙ sym (erased-quiet p)) (falls P s f fs g gs e h k p)
 
     ready-seen : (b : Bool) → isPlain g ≡ b → spends P s ≡ 0 → erase P s .frames ≡ [] → s .frames ≡ []
     unfolding price
     ready-seen true p z q = cc (ap (λ t. t .frames) (erased-plain p) ∙ plain-frames (stripped P) (f .frame) _ _ _ _ _)
     ready-seen false p z q = absurd (omega (arith, ready-spends P s f fs g gs e h ∙ ap price p))
+
+    -- a sum out of range is plain, and the plain run sees the same frames
+    sum-plain : neg (fits g (f .frame)) ≡ true → (b : Bool) → isPlain g ≡ b → isPlain g ≡ true
+    sum-plain o true p = p
+    sum-plain o false p = absurd (clash (quiet-fits g (f .frame) p) (neg-true o))
+
+    ready-frames : isPlain g ≡ true → erase P s .frames ≡ map eraseFrame (s .frames)
+    unfolding eraseFrame thenIf
+    ready-frames p =
+        ap (λ t. t .frames) (erased-plain p) ∙ plain-frames (stripped P) (f .frame) _ _ _ _ _
+        ∙ ap (λ gs. withGoals (f .frame) gs ∷ map eraseFrame fs) (sym (ap stripGoals h ∙ strip-goal g gs ∙ ap (λ b. thenIf b (strippedGoal g) (stripGoals gs)) p))
+        ∙ ap (map eraseFrame) (sym e)
 
   pub turn : EndedOrNext (s .frames) → Free P s → StepTurn P s
   turn (over e) free = over-turn e
@@ -85,3 +118,25 @@ module _ (P : Program) (s : State) where
   pub seen-end : EndedOrNext (s .frames) → spends P s ≡ 0 → erase P s .frames ≡ [] → s .frames ≡ []
   seen-end (over e) z q = e
   seen-end (ready f fs g gs e h) z q = ready-seen f fs g gs e h (isPlain g) refl z q
+
+  -- ---- a sum out of range comes next: no create or remove does, and the plain run has the same frames
+  pub sum-spends : EndedOrNext (s .frames) → staysAtSum (map frameOf (s .frames)) ≡ true → spends P s ≡ 0
+  unfolding staysAtSum price
+  sum-spends (over e) o = absurd (clash (rw e at o) refl)
+  sum-spends (ready f fs g gs e h) o =
+      ready-spends P s f fs g gs e h ∙ ap price (sum-plain f fs g gs e h (sym (stays f fs g gs e h) ∙ o) (isPlain g) refl)
+
+  pub sum-frames : EndedOrNext (s .frames) → staysAtSum (map frameOf (s .frames)) ≡ true → erase P s .frames ≡ map eraseFrame (s .frames)
+  unfolding staysAtSum
+  sum-frames (over e) o = absurd (clash (rw e at o) refl)
+  sum-frames (ready f fs g gs e h) o = ready-frames f fs g gs e h (sum-plain f fs g gs e h (sym (stays f fs g gs e h) ∙ o) (isPlain g) refl)
+
+  -- where no create or remove comes next, the plain run sees a sum out of range if and only if there is one
+  pub seen-sum : EndedOrNext (s .frames) → spends P s ≡ 0 → staysAtSum (erase P s .frames) ≡ staysAtSum (map frameOf (s .frames))
+  unfolding staysAtSum price
+  seen-sum (over e) z = ap staysAtSum (over-erased e) ∙ sym (ap (λ l. staysAtSum (map frameOf l)) e)
+  seen-sum (ready f fs g gs e h) z = go (isPlain g) refl
+    where
+      go : (b : Bool) → isPlain g ≡ b → staysAtSum (erase P s .frames) ≡ staysAtSum (map frameOf (s .frames))
+      go true p = plain-stays f fs g gs e h p ∙ sym (stays f fs g gs e h)
+      go false p = absurd (omega (arith, ready-spends P s f fs g gs e h ∙ ap price p))

@@ -1,20 +1,22 @@
 -- What the functions come to on each way through them, from what the functions that they call promise. P and k are the place of a frame's first word.
 use Prim.Native.Nat.{ℕ, _+_}
-use mathlib.Core.Path.{_≡_, refl}
+use mathlib.Core.Path.{_≡_, refl, ap, _∙_}
 use mathlib.Core.Bool.{Bool, true, false}
 use mathlib.Core.List.{List}
+use lib.IntN.{ℤ}
 use lib.ListN.{getD, set}
-use mir.Syntax.{w32}
-use mir.Val.{toZ}
+use mir.Syntax.{w32, w64}
+use mir.Val.{SFits, toZ, ofZ}
+use mir.Facts.{toZ-ofZ}
 use Rattle.language.specs.Lists.{choose}
 use Rattle.language.specs.File.{word}
 use Rattle.language.specs.Format.{lifetimeRegion}
-use Rattle.language.specs.Numbers.{less}
+use Rattle.language.specs.Numbers.{inRange, less}
 use Rattle.memory.specs.declared.Heap.{Heap}
 use Rattle.memory.specs.declared.Made.{Made}
 use Rattle.memory.specs.declared.Made.the-variants.{At, NoRoom}
 use Rattle.memory.specs.Memory.{created, createdRegions, removed, removedCells, removedRegions}
-use Rattle.word_machine.specs.Machine.{regionsFrom, sumWord}
+use Rattle.word_machine.specs.Machine.{regionsFrom, sumOf}
 use Rattle.machine.specs.Places.{regionFor, placed}
 
 -- ---- values
@@ -24,8 +26,12 @@ value-as P a b v fw e z = rw (e, z)
 pub gives : (P x y v u : ℕ) (fw fx : List ℕ) → fx ≡ set fw (P + x) v → x ≡ y → v ≡ u → fx ≡ set fw (P + y) u
 gives P x y v u fw fx e ex ev = rw (e, ex, ev)
 
-pub sum-as : (v o p y z a b : ℕ) → v ≡ sumWord o y z → o ≡ p → y ≡ a → z ≡ b → v ≡ sumWord p a b
+pub sum-as : (v : ℤ) (o p y z a b : ℕ) → v ≡ sumOf o y z → o ≡ p → y ≡ a → z ≡ b → v ≡ sumOf p a b
 sum-as v o p y z a b e eo ey ez = rw (e, eo, ey, ez)
+
+-- a number is in range as it is read back from 64 bits
+pub range-as : (b : Bool) (v : ℤ) → SFits w64 v → b ≡ inRange (toZ w64 (ofZ w64 v)) → b ≡ inRange v
+range-as b v h e = e ∙ ap inRange (toZ-ofZ h)
 
 -- an if's part, by what its test says
 module _ (b : Bool) (y z u v x a c : ℕ) (e : b ≡ less (toZ w32 y) (toZ w32 z)) (ey : y ≡ u) (ez : z ≡ v) where

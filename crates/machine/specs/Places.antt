@@ -1,12 +1,13 @@
--- What the goals with cells and regions do to words, one function for each part.
+-- What goals read in words and do to them, one function for each part.
 use Prim.Native.Nat.{ℕ, zero, suc, _+_, _-_, _≤_, _<_}
 use mathlib.Core.Path.{_≡_}
 use mathlib.Core.List.{List, [], _∷_}
 use lib.Dec.{ltb}
+use lib.IntN.{ℤ}
 use lib.ListN.{getD, set}
 use Rattle.language.specs.Lists.{choose}
 use Rattle.language.specs.File.{word}
-use Rattle.language.specs.Format.{maxArity, maxVariables, goalX, termFunctor, termArguments, switchArms, lifetimeRegion}
+use Rattle.language.specs.Format.{maxArity, maxVariables, goalX, sumOperation, sumY, sumZ, termFunctor, termArguments, switchArms, lifetimeRegion}
 use Rattle.chains.specs.Records.{chainRecords}
 use Rattle.memory.specs.declared.Contents.{Contents}
 use Rattle.memory.specs.declared.Heap.{Heap}
@@ -14,7 +15,7 @@ use Rattle.memory.specs.declared.Made.{Made}
 use Rattle.memory.specs.declared.Made.the-variants.{At, NoRoom}
 use Rattle.memory.specs.Memory.{constantsFrom, cellWord, withWord, built, builtCells, builtRegions}
 use Rattle.plans.specs.Plan.{sidesFrom}
-use Rattle.word_machine.specs.Machine.{regionsFrom, armOf, givesEach, termOf}
+use Rattle.word_machine.specs.Machine.{regionsFrom, sumOf, armOf, givesEach, termOf}
 
 -- the arguments of the construct or arm at record i are numbers of a frame's words
 abbrev pub Low : List ℕ → ℕ → Type 0
@@ -27,6 +28,10 @@ LowIfAny f i = (word f i termArguments ≡ 0 → ⊥) → Low f i
 -- k is the place of a frame's first word: the value of its variable x
 abbrev pub valueIn : ℕ → List ℕ → ℕ → ℕ
 valueIn k fw x = getD fw (k + x) 0
+
+-- the sum or difference at record i, in full
+abbrev pub sumIn : List ℕ → ℕ → ℕ → List ℕ → ℤ
+sumIn f i k fw = sumOf (word f i sumOperation) (valueIn k fw (word f i sumY)) (valueIn k fw (word f i sumZ))
 
 -- what the construct at record i makes of the words of cell x
 unfoldable pub termIn : List ℕ → ℕ → ℕ → List ℕ → List ℕ → ℕ → Contents

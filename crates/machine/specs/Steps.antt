@@ -5,16 +5,17 @@ use mathlib.Core.Path.{_≡_, refl, sym, ap, _∙_}
 use mathlib.Core.Bool.{Bool, true, false}
 use mathlib.Core.List.{List}
 use borrow.Author.Tests.{lt-ltb, le-ltb}
+use lib.IntN.{ℤ}
 use lib.ListN.{length, set}
 use mir.Syntax.{w32}
 use mir.Val.{toZ}
 use Rattle.language.specs.Lists.{nth, choose}
 use Rattle.language.specs.File.{Kind, kNone, kHeader, kType, kFunctor, kProcedure, kVariable, kRegion, kEdge, kArm, kArgument, kGoal, kLiteral, kSum, kAssign, kConstruct, kSwitch, kIf, kCall, kPrint, kCreate, kRemove, kinds, kindOf, row, rowIn, word}
 use Rattle.language.specs.Format.{kindWord, nextWord, goalX, literalValue, sumOperation, sumY, sumZ, assignY, termFunctor, termArguments, switchArms, ifY, ifZ, ifThen, ifElse, callProcedure, callArguments, printY, lifetimeRegion, literalKind, sumKind, assignKind, constructKind, switchKind, ifKind, callKind, printKind, createKind, removeKind}
-use Rattle.language.specs.Numbers.{less}
+use Rattle.language.specs.Numbers.{residue, inRange, less}
 use Rattle.language.specs.Machine.{Room, holds}
 use Rattle.language.specs.declared.Stop.{Stop}
-use Rattle.language.specs.declared.Stop.the-variants.{Frames, Prints}
+use Rattle.language.specs.declared.Stop.the-variants.{Frames, Prints, Sums}
 use Rattle.records.specs.Records.{recordAt, recordAs, record-as}
 use Rattle.records.specs.declared.Record.the-variants.{Literal, Sum, Assign, Construct, Switch, If, Call, Print, Create, Remove}
 use Rattle.chains.specs.Records.{chainRecords}
@@ -22,13 +23,13 @@ use Rattle.chains.specs.Shapes.{goal-number}
 use Rattle.memory.specs.declared.Heap.{Heap}
 use Rattle.memory.specs.Memory.{constantsFrom, cellWord}
 use Rattle.word_machine.specs.Tables.{Tables, onto}
-use Rattle.word_machine.specs.Machine.{printWords, Went, went, stops, frameWords, literalWord, sumWord, given, withFrames, valueOf, printsWord, ifRoom, armOf, switches, switchesOn, entersArm, armWords, calls, calleeWords, steps}
+use Rattle.word_machine.specs.Machine.{printWords, Went, went, stops, frameWords, literalWord, given, sums, withFrames, valueOf, printsWord, ifRoom, armOf, switches, switchesOn, entersArm, armWords, calls, calleeWords, steps}
 use Rattle.word_machine.specs.Machine
 use Rattle.machine.specs.declared.State.{State}
 use Rattle.machine.specs.declared.Step.{Step}
 use Rattle.machine.specs.declared.Step.the-variants.{Went as WentTo, Stops}
 use Rattle.machine.specs.Words.{FramePlaced, wordsOf, cameTo, onwardTo, onward-placed, Goes}
-use Rattle.machine.specs.Places.{valueIn, argumentsFrom, wordsFrom, functorIn, armFor, armValues, termValues}
+use Rattle.machine.specs.Places.{valueIn, sumIn, argumentsFrom, wordsFrom, functorIn, armFor, armValues, termValues}
 
 -- ---- the record by the number of its kind, w
 module _ (f : List ℕ) (i w : ℕ) (ew : w ≡ word f i kindWord) where
@@ -125,17 +126,6 @@ module _ (f : List ℕ) (T : Tables) (s : State) (m fw ps : List ℕ) (D : Frame
         → Goes f T s m fw ps (WentTo (onwardTo s next)) fx ps
     literal-goes fx z ex = goes-on _ fx ps (λ k h rs. literal-step k h rs fx z ex) (onward-placed _ D)
 
-    sum-step : (k : Room) (h : Heap) (rs fx : List ℕ) → w ≡ sumKind
-        → fx ≡ set fw (s .at + word f (s .goal) goalX) (sumWord (word f (s .goal) sumOperation) (valueIn (s .at) fw (word f (s .goal) sumY)) (valueIn (s .at) fw (word f (s .goal) sumZ)))
-        → went (wordsOf h m rs fx ps (onwardTo s next)) ≡ Steps k h rs
-    unfolding steps given withFrames wordsOf valueOf
-    sum-step k h rs fx z ex = rw (sum-record f (s .goal) w ew z, ex, en, D .place)
-
-    pub sum-goes : (fx : List ℕ) → w ≡ sumKind
-        → fx ≡ set fw (s .at + word f (s .goal) goalX) (sumWord (word f (s .goal) sumOperation) (valueIn (s .at) fw (word f (s .goal) sumY)) (valueIn (s .at) fw (word f (s .goal) sumZ)))
-        → Goes f T s m fw ps (WentTo (onwardTo s next)) fx ps
-    sum-goes fx z ex = goes-on _ fx ps (λ k h rs. sum-step k h rs fx z ex) (onward-placed _ D)
-
     assign-step : (k : Room) (h : Heap) (rs fx : List ℕ) → w ≡ assignKind → fx ≡ set fw (s .at + word f (s .goal) goalX) (valueIn (s .at) fw (word f (s .goal) assignY))
         → went (wordsOf h m rs fx ps (onwardTo s next)) ≡ Steps k h rs
     unfolding steps given withFrames wordsOf valueOf
@@ -155,6 +145,16 @@ module _ (f : List ℕ) (T : Tables) (s : State) (m fw ps : List ℕ) (D : Frame
         → a ≡ choose (less (toZ w32 (valueIn (s .at) fw (word f (s .goal) ifY))) (toZ w32 (valueIn (s .at) fw (word f (s .goal) ifZ)))) (word f (s .goal) ifThen) (word f (s .goal) ifElse)
         → g ≡ onto a next → Goes f T s m fw ps (WentTo (onwardTo s g)) fw ps
     if-goes a g z ea eg = goes-on _ fw ps (λ k h rs. if-step k h rs a g z ea eg) (onward-placed _ D)
+
+    -- ---- a sum, v in full
+    sum-step : (k : Room) (h : Heap) (rs fx : List ℕ) (v : ℤ) → w ≡ sumKind → v ≡ sumIn f (s .goal) (s .at) fw → inRange v ≡ true
+        → fx ≡ set fw (s .at + word f (s .goal) goalX) (residue v) → went (wordsOf h m rs fx ps (onwardTo s next)) ≡ Steps k h rs
+    unfolding steps sums ifRoom given withFrames wordsOf valueOf
+    sum-step k h rs fx v z ev l ex = rw (sum-record f (s .goal) w ew z, ← D .place, ← ev, l, ex, en)
+
+    pub sum-goes : (fx : List ℕ) (v : ℤ) → w ≡ sumKind → v ≡ sumIn f (s .goal) (s .at) fw → inRange v ≡ true
+        → fx ≡ set fw (s .at + word f (s .goal) goalX) (residue v) → Goes f T s m fw ps (WentTo (onwardTo s next)) fx ps
+    sum-goes fx v z ev l ex = goes-on _ fx ps (λ k h rs. sum-step k h rs fx v z ev l ex) (onward-placed _ D)
 
     -- ---- a print
     print-step : (k : Room) (h : Heap) (rs px : List ℕ) (v : ℕ) → w ≡ printKind → v ≡ valueIn (s .at) fw (word f (s .goal) printY) → px ≡ set ps (s .printed) v
@@ -191,6 +191,14 @@ module _ (f : List ℕ) (T : Tables) (s : State) (m fw ps : List ℕ) (D : Frame
         → fx ≡ termValues f j (valueIn (s .at) fw (word f (s .goal) goalX)) (s .at) m fw → g ≡ T .entry j
         → Goes f T s m fw ps (WentTo (onwardTo s g)) fx ps
     switch-goes fx j g z ej ex eg = goes-on _ fx ps (λ k h rs. switch-step k h rs fx j g z ej ex eg) (onward-placed _ D)
+
+    sum-stop : (k : Room) (h : Heap) (rs : List ℕ) (v : ℤ) → w ≡ sumKind → v ≡ sumIn f (s .goal) (s .at) fw → inRange v ≡ false → stops Sums ≡ Steps k h rs
+    unfolding steps sums ifRoom wordsOf valueOf
+    sum-stop k h rs v z ev l = rw (sum-record f (s .goal) w ew z, ← D .place, ← ev, l)
+
+    pub sum-stops : (v : ℤ) → w ≡ sumKind → v ≡ sumIn f (s .goal) (s .at) fw → inRange v ≡ false → Goes f T s m fw ps (Stops Sums) fw ps
+    unfolding cameTo
+    sum-stops v z ev l = record { comes = λ k h rs a b. sum-stop k h rs v z ev l; kept = λ c e. (refl, refl); stays = λ t e. absurd (stopped-not t _ (sym e)) }
 
     print-stop : (k : Room) (h : Heap) (rs : List ℕ) → w ≡ printKind → k .prints ≤ s .printed → stops Prints ≡ Steps k h rs
     unfolding steps ifRoom wordsOf

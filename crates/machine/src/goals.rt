@@ -2,7 +2,7 @@
 use frames::give;
 use frames::less_words;
 use frames::literal_word;
-use frames::sum_word;
+use frames::sum_of;
 use frames::value;
 use language::format::ASSIGN_Y;
 use language::format::GOAL_X;
@@ -24,8 +24,9 @@ ghost use mir.Val.{toZ};
 ghost use Rattle.language.specs.Lists.{choose};
 ghost use Rattle.language.specs.Numbers.{less};
 ghost use Rattle.language.specs.File.{word};
-ghost use Rattle.language.specs.Format.{recordBytes, maxRecords, maxVariables, goalX, literalValue, sumOperation, sumY, sumZ, assignY, ifY, ifZ, ifThen, ifElse};
-ghost use Rattle.word_machine.specs.Machine.{frameWords, literalWord, sumWord};
+ghost use Rattle.language.specs.Format.{recordBytes, maxRecords, maxVariables, goalX, literalValue, sumY, sumZ, assignY, ifY, ifZ, ifThen, ifElse};
+ghost use Rattle.word_machine.specs.Machine.{frameWords, literalWord};
+ghost use Rattle.machine.specs.Places.{sumIn};
 
 // "After a goal chain ends, the next goal is the enclosing goal's next": the goal after the one at record i.
 pub fn successor(plan: &[usize; PLAN], i: usize) -> usize
@@ -46,18 +47,15 @@ pub fn literal(file: &[u8], i: usize, at: usize, frames: &mut [u32])
     give(frames, at, word_in(file, i, GOAL_X), literal_word(v));
 }
 
-// ".. sum ..".
-pub fn sum(file: &[u8], i: usize, at: usize, frames: &mut [u32])
+// ".. sum ..": the sum or difference of Y and Z, in full.
+pub fn sum(file: &[u8], i: usize, at: usize, frames: &[u32]) -> i64
     requires { ⌜ (recordBytes * i + recordBytes ≤ length (now file)) × (at + frameWords ≤ length (now frames)) ⌝ }
-    requires { ⌜ (word (now file) i goalX ≤ maxVariables) × (word (now file) i sumY ≤ maxVariables) × (word (now file) i sumZ ≤ maxVariables) ⌝ }
-    ensures { λ _. ⌜ now (frames .exit) ≡ set (now (frames .entry)) (at + word (now (file .entry)) i goalX)
-        (sumWord (word (now (file .entry)) i sumOperation) (getD (now (frames .entry)) (at + word (now (file .entry)) i sumY) 0)
-        (getD (now (frames .entry)) (at + word (now (file .entry)) i sumZ) 0)) ⌝ }
+    requires { ⌜ (word (now file) i sumY ≤ maxVariables) × (word (now file) i sumZ ≤ maxVariables) ⌝ }
+    ensures { λ r. ⌜ r ≡ sumIn (now (file .entry)) i at (now (frames .entry)) ⌝ }
 {
-    let y = value(&frames[..], at, word_in(file, i, SUM_Y));
-    let z = value(&frames[..], at, word_in(file, i, SUM_Z));
-    let v = sum_word(word_in(file, i, SUM_OPERATION), y, z);
-    give(frames, at, word_in(file, i, GOAL_X), v);
+    let y = value(frames, at, word_in(file, i, SUM_Y));
+    let z = value(frames, at, word_in(file, i, SUM_Z));
+    sum_of(word_in(file, i, SUM_OPERATION), y, z)
 }
 
 // ".. and assign".

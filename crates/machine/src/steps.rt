@@ -9,10 +9,14 @@ use crate::goals::part_of;
 use crate::goals::successor;
 use crate::goals::sum;
 use frames::FRAME_WORDS;
+use frames::give;
+use frames::in_range;
 use frames::value;
+use frames::word_of;
 use language::Stop;
 use language::format::ASSIGN;
 use language::format::CALL;
+use language::format::GOAL_X;
 use language::format::IF;
 use language::format::KIND;
 use language::format::LITERAL;
@@ -34,7 +38,7 @@ ghost use Rattle.language.specs.File.{word, recordCount};
 ghost use Rattle.language.specs.Format.{kindWord};
 ghost use mathlib.Core.Bool.{false};
 ghost use Rattle.chains.specs.Formed.{Formed};
-ghost use Rattle.chains.specs.Shapes.{IsCall, IsIf, IsPrint, IsSwitch};
+ghost use Rattle.chains.specs.Shapes.{IsCall, IsIf, IsPrint, IsSum, IsSwitch};
 ghost use Rattle.plans.specs.Plan.{Narrow, Numbered, tablesIn};
 ghost use Rattle.machine.specs.Words.{FramePlaced, Changes, onwardTo, Goes};
 
@@ -51,6 +55,23 @@ pub fn onward(state: State, goal: usize) -> State
         goal,
         printed: state.printed,
     }
+}
+
+// A sum or difference, 15 for one "outside −2,147,483,648 to 2,147,483,647".
+fn sum_step(file: &[u8], plan: &[usize; PLAN], state: State, frames: &mut [u32]) -> Step
+    requires { ⌜ Formed (now file) × Numbered (now file) (now plan) ⌝ }
+    requires { ⌜ (state .goal < recordCount (now file)) × IsSum (now file) (state .goal) × FramePlaced state (length (now frames)) ⌝ }
+    ensures { λ r. ⌜ ((images callees m ps : List ℕ) → Goes (now (file .entry)) (tablesIn (now (plan .entry)) images callees)
+        state m (now (frames .entry)) ps r (now (frames .exit)) ps) ⌝ }
+{
+    let i = state.goal;
+    let at = state.at;
+    let v = sum(file, i, at, &frames[..]);
+    if !in_range(v) {
+        return Step::Stops(Stop::Sums);
+    }
+    give(&mut frames[..], at, word_in(file, i, GOAL_X), word_of(v));
+    Step::Went(onward(state, successor(plan, i)))
 }
 
 // A call, "13 no free frame".
@@ -174,10 +195,7 @@ pub fn go(
             literal(file, i, at, &mut frames[..]);
             Step::Went(onward(state, successor(plan, i)))
         }
-        SUM => {
-            sum(file, i, at, &mut frames[..]);
-            Step::Went(onward(state, successor(plan, i)))
-        }
+        SUM => sum_step(file, plan, state, &mut frames[..]),
         ASSIGN => {
             assign(file, i, at, &mut frames[..]);
             Step::Went(onward(state, successor(plan, i)))

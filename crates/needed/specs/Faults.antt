@@ -1,18 +1,18 @@
 -- What goes wrong in the run of a file that breaks a rule, were it allowed: a goal that is not allowed, at which the run stays for good, or an end
 -- with a region still alive. And what is shown of each file.
-use Prim.Native.Nat.{ℕ, zero, suc, _+_}
+use Prim.Native.Nat.{ℕ, _+_}
 use mathlib.Core.Bool.{Bool, true, false}
 use mathlib.Core.List.{List, [], _∷_}
 use mathlib.Core.Path.{_≡_, refl, sym, ap, _∙_}
 use native.Mathlib.Omega.{arith}
-use native.Mathlib.Numerals.{unary-clauses}
-use Rattle.sets.specs.Tests.{neg, clash}
+use Rattle.sets.specs.Tests.{neg, neg-true, clash}
 use Rattle.language.specs.declared.Refusal.the-variants.{Rules}
 use Rattle.language.specs.declared.Verdict.the-variants.{Refused, Accepted}
-use Rattle.language.specs.Lists.{all, choose, upFrom}
+use Rattle.language.specs.Lists.{all, upFrom}
 use Rattle.language.specs.Program.{Goals, done, _then_, Program}
-use Rattle.language.specs.AcceptedRun.{RegionFrame, Memory, State, allowed, next, stepFrom, stepOf, steps}
+use Rattle.language.specs.AcceptedRun.{RegionFrame, Memory, State, allowed, stepFrom, stepOf, steps}
 use Rattle.language.specs.Answers.{program, checked}
+use Rattle.laws.specs.Runs.{stays-for-region, stays-on}
 use Rattle.needed.specs.Without.{Rule, checkedWithout}
 
 module _ (P : Program) where
@@ -28,40 +28,33 @@ module _ (P : Program) where
   unfoldable pub stuck : State → Bool
   stuck s = stuckIn (s .frames) (s .memory)
 
-  refused-step : (b : Bool) (s t : State) → neg b ≡ true → choose b t s ≡ s
-  unfolding neg choose
-  refused-step true s t e = absurd (clash e refl)
-  refused-step false s t e = refl
+  goals-stay : (gs : Goals) (f : RegionFrame) (fs : List RegionFrame) (s : State) → s .frames ≡ f ∷ fs → f .frame .goals ≡ gs
+      → stuckAt gs f (s .memory) ≡ true → stepOf P s ≡ s
+  unfolding stuckAt
+  goals-stay done f fs s q h e = absurd (clash e refl)
+  goals-stay (g then gs) f fs s q h e = stays-for-region P s f fs g gs q h (neg-true e)
 
-  next-stays : (gs : Goals) (f : RegionFrame) (fs : List RegionFrame) (s : State) → stuckAt gs f (s .memory) ≡ true → next P gs f fs s ≡ s
-  unfolding stuckAt next
-  next-stays done f fs s e = refl
-  next-stays (g then gs) f fs s e = refused-step (allowed P g f (s .memory)) s _ e
-
-  from-stays : (fs : List RegionFrame) (s : State) → stuckIn fs (s .memory) ≡ true → stepFrom P fs s ≡ s
-  unfolding stuckIn stepFrom
-  from-stays [] s e = refl
-  from-stays (f ∷ fs) s e = next-stays (f .frame .goals) f fs s e
+  frames-stay : (fs : List RegionFrame) (s : State) → s .frames ≡ fs → stuckIn fs (s .memory) ≡ true → stepOf P s ≡ s
+  unfolding stuckIn
+  frames-stay [] s q e = absurd (clash e refl)
+  frames-stay (f ∷ fs) s q e = goals-stay (f .frame .goals) f fs s q refl e
 
   -- a run that is stuck stays where it is, and so does one that has ended
   pub stuck-stays : (s : State) → stuck s ≡ true → stepOf P s ≡ s
-  unfolding stuck stepOf
-  stuck-stays s e = from-stays (s .frames) s e
+  unfolding stuck
+  stuck-stays s e = frames-stay (s .frames) s refl e
 
   pub ended-stays : (s : State) → s .frames ≡ [] → stepOf P s ≡ s
   unfolding stepOf stepFrom
   ended-stays s e = rw e
 
-  stays-on : (n : ℕ) → stepOf P (steps P n) ≡ steps P n → (k : ℕ) → steps P (n + k) ≡ steps P n
-  unfolding steps
-  stays-on n e zero = simp unary-clauses
-  stays-on n e (suc k) = simp unary-clauses (ap (stepOf P) (stays-on n e k) ∙ e)
-
   -- the run stays at one state only
   one-place : (m n : ℕ) → stepOf P (steps P m) ≡ steps P m → stepOf P (steps P n) ≡ steps P n → steps P m ≡ steps P n
+  unfolding steps
   one-place m n d e =
       let swap : n + m ≡ m + n = omega arith in
-      sym (stays-on m d n) ∙ ap (steps P) (sym swap) ∙ stays-on n e m
+      let on = stays-on (stepOf P) (steps P) (λ k. refl) in
+      sym (on m d n) ∙ ap (steps P) (sym swap) ∙ on n e m
 
   stuck-goes-on : (s : State) → stuck s ≡ true → s .frames ≡ [] → ⊥
   unfolding stuck stuckIn

@@ -18,14 +18,14 @@ use Rattle.language.specs.Answers.{program}
 use Rattle.records.specs.Records.{recordAt}
 use Rattle.chains.specs.Formed.{Formed}
 use Rattle.safety.specs.Premises.{Accepted}
-use Rattle.safety.specs.Safety.{steps-fine, taken, busy}
+use Rattle.safety.specs.Safety.{steps-fine, busy}
 use Rattle.word_machine.specs.Tables.{Tables, Tabled}
 use Rattle.word_machine.specs.Machine.{MachineWords, Went, went, stops, settled, steps}
 use Rattle.word_machine.specs.Relation.{whereIn, Running, MemoryStored, waiting-depth}
 use Rattle.word_machine.specs.Successors.{todo-next}
 use Rattle.word_machine.specs.Returns as R
 use Rattle.word_machine.specs.Steps.{After, onward, halts}
-use Rattle.word_machine.specs.WholeRun.{Agrees, agrees, settled-agrees, next-goal, fine-inv, outlook-over}
+use Rattle.word_machine.specs.WholeRun.{Agrees, agrees, settled-agrees, next-goal, goes-taken, fine-inv, outlook-over}
 use Rattle.profiling.specs.declared.Counts.{Counts}
 use Rattle.profiling.specs.declared.Held.{Held}
 use Rattle.profiling.specs.Statement.{heldIn, heldAfter, CarriesOut}
@@ -104,19 +104,21 @@ module _ {f : List ℕ} {T : Tables} (B : Tabled f T) (A : Accepted (program f))
           (outlook K (Run.steps (program f) n)) (steps f T K (suc j) (recordAt f (suc j)) w)
       after = next-goal B A F K qs n w j (N .frames) (N .at) (N .running) (N .stored) (N .goal) (N .rest) (N .goals)
 
-      took : Run.steps (program f) (suc n) ≡ Run.take (program f) (N .goal) (withFrame (N .newest) (withGoals (N .newest .frame) (N .rest))) (N .waiting) (Run.steps (program f) n .memory)
-      took = taken A n (N .newest) (N .waiting) (N .goal) (N .rest) (N .frames) (N .goals)
+      took : outlook K (Run.steps (program f) n) ≡ goes
+          → Run.steps (program f) (suc n) ≡ Run.take (program f) (N .goal) (withFrame (N .newest) (withGoals (N .newest .frame) (N .rest))) (N .waiting) (Run.steps (program f) n .memory)
+      took = goes-taken B A F K qs n (N .newest) (N .waiting) (N .goal) (N .rest) (N .frames) (N .goals)
 
-      next-counted : countsIn (Run.steps (program f) (suc n) .memory) ≡ counted w (recordAt f (suc j)) (countsIn (Run.steps (program f) n .memory))
-      next-counted =
-          ap (λ s. countsIn (s .memory)) took
+      next-counted : outlook K (Run.steps (program f) n) ≡ goes
+          → countsIn (Run.steps (program f) (suc n) .memory) ≡ counted w (recordAt f (suc j)) (countsIn (Run.steps (program f) n .memory))
+      next-counted o =
+          ap (λ s. countsIn (s .memory)) (took o)
           ∙ goal-counted B A F K qs w (N .newest) (N .waiting) (Run.steps (program f) n .memory) (N .ρ) (N .χ) (suc j) (rw (N .at) at (N .running .newest)) (N .running .waiting) (N .stored)
           (fine-inv (Run.steps (program f) n) (N .newest) (N .waiting) (steps-fine A n) (N .frames)) (N .goal) (N .rest) (N .goals)
 
       next-agrees : (v : MachineWords) → steps f T K (suc j) (recordAt f (suc j)) w ≡ went v → (outlook K (Run.steps (program f) n) ≡ goes) × Agrees B A F K qs (suc n) (settled f T v)
       next-agrees v e =
           let G = after-went after e in
-          (G .out, settled-agrees B A F K qs (suc n) v (G .newest) (G .waiting) (G .memory) (took ∙ G .is) (G .running) (G .stored))
+          (G .out, settled-agrees B A F K qs (suc n) v (G .newest) (G .waiting) (G .memory) (took (G .out) ∙ G .is) (G .running) (G .stored))
 
       next-carries : CarriesOut f n (suc j)
       next-carries =
@@ -170,11 +172,11 @@ module _ {f : List ℕ} {T : Tables} {lent : Lent} {n : ℕ} {w : MachineWords} 
           formed = H .formed;
           prints = H .prints;
           words = a .1;
-          counts = ap (counted w (recordAt f (suc j))) (H .counts) ∙ sym (next-counted (H .tabled) (H .accepted) (H .formed) K (H .prints) N);
+          counts = ap (counted w (recordAt f (suc j))) (H .counts) ∙ sym (next-counted (H .tabled) (H .accepted) (H .formed) K (H .prints) N (a .0));
           whole = H .whole ∙ (rw (z, a .0));
         }
 
-    -- there is no room for it
+    -- there is a cause to stop before it
     pub stops-here : (s : Stop) → n < lent .steps → steps f T K (suc j) (recordAt f (suc j)) w ≡ stops s → D.run P lent ≡ D.endedWith (Stopped s) n (Run.steps P n)
     unfolding D.runOn
     stops-here s l e =

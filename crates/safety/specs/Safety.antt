@@ -1,15 +1,17 @@
--- Safety of the accepted file's run: no step is one that would stay, and nothing is alive once the entry has returned.
+-- Safety of the accepted file's run: it stays for no region, only at a sum out of range, and nothing is alive once the entry has returned.
 use mathlib.Core.Path.{_≡_, sym, ap, _∙_}
 use mathlib.Core.Bool.{true, false, false≢true}
 use mathlib.Core.List.{List, [], _∷_}
+use mathlib.Core.Logic.{_⊎_, inl, inr}
 use Prim.Native.Nat.{ℕ, zero, suc}
+use Rattle.sets.specs.Tests.{truth}
 use Rattle.sets.specs.Sets.{member}
 use Rattle.language.specs.Program.{Goals, _then_, Goal, Program, signatureOf, inMode}
 use Rattle.language.specs.Values.{insOf}
 use Rattle.language.specs.Lifetimes.{startHeld}
-use Rattle.language.specs.Frames.{withGoals, entryFrame}
-use Rattle.language.specs.AcceptedRun.{RegionFrame, Memory, State, withFrame, start, allowed, take, next, stepFrom, stepOf, steps}
-use Rattle.laws.specs.Choices.{choose-true}
+use Rattle.language.specs.Frames.{fits, withGoals, entryFrame}
+use Rattle.language.specs.AcceptedRun.{RegionFrame, Memory, State, withFrame, start, allowed, take, stepFrom, stepOf, steps}
+use Rattle.laws.specs.Runs as Runs
 use Rattle.laws.specs.MoreSets.{empty-in}
 use Rattle.safety.specs.Doing.{next-in}
 use Rattle.region_graph.specs.Classes.{kept-in}
@@ -31,18 +33,14 @@ module _ {P : Program} (A : Accepted P) where
   unfolding withFrame withGoals
   inv-taken f fs m g gs e (inv d N) = take-ok A (withFrame f (withGoals (f .frame) gs)) fs m N g (next-in P _ d g gs e)
 
-  -- a step from there is that goal taken
-  step-taken : (st : State) (f : RegionFrame) (fs : List RegionFrame) (g : Goal) (gs : Goals) → st .frames ≡ f ∷ fs
-      → f .frame .goals ≡ g then gs
-      → allowed P g f (st .memory) ≡ true → stepOf P st ≡ take P g (withFrame f (withGoals (f .frame) gs)) fs (st .memory)
-  unfolding stepOf stepFrom next
-  step-taken st f fs g gs e q a =
-      ap (λ (es : List RegionFrame). stepFrom P es st) e ∙ ap (λ (hs : Goals). next P hs f fs st) q ∙ choose-true _ _ st a
-
+  -- a step from there is that goal taken, or stays at a sum out of range
   step-fine : (st : State) → Fine P st → Fine P (stepOf P st)
   unfolding stepOf stepFrom
-  step-fine st (running {f = f} {fs = fs} {g = g} {gs = gs} e q i) =
-      rw (step-taken st f fs g gs e q (inv-allowed f fs (st .memory) g gs q i)) (inv-taken f fs (st .memory) g gs q i)
+  step-fine st (running {f = f} {fs = fs} {g = g} {gs = gs} e q i) = go (truth (fits g (f .frame)))
+    where
+      go : (fits g (f .frame) ≡ true) ⊎ (fits g (f .frame) ≡ false) → Fine P (stepOf P st)
+      go (inl n) = rw (Runs.taken P st f fs g gs e q n (inv-allowed f fs (st .memory) g gs q i)) (inv-taken f fs (st .memory) g gs q i)
+      go (inr n) = rw (Runs.stays-at-sum P st f fs g gs e q n) (running e q i)
   step-fine st (over e d) = rw (ended e) (over e d)
     where
       ended : st .frames ≡ [] → stepOf P st ≡ st
@@ -97,16 +95,17 @@ module _ {P : Program} (A : Accepted P) where
   fine-clean st (over p d) z k = d k
 
   -- ---- the theorems
-  -- the state after any number of steps is never one that stays
+  -- the state after any number of steps is never one that stays for a region
   pub safe : (n : ℕ) (f : RegionFrame) (fs : List RegionFrame) (g : Goal) (gs : Goals) → steps P n .frames ≡ f ∷ fs
       → f .frame .goals ≡ g then gs → allowed P g f (steps P n .memory) ≡ true
   safe n f fs g gs e q = inv-allowed f fs (steps P n .memory) g gs q (fine-inv (steps P n) f fs (steps-fine n) e)
 
-  -- so the next step takes the newest frame's next goal
+  -- so the next step takes the newest frame's next goal, unless that is a sum out of range
   pub taken : (n : ℕ) (f : RegionFrame) (fs : List RegionFrame) (g : Goal) (gs : Goals) → steps P n .frames ≡ f ∷ fs
-      → f .frame .goals ≡ g then gs → steps P (suc n) ≡ take P g (withFrame f (withGoals (f .frame) gs)) fs (steps P n .memory)
+      → f .frame .goals ≡ g then gs → fits g (f .frame) ≡ true
+      → steps P (suc n) ≡ take P g (withFrame f (withGoals (f .frame) gs)) fs (steps P n .memory)
   unfolding steps
-  taken n f fs g gs e q = step-taken (steps P n) f fs g gs e q (safe n f fs g gs e q)
+  taken n f fs g gs e q t = Runs.taken P (steps P n) f fs g gs e q t (safe n f fs g gs e q)
 
   -- the newest frame has a goal
   pub busy : (n : ℕ) (f : RegionFrame) (fs : List RegionFrame) → steps P n .frames ≡ f ∷ fs

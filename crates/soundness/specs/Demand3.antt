@@ -19,7 +19,7 @@ use Rattle.layout.specs.Programs.{program-written, form-of-program, header-of-p
 use Rattle.placement.specs.Whole.{Annotatable, accepted-again, typed-again, values-again, regions-again, classes-again}
 use Rattle.lockstep.specs.Lock as Lock
 use Rattle.safety.specs.Premises as Premises
-use Rattle.safety.specs.Safety.{safe, clean}
+use Rattle.safety.specs.Safety.{safe, taken, clean}
 use Rattle.soundness.specs.Statement.{Demand3, Written}
 
 -- ---- an accepted file
@@ -49,12 +49,18 @@ demand-3 f e =
     let S = safe A in
     record {
       safe = S;
+      taken = taken A;
       clean = clean A;
       prints = Lock.prints (program f) S;
       each = Lock.each (program f) S;
       both = Lock.both (program f) S;
       ended = Lock.ended (program f) S;
       plainEnded = Lock.plainEnded (program f) S;
+      bothStay = Lock.bothStay (program f) S;
+      sameSum = Lock.sameSum (program f) S;
+      plainSum = Lock.plainSum (program f) S;
+      stays = Lock.stays (program f) S;
+      plainStays = Lock.plainStays (program f) S;
     }
 
 -- ---- an annotated file

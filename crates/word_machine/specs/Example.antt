@@ -1,16 +1,16 @@
 -- The word machine computed on hand-sized files.
-use Prim.Native.Nat.{ℕ, _-_}
+use Prim.Native.Nat.{ℕ}
 use mathlib.Core.Path.{_≡_, refl}
 use mathlib.Core.List.{List, [], _∷_, map}
-use lib.IntN.{pos}
+use lib.IntN.{pos, negsuc}
 use lib.ListN.{take, replicate}
 use mir.Syntax.{w32}
 use mir.Val.{toZ}
 use Rattle.language.specs.declared.Ending.the-variants.{Finished, Stopped}
-use Rattle.language.specs.declared.Stop.the-variants.{Steps, Cells, Frames}
+use Rattle.language.specs.declared.Stop.the-variants.{Steps, Cells, Frames, Sums}
 use Rattle.language.specs.Machine.{Run}
 use Rattle.language.specs.Computing.{computing}
-use Rattle.language.specs.Table.{eight, rows, file, newU}
+use Rattle.language.specs.Table.{eight, rows, file, newU, numberVariables, doublings, toTheEnds, over}
 use Rattle.chains.specs.Layout.Steps
 use Rattle.records.specs.Records.{recordAt}
 use Rattle.chains.specs.Formed.{argumentsAt}
@@ -23,7 +23,7 @@ use Rattle.word_machine.specs.Filling.{stores, referred, onwardWords, ow
 use Rattle.word_machine.specs.Machine as M
 
 unfoldable pub opened : Unit {0}
-unfolding computing slotOf givenOf packed ofMode Steps.argumentsAt argumentsAt recordAt fieldOf recordsUpTo chainRecords onto stores referred onwardWords ownerWords filled matched matchedBy matches onwards owners slots modes tablesOf Memory.unused Memory.taken Memory.emptyHeap Memory.createdOf Memory.createdRegionsOf Memory.created Memory.createdRegions Memory.filled Memory.hung Memory.builtOf Memory.builtCellsOf Memory.builtRegionsOf Memory.built Memory.builtCells Memory.builtRegions Memory.removed Memory.removedCells Memory.removedRegions M.literalWord M.sumWord M.copied M.cleared M.blocks M.armOf M.givesEach M.withFrames M.given M.valueOf M.regionFor M.ifRoom M.termOf M.contentsOf M.constructedBy M.constructed M.constructs M.createdBy M.makesRegion M.dropsRegion M.printsWord M.armWords M.entersArm M.switchesOn M.switches M.valuesIn M.regionsIn M.calleeWords M.calls M.valuesOut M.regionsOut M.returnWords M.returned M.settledFrom M.settled M.settledIf M.steps M.stepped M.endedWith M.afterStep M.runOn M.startWords M.noFrame M.runFrom M.lentWords M.wordRun
+unfolding computing slotOf givenOf packed ofMode Steps.argumentsAt argumentsAt recordAt fieldOf recordsUpTo chainRecords onto stores referred onwardWords ownerWords filled matched matchedBy matches onwards owners slots modes tablesOf Memory.unused Memory.taken Memory.emptyHeap Memory.createdOf Memory.createdRegionsOf Memory.created Memory.createdRegions Memory.filled Memory.hung Memory.builtOf Memory.builtCellsOf Memory.builtRegionsOf Memory.built Memory.builtCells Memory.builtRegions Memory.removed Memory.removedCells Memory.removedRegions M.literalWord M.sumOf M.copied M.cleared M.blocks M.armOf M.givesEach M.withFrames M.given M.valueOf M.regionFor M.ifRoom M.sums M.termOf M.contentsOf M.constructedBy M.constructed M.constructs M.createdBy M.makesRegion M.dropsRegion M.printsWord M.armWords M.entersArm M.switchesOn M.switches M.valuesIn M.regionsIn M.calleeWords M.calls M.valuesOut M.regionsOut M.returnWords M.returned M.settledFrom M.settled M.settledIf M.steps M.stepped M.endedWith M.afterStep M.runOn M.startWords M.noFrame M.runFrom M.lentWords M.wordRun
 opened = tt
 
 -- what a run ended with and printed
@@ -46,6 +46,19 @@ newU-steps = refl
 pub newU-frames : tried newU 16 4 135 2 0 ≡ record { ending = Stopped Frames; steps = 0; printed = [] }
 unfolding opened outcome tried eight rows file newU
 newU-frames = refl
+
+-- 2,147,483,647 + 1: the run stops before that step, all steps before it done. −2,147,483,648 + 0 goes on
+pub over-sums : tried over 0 0 136 2 30 ≡ record { ending = Stopped Sums; steps = 21; printed = pos 2147483647 ∷ [] }
+unfolding opened outcome tried eight rows file numberVariables doublings toTheEnds over
+over-sums = refl
+
+pub over-steps : tried over 0 0 136 2 21 ≡ record { ending = Stopped Steps; steps = 21; printed = pos 2147483647 ∷ [] }
+unfolding opened outcome tried eight rows file numberVariables doublings toTheEnds over
+over-steps = refl
+
+pub lower-end : tried (toTheEnds 0 0 17 20) 0 0 136 2 30 ≡ record { ending = Finished; steps = 23; printed = pos 2147483647 ∷ negsuc 2147483647 ∷ [] }
+unfolding opened outcome tried eight rows file numberVariables doublings toTheEnds
+lower-end = refl
 
 -- a program with recursion: `make` bears a list, `show` prints it and keeps it, `drop` prints it again and ends its region
 unfoldable pub listed : List ℕ

@@ -6,19 +6,19 @@ use Prim.Native.Nat.{ℕ, zero, suc, _+_, _-_, _*_}
 use mathlib.Core.Bool.{Bool, true, false}
 use mathlib.Core.List.{List, [], _∷_}
 use lib.Dec.{eqb, ltb}
-use lib.IntN.{_+ℤ_, _-ℤ_}
+use lib.IntN.{ℤ}
 use lib.ListN.{length, getD, set}
 use mir.Syntax.{w32}
 use mir.Val.{toZ}
 use Rattle.sets.specs.Members.{members}
 use Rattle.language.specs.declared.Stop.{Stop}
-use Rattle.language.specs.declared.Stop.the-variants.{Steps, Cells, Places, Frames, Prints}
+use Rattle.language.specs.declared.Stop.the-variants.{Steps, Cells, Places, Frames, Prints, Sums}
 use Rattle.language.specs.declared.Ending.{Ending}
 use Rattle.language.specs.declared.Ending.the-variants.{Finished, Stopped}
 use Rattle.language.specs.Lists.{choose}
 use Rattle.language.specs.File.{word, recordCount}
 use Rattle.language.specs.Program.{inMode, outMode}
-use Rattle.language.specs.Numbers.{literalNumber, residue, less}
+use Rattle.language.specs.Numbers.{literalNumber, residue, sumNumber, inRange, less}
 use Rattle.language.specs.Machine.{Lent, Room, holds, roomIn}
 use Rattle.language.specs.Format.{maxRegions, termFunctor, termArguments, callProcedure, maxVariables}
 use Rattle.records.specs.Records.{recordAt}
@@ -74,13 +74,13 @@ regionPlace k r = frameWords * k + regionsFrom + r
 abbrev pub callPlace : ℕ → ℕ
 callPlace k = frameWords * k + callFrom
 
--- ---- numbers as words: "read as two's complement", "wrap modulo 2^32"
+-- ---- numbers as words: "read as two's complement"
 unfoldable pub literalWord : ℕ → ℕ
 literalWord v = residue (literalNumber v)
 
-unfoldable pub sumWord : ℕ → ℕ → ℕ → ℕ
-sumWord zero a b = residue (toZ w32 a +ℤ toZ w32 b)
-sumWord (suc o) a b = residue (toZ w32 a -ℤ toZ w32 b)
+-- the sum or difference of two words, a number of any size
+unfoldable pub sumOf : ℕ → ℕ → ℕ → ℤ
+sumOf o a b = sumNumber o (toZ w32 a) (toZ w32 b)
 
 -- ---- words of a frame copied to another: for each of a list, from its source to its target
 unfoldable pub copied : (ℕ → ℕ) → (ℕ → ℕ) → List ℕ → List ℕ → List ℕ
@@ -130,6 +130,10 @@ pub data Went : Type 0 where
 unfoldable pub ifRoom : Bool → Stop → MachineWords → Went
 ifRoom true c w = went w
 ifRoom false c w = stops c
+
+-- X gets a sum's word, and record i is next; out of range, the run stops (C-15)
+unfoldable pub sums : MachineWords → ℕ → ℤ → ℕ → Went
+sums w x z i = ifRoom (inRange z) Sums (given w x (residue z) i)
 
 -- ---- constructs and creates: a construct without arguments gives a constant, any other a cell
 -- a cell's words for functor k: the values of its arguments, up to the first that is numbered 0; behind them, what stands there
@@ -281,7 +285,7 @@ module _ (f : List ℕ) (T : Tables) where
   -- ---- the goal at record i, in room k
   unfoldable pub steps : Room → ℕ → Record → MachineWords → Went
   steps k i (Literal n x v) w = went (given w x (literalWord v) (T .successor i))
-  steps k i (Sum n x o y z) w = went (given w x (sumWord o (valueOf w y) (valueOf w z)) (T .successor i))
+  steps k i (Sum n x o y z) w = sums w x (sumOf o (valueOf w y) (valueOf w z)) (T .successor i)
   steps k i (Assign n x y) w = went (given w x (valueOf w y) (T .successor i))
   steps k i (Construct n x t a b c d) w = constructs w x (T .successor i) (T .region i) t a b c d
   steps k i (Switch n x cs) w = went (switches w (valueOf w x) cs)

@@ -9,7 +9,7 @@ use Rattle.language.specs.File.{GoalKind, kLiteral, kSum, kAssign, kConstruct, 
 use Rattle.language.specs.Program.{four, argumentsOf, Goals, _then_, Goal, typeOf, regionOf}
 use Rattle.language.specs.Typing.{functorsFor, argumentsOk, stepOk, goalOk}
 use Rattle.language.specs.Regions.{goalRegions}
-use Rattle.language.specs.Frames.{withGoals}
+use Rattle.language.specs.Frames.{withGoals, sumOf, fitsStep}
 use Rattle.language.specs.AcceptedRun.{RegionFrame, Memory, withFrame, regionFor, allowed}
 use Rattle.language.specs.Machine.{Room, outlookFor}
 use Rattle.language.specs.Answers.{program}
@@ -56,7 +56,7 @@ module _ {f : List ℕ} {T : Tables} (B : Tabled f T) (A : Accepted (program f))
   W′ = W
 
   abbrev Goes : Goal → Type 0
-  Goes a = After B A F K qs a u fs m (outlookFor K a (record { frames = e ∷ fs; memory = m })) (steps f T K i (recordAt f i) w)
+  Goes a = After B A F K qs a u fs m (outlookFor K a e (record { frames = e ∷ fs; memory = m })) (steps f T K i (recordAt f i) w)
 
   -- the goal is a; what number 3 says of it
   typed : (a : Goal) → g ≡ a → goalOk (program f) (sig f (e .frame .procedure)) a ≡ true
@@ -77,7 +77,7 @@ module _ {f : List ℕ} {T : Tables} (B : Tabled f T) (A : Accepted (program f))
       rw (z, r) (literal-after B A F K qs w u fs m ρ χ i G′ W′ Q x v (type-in _ 0 x (typed _ z) .0))
 
   is-sum : (n x o y k : ℕ) → recordAt f i ≡ Sum n x o y k → Goes g
-  unfolding outlookFor steps goalOk stepOk withFrame withGoals
+  unfolding outlookFor fitsStep sumOf steps goalOk stepOk withFrame withGoals
   is-sum n x o y k r =
       let z = O .is ∙ sum-at F refl r .goal in
       let t = and-true (typed _ z) in
@@ -168,5 +168,5 @@ module _ {f : List ℕ} {T : Tables} (B : Tabled f T) (A : Accepted (program f))
   by-kind kCreate r = is-create _ _ r
   by-kind kRemove r = is-remove _ _ r
 
-  pub goal-after : After B A F K qs g (withFrame e (withGoals (e .frame) rest)) fs m (outlookFor K g (record { frames = e ∷ fs; memory = m })) (steps f T K i (recordAt f i) w)
+  pub goal-after : After B A F K qs g (withFrame e (withGoals (e .frame) rest)) fs m (outlookFor K g e (record { frames = e ∷ fs; memory = m })) (steps f T K i (recordAt f i) w)
   goal-after = let k = goal-is (O .stands) (O .some) in by-kind (k .0) (k .1)

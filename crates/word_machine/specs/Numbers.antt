@@ -1,25 +1,22 @@
 -- Words of numbers: what the machine writes stands for the definition's number.
-use Prim.Native.Nat.{ℕ, zero, suc, _-_, _%_, _^_, _<_}
+use Prim.Native.Nat.{ℕ, suc, _-_, _%_, _^_, _<_}
 use native.Mathlib.Omega.{arith}
 use native.Mathlib.Decide.{decLt}
-use mathlib.Core.Path.{_≡_, refl}
-use borrow.Author.Tests.{le-ltb}
+use mathlib.Core.Bool.{true}
+use mathlib.Core.Path.{_≡_}
+use borrow.Author.Tests.{le-ltb, leb-true}
 use lib.IntN.{ℤ, pos, negsuc}
 use mir.Syntax.{w16, w32}
 use mir.Val.{toZ}
 use mir.Facts.{toZ-pos, toZ-neg}
-use Rattle.language.specs.Numbers.{literalNumber, residue, wrap, sumNumber}
+use Rattle.sets.specs.Tests.{and-true}
+use Rattle.language.specs.Numbers.{literalNumber, residue, inRange}
 use Rattle.language.specs.Frames.{Value, numeral, numberIn}
 use Rattle.heap.specs.Standing.{StandsFor}
-use Rattle.word_machine.specs.Machine.{literalWord, sumWord}
+use Rattle.word_machine.specs.Machine.{literalWord}
 use Rattle.word_machine.specs.Relation.{Where, Means}
 
-pub sum-word : (o a b : ℕ) → toZ w32 (sumWord o a b) ≡ sumNumber o (toZ w32 a) (toZ w32 b)
-unfolding sumWord sumNumber wrap
-sum-word zero a b = refl
-sum-word (suc o) a b = refl
-
--- a residue of what 32 bits hold is read back
+-- the word of a number in range is read back as that number
 read-pos : (n : ℕ) → n < 2 ^ 31 → toZ w32 (residue (pos n)) ≡ pos n
 unfolding residue
 read-pos n h = let z : n % 2 ^ 32 ≡ n = omega arith in rw z (toZ-pos w32 h)
@@ -27,6 +24,11 @@ read-pos n h = let z : n % 2 ^ 32 ≡ n = omega arith in rw z (toZ-pos w32 h)
 read-neg : (n : ℕ) → n < 2 ^ 31 → toZ w32 (residue (negsuc n)) ≡ negsuc n
 unfolding residue
 read-neg n h = let z : n % 2 ^ 32 ≡ n = omega arith in rw z (toZ-neg w32 n h)
+
+pub range-word : (z : ℤ) → inRange z ≡ true → toZ w32 (residue z) ≡ z
+unfolding inRange
+range-word (pos n) h = read-pos n (omega (arith, leb-true n 2147483647 (and-true h .1)))
+range-word (negsuc n) h = read-neg n (omega (arith, leb-true n 2147483647 (and-true h .0)))
 
 pub literal-word : (v : ℕ) → toZ w32 (literalWord v) ≡ literalNumber v
 unfolding literalWord literalNumber

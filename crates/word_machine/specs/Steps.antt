@@ -1,27 +1,30 @@
 -- The newest frame's next goal, as the words do it and as the definition does: both stop, for the same cause, or both go on.
 use Prim.Native.Nat.{ℕ}
 use native.Mathlib.Omega.{arith}
-use mathlib.Core.Path.{_≡_, refl, _∙_}
-use mathlib.Core.Bool.{true}
+use mathlib.Core.Path.{_≡_, refl}
+use mathlib.Core.Bool.{Bool, true, false}
 use mathlib.Core.List.{List}
-use lib.ListN.{take, length-set}
+use lib.ListN.{length-set}
 use mir.Syntax.{w32}
 use mir.Val.{toZ}
 use Rattle.language.specs.declared.Stop.{Stop}
+use Rattle.language.specs.declared.Stop.the-variants.{Sums}
+use Rattle.language.specs.Numbers.{residue, inRange}
 use Rattle.language.specs.Program.{literal, sum, assign, Goal, step}
 use Rattle.language.specs.Typing.{isVariable}
 use Rattle.language.specs.Frames.{Value, numberIn, giving, literalIn, sumIn, assignIn}
+use Rattle.language.specs.Frames as Frames
 use Rattle.language.specs.AcceptedRun.{RegionFrame, Memory, withFrame, state}
 use Rattle.language.specs.AcceptedRun as Run
-use Rattle.language.specs.Machine.{Room, Outlook, goes, lacks}
+use Rattle.language.specs.Machine.{Room, Outlook, goes, lacks, roomOr}
 use Rattle.language.specs.Answers.{program}
 use Rattle.chains.specs.Formed.{Formed}
 use Rattle.safety.specs.Premises.{Accepted, laws}
 use Rattle.region_graph.specs.Shared.{variable-top}
 use Rattle.heap.specs.Standing as Standing
 use Rattle.word_machine.specs.Tables.{Tables, Tabled}
-use Rattle.word_machine.specs.Machine.{MachineWords, valuePlace, literalWord, sumWord, withFrames, given, valueOf, Went, went, stops}
-use Rattle.word_machine.specs.Numbers.{literal-word, sum-word, number-word}
+use Rattle.word_machine.specs.Machine.{MachineWords, valuePlace, literalWord, sumOf, withFrames, given, valueOf, Went, went, stops, ifRoom, sums}
+use Rattle.word_machine.specs.Numbers.{range-word, literal-word, number-word}
 use Rattle.word_machine.specs.Premises.{Number}
 use Rattle.word_machine.specs.Relation.{whereIn, Means, sig, FrameOk, Waiting, Running, MemoryStored}
 use Rattle.word_machine.specs.Stepping.{set-frame, set-waiting}
@@ -67,15 +70,19 @@ module _ {f : List ℕ} {T : Tables} (B : Tabled f T) (A : Accepted (program f))
     unfolding Run.take literalIn Standing.StandsFor
     literal-after x v o = onward refl (given-running x (literalWord v) _ o (literal-word v)) (stored-given x (literalWord v))
 
+    -- a sum: in range it goes on, with the word, else it stops
+    sum-by : (x o y z : ℕ) → isVariable (sig f (u .frame .procedure)) x ≡ true → (b : Bool) → inRange (Frames.sumOf (u .frame) o y z) ≡ b
+        → After (step (sum x o y z)) u fs m (roomOr b Sums) (ifRoom b Sums (given w x (residue (Frames.sumOf (u .frame) o y z)) (T .successor i)))
+    unfolding Run.take sumIn Standing.StandsFor roomOr ifRoom
+    sum-by x o y z a true r = onward refl (given-running x _ _ a (range-word _ r)) (stored-given x _)
+    sum-by x o y z a false r = halts
+
     pub sum-after : (x o y z : ℕ) → isVariable (sig f (u .frame .procedure)) x ≡ true → isVariable (sig f (u .frame .procedure)) y ≡ true
         → isVariable (sig f (u .frame .procedure)) z ≡ true → Number (u .frame .values y) → Number (u .frame .values z)
-        → After (step (sum x o y z)) u fs m goes (went (given w x (sumWord o (valueOf w y) (valueOf w z)) (T .successor i)))
-    unfolding Run.take sumIn Standing.StandsFor
-    sum-after x o y z a b c p q =
-        onward refl
-        (given-running x (sumWord o (valueOf w y) (valueOf w z)) _ a
-        (sum-word o (valueOf w y) (valueOf w z) ∙ (rw (value-number y b p, value-number z c q))))
-        (stored-given x (sumWord o (valueOf w y) (valueOf w z)))
+        → After (step (sum x o y z)) u fs m (roomOr (inRange (Frames.sumOf (u .frame) o y z)) Sums)
+        (sums w x (sumOf o (valueOf w y) (valueOf w z)) (T .successor i))
+    unfolding sums sumOf Frames.sumOf
+    sum-after x o y z a b c p q = rw (value-number y b p, value-number z c q) (sum-by x o y z a _ refl)
 
     pub assign-after : (x y : ℕ) → isVariable (sig f (u .frame .procedure)) x ≡ true → isVariable (sig f (u .frame .procedure)) y ≡ true
         → After (step (assign x y)) u fs m goes (went (given w x (valueOf w y) (T .successor i)))

@@ -2,17 +2,18 @@
 use Prim.Native.Nat.{ℕ, zero, suc, _*_, _≤_, _<_}
 use native.Mathlib.Omega.{arith}
 use mathlib.Core.Path.{_≡_, refl, sym, ap, _∙_}
-use mathlib.Core.Bool.{true, false, false≢true}
+use mathlib.Core.Bool.{Bool, true, false, false≢true}
 use mathlib.Core.List.{List, [], _∷_}
 use lib.ListN.{length, getD}
 use Rattle.sets.specs.Tests.{and-true}
+use Rattle.language.specs.declared.Stop.{Stop}
 use Rattle.language.specs.declared.Ending.the-variants.{Stopped}
-use Rattle.language.specs.Program.{Goals, _then_, Goal, Program, procedureAt}
+use Rattle.language.specs.Program.{literal, sum, assign, construct, call, print, create, remove, Goals, _then_, Goal, step, switch, ifLess, Program, procedureAt}
 use Rattle.language.specs.Typing.{typingOk}
-use Rattle.language.specs.Frames.{entryFrame, withGoals}
+use Rattle.language.specs.Frames.{fitsStep, fits, entryFrame, withGoals}
 use Rattle.language.specs.AcceptedRun.{RegionFrame, Memory, State, withFrame, state, start}
 use Rattle.language.specs.AcceptedRun as Run
-use Rattle.language.specs.Machine.{Room, holds, roomIn, Outlook, ended, outlookFor, outlookIn, outlookAt, outlook}
+use Rattle.language.specs.Machine.{Room, holds, roomIn, Outlook, ended, goes, roomOr, outlookFor, outlookIn, outlookAt, outlook}
 use Rattle.language.specs.Machine as D
 use Rattle.language.specs.Answers.{program}
 use Rattle.laws.specs.Numbers.{among-in}
@@ -41,10 +42,29 @@ state-is : (s : State) (es : List RegionFrame) → s .frames ≡ es → s ≡ re
 state-is s es p = ap (λ fs. record { frames = fs; memory = s .memory }) p
 
 outlook-is : (K : Room) (s : State) (e : RegionFrame) (fs : List RegionFrame) (g : Goal) (rest : Goals) → s .frames ≡ e ∷ fs → e .frame .goals ≡ g then rest
-    → outlook K s ≡ outlookFor K g (record { frames = e ∷ fs; memory = s .memory })
+    → outlook K s ≡ outlookFor K g e (record { frames = e ∷ fs; memory = s .memory })
 unfolding outlook outlookAt outlookIn
 outlook-is K s e fs g rest p q =
-    ap (outlook K) (state-is s (e ∷ fs) p) ∙ ap (λ gs. outlookIn K gs (record { frames = e ∷ fs; memory = s .memory })) q
+    ap (outlook K) (state-is s (e ∷ fs) p) ∙ ap (λ gs. outlookIn K gs e (record { frames = e ∷ fs; memory = s .memory })) q
+
+-- a goal that can be done is no sum out of range
+room-goes : (b : Bool) (c : Stop) → roomOr b c ≡ goes → b ≡ true
+unfolding roomOr
+room-goes true c h = refl
+room-goes false c h = absurd (false≢true (cc))
+
+goes-fits : (K : Room) (s : State) (e : RegionFrame) (g : Goal) → outlookFor K g e s ≡ goes → fits g (e .frame) ≡ true
+unfolding outlookFor fits fitsStep
+goes-fits K s e (step (literal x v)) h = refl
+goes-fits K s e (step (sum x o y z)) h = room-goes _ _ h
+goes-fits K s e (step (assign x y)) h = refl
+goes-fits K s e (step (construct x t ys)) h = refl
+goes-fits K s e (step (call q ys)) h = refl
+goes-fits K s e (step (print y)) h = refl
+goes-fits K s e (step (create r)) h = refl
+goes-fits K s e (step (remove r)) h = refl
+goes-fits K s e (switch x cs) h = refl
+goes-fits K s e (ifLess y z a b) h = refl
 
 pub outlook-over : (K : Room) (s : State) → s .frames ≡ [] → outlook K s ≡ ended
 unfolding outlook outlookAt
@@ -98,13 +118,13 @@ module _ {f : List ℕ} {T : Tables} (B : Tabled f T) (A : Accepted (program f))
       last-gives i (onward q R Q) = record { ending = refl; steps = refl; printed = S .printed }
       last-gives i halts = record { ending = refl; steps = refl; printed = S .printed }
 
-      step-gives : (l : ℕ) {o : Outlook} {t : Went} → After B A F K qs g u fs m o t → Run.steps (program f) (suc n) ≡ Run.take (program f) g u fs m
+      step-gives : (l : ℕ) {o : Outlook} {t : Went} → After B A F K qs g u fs m o t → (o ≡ goes → Run.steps (program f) (suc n) ≡ Run.take (program f) g u fs m)
           → ((v : MachineWords) → Agrees (suc n) v
           → Gives qs (runOn f T K l (v .goal) (suc n) v) (D.runOn (program f) K l (outlook K (Run.steps (program f) (suc n))) (suc n) (Run.steps (program f) (suc n))))
           → Gives qs (afterStep (settledIf f T t) (λ v. runOn f T K l (v .goal) (suc n) v) (λ c. endedWith (Stopped c) n w))
           (D.runOn (program f) K (suc l) o n (Run.steps (program f) n))
       unfolding settledIf afterStep endedWith D.runOn D.endedWith Run.steps
-      step-gives l (onward {v = v} {e = e} {es = es} {n = k} q R Q) z ih = ih (settled f T v) (settled-agrees (suc n) v e es k (z ∙ q) R Q)
+      step-gives l (onward {v = v} {e = e} {es = es} {n = k} q R Q) z ih = ih (settled f T v) (settled-agrees (suc n) v e es k (z refl ∙ q) R Q)
       step-gives l halts z ih = record { ending = refl; steps = refl; printed = S .printed }
 
   -- the newest frame's next goal, in words and in the definition
@@ -117,6 +137,13 @@ module _ {f : List ℕ} {T : Tables} (B : Tabled f T) (A : Accepted (program f))
       rw (outlook-is K (Run.steps (program f) n) e fs g rest p q)
       (goal-after B A F K qs w e fs (Run.steps (program f) n .memory) ρ χ (suc j) (rw y at (N .newest)) (N .waiting) S
       (fine-inv (Run.steps (program f) n) e fs (steps-fine A n) p) g rest q)
+
+  -- .. which the definition's run takes if it can be done
+  pub goes-taken : (n : ℕ) (e : RegionFrame) (fs : List RegionFrame) (g : Goal) (rest : Goals) → Run.steps (program f) n .frames ≡ e ∷ fs → e .frame .goals ≡ g then rest
+      → outlook K (Run.steps (program f) n) ≡ goes
+      → Run.steps (program f) (suc n) ≡ Run.take (program f) g (withFrame e (withGoals (e .frame) rest)) fs (Run.steps (program f) n .memory)
+  goes-taken n e fs g rest p q z =
+      taken A n e fs g rest p q (goes-fits K _ e g (sym (outlook-is K (Run.steps (program f) n) e fs g rest p q) ∙ z))
 
   module _ (n : ℕ) (w : MachineWords) (i : ℕ) (o : Outlook) (t : w .goal ≡ i) (z : outlook K (Run.steps (program f) n) ≡ o) where
     run-zero : Agrees n w → Gives qs (runOn f T K zero i n w) (D.runOn (program f) K zero o n (Run.steps (program f) n))
@@ -140,7 +167,7 @@ module _ {f : List ℕ} {T : Tables} (B : Tabled f T) (A : Accepted (program f))
     run-suc l ih (agrees (R.runs {e = e} {fs = fs} {i = j} p y N) S) =
         let h = busy A n e fs p in
         let a : i ≡ suc j = sym t ∙ y in
-        rw (a, ← z) (step-gives n w S l (next-goal n w j p y N S (h .0) (h .1) (h .2)) (taken A n e fs (h .0) (h .1) p (h .2)) ih)
+        rw (a, ← z) (step-gives n w S l (next-goal n w j p y N S (h .0) (h .1) (h .2)) (goes-taken n e fs (h .0) (h .1) p (h .2)) ih)
 
   -- l steps are left, record i is next, o is the definition's outlook
   run-from : (l n : ℕ) (w : MachineWords) (i : ℕ) (o : Outlook) → w .goal ≡ i → outlook K (Run.steps (program f) n) ≡ o → Agrees n w

@@ -24,7 +24,12 @@ returns-5 : tie.Need-returns-5
 unfolding stopNumber
 returns-5 c = search needs
 
+returns-6 : tie.Need-returns-6
+unfolding stopNumber
+returns-6 c = search needs
+
 pub stop-number-spec : {M : Type 1} → statement M
 stop-number-spec =
     tie.close
-    (tie.spec (search needs) (search needs) (search needs) (search needs) (search needs) returns returns-2 returns-3 returns-4 returns-5)
+    (tie.spec (search needs) (search needs) (search needs) (search needs) (search needs) (search needs)
+    returns returns-2 returns-3 returns-4 returns-5 returns-6)

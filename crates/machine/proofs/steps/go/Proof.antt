@@ -1,9 +1,9 @@
 use native.Mathlib.Omega.{arith}
-use Rattle.machine.specs.Numbers.{literal-low, sum-low, assign-low}
+use Rattle.machine.specs.Numbers.{literal-low, assign-low}
 use mathlib.Core.Path.{sym, _∙_}
 use Rattle.frames.specs.Strays.{whole}
 use Rattle.machine.specs.Calls.{successor-as}
-use Rattle.machine.specs.Steps.{goes-same, literal-goes, sum-goes, assign-goes, else-goes}
+use Rattle.machine.specs.Steps.{goes-same, literal-goes, assign-goes, else-goes}
 use borrow.Author.Needs.{needs}
 use Rattle.machine.proofs.steps.go.Statement.{statement}
 use Rattle.machine.proofs.steps.go.Tie as tie
@@ -20,23 +20,17 @@ successor-requires c κs = let p = c .before .before .before .before .before .be
 onward-requires : tie.Need-onward-requires
 onward-requires c κs = search needs
 
-sum-requires : tie.Need-sum-requires
-sum-requires c κs = let p = c .before .before .before .before .before .before .before .before .pre in ((whole (p .0 .0) _ (p .1 .1 .0 .0) .1, p .1 .1 .0 .1 .fits), sum-low (p .0 .1) _ (c .before .before .word-in .ensures .0) (c .before .match .keys2))
+sum-step-requires : tie.Need-sum-step-requires
+sum-step-requires c κs = (c .before .before .before .before .before .before .before .before .pre .0, (c .before .before .before .before .before .before .before .before .pre .1 .1 .0 .0, sym (c .before .before .word-in .ensures .0) ∙ c .before .match .keys2, c .before .before .before .before .before .before .before .before .pre .1 .1 .0 .1))
+
+assign-requires : tie.Need-assign-requires
+assign-requires c κs = let p = c .before .before .before .before .before .before .before .before .pre in ((whole (p .0 .0) _ (p .1 .1 .0 .0) .1, p .1 .1 .0 .1 .fits), assign-low (p .0 .1) _ (c .before .before .word-in .ensures .0) (c .before .match .keys3))
 
 successor-requires-2 : tie.Need-successor-requires-2
 successor-requires-2 c κs = let p = c .before .before .before .before .before .before .before .before .before .before .before .pre in whole (p .0 .0) _ (p .1 .1 .0 .0) .0
 
 onward-requires-2 : tie.Need-onward-requires-2
 onward-requires-2 c κs = search needs
-
-assign-requires : tie.Need-assign-requires
-assign-requires c κs = let p = c .before .before .before .before .before .before .before .before .pre in ((whole (p .0 .0) _ (p .1 .1 .0 .0) .1, p .1 .1 .0 .1 .fits), assign-low (p .0 .1) _ (c .before .before .word-in .ensures .0) (c .before .match .keys3))
-
-successor-requires-3 : tie.Need-successor-requires-3
-successor-requires-3 c κs = let p = c .before .before .before .before .before .before .before .before .before .before .before .pre in whole (p .0 .0) _ (p .1 .1 .0 .0) .0
-
-onward-requires-3 : tie.Need-onward-requires-3
-onward-requires-3 c κs = search needs
 
 switch-step-requires : tie.Need-switch-step-requires
 switch-step-requires c κs = (c .before .before .before .before .before .before .before .before .pre .0, (c .before .before .before .before .before .before .before .before .pre .1 .1 .0 .0, sym (c .before .before .word-in .ensures .0) ∙ c .before .match .keys4, c .before .before .before .before .before .before .before .before .pre .1 .1 .0 .1))
@@ -60,13 +54,13 @@ same-length-2 : tie.Need-same-length-2
 same-length-2 c = search needs
 
 returns-2 : tie.Need-returns-2
-returns-2 c = goes-same _ _ _ _ _ _ _ _ _ _ (c .onward2 .ensures) (sum-goes _ _ _ _ _ _ (c .before .before .before .before .before .before .before .before .before .before .before .before .before .pre .1 .1 .0 .1) _ _ (c .before .before .before .before .before .before .before .word-in .ensures .0) (successor-as _ _ _ _ _ (c .before .successor2 .ensures)) _ (c .before .before .before .before .before .before .match .keys2) (c .before .before .before .before .sum .ensures))
+returns-2 c = c .before .before .sum-step .ensures _ _ _ _
 
 same-length-3 : tie.Need-same-length-3
 same-length-3 c = search needs
 
 returns-3 : tie.Need-returns-3
-returns-3 c = goes-same _ _ _ _ _ _ _ _ _ _ (c .onward3 .ensures) (assign-goes _ _ _ _ _ _ (c .before .before .before .before .before .before .before .before .before .before .before .before .before .pre .1 .1 .0 .1) _ _ (c .before .before .before .before .before .before .before .word-in .ensures .0) (successor-as _ _ _ _ _ (c .before .successor3 .ensures)) _ (c .before .before .before .before .before .before .match .keys3) (c .before .before .before .before .assign .ensures))
+returns-3 c = goes-same _ _ _ _ _ _ _ _ _ _ (c .onward2 .ensures) (assign-goes _ _ _ _ _ _ (c .before .before .before .before .before .before .before .before .before .before .before .before .before .pre .1 .1 .0 .1) _ _ (c .before .before .before .before .before .before .before .word-in .ensures .0) (successor-as _ _ _ _ _ (c .before .successor2 .ensures)) _ (c .before .before .before .before .before .before .match .keys3) (c .before .before .before .before .assign .ensures))
 
 same-length-4 : tie.Need-same-length-4
 same-length-4 c = search needs
@@ -108,12 +102,10 @@ go-spec =
     literal-requires
     successor-requires
     onward-requires
-    sum-requires
+    sum-step-requires
+    assign-requires
     successor-requires-2
     onward-requires-2
-    assign-requires
-    successor-requires-3
-    onward-requires-3
     switch-step-requires
     if-step-requires
     call-step-requires
