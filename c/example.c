@@ -19,6 +19,7 @@ static const char *const cause[] = {
     "no free region",
     "no free frame",
     "no place for a printed number",
+    "a sum or difference outside -2,147,483,648 to 2,147,483,647",
 };
 
 static int refused(const char *what, uint64_t number)

@@ -1,6 +1,6 @@
 /* Gumreta for C: the annotator, the checker and the runner of job files. docs/LIBRARY.md says how to link it and what is proved.
  *
- * Each function answers 0 or one of document 01's numbers. It reads and writes nothing but what it is lent, allocates nothing and keeps no state, so that
+ * Each function answers 0 or one of the numbers below. It reads and writes nothing but what it is lent, allocates nothing and keeps no state, so that
  * several threads may call it at once. A pointer must point to as many elements as the length beside it says (or the length is 0 and the pointer is not
  * NULL), 32-bit words lie at addresses that are multiples of 4, and no two of the lent memories overlap. A call takes up to 1.5 MiB of stack.
  */
@@ -30,7 +30,8 @@ enum gumreta_answer {
     GUMRETA_CELLS = 11,     /* no free cell */
     GUMRETA_PLACES = 12,    /* no free region */
     GUMRETA_FRAMES = 13,    /* no free frame */
-    GUMRETA_PRINTS = 14     /* no place for a printed number */
+    GUMRETA_PRINTS = 14,    /* no place for a printed number */
+    GUMRETA_SUMS = 15       /* a sum or difference outside -2,147,483,648 to 2,147,483,647 */
 };
 
 /* No annotated file is longer. */
@@ -49,7 +50,7 @@ uint64_t gumreta_annotate(const uint8_t *file, size_t file_bytes, uint8_t *out, 
 /* The checker. GUMRETA_DONE: the file is accepted. Else 1 to 5, 7 or 8. */
 uint64_t gumreta_check(const uint8_t *file, size_t file_bytes);
 
-/* The checker, then the runner in lent memory for at most `steps` steps. GUMRETA_DONE: the run has finished. 10 to 14: it stopped before a step that could
+/* The checker, then the runner in lent memory for at most `steps` steps. GUMRETA_DONE: the run has finished. 10 to 15: it stopped before a step that could
  * not be done. Either way *done is the steps done and the first *printed words of `prints` are the numbers printed (read them as int32_t), those behind
  * keep their contents; cells, regions and frames hold anything. 1 to 5, 7 or 8: the file is refused, and all lent memory is as it was. */
 uint64_t gumreta_run(const uint8_t *file, size_t file_bytes, uint32_t *cells, size_t cell_words, uint32_t *regions, size_t region_words,

@@ -2,7 +2,8 @@
 //!
 //! A family is a set of regions of a procedure that has one region for each type that has any, its edges lead to its own regions alone. Variables lie in a
 //! family, so that terms fit their edges; a call maps each family of the callee to one of the caller. Some types have constants only, and so no regions;
-//! now and then a file gives such a type one.
+//! now and then a file gives such a type one. Some files have a procedure that gives the lowest and the highest number, and many sums, so that these come
+//! out at the ends of the range and past them.
 use crate::random::Random;
 
 const LITERAL: u16 = 8;
@@ -59,6 +60,8 @@ pub struct Generator<'a> {
     slip: Option<Slip>,
     types: Vec<Vec<Vec<u16>>>,
     procedures: Vec<Procedure>,
+    /// The procedure that gives the lowest and the highest number, in files that have one.
+    ends: Option<usize>,
     /// The procedure at hand.
     own: usize,
     budget: usize,
@@ -105,6 +108,7 @@ impl Generator<'_> {
 
     fn signatures(&mut self) {
         let n = 1 + self.random.below(4);
+        self.ends = self.random.once_in(3).then_some(n);
         for q in 0..n {
             let families = 1 + self.random.below(3);
             let mut variables = Vec::new();
@@ -116,10 +120,15 @@ impl Generator<'_> {
             }
             self.procedures.push(Procedure { variables, families });
         }
+        if self.ends.is_some() {
+            let variables = (0..3).map(|_| Variable { mode: 2, ty: 0, family: 0 }).collect();
+            self.procedures.push(Procedure { variables, families: 1 });
+        }
     }
 
     fn variable(&mut self, mode: u16, families: usize) -> Variable {
-        let ty = self.random.below(self.types.len() + 1) as u16;
+        let number = self.ends.is_some() && self.random.once_in(3);
+        let ty = if number { 0 } else { self.random.below(self.types.len() + 1) as u16 };
         Variable { mode, ty, family: self.random.below(families) }
     }
 
@@ -163,9 +172,10 @@ impl Generator<'_> {
 
     fn number(&mut self, known: &[u16], x: u16) -> Node {
         let two = (self.valued(known, 0, 0), self.valued(known, 0, 0));
-        match (self.random.below(4), two) {
-            (0, (Some(y), Some(z))) => node(SUM, &[x, self.random.below(2) as u16, y, z]),
-            (1, (Some(y), _)) => node(ASSIGN, &[x, y]),
+        let sums = if self.ends.is_some() { 3 } else { 1 };
+        match (self.random.below(3 + sums), two) {
+            (k, (Some(y), Some(z))) if k < sums => node(SUM, &[x, self.random.below(2) as u16, y, z]),
+            (k, (Some(y), _)) if k == sums => node(ASSIGN, &[x, y]),
             _ => node(LITERAL, &[x, [0, 1, 2, 65535, 32767, 32768][self.random.below(6)]]),
         }
     }
@@ -196,6 +206,9 @@ impl Generator<'_> {
 
     fn goals(&mut self, known: &mut Vec<u16>, deep: usize) -> Vec<Node> {
         let mut goals = Vec::new();
+        if let Some(ends) = self.ends.filter(|_| self.random.once_in(2)) {
+            goals.extend(self.call(ends, known));
+        }
         for _ in 0..self.random.below(6) + if deep == 0 { 2 } else { 0 } {
             if self.budget == 0 {
                 break;
@@ -204,7 +217,10 @@ impl Generator<'_> {
             let goal = match self.random.below(10) {
                 0 | 1 if deep < 4 => self.switch(known, deep),
                 2 if deep < 4 => self.branches(known, deep),
-                3 | 4 => self.call(known),
+                3 | 4 => {
+                    let q = self.callee();
+                    self.call(q, known)
+                }
                 5 => self.valued(known, 0, 0).map(|y| node(PRINT, &[y])),
                 _ => {
                     let families = self.procedures[self.own].families;
@@ -271,8 +287,13 @@ impl Generator<'_> {
         Some(Node(IF, vec![Word::Number(y), Word::Number(z), Word::Chain(yes), Word::Chain(no)]))
     }
 
-    fn call(&mut self, known: &mut Vec<u16>) -> Option<Node> {
-        let q = self.random.below(self.procedures.len());
+    /// Any procedure; where there are many sums mostly a later one, so that it is not the frames that end the run.
+    fn callee(&mut self) -> usize {
+        let first = if self.ends.is_some() && !self.random.once_in(8) { self.own + 1 } else { 0 };
+        first + self.random.below(self.procedures.len() - first)
+    }
+
+    fn call(&mut self, q: usize, known: &mut Vec<u16>) -> Option<Node> {
         let families = self.procedures[self.own].families;
         let onto: Vec<usize> = (0..self.procedures[q].families).map(|_| self.random.below(families)).collect();
         let parameters: Vec<(u16, u16, usize)> =
@@ -293,8 +314,29 @@ impl Generator<'_> {
         Some(Node(CALL, vec![Word::Number(q as u16), Word::Chain(arguments)]))
     }
 
+    /// The body of `ends`: −32,768 doubled sixteen times, −1 less that, and a number beside them. Now and then its own last sum does not fit.
+    fn ends_of_range(&mut self) -> Vec<Node> {
+        let mut local = || self.new_variable(0, 0).expect("twenty numbers have room");
+        let mut x = local();
+        let mut goals = vec![node(LITERAL, &[x, 32768])];
+        for _ in 0..15 {
+            let twice = local();
+            goals.push(node(SUM, &[twice, 0, x, x]));
+            x = twice;
+        }
+        let y = local();
+        let (operation, from) = if self.random.once_in(10) { (self.random.below(2) as u16, 0) } else { (1, 65535) };
+        let beside = [0, 1, 65535][self.random.below(3)];
+        goals.extend([node(SUM, &[1, 0, x, x]), node(LITERAL, &[y, from]), node(SUM, &[2, operation, y, 1])]);
+        goals.push(node(LITERAL, &[3, beside]));
+        goals
+    }
+
     fn body(&mut self, q: usize) -> Vec<Node> {
         self.own = q;
+        if self.ends == Some(q) {
+            return self.ends_of_range();
+        }
         self.budget = 4 + self.random.below(30);
         let of_mode = |p: &Procedure, m: u16| -> Vec<u16> {
             (1..=p.variables.len() as u16).filter(|&x| p.variables[x as usize - 1].mode == m).collect()
@@ -424,7 +466,7 @@ fn place(out: &mut Vec<[u16; 8]>, chain: Vec<Node>) -> u16 {
 /// A job file without creates and removes.
 pub fn job(random: &mut Random) -> Vec<u8> {
     let slip = random.once_in(5).then(|| SLIPS[random.below(SLIPS.len())]);
-    let mut g = Generator { random, slip, types: Vec::new(), procedures: Vec::new(), own: 0, budget: 0 };
+    let mut g = Generator { random, slip, types: Vec::new(), procedures: Vec::new(), ends: None, own: 0, budget: 0 };
     let (types, procedures) = g.program();
     let mut out = vec![[1, 0, 0, 0, 0, 0, 0, 0]];
     out[0][2] = place(&mut out, types);

@@ -3,8 +3,8 @@
 //!     cargo run --release -p differential -- FILES [SEED [TABLE.tsv ..]]
 //!
 //! FILES is how many are generated and damaged. A table has a file in hex in its second column (as the table of tools/pack-jobs). For each file it compares the
-//! annotator in several sizes of lent memory, the checker, and the runner in several sizes of lent memory with old contents in it; answers, steps and
-//! printed numbers, and what stands in the lent memory afterwards.
+//! annotator in several sizes of lent memory, the checker, and the runner in several sizes of lent memory with old contents in it, and with just the steps
+//! that it takes, one less and one more; answers, steps and printed numbers, and what stands in the lent memory afterwards.
 use compare::random::Random;
 use compare::{generate, packs};
 use reference::Ending;
@@ -60,7 +60,8 @@ impl Tally {
         right.is_ok()
     }
 
-    fn run(&mut self, file: &[u8], lent: &reference::Lent) {
+    /// How many steps were done.
+    fn run(&mut self, file: &[u8], lent: &reference::Lent) -> u64 {
         let right = reference::run(file, lent);
         self.counted(
             "runner",
@@ -91,6 +92,7 @@ impl Tally {
         } else if prints != places || refused && !kept {
             self.differ("runner", file, format!("leaves other words in {lent:?}"));
         }
+        right.steps
     }
 
     fn all(&mut self, random: &mut Random, file: &[u8]) {
@@ -103,8 +105,16 @@ impl Tally {
             }
         }
         let accepted = self.check(file);
-        self.run(file, &reference::Lent { steps: 20_000, ..reference::Lent::program() });
-        for _ in 0..if accepted { 3 } else { 1 } {
+        let done = self.run(file, &reference::Lent { steps: 20_000, ..reference::Lent::program() });
+        if !accepted {
+            self.run(file, &some_memory(random));
+            return;
+        }
+        // before the step at which it stops for another cause, 10 comes first
+        for steps in [done.saturating_sub(1), done, done + 1] {
+            self.run(file, &reference::Lent { steps, ..reference::Lent::program() });
+        }
+        for _ in 0..3 {
             self.run(file, &some_memory(random));
         }
     }

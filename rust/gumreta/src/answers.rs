@@ -1,4 +1,4 @@
-//! Document 01's table of refusals and stops.
+//! Document 01's table of refusals and stops, and the stop of C-15.
 use std::fmt;
 
 /// Why a file is refused.
@@ -58,12 +58,13 @@ pub enum Stop {
     Places = 12,
     Frames = 13,
     Prints = 14,
+    Sums = 15,
 }
 
-const STOPS: [Stop; 5] = [Stop::Steps, Stop::Cells, Stop::Places, Stop::Frames, Stop::Prints];
+const STOPS: [Stop; 6] = [Stop::Steps, Stop::Cells, Stop::Places, Stop::Frames, Stop::Prints, Stop::Sums];
 
 impl Stop {
-    /// Document 01's number.
+    /// Document 01's number, or C-15's.
     pub fn number(self) -> u8 {
         self as u8
     }
@@ -77,6 +78,7 @@ impl fmt::Display for Stop {
             Stop::Places => "no free region",
             Stop::Frames => "no free frame",
             Stop::Prints => "no place for a printed number",
+            Stop::Sums => "a sum or difference outside -2,147,483,648 to 2,147,483,647",
         };
         write!(f, "stopped {}: {cause}", self.number())
     }
@@ -98,6 +100,6 @@ impl Ending {
             return Err(refusal);
         }
         let stop = STOPS.into_iter().find(|s| s.number() as u64 == number);
-        Ok(Ending::Stopped(stop.expect("the library answers a number of document 01")))
+        Ok(Ending::Stopped(stop.expect("the library answers a number of the table")))
     }
 }

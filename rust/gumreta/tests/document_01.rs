@@ -1,4 +1,4 @@
-//! Document 01's hand-sized files, as C-14 leaves them, through the safe functions, with what stands in lent memory afterwards.
+//! Document 01's hand-sized files, as C-14 and C-15 leave them, through the safe functions, with what stands in lent memory afterwards.
 use gumreta::{annotate, check, run, Ending, Lent, Refusal, Stop};
 
 fn file(rows: &[&[u16]]) -> Vec<u8> {
@@ -91,4 +91,30 @@ fn runs() {
     assert_eq!(ran(&cell, 8, 0, 0), Ok((Ending::Stopped(Stop::Frames), 0)));
     assert_eq!(ran(&file(&PLAIN), 8, 136, 3), Err(Refusal::Rules));
     assert_eq!(ran(&file(&OLD_A), 8, 136, 3), Err(Refusal::Typing));
+}
+
+/// −32,768 printed, doubled `times` times, and printed again.
+fn doubled(times: u16) -> Vec<u8> {
+    let (last, first) = (times + 1, times + 3);
+    let mut rows = vec![vec![1, 1, 0, first + times + 3], vec![4, 0, 2, 0, first]];
+    rows.extend((3..first).map(|next| vec![5, next]));
+    rows.extend([vec![5], vec![8, first + 1, 1, 32768], vec![17, first + 2, 1]]);
+    rows.extend((1..last).map(|x| vec![9, first + x + 2, x + 1, 0, x, x]));
+    rows.push(vec![17, 0, last]);
+    file(&rows.iter().map(|r| &r[..]).collect::<Vec<_>>())
+}
+
+#[test]
+fn sums() {
+    let ran = |file: &[u8], steps: usize| {
+        let (mut frames, mut prints) = ([9; 136], [9; 3]);
+        let lent = Lent { cells: &mut [], regions: &mut [], frames: &mut frames, prints: &mut prints };
+        let (ending, done) = run(file, lent, steps).map(|r| (r.ending, r.steps)).unwrap();
+        (ending, done, prints.map(|w| w as i32))
+    };
+    assert_eq!(ran(&doubled(16), 30), (Ending::Finished, 19, [-32768, i32::MIN, 9]));
+    assert_eq!(ran(&doubled(17), 30), (Ending::Stopped(Stop::Sums), 18, [-32768, 9, 9]));
+    assert_eq!(ran(&doubled(17), 19), (Ending::Stopped(Stop::Sums), 18, [-32768, 9, 9]));
+    assert_eq!(ran(&doubled(17), 18), (Ending::Stopped(Stop::Steps), 18, [-32768, 9, 9]));
+    assert_eq!(Stop::Sums.number(), 15);
 }

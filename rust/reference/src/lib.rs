@@ -1,5 +1,5 @@
-//! Document 01 anew, with what C-14 of document 02 changes, in Rust: what the annotator, the checker and the runner answer. It shares nothing with the
-//! proved programs, so that the two can be held against each other. Written for reading, not for speed or small memory.
+//! Document 01 anew, with what C-14 and C-15 of document 02 change, in Rust: what the annotator, the checker and the runner answer. It shares nothing
+//! with the proved programs, so that the two can be held against each other. Written for reading, not for speed or small memory.
 
 mod annotate;
 mod check;

@@ -159,13 +159,14 @@ impl<'a> Machine<'a> {
         watch(Held { steps, cells: self.cells_held, regions: self.regions_held, frames: self.frames.len(), procedure });
     }
 
-    /// What the next step lacks.
-    fn lacks(&self, goal: &Goal, lent: &Lent) -> Option<u8> {
+    /// The number of the stop before the next step, where it cannot be done.
+    fn stop(&self, goal: &Goal, lent: &Lent) -> Option<u8> {
         match goal {
             Goal::Construct(_, _, a) if !arguments(a).is_empty() && self.cells_held >= holds(lent.cells, 8) => Some(11),
             Goal::Create(_) if self.regions_held >= holds(lent.regions, 2) => Some(12),
             Goal::Call(..) if self.frames.len() >= holds(lent.frames, 136) => Some(13),
             Goal::Print(_) if self.printed.len() >= holds(lent.prints, 1) => Some(14),
+            Goal::Sum(_, o, y, z) if self.sum(*o, *y, *z).is_none() => Some(15),
             _ => None,
         }
     }
@@ -177,13 +178,18 @@ impl<'a> Machine<'a> {
         }
     }
 
+    /// A sum or a difference; C-15: none "outside −2,147,483,648 to 2,147,483,647".
+    fn sum(&self, o: usize, y: usize, z: usize) -> Option<i32> {
+        let (a, b) = (self.number(y) as i64, self.number(z) as i64);
+        i32::try_from(if o == 0 { a + b } else { a - b }).ok()
+    }
+
     fn step(&mut self, goal: &'a Goal) {
         let top = self.frames.len() - 1;
         match goal {
             Goal::Literal(x, v) => self.frames[top].values[*x] = Value::Number(*v as i16 as i32),
             Goal::Sum(x, o, y, z) => {
-                let (a, b) = (self.number(*y), self.number(*z));
-                let n = if *o == 0 { a.wrapping_add(b) } else { a.wrapping_sub(b) };
+                let n = self.sum(*o, *y, *z).expect("the run stops before a sum out of range");
                 self.frames[top].values[*x] = Value::Number(n);
             }
             Goal::Assign(x, y) => self.frames[top].values[*x] = self.frames[top].values[*y],
@@ -277,7 +283,7 @@ pub fn run(program: &Program, lent: &Lent, watch: &mut dyn FnMut(Held)) -> Run {
                 break 'run Ending::Stopped(10);
             }
             let goal = &frame.goals.last().unwrap()[0];
-            if let Some(number) = m.lacks(goal, lent) {
+            if let Some(number) = m.stop(goal, lent) {
                 break 'run Ending::Stopped(number);
             }
             let rest = m.frames.last_mut().unwrap().goals.last_mut().unwrap();

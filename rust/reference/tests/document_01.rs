@@ -1,4 +1,4 @@
-//! Document 01's hand-sized files with the answers that follow after C-14 of document 02, the new U, and files of one cell in their place.
+//! Document 01's hand-sized files with the answers that follow after C-14 and C-15 of document 02, the new U, files of one cell in their place, and sums.
 use reference::{annotate, check, run, Lent};
 
 fn words(rows: &[&[u16]]) -> Vec<u8> {
@@ -102,4 +102,79 @@ fn types_of_constants() {
     }
     assert_eq!(check(&held), Ok(()));
     assert_eq!(ran(&held, 8, 136, 4), "finished 4\n");
+}
+
+/// The numbers that `last` takes: the lowest, the highest, 0, 1 and −1, in variables 17 to 21.
+const LOW: u16 = 17;
+const HIGH: u16 = 18;
+const ZERO: u16 = 19;
+const ONE: u16 = 20;
+const MINUS_ONE: u16 = 21;
+
+/// A run that makes them in 21 steps: −32,768 doubled sixteen times is the lowest, and −1 less that the highest. It prints 0; then comes one sum or
+/// difference of two of them, and its print.
+fn last(operation: u16, y: u16, z: u16) -> Vec<u8> {
+    const VARIABLES: u16 = 22;
+    let mut goals: Vec<Vec<u16>> = vec![vec![8, 0, 1, 32768]];
+    goals.extend((1..LOW).map(|x| vec![9, 0, x + 1, 0, x, x]));
+    goals.extend([(ZERO, 0), (ONE, 1), (MINUS_ONE, 65535)].map(|(x, value)| vec![8, 0, x, value]));
+    goals.push(vec![9, 0, HIGH, 1, MINUS_ONE, LOW]);
+    goals.extend([vec![17, 0, ZERO], vec![9, 0, VARIABLES, operation, y, z], vec![17, 0, VARIABLES]]);
+    let first = 2 + VARIABLES;
+    let end = first + goals.len() as u16;
+    let mut rows = vec![vec![1, 1, 0, end], vec![4, 0, 2, 0, first]];
+    rows.extend((3..first).map(|next| vec![5, next]));
+    rows.push(vec![5]);
+    for (goal, next) in goals.iter_mut().zip(first + 1..end) {
+        goal[1] = next;
+    }
+    rows.extend(goals);
+    words(&rows.iter().map(|r| &r[..]).collect::<Vec<_>>())
+}
+
+fn printing(file: &[u8], prints: usize, steps: u64) -> String {
+    run(file, &Lent { cells: 0, regions: 0, frames: 136, prints, steps }).lines()
+}
+
+/// "A sum or difference outside −2,147,483,648 to 2,147,483,647 now stops the run before that step."
+#[test]
+fn sums_at_both_ends() {
+    for (operation, y, z, result) in [
+        (0, HIGH, ZERO, "2147483647"),
+        (0, LOW, ZERO, "-2147483648"),
+        (0, LOW, HIGH, "-1"),
+        (0, HIGH, MINUS_ONE, "2147483646"),
+        (1, MINUS_ONE, HIGH, "-2147483648"),
+        (1, MINUS_ONE, LOW, "2147483647"),
+        (1, LOW, LOW, "0"),
+        (1, LOW, MINUS_ONE, "-2147483647"),
+    ] {
+        assert_eq!(printing(&last(operation, y, z), 2, 24), format!("0\n{result}\nfinished 24\n"), "{operation} {y} {z}");
+    }
+    for (operation, y, z) in [
+        (0, HIGH, ONE),
+        (0, ONE, HIGH),
+        (0, LOW, MINUS_ONE),
+        (0, MINUS_ONE, LOW),
+        (0, HIGH, HIGH),
+        (0, LOW, LOW),
+        (1, HIGH, MINUS_ONE),
+        (1, LOW, ONE),
+        (1, ZERO, LOW),
+        (1, HIGH, LOW),
+        (1, LOW, HIGH),
+    ] {
+        assert_eq!(printing(&last(operation, y, z), 2, 24), "0\nstopped 15 22\n", "{operation} {y} {z}");
+    }
+}
+
+/// "Before a step the lower of two numbers is given": 10 before 15, and 14 at a print before the sum.
+#[test]
+fn sums_and_other_stops() {
+    let over = last(0, HIGH, ONE);
+    assert_eq!(check(&over), Ok(()));
+    assert_eq!(printing(&over, 2, 22), "0\nstopped 10 22\n");
+    assert_eq!(printing(&over, 2, 23), "0\nstopped 15 22\n");
+    assert_eq!(printing(&over, 0, 23), "stopped 14 21\n");
+    assert_eq!(printing(&last(0, HIGH, ZERO), 2, 23), "0\nstopped 10 23\n");
 }
