@@ -7,7 +7,7 @@ use native.Mathlib.Numerals.{add-one}
 use mathlib.Core.Path.{_≡_, refl, sym, ap, _∙_}
 use mathlib.Core.List.{List}
 use mathlib.Core.Bool.{true, false, false≢true}
-use borrow.Author.Tests.{leb-true, lt-ltb, le-ltb, le-leb}
+use borrow.Author.Tests.{lt-ltb, le-ltb, le-leb}
 use lib.Dec.{T}
 use lib.IntN.{ℤ, pos, negsuc, natAbs, negℤ, subℕ, _+ℤ_, _-ℤ_}
 use lib.Signed.{mag, nonNeg, leZ}
@@ -15,11 +15,12 @@ use lib.ListN.{set}
 use mir.Syntax.{Width, w32, w64}
 use mir.Val.{Fits, SFits, bits, hbits, toZ, ofZ}
 use mir.Facts.{toZ-pos, toZ-neg, toZ-ofZ, sfits-toZ, sfits-widen}
-use Rattle.sets.specs.Tests.{_&_, clash, and-true}
+use Rattle.sets.specs.Tests.{_&_, clash}
 use Rattle.language.specs.Lists.{choose}
 use Rattle.language.specs.Format.{maxVariables}
 use Rattle.language.specs.Numbers.{residue, sumNumber, inRange}
 use Rattle.word_machine.specs.Machine.{sumOf, cleared, blocks}
+use Rattle.word_machine.specs.Numbers.{range-fits}
 use Rattle.word_machine.specs.WordLaws.{toZ-high}
 
 -- ---- words that are cleared
@@ -118,11 +119,6 @@ module _ (z v : ℤ) (e : v ≡ z) where
   pub above-least : leZ (negsuc 2147483647) v ≡ true → leZ v (pos 2147483647) ≡ inRange z
   unfolding inRange _&_
   above-least h = rw (← e, h)
-
-range-fits : (z : ℤ) → inRange z ≡ true → mag z < 2 ^ 31
-unfolding inRange
-range-fits (pos n) h = omega (arith, leb-true n 2147483647 (and-true h .1))
-range-fits (negsuc n) h = omega (arith, leb-true n 2147483647 (and-true h .0))
 
 pub high-word : (z v : ℤ) → v ≡ z → inRange z ≡ true → leZ (pos 0) v ≡ true → (T (nonNeg v) × Fits w32 (natAbs v)) × (natAbs v ≡ residue z)
 unfolding residue

@@ -7,10 +7,9 @@ mod files;
 use annotation::Annotated;
 use annotation::annotate;
 use checking::check;
-use ends::lower_end;
+use ends::both_ends;
 use ends::over;
 use ends::under;
-use ends::upper_end;
 use files::a;
 use files::new_u;
 use files::past_arity;
@@ -277,32 +276,18 @@ pub fn run_under(
     run(&under(), cells, regions, frames, prints, STEPS)
 }
 
-// 2,147,483,647 + 0: in range.
-pub fn run_upper_end(
+// Both ends of the range, reached by sums and by differences: in range.
+pub fn run_both_ends(
     cells: &mut [u32; CELLS],
     regions: &mut [u32; REGIONS],
     frames: &mut [u32; FRAMES],
     prints: &mut [u32; PRINTS],
 ) -> Outcome
-    ensures { λ r. ⌜ r ≡ outcome Finished 23 2 ⌝ }
-    ensures { λ _. ⌜ map (toZ w32) (take 2 (now (prints .exit))) ≡ pos 2147483647 ∷ pos 2147483647 ∷ [] ⌝ }
-    ensures { λ _. ⌜ drop 2 (now (prints .exit)) ≡ drop 2 (now (prints .entry)) ⌝ }
+    ensures { λ r. ⌜ r ≡ outcome Finished 25 3 ⌝ }
+    ensures { λ _. ⌜ map (toZ w32) (take 3 (now (prints .exit))) ≡ pos 2147483647 ∷ pos 2147483647 ∷ negsuc 2147483647 ∷ [] ⌝ }
+    ensures { λ _. ⌜ drop 3 (now (prints .exit)) ≡ drop 3 (now (prints .entry)) ⌝ }
 {
-    run(&upper_end(), cells, regions, frames, prints, STEPS)
-}
-
-// -2,147,483,648 less 0: in range.
-pub fn run_lower_end(
-    cells: &mut [u32; CELLS],
-    regions: &mut [u32; REGIONS],
-    frames: &mut [u32; FRAMES],
-    prints: &mut [u32; PRINTS],
-) -> Outcome
-    ensures { λ r. ⌜ r ≡ outcome Finished 23 2 ⌝ }
-    ensures { λ _. ⌜ map (toZ w32) (take 2 (now (prints .exit))) ≡ pos 2147483647 ∷ negsuc 2147483647 ∷ [] ⌝ }
-    ensures { λ _. ⌜ drop 2 (now (prints .exit)) ≡ drop 2 (now (prints .entry)) ⌝ }
-{
-    run(&lower_end(), cells, regions, frames, prints, STEPS)
+    run(&both_ends(), cells, regions, frames, prints, STEPS)
 }
 
 // One file put to all three.

@@ -75,13 +75,13 @@ doublings zero i x = []
 doublings (suc n) i x = (9 ∷ suc i ∷ suc x ∷ 0 ∷ x ∷ x ∷ []) ∷ doublings n (suc i) (suc x)
 
 -- A run to both ends of the range and past them (C-15). Variable 17 becomes −2,147,483,648: −32,768 doubled sixteen times. 19 becomes 2,147,483,647: −1,
--- which is 18, less that. 20 is a literal v; 19 is printed; then 21 is the sum or difference of y and z, and printed.
+-- which is 18, less that. 20 is a literal v; 19 is printed; then 21 is the sum or difference of y and z, 22 is 17 less 20, and both are printed.
 unfoldable pub toTheEnds : ℕ → ℕ → ℕ → ℕ → List ℕ
 toTheEnds v o y z =
     file (
-    (1 ∷ 1 ∷ 0 ∷ 46 ∷ []) ∷ (4 ∷ 0 ∷ 2 ∷ 0 ∷ 23 ∷ []) ∷ numberVariables 21 2 ++ ((8 ∷ 24 ∷ 1 ∷ 32768 ∷ []) ∷ doublings 16 24 1 ++ (
-    (8 ∷ 41 ∷ 18 ∷ 65535 ∷ []) ∷ (9 ∷ 42 ∷ 19 ∷ 1 ∷ 18 ∷ 17 ∷ []) ∷ (8 ∷ 43 ∷ 20 ∷ v ∷ []) ∷ (17 ∷ 44 ∷ 19 ∷ []) ∷ (9 ∷ 45 ∷ 21 ∷ o ∷ y ∷ z ∷ []) ∷
-    (17 ∷ 0 ∷ 21 ∷ []) ∷ [])))
+    (1 ∷ 1 ∷ 0 ∷ 49 ∷ []) ∷ (4 ∷ 0 ∷ 2 ∷ 0 ∷ 24 ∷ []) ∷ numberVariables 22 2 ++ ((8 ∷ 25 ∷ 1 ∷ 32768 ∷ []) ∷ doublings 16 25 1 ++ (
+    (8 ∷ 42 ∷ 18 ∷ 65535 ∷ []) ∷ (9 ∷ 43 ∷ 19 ∷ 1 ∷ 18 ∷ 17 ∷ []) ∷ (8 ∷ 44 ∷ 20 ∷ v ∷ []) ∷ (17 ∷ 45 ∷ 19 ∷ []) ∷ (9 ∷ 46 ∷ 21 ∷ o ∷ y ∷ z ∷ []) ∷
+    (17 ∷ 47 ∷ 21 ∷ []) ∷ (9 ∷ 48 ∷ 22 ∷ 1 ∷ 17 ∷ 20 ∷ []) ∷ (17 ∷ 0 ∷ 22 ∷ []) ∷ [])))
 
 -- "2,147,483,647 + 1"
 unfoldable pub over : List ℕ
@@ -107,12 +107,9 @@ noFrames = lending (runnerLent .cellWords) 0 0
 unfoldable pub inSteps : ℕ → Lent
 inSteps n = lending (runnerLent .cellWords) (runnerLent .frameWords) n
 
--- the runs of `toTheEnds`: stopped before the last sum, or finished with one number more
+-- a run of `toTheEnds` that stops before the sum of y and z
 unfoldable pub stoppedThere : Run
 stoppedThere = record { ending = Stopped Sums; steps = 21; printed = pos 2147483647 ∷ [] }
-
-unfoldable pub finishedWith : ℤ → Run
-finishedWith z = record { ending = Finished; steps = 23; printed = pos 2147483647 ∷ z ∷ [] }
 
 -- a run that printed nothing
 unfoldable pub silent : Ending → ℕ → Run
@@ -148,20 +145,17 @@ pub record Table : Type 0 where
   pub newU-no-frame : ran newU noFrames ≡ silent (Stopped Frames) 0
   -- 2,147,483,647 + 1: stopped before that step, all steps before it done; 10 comes before 15
   pub sum-over : ran over runnerLent ≡ stoppedThere
-  pub sum-lines : runnerOutput (ran over runnerLent) ≡ 50 ∷ 49 ∷ 52 ∷ 55 ∷ 52 ∷ 56 ∷ 51 ∷ 54 ∷ 52 ∷ 55 ∷ 10 ∷ stoppedWord ++ (49 ∷ 53 ∷ 32 ∷ 50 ∷ 49 ∷ 10 ∷ [])
+  pub sum-lines : runnerOutput stoppedThere ≡ 50 ∷ 49 ∷ 52 ∷ 55 ∷ 52 ∷ 56 ∷ 51 ∷ 54 ∷ 52 ∷ 55 ∷ 10 ∷ stoppedWord ++ (49 ∷ 53 ∷ 32 ∷ 50 ∷ 49 ∷ 10 ∷ [])
   pub sum-steps-spent : ran over (inSteps 21) ≡ record { ending = Stopped Steps; steps = 21; printed = pos 2147483647 ∷ [] }
-  pub sum-one-step-more : ran over (inSteps 22) ≡ stoppedThere
-  pub sum-upper-end : ran (toTheEnds 0 0 19 20) runnerLent ≡ finishedWith (pos 2147483647)
-  pub sum-lower-end : ran (toTheEnds 0 0 17 20) runnerLent ≡ finishedWith (negsuc 2147483647)
+  -- −2,147,483,648 + −1; 2,147,483,647 less −1; −2,147,483,648 less 1
   pub sum-under : ran (toTheEnds 0 0 17 18) runnerLent ≡ stoppedThere
-  pub difference-upper-end : ran (toTheEnds 0 1 19 20) runnerLent ≡ finishedWith (pos 2147483647)
-  pub difference-lower-end : ran (toTheEnds 0 1 17 20) runnerLent ≡ finishedWith (negsuc 2147483647)
   pub difference-over : ran (toTheEnds 0 1 19 18) runnerLent ≡ stoppedThere
   pub difference-under : ran (toTheEnds 1 1 17 20) runnerLent ≡ stoppedThere
-  pub lower-end-negated : ran (toTheEnds 0 1 20 17) runnerLent ≡ stoppedThere
+  -- each end of the range, by a sum and by a difference: −2,147,483,648 by sums, 2,147,483,647 by a difference, that + 0, the other less 0
+  pub both-ends : ran (toTheEnds 0 0 19 20) runnerLent ≡ record { ending = Finished; steps = 25; printed = pos 2147483647 ∷ pos 2147483647 ∷ negsuc 2147483647 ∷ [] }
 
 pub table : Table
-unfolding computing eight rows file five with5 U A newU U5 U6 early twice numberVariables doublings toTheEnds over lending twoSteps noSteps noCells noFrames inSteps stoppedThere finishedWith silent
+unfolding computing eight rows file five with5 U A newU U5 U6 early twice numberVariables doublings toTheEnds over lending twoSteps noSteps noCells noFrames inSteps stoppedThere silent
 table = record {
   annotated-144 = refl;
   annotated-143 = refl;
@@ -189,13 +183,8 @@ table = record {
   sum-over = refl;
   sum-lines = refl;
   sum-steps-spent = refl;
-  sum-one-step-more = refl;
-  sum-upper-end = refl;
-  sum-lower-end = refl;
   sum-under = refl;
-  difference-upper-end = refl;
-  difference-lower-end = refl;
   difference-over = refl;
   difference-under = refl;
-  lower-end-negated = refl;
+  both-ends = refl;
 }

@@ -47,7 +47,7 @@ pub newU-frames : tried newU 16 4 135 2 0 ≡ record { ending = Stopped Frames; 
 unfolding opened outcome tried eight rows file newU
 newU-frames = refl
 
--- 2,147,483,647 + 1: the run stops before that step, all steps before it done. −2,147,483,648 + 0 goes on
+-- 2,147,483,647 + 1: the run stops before that step, all steps before it done. Sums and differences at both ends of the range go on
 pub over-sums : tried over 0 0 136 2 30 ≡ record { ending = Stopped Sums; steps = 21; printed = pos 2147483647 ∷ [] }
 unfolding opened outcome tried eight rows file numberVariables doublings toTheEnds over
 over-sums = refl
@@ -56,9 +56,9 @@ pub over-steps : tried over 0 0 136 2 21 ≡ record { ending = Stopped Steps; st
 unfolding opened outcome tried eight rows file numberVariables doublings toTheEnds over
 over-steps = refl
 
-pub lower-end : tried (toTheEnds 0 0 17 20) 0 0 136 2 30 ≡ record { ending = Finished; steps = 23; printed = pos 2147483647 ∷ negsuc 2147483647 ∷ [] }
+pub both-ends : tried (toTheEnds 0 0 19 20) 0 0 136 3 30 ≡ record { ending = Finished; steps = 25; printed = pos 2147483647 ∷ pos 2147483647 ∷ negsuc 2147483647 ∷ [] }
 unfolding opened outcome tried eight rows file numberVariables doublings toTheEnds
-lower-end = refl
+both-ends = refl
 
 -- a program with recursion: `make` bears a list, `show` prints it and keeps it, `drop` prints it again and ends its region
 unfoldable pub listed : List ℕ

@@ -6,6 +6,7 @@ use mathlib.Core.Bool.{true}
 use mathlib.Core.Path.{_≡_}
 use borrow.Author.Tests.{le-ltb, leb-true}
 use lib.IntN.{ℤ, pos, negsuc}
+use lib.Signed.{mag}
 use mir.Syntax.{w16, w32}
 use mir.Val.{toZ}
 use mir.Facts.{toZ-pos, toZ-neg}
@@ -16,7 +17,7 @@ use Rattle.heap.specs.Standing.{StandsFor}
 use Rattle.word_machine.specs.Machine.{literalWord}
 use Rattle.word_machine.specs.Relation.{Where, Means}
 
--- the word of a number in range is read back as that number
+-- a number in range has 31 bits beside its sign, and its word is read back as that number
 read-pos : (n : ℕ) → n < 2 ^ 31 → toZ w32 (residue (pos n)) ≡ pos n
 unfolding residue
 read-pos n h = let z : n % 2 ^ 32 ≡ n = omega arith in rw z (toZ-pos w32 h)
@@ -25,10 +26,14 @@ read-neg : (n : ℕ) → n < 2 ^ 31 → toZ w32 (residue (negsuc n)) ≡ negsuc 
 unfolding residue
 read-neg n h = let z : n % 2 ^ 32 ≡ n = omega arith in rw z (toZ-neg w32 n h)
 
-pub range-word : (z : ℤ) → inRange z ≡ true → toZ w32 (residue z) ≡ z
+pub range-fits : (z : ℤ) → inRange z ≡ true → mag z < 2 ^ 31
 unfolding inRange
-range-word (pos n) h = read-pos n (omega (arith, leb-true n 2147483647 (and-true h .1)))
-range-word (negsuc n) h = read-neg n (omega (arith, leb-true n 2147483647 (and-true h .0)))
+range-fits (pos n) h = omega (arith, leb-true n 2147483647 (and-true h .1))
+range-fits (negsuc n) h = omega (arith, leb-true n 2147483647 (and-true h .0))
+
+pub range-word : (z : ℤ) → inRange z ≡ true → toZ w32 (residue z) ≡ z
+range-word (pos n) h = read-pos n (range-fits (pos n) h)
+range-word (negsuc n) h = read-neg n (range-fits (negsuc n) h)
 
 pub literal-word : (v : ℕ) → toZ w32 (literalWord v) ≡ literalNumber v
 unfolding literalWord literalNumber
