@@ -11,7 +11,7 @@ use Rattle.language.specs.declared.Ending.the-variants.{Refused as RunRe
 use Rattle.language.specs.Machine.{Lent, Run, runnerLent, printPlaces}
 use Rattle.language.specs.Answers.{AnnotatorAnswer, annotated, refuses, writes, annotatorMemory, annotatorBytes, checked, ran}
 use Rattle.language.specs.Computing.{computing}
-use Rattle.language.specs.Table.{eight, rows, file, lending, twoSteps, noCells, noFrames, silent}
+use Rattle.language.specs.Table.{eight, rows, file, lending, inSteps, noCells, noFrames, silent}
 
 -- what the annotator, the checker and the runner answer to a file
 abbrev Answered : List ℕ → AnnotatorAnswer → Verdict → Run → Type 0
@@ -124,8 +124,8 @@ unfolding computing eight rows file silent removedShared
 removedShared-answers = (refl, refl, refl)
 
 -- lent n steps and no cells
-unfoldable inSteps : ℕ → Lent
-inSteps n = lending 0 (runnerLent .frameWords) n
+unfoldable withoutCells : ℕ → Lent
+withoutCells n = lending 0 (runnerLent .frameWords) n
 
 -- a variable whose whole reach is held when it is given
 unfoldable reachHeld : List ℕ
@@ -138,8 +138,8 @@ reachHeld =
     (13 ∷ 0 ∷ 21 ∷ 1 ∷ 2 ∷ []) ∷ (19 ∷ 22 ∷ 1 ∷ []) ∷ (19 ∷ 0 ∷ 2 ∷ []) ∷ [])
 
 reachHeld-answers :
-    (annotated reachHeld annotatorBytes ≡ refuses Annotated) × (checked reachHeld ≡ Accepted) × (ran reachHeld (inSteps 6) ≡ silent Finished 6)
-unfolding computing eight rows file lending inSteps silent reachHeld
+    (annotated reachHeld annotatorBytes ≡ refuses Annotated) × (checked reachHeld ≡ Accepted) × (ran reachHeld (withoutCells 6) ≡ silent Finished 6)
+unfolding computing eight rows file lending withoutCells silent reachHeld
 reachHeld-answers = (refl, refl, refl)
 
 -- a run that stops for want of a frame
@@ -229,9 +229,9 @@ unfolding computing eight rows file withCell oneCell oneCell-annotated oneCell-e
 oneCell-answers = (refl, refl, refl, refl, refl)
 
 oneCell-annotated-answers :
-    Answered oneCell-annotated (refuses Annotated) Accepted (silent Finished 4) × (ran oneCell-annotated twoSteps ≡ silent (Stopped Steps) 2)
+    Answered oneCell-annotated (refuses Annotated) Accepted (silent Finished 4) × (ran oneCell-annotated (inSteps 2) ≡ silent (Stopped Steps) 2)
     × (ran oneCell-annotated noCells ≡ silent (Stopped Cells) 2) × (ran oneCell-annotated noFrames ≡ silent (Stopped Frames) 0)
-unfolding computing eight rows file withCell lending twoSteps noCells noFrames silent oneCell-annotated
+unfolding computing eight rows file withCell lending inSteps noCells noFrames silent oneCell-annotated
 oneCell-annotated-answers = ((refl, refl, refl), refl, refl, refl)
 
 -- a constant of a type that has a cell's functor too: its region is created and held "as before", and no cell is taken (C-14)
@@ -265,8 +265,8 @@ constantsSwitched =
 
 constantsSwitched-answers :
     (annotated constantsSwitched annotatorBytes ≡ writes constantsSwitched) × (checked constantsSwitched ≡ Accepted)
-    × (ran constantsSwitched (inSteps 4) ≡ record { ending = Finished; steps = 4; printed = pos 7 ∷ [] })
-unfolding computing eight rows file lending inSteps constantsSwitched
+    × (ran constantsSwitched (withoutCells 4) ≡ record { ending = Finished; steps = 4; printed = pos 7 ∷ [] })
+unfolding computing eight rows file lending withoutCells constantsSwitched
 constantsSwitched-answers = (refl, refl, refl)
 
 -- a cell with a constant and a number in it: its region has no edge; with one to the constants it is refused

@@ -87,25 +87,19 @@ toTheEnds v o y z =
 unfoldable pub over : List ℕ
 over = toTheEnds 1 0 19 20
 
--- what the runner program is lent, but for 2 steps; no steps; no cells; no frame and no steps
+-- what the runner program is lent, but for n steps; no cells; no frame and no steps
 unfoldable pub lending : ℕ → ℕ → ℕ → Lent
 lending cellWords frameWords n =
     record { cellWords = cellWords; regionWords = runnerLent .regionWords; frameWords = frameWords; printWords = runnerLent .printWords; steps = n }
 
-unfoldable pub twoSteps : Lent
-twoSteps = lending (runnerLent .cellWords) (runnerLent .frameWords) 2
-
-unfoldable pub noSteps : Lent
-noSteps = lending (runnerLent .cellWords) (runnerLent .frameWords) 0
+unfoldable pub inSteps : ℕ → Lent
+inSteps n = lending (runnerLent .cellWords) (runnerLent .frameWords) n
 
 unfoldable pub noCells : Lent
 noCells = lending 0 (runnerLent .frameWords) (runnerLent .steps)
 
 unfoldable pub noFrames : Lent
 noFrames = lending (runnerLent .cellWords) 0 0
-
-unfoldable pub inSteps : ℕ → Lent
-inSteps n = lending (runnerLent .cellWords) (runnerLent .frameWords) n
 
 -- a run of `toTheEnds` that stops before the sum of y and z
 unfoldable pub stoppedThere : Run
@@ -132,7 +126,7 @@ pub record Table : Type 0 where
   pub removed-twice : checked twice ≡ Refused Typing
   pub A-run : ran A runnerLent ≡ silent (RunRefused Typing) 0
   pub A-lines : runnerOutput (ran A runnerLent) ≡ refusedWord ++ (51 ∷ 10 ∷ [])
-  pub steps-spent : ran A twoSteps ≡ silent (RunRefused Typing) 0
+  pub steps-spent : ran A (inSteps 2) ≡ silent (RunRefused Typing) 0
   pub no-cell : ran A noCells ≡ silent (RunRefused Typing) 0
   pub no-frame : ran A noFrames ≡ silent (RunRefused Typing) 0
   pub newU-96 : annotated newU 96 ≡ writes newU
@@ -140,7 +134,7 @@ pub record Table : Type 0 where
   pub newU-checked : checked newU ≡ Accepted
   pub newU-run : ran newU runnerLent ≡ silent Finished 1
   pub newU-lines : runnerOutput (ran newU runnerLent) ≡ finishedWord ++ (49 ∷ 10 ∷ [])
-  pub newU-no-steps : ran newU noSteps ≡ silent (Stopped Steps) 0
+  pub newU-no-steps : ran newU (inSteps 0) ≡ silent (Stopped Steps) 0
   pub newU-no-cell : ran newU noCells ≡ silent Finished 1
   pub newU-no-frame : ran newU noFrames ≡ silent (Stopped Frames) 0
   -- 2,147,483,647 + 1: stopped before that step, all steps before it done; 10 comes before 15
@@ -155,7 +149,7 @@ pub record Table : Type 0 where
   pub both-ends : ran (toTheEnds 0 0 19 20) runnerLent ≡ record { ending = Finished; steps = 25; printed = pos 2147483647 ∷ pos 2147483647 ∷ negsuc 2147483647 ∷ [] }
 
 pub table : Table
-unfolding computing eight rows file five with5 U A newU U5 U6 early twice numberVariables doublings toTheEnds over lending twoSteps noSteps noCells noFrames inSteps stoppedThere silent
+unfolding computing eight rows file five with5 U A newU U5 U6 early twice numberVariables doublings toTheEnds over lending inSteps noCells noFrames stoppedThere silent
 table = record {
   annotated-144 = refl;
   annotated-143 = refl;
