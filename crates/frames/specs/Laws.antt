@@ -19,7 +19,7 @@ use Rattle.sets.specs.Tests.{_&_, clash}
 use Rattle.language.specs.Lists.{choose}
 use Rattle.language.specs.Format.{maxVariables}
 use Rattle.language.specs.Numbers.{residue, sumNumber, inRange}
-use Rattle.word_machine.specs.Machine.{sumOf, cleared, blocks}
+use Rattle.word_machine.specs.Machine.{sumOfWords, cleared, blocks}
 use Rattle.word_machine.specs.Numbers.{range-fits}
 use Rattle.word_machine.specs.WordLaws.{toZ-high}
 
@@ -93,20 +93,20 @@ widens a r h e =
     rw (e, toZ-ofZ (sfits-toZ h)) (s, toZ-ofZ s)
 
 module _ (o a b : ℕ) (r s : ℤ) (ha : Fits w32 a) (hb : Fits w32 b) (er : r ≡ toZ w32 a) (es : s ≡ toZ w32 b) where
-  pub sum-added : o ≡ 0 → SFits w64 (wide r +ℤ wide s) × (toZ w64 (ofZ w64 (wide r +ℤ wide s)) ≡ sumOf o a b)
-  unfolding sumOf sumNumber
+  pub sum-added : o ≡ 0 → SFits w64 (wide r +ℤ wide s) × (toZ w64 (ofZ w64 (wide r +ℤ wide s)) ≡ sumOfWords o a b)
+  unfolding sumOfWords sumNumber
   sum-added e =
       let h : SFits w64 (toZ w32 a +ℤ toZ w32 b) = sum-fits (toZ w32 a) (toZ w32 b) (omega (arith, sfits-toZ ha .sfits)) (omega (arith, sfits-toZ hb .sfits)) in
       rw (e, widens a r ha er .1, widens b s hb es .1) (h, toZ-ofZ h)
 
-  pub sum-subtracted : (o ≡ 0 → ⊥) → SFits w64 (wide r -ℤ wide s) × (toZ w64 (ofZ w64 (wide r -ℤ wide s)) ≡ sumOf o a b)
-  unfolding sumOf sumNumber
+  pub sum-subtracted : (o ≡ 0 → ⊥) → SFits w64 (wide r -ℤ wide s) × (toZ w64 (ofZ w64 (wide r -ℤ wide s)) ≡ sumOfWords o a b)
+  unfolding sumOfWords sumNumber
   sum-subtracted n = go o n
     where
       h : SFits w64 (toZ w32 a -ℤ toZ w32 b)
       h = sum-fits (toZ w32 a) (negℤ (toZ w32 b)) (omega (arith, sfits-toZ ha .sfits)) (negative-fits (toZ w32 b) (sfits-toZ hb .sfits))
 
-      go : (o : ℕ) → (o ≡ 0 → ⊥) → SFits w64 (wide r -ℤ wide s) × (toZ w64 (ofZ w64 (wide r -ℤ wide s)) ≡ sumOf o a b)
+      go : (o : ℕ) → (o ≡ 0 → ⊥) → SFits w64 (wide r -ℤ wide s) × (toZ w64 (ofZ w64 (wide r -ℤ wide s)) ≡ sumOfWords o a b)
       go zero n = absurd (n refl)
       go (suc o) n = rw (widens a r ha er .1, widens b s hb es .1) (h, toZ-ofZ h)
 

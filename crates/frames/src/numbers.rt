@@ -6,7 +6,7 @@ ghost use mir.Syntax.{w32};
 ghost use mir.Val.{toZ};
 ghost use Rattle.language.specs.Numbers.{residue, inRange, less};
 ghost use Rattle.records.specs.Sizes.{wordEnd};
-ghost use Rattle.word_machine.specs.Machine.{literalWord, sumOf};
+ghost use Rattle.word_machine.specs.Machine.{literalWord, sumOfWords};
 
 // A literal from the half on is negative, and its word has all bits of the high half.
 const LITERAL_HALF: u32 = 32768;
@@ -36,7 +36,7 @@ pub fn literal_word(v: u32) -> u32
 
 // The sum or difference of two words' numbers, in full.
 pub fn sum_of(operation: usize, a: u32, b: u32) -> i64
-    ensures { λ r. ⌜ r ≡ sumOf operation a b ⌝ }
+    ensures { λ r. ⌜ r ≡ sumOfWords operation a b ⌝ }
 {
     let y = signed(a) as i64;
     let z = signed(b) as i64;

@@ -16,7 +16,7 @@ use Rattle.memory.specs.declared.Heap.{Heap}
 use Rattle.memory.specs.declared.Made.{Made}
 use Rattle.memory.specs.declared.Made.the-variants.{At, NoRoom}
 use Rattle.memory.specs.Memory.{created, createdRegions, removed, removedCells, removedRegions}
-use Rattle.word_machine.specs.Machine.{regionsFrom, sumOf}
+use Rattle.word_machine.specs.Machine.{regionsFrom, sumOfWords}
 use Rattle.machine.specs.Places.{regionFor, placed}
 
 -- ---- values
@@ -26,7 +26,7 @@ value-as P a b v fw e z = rw (e, z)
 pub gives : (P x y v u : ℕ) (fw fx : List ℕ) → fx ≡ set fw (P + x) v → x ≡ y → v ≡ u → fx ≡ set fw (P + y) u
 gives P x y v u fw fx e ex ev = rw (e, ex, ev)
 
-pub sum-as : (v : ℤ) (o p y z a b : ℕ) → v ≡ sumOf o y z → o ≡ p → y ≡ a → z ≡ b → v ≡ sumOf p a b
+pub sum-as : (v : ℤ) (o p y z a b : ℕ) → v ≡ sumOfWords o y z → o ≡ p → y ≡ a → z ≡ b → v ≡ sumOfWords p a b
 sum-as v o p y z a b e eo ey ez = rw (e, eo, ey, ez)
 
 -- a number is in range as it is read back from 64 bits

@@ -15,7 +15,7 @@ use Rattle.memory.specs.declared.Made.{Made}
 use Rattle.memory.specs.declared.Made.the-variants.{At, NoRoom}
 use Rattle.memory.specs.Memory.{constantsFrom, cellWord, withWord, built, builtCells, builtRegions}
 use Rattle.plans.specs.Plan.{sidesFrom}
-use Rattle.word_machine.specs.Machine.{regionsFrom, sumOf, armOf, givesEach, termOf}
+use Rattle.word_machine.specs.Machine.{regionsFrom, sumOfWords, armOf, givesEach, termOf}
 
 -- the arguments of the construct or arm at record i are numbers of a frame's words
 abbrev pub Low : List ℕ → ℕ → Type 0
@@ -30,8 +30,8 @@ abbrev pub valueIn : ℕ → List ℕ → ℕ → ℕ
 valueIn k fw x = getD fw (k + x) 0
 
 -- the sum or difference at record i, in full
-abbrev pub sumIn : List ℕ → ℕ → ℕ → List ℕ → ℤ
-sumIn f i k fw = sumOf (word f i sumOperation) (valueIn k fw (word f i sumY)) (valueIn k fw (word f i sumZ))
+abbrev pub sumAt : List ℕ → ℕ → ℕ → List ℕ → ℤ
+sumAt f i k fw = sumOfWords (word f i sumOperation) (valueIn k fw (word f i sumY)) (valueIn k fw (word f i sumZ))
 
 -- what the construct at record i makes of the words of cell x
 unfoldable pub termIn : List ℕ → ℕ → ℕ → List ℕ → List ℕ → ℕ → Contents

@@ -29,7 +29,7 @@ use Rattle.machine.specs.declared.State.{State}
 use Rattle.machine.specs.declared.Step.{Step}
 use Rattle.machine.specs.declared.Step.the-variants.{Went as WentTo, Stops}
 use Rattle.machine.specs.Words.{FramePlaced, wordsOf, cameTo, onwardTo, onward-placed, Goes}
-use Rattle.machine.specs.Places.{valueIn, sumIn, argumentsFrom, wordsFrom, functorIn, armFor, armValues, termValues}
+use Rattle.machine.specs.Places.{valueIn, sumAt, argumentsFrom, wordsFrom, functorIn, armFor, armValues, termValues}
 
 -- ---- the record by the number of its kind, w
 module _ (f : List ℕ) (i w : ℕ) (ew : w ≡ word f i kindWord) where
@@ -147,12 +147,12 @@ module _ (f : List ℕ) (T : Tables) (s : State) (m fw ps : List ℕ) (D : Frame
     if-goes a g z ea eg = goes-on _ fw ps (λ k h rs. if-step k h rs a g z ea eg) (onward-placed _ D)
 
     -- ---- a sum, v in full
-    sum-step : (k : Room) (h : Heap) (rs fx : List ℕ) (v : ℤ) → w ≡ sumKind → v ≡ sumIn f (s .goal) (s .at) fw → inRange v ≡ true
+    sum-step : (k : Room) (h : Heap) (rs fx : List ℕ) (v : ℤ) → w ≡ sumKind → v ≡ sumAt f (s .goal) (s .at) fw → inRange v ≡ true
         → fx ≡ set fw (s .at + word f (s .goal) goalX) (residue v) → went (wordsOf h m rs fx ps (onwardTo s next)) ≡ Steps k h rs
     unfolding steps sums ifRoom given withFrames wordsOf valueOf
     sum-step k h rs fx v z ev l ex = rw (sum-record f (s .goal) w ew z, ← D .place, ← ev, l, ex, en)
 
-    pub sum-goes : (fx : List ℕ) (v : ℤ) → w ≡ sumKind → v ≡ sumIn f (s .goal) (s .at) fw → inRange v ≡ true
+    pub sum-goes : (fx : List ℕ) (v : ℤ) → w ≡ sumKind → v ≡ sumAt f (s .goal) (s .at) fw → inRange v ≡ true
         → fx ≡ set fw (s .at + word f (s .goal) goalX) (residue v) → Goes f T s m fw ps (WentTo (onwardTo s next)) fx ps
     sum-goes fx v z ev l ex = goes-on _ fx ps (λ k h rs. sum-step k h rs fx v z ev l ex) (onward-placed _ D)
 
@@ -192,11 +192,11 @@ module _ (f : List ℕ) (T : Tables) (s : State) (m fw ps : List ℕ) (D : Frame
         → Goes f T s m fw ps (WentTo (onwardTo s g)) fx ps
     switch-goes fx j g z ej ex eg = goes-on _ fx ps (λ k h rs. switch-step k h rs fx j g z ej ex eg) (onward-placed _ D)
 
-    sum-stop : (k : Room) (h : Heap) (rs : List ℕ) (v : ℤ) → w ≡ sumKind → v ≡ sumIn f (s .goal) (s .at) fw → inRange v ≡ false → stops Sums ≡ Steps k h rs
+    sum-stop : (k : Room) (h : Heap) (rs : List ℕ) (v : ℤ) → w ≡ sumKind → v ≡ sumAt f (s .goal) (s .at) fw → inRange v ≡ false → stops Sums ≡ Steps k h rs
     unfolding steps sums ifRoom wordsOf valueOf
     sum-stop k h rs v z ev l = rw (sum-record f (s .goal) w ew z, ← D .place, ← ev, l)
 
-    pub sum-stops : (v : ℤ) → w ≡ sumKind → v ≡ sumIn f (s .goal) (s .at) fw → inRange v ≡ false → Goes f T s m fw ps (Stops Sums) fw ps
+    pub sum-stops : (v : ℤ) → w ≡ sumKind → v ≡ sumAt f (s .goal) (s .at) fw → inRange v ≡ false → Goes f T s m fw ps (Stops Sums) fw ps
     unfolding cameTo
     sum-stops v z ev l = record { comes = λ k h rs a b. sum-stop k h rs v z ev l; kept = λ c e. (refl, refl); stays = λ t e. absurd (stopped-not t _ (sym e)) }
 

@@ -26,7 +26,7 @@ ghost use Rattle.language.specs.Numbers.{less};
 ghost use Rattle.language.specs.File.{word};
 ghost use Rattle.language.specs.Format.{recordBytes, maxRecords, maxVariables, goalX, literalValue, sumY, sumZ, assignY, ifY, ifZ, ifThen, ifElse};
 ghost use Rattle.word_machine.specs.Machine.{frameWords, literalWord};
-ghost use Rattle.machine.specs.Places.{sumIn};
+ghost use Rattle.machine.specs.Places.{sumAt};
 
 // "After a goal chain ends, the next goal is the enclosing goal's next": the goal after the one at record i.
 pub fn successor(plan: &[usize; PLAN], i: usize) -> usize
@@ -51,7 +51,7 @@ pub fn literal(file: &[u8], i: usize, at: usize, frames: &mut [u32])
 pub fn sum(file: &[u8], i: usize, at: usize, frames: &[u32]) -> i64
     requires { ⌜ (recordBytes * i + recordBytes ≤ length (now file)) × (at + frameWords ≤ length (now frames)) ⌝ }
     requires { ⌜ (word (now file) i sumY ≤ maxVariables) × (word (now file) i sumZ ≤ maxVariables) ⌝ }
-    ensures { λ r. ⌜ r ≡ sumIn (now (file .entry)) i at (now (frames .entry)) ⌝ }
+    ensures { λ r. ⌜ r ≡ sumAt (now (file .entry)) i at (now (frames .entry)) ⌝ }
 {
     let y = value(frames, at, word_in(file, i, SUM_Y));
     let z = value(frames, at, word_in(file, i, SUM_Z));

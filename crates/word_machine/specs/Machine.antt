@@ -78,9 +78,9 @@ callPlace k = frameWords * k + callFrom
 unfoldable pub literalWord : ℕ → ℕ
 literalWord v = residue (literalNumber v)
 
--- the sum or difference of two words, a number of any size
-unfoldable pub sumOf : ℕ → ℕ → ℕ → ℤ
-sumOf o a b = sumNumber o (toZ w32 a) (toZ w32 b)
+-- the sum or difference of the numbers of two words, of any size
+unfoldable pub sumOfWords : ℕ → ℕ → ℕ → ℤ
+sumOfWords o a b = sumNumber o (toZ w32 a) (toZ w32 b)
 
 -- ---- words of a frame copied to another: for each of a list, from its source to its target
 unfoldable pub copied : (ℕ → ℕ) → (ℕ → ℕ) → List ℕ → List ℕ → List ℕ
@@ -285,7 +285,7 @@ module _ (f : List ℕ) (T : Tables) where
   -- ---- the goal at record i, in room k
   unfoldable pub steps : Room → ℕ → Record → MachineWords → Went
   steps k i (Literal n x v) w = went (given w x (literalWord v) (T .successor i))
-  steps k i (Sum n x o y z) w = sums w x (sumOf o (valueOf w y) (valueOf w z)) (T .successor i)
+  steps k i (Sum n x o y z) w = sums w x (sumOfWords o (valueOf w y) (valueOf w z)) (T .successor i)
   steps k i (Assign n x y) w = went (given w x (valueOf w y) (T .successor i))
   steps k i (Construct n x t a b c d) w = constructs w x (T .successor i) (T .region i) t a b c d
   steps k i (Switch n x cs) w = went (switches w (valueOf w x) cs)

@@ -12,8 +12,7 @@ use Rattle.language.specs.declared.Stop.the-variants.{Sums}
 use Rattle.language.specs.Numbers.{residue, inRange}
 use Rattle.language.specs.Program.{literal, sum, assign, Goal, step}
 use Rattle.language.specs.Typing.{isVariable}
-use Rattle.language.specs.Frames.{Value, numberIn, giving, literalIn, sumIn, assignIn}
-use Rattle.language.specs.Frames as Frames
+use Rattle.language.specs.Frames.{Value, numberIn, giving, literalIn, sumOf, sumIn, assignIn}
 use Rattle.language.specs.AcceptedRun.{RegionFrame, Memory, withFrame, state}
 use Rattle.language.specs.AcceptedRun as Run
 use Rattle.language.specs.Machine.{Room, Outlook, goes, lacks, roomOr}
@@ -23,7 +22,7 @@ use Rattle.safety.specs.Premises.{Accepted, laws}
 use Rattle.region_graph.specs.Shared.{variable-top}
 use Rattle.heap.specs.Standing as Standing
 use Rattle.word_machine.specs.Tables.{Tables, Tabled}
-use Rattle.word_machine.specs.Machine.{MachineWords, valuePlace, literalWord, sumOf, withFrames, given, valueOf, Went, went, stops, ifRoom, sums}
+use Rattle.word_machine.specs.Machine.{MachineWords, valuePlace, literalWord, sumOfWords, withFrames, given, valueOf, Went, went, stops, ifRoom, sums}
 use Rattle.word_machine.specs.Numbers.{range-word, literal-word, number-word}
 use Rattle.word_machine.specs.Premises.{Number}
 use Rattle.word_machine.specs.Relation.{whereIn, Means, sig, FrameOk, Waiting, Running, MemoryStored}
@@ -71,17 +70,17 @@ module _ {f : List ℕ} {T : Tables} (B : Tabled f T) (A : Accepted (program f))
     literal-after x v o = onward refl (given-running x (literalWord v) _ o (literal-word v)) (stored-given x (literalWord v))
 
     -- a sum: in range it goes on, with the word, else it stops
-    sum-by : (x o y z : ℕ) → isVariable (sig f (u .frame .procedure)) x ≡ true → (b : Bool) → inRange (Frames.sumOf (u .frame) o y z) ≡ b
-        → After (step (sum x o y z)) u fs m (roomOr b Sums) (ifRoom b Sums (given w x (residue (Frames.sumOf (u .frame) o y z)) (T .successor i)))
+    sum-by : (x o y z : ℕ) → isVariable (sig f (u .frame .procedure)) x ≡ true → (b : Bool) → inRange (sumOf (u .frame) o y z) ≡ b
+        → After (step (sum x o y z)) u fs m (roomOr b Sums) (ifRoom b Sums (given w x (residue (sumOf (u .frame) o y z)) (T .successor i)))
     unfolding Run.take sumIn Standing.StandsFor roomOr ifRoom
     sum-by x o y z a true r = onward refl (given-running x _ _ a (range-word _ r)) (stored-given x _)
     sum-by x o y z a false r = halts
 
     pub sum-after : (x o y z : ℕ) → isVariable (sig f (u .frame .procedure)) x ≡ true → isVariable (sig f (u .frame .procedure)) y ≡ true
         → isVariable (sig f (u .frame .procedure)) z ≡ true → Number (u .frame .values y) → Number (u .frame .values z)
-        → After (step (sum x o y z)) u fs m (roomOr (inRange (Frames.sumOf (u .frame) o y z)) Sums)
-        (sums w x (sumOf o (valueOf w y) (valueOf w z)) (T .successor i))
-    unfolding sums sumOf Frames.sumOf
+        → After (step (sum x o y z)) u fs m (roomOr (inRange (sumOf (u .frame) o y z)) Sums)
+        (sums w x (sumOfWords o (valueOf w y) (valueOf w z)) (T .successor i))
+    unfolding sums sumOfWords sumOf
     sum-after x o y z a b c p q = rw (value-number y b p, value-number z c q) (sum-by x o y z a _ refl)
 
     pub assign-after : (x y : ℕ) → isVariable (sig f (u .frame .procedure)) x ≡ true → isVariable (sig f (u .frame .procedure)) y ≡ true
