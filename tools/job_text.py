@@ -437,6 +437,7 @@ class Lister:
         if self.w[0][0] != 1 or self.w[0][3] != len(self.w):
             raise Fault('record 0 is no header of this file')
         self.lines, self.deep = [], 0
+        self.heads, self.calls = [], []
 
     def put(self, text, record=None):
         self.lines.append('    ' * min(self.deep, DEEPEST) + text + (f'  # {record}' if record is not None else ''))
@@ -471,9 +472,13 @@ class Lister:
         for n, p in enumerate(procedures):
             self.lines.append('')
             self.procedure(n, p)
+        for n in reversed(unreached(self.calls)):
+            self.lines.insert(self.heads[n], '# no chain of calls from the entry reaches this procedure')
         return '\n'.join(self.lines).strip('\n') + '\n'
 
     def procedure(self, n, p):
+        self.heads.append(len(self.lines))
+        self.calls.append([])
         self.put(f'procedure {self.procedure_names[n]}', p)
         self.deep = 1
         variables = self.chain(p, self.w[p][2], VARIABLE)
@@ -527,6 +532,7 @@ class Lister:
             self.put(f'{self.value(i, a)} = {self.term(i, self.kinds[a], b, (c, d, e, f))}', i)
         elif kind == CALL:
             names = [self.value(j, self.w[j][2]) for j in self.chain(i, b, ARGUMENT)]
+            self.calls[-1].append(a)
             self.put(f'call {self.pick(i, self.procedure_names, a)}' + (f'({", ".join(names)})' if names else ''), i)
         elif kind == PRINT:
             self.put(f'print {self.value(i, a)}', i)
@@ -558,6 +564,21 @@ class Lister:
             self.goals(i, no)
             self.deep -= 1
         self.put('end')
+
+
+def unreached(calls):
+    """The procedures that no chain of calls from procedure 0 reaches, by what each of them calls."""
+    found = [0][:len(calls)]
+    for p in found:
+        found += [q for q in dict.fromkeys(calls[p]) if q not in found]
+    return [p for p in range(len(calls)) if p not in found]
+
+
+def unreached_names(data, names=None):
+    """The names of those of a file that passes number 3."""
+    lister = Lister(data, names or Names())
+    lister.text()
+    return [lister.procedure_names[p] for p in unreached(lister.calls)]
 
 
 def procedures(data, source, names=None):

@@ -19,7 +19,7 @@ use Rattle.language.specs.Layout.{size}
 use Rattle.language.specs.Program.{Program}
 use Rattle.language.specs.Records.{programTree}
 use Rattle.language.specs.Annotation.{annotate}
-use Rattle.language.specs.Answers.{Stage, stage, lowest, program, fileOf, roomOk, fileStages, annotatorStages, AnnotatorAnswer, refuses, writes, writesUnless, annotated, annotatorMemory}
+use Rattle.language.specs.Answers.{Stage, stage, lowest, program, fileOf, roomOk, fileStages, reachedStages, annotatorStages, AnnotatorAnswer, refuses, writes, writesUnless, annotated, annotatorMemory}
 use Rattle.records.specs.Verdicts.{formStages, after, lowest-append}
 use Rattle.chains.specs.Layout.{length-of-program}
 use Rattle.rules.specs.Stages.{typingStages}
@@ -54,7 +54,7 @@ module _ (f : List ℕ) (lent : ℕ) where
   typedAnswer = writesUnless (lowest (markStages f ++ roomStages)) (fileOf (annotate (program f)))
 
   pub all-stages : writesUnless (lowest (typingStages f ++ (markStages f ++ roomStages))) (fileOf (annotate (program f))) ≡ annotated f lent
-  unfolding annotated annotatorStages fileStages formStages
+  unfolding annotated annotatorStages reachedStages fileStages formStages
   all-stages = refl
 
 module _ (ss ts : List Stage) (g : List ℕ) {v : Verdict} (e : v ≡ lowest ss) where

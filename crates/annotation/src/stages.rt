@@ -1,4 +1,4 @@
-// Numbers 4 to 7 of a file that passed number 3, in the order of the table.
+// Numbers 4 to 7 of a file that passed number 3, in the order of the table, with 17 behind 5.
 use language::Refusal;
 use language::Verdict;
 use liveness::POINTS;
@@ -43,6 +43,7 @@ fn lower(file: &[u8], r: Refusal) -> Refusal
         Refusal::Typing => Refusal::Typing,
         Refusal::Values => Refusal::Values,
         Refusal::Regions => Refusal::Regions,
+        Refusal::Unreached => Refusal::Unreached,
         Refusal::Annotated => Refusal::Annotated,
         Refusal::Classes => six_or_seven(file),
         Refusal::Rules => Refusal::Rules,

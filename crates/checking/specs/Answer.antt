@@ -7,16 +7,16 @@ use Rattle.language.specs.declared.Refusal.the-variants.{Rules}
 use Rattle.language.specs.declared.Verdict.{Verdict}
 use Rattle.language.specs.declared.Verdict.the-variants.{Refused, Accepted}
 use Rattle.language.specs.Checking.{rulesOk}
-use Rattle.language.specs.Answers.{Stage, stage, lowest, program, fileStages, checkerStages, checked}
+use Rattle.language.specs.Answers.{Stage, stage, lowest, program, fileStages, reachedStages, checkerStages, checked}
 use Rattle.records.specs.Verdicts.{formStages, after, lowest-append}
 use Rattle.rules.specs.Stages.{typingStages, tableStages}
 
--- numbers 4, 5, 7 and 8
+-- numbers 4, 5, 17, 7 and 8
 abbrev pub ruleStages : List ℕ → List Stage
 ruleStages f = tableStages f ++ (stage Rules (rulesOk (program f)) ∷ [])
 
 all-stages : (f : List ℕ) → typingStages f ++ ruleStages f ≡ checkerStages f
-unfolding checkerStages fileStages formStages
+unfolding checkerStages reachedStages fileStages formStages
 all-stages f = refl
 
 checked-by : (f : List ℕ) → checked f ≡ after (lowest (typingStages f)) (lowest (ruleStages f))

@@ -13,7 +13,7 @@ ghost use Rattle.language.specs.Answers.{lowest, program, checked};
 ghost use Rattle.chains.specs.Formed.{Formed};
 ghost use Rattle.checking.specs.Answer.{ruleStages};
 
-// Numbers 4, 5, 7 and 8 of a file that passed number 3. The tables are made here, where the stack of number 3's walk is given back.
+// Numbers 4, 5, 17, 7 and 8 of a file that passed number 3. The tables are made here, where the stack of number 3's walk is given back.
 fn check_rules(file: &[u8]) -> Verdict
     requires { ⌜ Formed (now file) ⌝ }
     requires { ⌜ typingOk (program (now file)) ≡ true ⌝ }

@@ -6,7 +6,7 @@ use lib.Dec.{leb}
 use lib.ListN.{length}
 use Rattle.sets.specs.Tests.{_&_}
 use Rattle.language.specs.declared.Refusal.{Refusal}
-use Rattle.language.specs.declared.Refusal.the-variants.{Header, Form, Typing, Values, Regions, Annotated, Classes, Rules, Room}
+use Rattle.language.specs.declared.Refusal.the-variants.{Header, Form, Typing, Values, Regions, Unreached, Annotated, Classes, Rules, Room}
 use Rattle.language.specs.declared.Verdict.{Verdict}
 use Rattle.language.specs.declared.Verdict.the-variants.{Refused, Accepted}
 use Rattle.language.specs.declared.Stop.{Stop}
@@ -23,6 +23,7 @@ use Rattle.language.specs.Records.{programTree}
 use Rattle.language.specs.Typing.{typingOk}
 use Rattle.language.specs.Values.{valuesOk}
 use Rattle.language.specs.Regions.{regionsOk}
+use Rattle.language.specs.CallChains.{reachedOk}
 use Rattle.language.specs.Lifetimes.{declaredClassesOk, callClassesOk}
 use Rattle.language.specs.Annotation.{unannotated, annotate}
 use Rattle.language.specs.Checking.{rulesOk}
@@ -35,6 +36,7 @@ refusalNumber Form = 2
 refusalNumber Typing = 3
 refusalNumber Values = 4
 refusalNumber Regions = 5
+refusalNumber Unreached = 17
 refusalNumber Annotated = 6
 refusalNumber Classes = 7
 refusalNumber Rules = 8
@@ -69,6 +71,10 @@ fileStages f =
     stage Header (headerOk f) ∷ stage Form (formOk (word f) (recordCount f)) ∷ stage Typing (typingOk (program f)) ∷ stage Values (valuesOk (program f))
     ∷ stage Regions (regionsOk (program f)) ∷ []
 
+-- number 17 is "looked at after 5 and before 6" (C-18): the stages of the programs that refuse procedures which no chain of calls reaches
+unfoldable pub reachedStages : List ℕ → List Stage
+reachedStages f = fileStages f ++ (stage Unreached (reachedOk (program f)) ∷ [])
+
 -- the bytes of a program, in written order
 unfoldable pub fileOf : Program → List ℕ
 fileOf P = written (programTree P)
@@ -80,12 +86,12 @@ roomOk P lent = leb (size (programTree P)) maxRecords & leb (length (fileOf P)) 
 -- the stages of the annotator; and of the checker, which the runner shares
 unfoldable pub annotatorStages : List ℕ → ℕ → List Stage
 annotatorStages f lent =
-    fileStages f
+    reachedStages f
     ++ (stage Annotated (unannotated (program f)) ∷ stage Classes (declaredClassesOk (program f) & callClassesOk (program f))
     ∷ stage Room (roomOk (annotate (program f)) lent) ∷ [])
 
 unfoldable pub checkerStages : List ℕ → List Stage
-checkerStages f = fileStages f ++ (stage Classes (declaredClassesOk (program f)) ∷ stage Rules (rulesOk (program f)) ∷ [])
+checkerStages f = reachedStages f ++ (stage Classes (declaredClassesOk (program f)) ∷ stage Rules (rulesOk (program f)) ∷ [])
 
 -- the annotator's answer: a refusal, or what stands in "the front part of the caller's output memory"
 pub data AnnotatorAnswer : Type 0 where

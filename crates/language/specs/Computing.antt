@@ -15,6 +15,7 @@ use Rattle.language.specs.Records as Records
 use Rattle.language.specs.Typing as Typing
 use Rattle.language.specs.Values as Values
 use Rattle.language.specs.Regions as Regions
+use Rattle.language.specs.CallChains as CallChains
 use Rattle.language.specs.Lifetimes as Lifetimes
 use Rattle.language.specs.Annotation as Annotation
 use Rattle.language.specs.Checking as Checking
@@ -26,7 +27,7 @@ use Rattle.language.specs.Answers as Answers
 use Rattle.language.specs.Output as Output
 
 unfoldable pub setsOpen : Unit {0}
-unfolding Digits.bit Tests._&_ Tests._or_ Tests.neg Sets.member Sets.oneAt Sets.single Sets._∪_ Sets._∩_ Sets._∖_ Sets.sameSet Sets.subset Sets.apart Members.consIf Members.membersFrom Members.members Members.firstOr65 Members.nextMember Members.setOf Members.filtered Members.keep Members.unionAll Members.unionOver Members.image Members.allOf Members.every
+unfolding Digits.bit Tests._&_ Tests._or_ Tests.neg Sets.member Sets.oneAt Sets.single Sets._∪_ Sets._∩_ Sets._∖_ Sets.sameSet Sets.subset Sets.apart Members.consIf Members.membersFrom Members.members Members.firstOr65 Members.nextMember Members.setOf Members.filtered Members.keep Members.unionAll Members.unionOver Members.image Members.allOf Members.every Members.inList
 setsOpen = tt
 
 unfoldable pub listsOpen : Unit {0}
@@ -73,6 +74,10 @@ unfoldable pub regionsOpen : Unit {0}
 unfolding Regions.targetsIn Regions.targets Regions.grown Regions.grownBy Regions.reachFrom Regions.reach Regions.reachAll Regions.pairs Regions.afterMapping Regions.mapEach Regions.agreeing Regions.visit Regions.mapRegion Regions.regionsOf Regions.mapping Regions.imageIn Regions.oneWay Regions.targetFor Regions.inTargets Regions.stepRegions Regions.goalsRegions Regions.goalRegions Regions.armsRegions Regions.regionsOk
 regionsOpen = tt
 
+unfoldable pub callChainsOpen : Unit {0}
+unfolding CallChains.stepCallees CallChains.goalsCallees CallChains.goalCallees CallChains.armsCallees CallChains.callees CallChains.calledFrom CallChains.oneCallOn CallChains.reachedIn CallChains.reached CallChains.reachedOk
+callChainsOpen = tt
+
 unfoldable pub lifetimesOpen : Unit {0}
 unfolding Lifetimes.inputs Lifetimes.outputs Lifetimes.ofClass Lifetimes.declared Lifetimes.born Lifetimes.dead Lifetimes.kept Lifetimes.startHeld Lifetimes.wanted Lifetimes.classesOk Lifetimes.liveStep Lifetimes.live Lifetimes.liveGoal Lifetimes.liveArms Lifetimes.noEffect Lifetimes.unsharedIn Lifetimes.callEffect Lifetimes.effect Lifetimes.heldAfter Lifetimes.stepClasses Lifetimes.goalsClasses Lifetimes.goalClasses Lifetimes.armsClasses Lifetimes.declaredClassesOk Lifetimes.callClassesOk
 lifetimesOpen = tt
@@ -102,7 +107,7 @@ unfolding Machine.runnerLent Machine.holds Machine.roomIn Machine.cellsHeld Mach
 machineOpen = tt
 
 unfoldable pub answersOpen : Unit {0}
-unfolding Answers.refusalNumber Answers.stopNumber Answers.lowest Answers.program Answers.fileStages Answers.fileOf Answers.roomOk Answers.annotatorStages Answers.checkerStages Answers.writesUnless Answers.annotated Answers.annotatorMemory Answers.checked Answers.runFor Answers.ran
+unfolding Answers.refusalNumber Answers.stopNumber Answers.lowest Answers.program Answers.fileStages Answers.reachedStages Answers.fileOf Answers.roomOk Answers.annotatorStages Answers.checkerStages Answers.writesUnless Answers.annotated Answers.annotatorMemory Answers.checked Answers.runFor Answers.ran
 answersOpen = tt
 
 unfoldable pub outputOpen : Unit {0}
@@ -110,5 +115,5 @@ unfolding Output.digitsOnto Output.decimal Output.signedDecimal Output.line Outp
 outputOpen = tt
 
 unfoldable pub computing : Unit {0}
-unfolding setsOpen listsOpen numbersOpen fileOpen treeOpen layoutOpen programOpen readingOpen recordsOpen typingOpen valuesOpen regionsOpen lifetimesOpen annotationOpen checkingOpen framesOpen plainRunOpen acceptedRunOpen machineOpen answersOpen outputOpen
+unfolding setsOpen listsOpen numbersOpen fileOpen treeOpen layoutOpen programOpen readingOpen recordsOpen typingOpen valuesOpen regionsOpen callChainsOpen lifetimesOpen annotationOpen checkingOpen framesOpen plainRunOpen acceptedRunOpen machineOpen answersOpen outputOpen
 computing = tt

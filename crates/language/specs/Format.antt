@@ -221,6 +221,10 @@ maxArity = 4
 abbrev pub maxProcedures : ℕ
 maxProcedures = 256
 
+-- "Procedure 0 is the entry."
+abbrev pub entryProcedure : ℕ
+entryProcedure = 0
+
 abbrev pub maxVariables : ℕ
 maxVariables = 64
 

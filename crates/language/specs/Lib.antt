@@ -10,6 +10,7 @@ pub mod Records
 pub mod Typing
 pub mod Values
 pub mod Regions
+pub mod CallChains
 pub mod Lifetimes
 pub mod Annotation
 pub mod Checking
@@ -22,3 +23,4 @@ pub mod Output
 pub mod Computing
 pub mod Table
 pub mod Examples
+pub mod Unreached

@@ -143,6 +143,9 @@ pub const MAX_ARITY: usize = 4;
 
 pub const MAX_PROCEDURES: usize = 256;
 
+// "Procedure 0 is the entry."
+pub const ENTRY_PROCEDURE: usize = 0;
+
 pub const MAX_VARIABLES: usize = 64;
 
 pub const MAX_REGIONS: usize = 64;

@@ -1,13 +1,14 @@
 // The answers that the programs share, document 01's table of refusals and stops, and its numbers.
 pub mod format;
 
-// The cause of a refusal, in the table's order: numbers 1 to 9.
+// The cause of a refusal, in the order in which they are looked at: numbers 1 to 5, 17 (C-18), 6 to 9.
 pub enum Refusal {
     Header,
     Form,
     Typing,
     Values,
     Regions,
+    Unreached,
     Annotated,
     Classes,
     Rules,

@@ -1,9 +1,12 @@
--- Laws of goals in front of others, and of striking out creates and removes there; whether a switch has an arm.
+-- Laws of goals in front of others, and of striking out creates and removes, there and in programs; whether a switch has an arm.
+use Prim.Native.Nat.{ℕ}
 use mathlib.Core.Bool.{Bool, true, false}
+use mathlib.Core.List.{[]}
 use mathlib.Core.Path.{_≡_, refl, sym, ap, _∙_}
-use Rattle.language.specs.Program.{Goals, done, _then_, Goal, step, switch, ifLess, Arms, noArms, arm, _before_}
+use Rattle.language.specs.Program.{Goals, done, _then_, Goal, step, switch, ifLess, Arms, noArms, arm, _before_, Program, procedureAt, signatureOf}
 use Rattle.language.specs.Annotation.{plainStep}
-use Rattle.language.specs.PlainRun.{thenIf, stripGoals, stripGoal}
+use Rattle.language.specs.PlainRun.{thenIf, stripGoals, stripGoal, stripProcedure, stripped}
+use Rattle.laws.specs.Lists.{nth-map}
 
 pub before-done : (gs : Goals) → gs before done ≡ gs
 unfolding _before_
@@ -34,3 +37,16 @@ strip-before (g then gs) hs = ap (stripGoal g) (strip-before gs hs) ∙ sym (goa
 unfoldable pub someArm : Arms → Bool
 someArm noArms = false
 someArm (arm f ys gs cs) = true
+
+-- ---- programs with creates and removes struck out
+pub strip-procedure : (P : Program) (q : ℕ) → procedureAt (stripped P) q ≡ stripProcedure (procedureAt P q)
+unfolding procedureAt stripped stripProcedure stripGoals
+strip-procedure P q = nth-map stripProcedure (record { signature = record { variables = []; regions = [] }; body = done }) (P .procedures) q
+
+pub strip-signature : (P : Program) (q : ℕ) → signatureOf (stripped P) q ≡ signatureOf P q
+unfolding signatureOf stripProcedure
+strip-signature P q = ap (λ p. p .signature) (strip-procedure P q)
+
+pub strip-body : (P : Program) (q : ℕ) → procedureAt (stripped P) q .body ≡ stripGoals (procedureAt P q .body)
+unfolding stripProcedure
+strip-body P q = ap (λ p. p .body) (strip-procedure P q)

@@ -3,6 +3,7 @@ pub mod Numbers
 pub mod Counts
 pub mod Choices
 pub mod Lists
+pub mod Rounds
 pub mod MoreSets
 pub mod Goals
 pub mod Stages

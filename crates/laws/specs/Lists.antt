@@ -5,7 +5,7 @@ use native.Mathlib.Nat.{suc-add}
 use native.Mathlib.Omega.{arith}
 use mathlib.Core.Bool.{Bool, true, false, false≢true}
 use mathlib.Core.List.{List, [], _∷_, _++_, map}
-use mathlib.Core.Logic.{⊎-elim}
+use mathlib.Core.Logic.{_⊎_, inl, inr, ⊎-elim}
 use mathlib.Core.Path.{_≡_, refl, sym, ap, ap₂, _∙_}
 use lib.ListN.{length, drop}
 use Rattle.sets.specs.Tests.{_&_, clash, and-true, true-and, and-false}
@@ -163,7 +163,21 @@ unfolding isNone
 none-in [] e = refl
 none-in (x ∷ xs) e = absurd (false≢true e)
 
--- ---- a list of numbers and their images
+-- ---- lists of numbers: two in a row, and images
+pub append-in : (n : ℕ) (xs ys : List ℕ) → inList n (xs ++ ys) ≡ true → (inList n xs ≡ true) ⊎ (inList n ys ≡ true)
+append-in n [] ys e = inr e
+append-in n (x ∷ xs) ys e =
+    ⊎-elim (λ p. inl (cons-here n x xs p)) (λ q. ⊎-elim (λ l. inl (cons-later n x xs l)) (λ r. inr r) (append-in n xs ys q)) (cons-in n x (xs ++ ys) e)
+
+pub append-left : (n : ℕ) (xs ys : List ℕ) → inList n xs ≡ true → inList n (xs ++ ys) ≡ true
+append-left n [] ys e = absurd (nil-in n e)
+append-left n (x ∷ xs) ys e =
+    ⊎-elim (λ p. cons-here n x (xs ++ ys) p) (λ q. cons-later n x (xs ++ ys) (append-left n xs ys q)) (cons-in n x xs e)
+
+pub append-right : (n : ℕ) (xs ys : List ℕ) → inList n ys ≡ true → inList n (xs ++ ys) ≡ true
+append-right n [] ys e = e
+append-right n (x ∷ xs) ys e = cons-later n x (xs ++ ys) (append-right n xs ys e)
+
 pub image-listed : (m : ℕ → ℕ) (ts : List ℕ) (t : ℕ) → inList t ts ≡ true → inList (m t) (map m ts) ≡ true
 image-listed m [] t e = absurd (nil-in t e)
 image-listed m (x ∷ ts) t e =

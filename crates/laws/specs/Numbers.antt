@@ -3,12 +3,13 @@ use Prim.Native.Nat.{ℕ, zero, suc, _+_, _≤_, _<_}
 use native.Mathlib.Decide.{decLe, ℕ-discrete}
 use native.Mathlib.Nat.{zero-add, suc-add}
 use native.Mathlib.Omega.{arith}
-use mathlib.Core.Bool.{Bool, true}
+use mathlib.Core.Bool.{Bool, true, false}
 use mathlib.Core.List.{_∷_, _++_}
 use mathlib.Core.Logic.{⊎-elim}
 use mathlib.Core.Path.{_≡_, refl, ap}
 use borrow.Author.Tests.{leb-true, le-leb}
-use Rattle.sets.specs.Tests.{and-true, true-and}
+use lib.ListN.{length}
+use Rattle.sets.specs.Tests.{clash, and-true, true-and, and-false}
 use Rattle.sets.specs.Members.{inList, nil-in, cons-here, cons-later, cons-in}
 use Rattle.language.specs.Lists.{all, among, upFrom}
 
@@ -46,6 +47,11 @@ unfolding upFrom
 upFrom-append zero n b c e = let z : b ≡ c = omega arith in rw (zero-add, z)
 upFrom-append (suc m) n b c e = rw suc-add (ap (λ l. b ∷ l) (upFrom-append m n (suc b) c (omega arith)))
 
+pub upFrom-length : (m k : ℕ) → length (upFrom m k) ≡ k
+unfolding upFrom
+upFrom-length m zero = refl
+upFrom-length m (suc k) = ap suc (upFrom-length (suc m) k)
+
 -- ---- a test of each of the m numbers from b on
 pub all-at : (m b : ℕ) (p : ℕ → Bool) → all p (upFrom b m) ≡ true → (i : ℕ) → b ≤ i → i < b + m → p i ≡ true
 unfolding all upFrom
@@ -60,3 +66,9 @@ pub at-all : (m b : ℕ) (p : ℕ → Bool) → ((i : ℕ) → b ≤ i → i < b
 unfolding all upFrom
 at-all zero b p h = refl
 at-all (suc m) b p h = true-and (h b (omega arith) (omega arith)) (at-all m (suc b) p (λ i l q. h i (omega arith) (omega arith)))
+
+pub at-fails : (m b : ℕ) (p : ℕ → Bool) → all p (upFrom b m) ≡ false → (i : ℕ) × (b ≤ i) × (i < b + m) × (p i ≡ false)
+unfolding all upFrom
+at-fails zero b p e = absurd (clash refl e)
+at-fails (suc m) b p e =
+    ⊎-elim (λ f. (b, omega arith, omega arith, f)) (λ f. let r = at-fails m (suc b) p f in (r .0, omega arith, omega arith, r .3)) (and-false e)

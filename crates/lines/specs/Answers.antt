@@ -5,7 +5,7 @@ use mathlib.Core.Path.{_≡_, ap, sym, subst, _∙_}
 use native.Mathlib.Omega.{arith}
 use lib.ListN.{length, length-append}
 use Rattle.language.specs.declared.Refusal.{Refusal}
-use Rattle.language.specs.declared.Refusal.the-variants.{Header, Form, Typing, Values, Regions, Annotated, Classes, Rules, Room}
+use Rattle.language.specs.declared.Refusal.the-variants.{Header, Form, Typing, Values, Regions, Unreached, Annotated, Classes, Rules, Room}
 use Rattle.language.specs.declared.Verdict.{Verdict}
 use Rattle.language.specs.declared.Verdict.the-variants.{Refused, Accepted}
 use Rattle.language.specs.declared.Stop.{Stop}
@@ -18,17 +18,18 @@ use Rattle.lines.specs.Widths.{refusalBytes, decimalBytes, endingBytes}
 use Rattle.lines.specs.Put.{Put, put-then, Front, put-front}
 use Rattle.lines.specs.Digits.{decimal-most}
 
-pub refusal-digits : (r : Refusal) → length (decimal (refusalNumber r)) ≤ 1
+pub refusal-digits : (r : Refusal) → length (decimal (refusalNumber r)) ≤ 2
 unfolding refusalNumber
-refusal-digits Header = decimal-most 1 1 (omega arith) (omega arith)
-refusal-digits Form = decimal-most 1 2 (omega arith) (omega arith)
-refusal-digits Typing = decimal-most 1 3 (omega arith) (omega arith)
-refusal-digits Values = decimal-most 1 4 (omega arith) (omega arith)
-refusal-digits Regions = decimal-most 1 5 (omega arith) (omega arith)
-refusal-digits Annotated = decimal-most 1 6 (omega arith) (omega arith)
-refusal-digits Classes = decimal-most 1 7 (omega arith) (omega arith)
-refusal-digits Rules = decimal-most 1 8 (omega arith) (omega arith)
-refusal-digits Room = decimal-most 1 9 (omega arith) (omega arith)
+refusal-digits Header = decimal-most 2 1 (omega arith) (omega arith)
+refusal-digits Form = decimal-most 2 2 (omega arith) (omega arith)
+refusal-digits Typing = decimal-most 2 3 (omega arith) (omega arith)
+refusal-digits Values = decimal-most 2 4 (omega arith) (omega arith)
+refusal-digits Regions = decimal-most 2 5 (omega arith) (omega arith)
+refusal-digits Unreached = decimal-most 2 17 (omega arith) (omega arith)
+refusal-digits Annotated = decimal-most 2 6 (omega arith) (omega arith)
+refusal-digits Classes = decimal-most 2 7 (omega arith) (omega arith)
+refusal-digits Rules = decimal-most 2 8 (omega arith) (omega arith)
+refusal-digits Room = decimal-most 2 9 (omega arith) (omega arith)
 
 pub stop-digits : (c : Stop) → length (decimal (stopNumber c)) ≤ 2
 unfolding stopNumber

@@ -3,7 +3,7 @@ use Prim.Native.Nat.{ℕ}
 
 -- the line of a refusal, the longest of the checker's
 abbrev pub refusalBytes : ℕ
-refusalBytes = 10
+refusalBytes = 11
 
 -- a number of 64 bits
 abbrev pub decimalBytes : ℕ

@@ -29,6 +29,7 @@ pub fn refusal_number(r: Refusal) -> u64
         Refusal::Typing => 3,
         Refusal::Values => 4,
         Refusal::Regions => 5,
+        Refusal::Unreached => 17,
         Refusal::Annotated => 6,
         Refusal::Classes => 7,
         Refusal::Rules => 8,

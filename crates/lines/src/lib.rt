@@ -16,7 +16,7 @@ pub use text::put_text;
 
 // The most bytes that texts take. The definitions have them under the same names (specs/Widths.antt).
 // the line of a refusal, the longest of the checker's
-pub const REFUSAL_BYTES: usize = 10;
+pub const REFUSAL_BYTES: usize = 11;
 
 // a number of 64 bits
 pub const DECIMAL_BYTES: usize = 20;

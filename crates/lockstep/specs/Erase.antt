@@ -12,9 +12,9 @@ use Rattle.language.specs.Frames.{Value, Frame, Cell, withGoals, giving, litera
 use Rattle.language.specs.PlainRun.{stripGoals, stripArms, stripped, PlainState, plainState, plainStart, plainTake, builtCells}
 use Rattle.language.specs.AcceptedRun.{RegionFrame, Memory, State, cellOf, withCell, withBuilt, withPrinted, withRegion, withoutRegion, withFrame, calleeRegions, returningRegions, state, start, take}
 use Rattle.laws.specs.Choices.{choose-map}
-use Rattle.laws.specs.Goals.{strip-before}
 use Rattle.lockstep.specs.Counted.{isPlain}
-use Rattle.lockstep.specs.Strip.{strippedGoal, stripPicked, strip-pick, strip-signature, strip-body}
+use Rattle.laws.specs.Goals.{strip-before, strip-signature, strip-body}
+use Rattle.lockstep.specs.Strip.{strippedGoal, stripPicked, strip-pick}
 
 -- a frame without its regions, and with its goals stripped of creates and removes
 unfoldable pub eraseFrame : RegionFrame → Frame

@@ -1,16 +1,14 @@
 -- Striking out creates and removes goes together with all that the two runs do to goals and programs.
 use mathlib.Core.Path.{_≡_, refl, sym, ap, _∙_}
 use mathlib.Core.Bool.{true, false, false≢true}
-use mathlib.Core.List.{[]}
 use Prim.Native.Nat.{ℕ}
 use lib.Dec.{eqb}
 use Rattle.language.specs.Lists.{choose}
-use Rattle.language.specs.Program.{argumentsOf, Step, literal, sum, assign, construct, call, print, create, remove, Goals, done, _then_, Goal, step, switch, ifLess, Arms, noArms, arm, Program, procedureAt, signatureOf}
+use Rattle.language.specs.Program.{argumentsOf, Step, literal, sum, assign, construct, call, print, create, remove, Goals, done, _then_, Goal, step, switch, ifLess, Arms, noArms, arm}
 use Rattle.language.specs.Annotation.{plainStep}
 use Rattle.language.specs.Frames.{Picked, noArm, picked, pick, Frame, withGoals, sumOf, fitsStep, fits}
-use Rattle.language.specs.PlainRun.{thenIf, stripGoals, stripArms, stripProcedure, stripped}
+use Rattle.language.specs.PlainRun.{thenIf, stripGoals, stripArms}
 use Rattle.laws.specs.Choices.{choose-map}
-use Rattle.laws.specs.Lists.{nth-map}
 use Rattle.lockstep.specs.Counted.{isPlain}
 
 -- ---- goals
@@ -72,16 +70,3 @@ strip-pick noArms k = refl
 strip-pick (arm f ys gs cs) k =
     ap (choose (eqb f k) (picked (argumentsOf ys) (stripGoals gs))) (strip-pick cs k)
     ∙ sym (choose-map stripPicked (eqb f k) (picked (argumentsOf ys) gs) (pick cs k))
-
--- ---- programs
-pub strip-procedure : (P : Program) (q : ℕ) → procedureAt (stripped P) q ≡ stripProcedure (procedureAt P q)
-unfolding procedureAt stripped stripProcedure stripGoals
-strip-procedure P q = nth-map stripProcedure (record { signature = record { variables = []; regions = [] }; body = done }) (P .procedures) q
-
-pub strip-signature : (P : Program) (q : ℕ) → signatureOf (stripped P) q ≡ signatureOf P q
-unfolding signatureOf stripProcedure
-strip-signature P q = ap (λ p. p .signature) (strip-procedure P q)
-
-pub strip-body : (P : Program) (q : ℕ) → procedureAt (stripped P) q .body ≡ stripGoals (procedureAt P q .body)
-unfolding stripProcedure
-strip-body P q = ap (λ p. p .body) (strip-procedure P q)

@@ -18,7 +18,7 @@ use Rattle.language.specs.Values.{insOf, outsOf}
 use Rattle.language.specs.Regions.{reach, reachAll}
 use Rattle.language.specs.Lifetimes.{inputs, outputs, born, kept, dead, startHeld, classesOk, declaredClassesOk, effect, heldAfter}
 use Rattle.language.specs.Checking.{Carried, broken, carries, stepRules, checkGoals, endRules, procedureRules, rulesOk}
-use Rattle.language.specs.Answers.{program, fileStages, checkerStages, checked}
+use Rattle.language.specs.Answers.{program, reachedStages, checkerStages, checked}
 use Rattle.region_graph.specs.Parameters.{ins-top}
 use Rattle.needed.specs.Without.{Rule, endKept, endBorn, number, leftOut, unless, withBorn, withKept, endHeld, endAsks, goalsWithout, procedureWithout, rulesWithout, checkedWithout}
 use Rattle.needed.specs.Carrying.{CarriedAfter, Invariant, after-goals}
@@ -105,10 +105,10 @@ module _ (P : Program) (S : Signature) where
 pub endKept-follows : (f : List ℕ) → checkedWithout (endKept ∷ []) f ≡ Accepted → checked f ≡ Accepted
 unfolding checkedWithout checked checkerStages rulesWithout rulesOk procedureWithout procedureRules declaredClassesOk
 endKept-follows f e =
-    last-test (fileStages f) _ _ _ (all-from _ _ _ (λ p o k. procedure-kept (program f) (p .signature) (p .body) k) (program f .procedures)) e
+    last-test (reachedStages f) _ _ _ (all-from _ _ _ (λ p o k. procedure-kept (program f) (p .signature) (p .body) k) (program f .procedures)) e
 
 -- "At the end: born .. regions held" follows from the other rules
 pub endBorn-follows : (f : List ℕ) → checkedWithout (endBorn ∷ []) f ≡ Accepted → checked f ≡ Accepted
 unfolding checkedWithout checked checkerStages rulesWithout rulesOk procedureWithout procedureRules declaredClassesOk
 endBorn-follows f e =
-    last-test (fileStages f) _ _ _ (all-from _ _ _ (λ p o k. procedure-born (program f) (p .signature) o (p .body) k) (program f .procedures)) e
+    last-test (reachedStages f) _ _ _ (all-from _ _ _ (λ p o k. procedure-born (program f) (p .signature) o (p .body) k) (program f .procedures)) e

@@ -19,7 +19,7 @@ use Rattle.language.specs.Regions.{reach, reachAll, mapping, imageIn}
 use Rattle.language.specs.Lifetimes.{inputs, outputs, dead, kept, startHeld, classesOk, declaredClassesOk, effect, callEffect, heldAfter}
 use Rattle.language.specs.Typing.{signatureOk, procedureOk, typingOk}
 use Rattle.language.specs.Checking.{Carried, broken, carries, requireRule, stepRules, checkStep, checkGoals, endRules, procedureRules, rulesOk}
-use Rattle.language.specs.Answers.{program, fileStages, checkerStages, checked}
+use Rattle.language.specs.Answers.{program, reachedStages, checkerStages, checked}
 use Rattle.region_graph.specs.Parameters.{ins-top}
 use Rattle.needed.specs.Without.{deadHeld, number, leftOut, unless, asked, allAsked, callAsks, withBorn, withKept, endHeld, endAsks, givenSound, asks, stepAsks, holdsAfter, stepWithout, goalsWithout, procedureWithout, rulesWithout, checkedWithout}
 use Rattle.needed.specs.Carrying.{StepsAgree, goals-same}
@@ -133,4 +133,4 @@ rules-dead P t d e =
 
 pub deadHeld-follows : (f : List ℕ) → checkedWithout (deadHeld ∷ []) f ≡ Accepted → checked f ≡ Accepted
 unfolding checkedWithout checked checkerStages
-deadHeld-follows f e = last-test (fileStages f) _ _ _ (λ d k. rules-dead (program f) (typed f _ e) d k) e
+deadHeld-follows f e = last-test (reachedStages f) _ _ _ (λ d k. rules-dead (program f) (typed f _ e) d k) e

@@ -9,8 +9,8 @@ use Rattle.language.specs.declared.Verdict.the-variants.{Accepted}
 use Rattle.language.specs.Lists.{all}
 use Rattle.language.specs.Program.{Procedure}
 use Rattle.language.specs.Typing.{typingOk}
-use Rattle.language.specs.Answers.{Stage, stage, lowest, program, fileStages}
-use Rattle.laws.specs.Stages.{lowest-passed, passed-read}
+use Rattle.language.specs.Answers.{Stage, stage, lowest, program, reachedStages}
+use Rattle.laws.specs.Stages.{lowest-passed, passed-reached}
 
 pub all-from : (c p q : Procedure → Bool) → ((x : Procedure) → c x ≡ true → p x ≡ true → q x ≡ true) → (xs : List Procedure)
     → all c xs ≡ true → all p xs ≡ true → all q xs ≡ true
@@ -31,5 +31,5 @@ last-test (stage r true ∷ ss) d less more f e = last-test ss d less more f e
 last-test (stage r false ∷ ss) d less more f e = e
 
 -- a file that passes has passed number 3
-pub typed : (f : List ℕ) (ss : List Stage) → lowest (fileStages f ++ ss) ≡ Accepted → typingOk (program f) ≡ true
-typed f ss e = passed-read f ss (lowest-passed (fileStages f ++ ss) e) .0 .typing
+pub typed : (f : List ℕ) (ss : List Stage) → lowest (reachedStages f ++ ss) ≡ Accepted → typingOk (program f) ≡ true
+typed f ss e = passed-reached f ss (lowest-passed (reachedStages f ++ ss) e) .0 .typing

@@ -15,7 +15,7 @@ use Rattle.language.specs.Values.{insOf, outsOf, reads, gives}
 use Rattle.language.specs.Regions.{Mapping, mapping, imageIn}
 use Rattle.language.specs.Lifetimes.{inputs, outputs, born, dead, kept, startHeld, declaredClassesOk, Effect, noEffect, unsharedIn}
 use Rattle.language.specs.Checking.{Carried, broken, carries, requireRule, carryOn, soundGiven, soundWithout}
-use Rattle.language.specs.Answers.{stage, lowest, program, fileStages}
+use Rattle.language.specs.Answers.{stage, lowest, program, reachedStages}
 
 -- the rules, in document 01's order
 pub data Rule : Type 0 where
@@ -204,4 +204,4 @@ module _ (out : List Rule) where
 
   -- what a checker without these rules answers
   unfoldable pub checkedWithout : List ℕ → Verdict
-  checkedWithout f = lowest (fileStages f ++ (stage Classes (declaredClassesOk (program f)) ∷ stage Rules (rulesWithout (program f)) ∷ []))
+  checkedWithout f = lowest (reachedStages f ++ (stage Classes (declaredClassesOk (program f)) ∷ stage Rules (rulesWithout (program f)) ∷ []))

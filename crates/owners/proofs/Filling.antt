@@ -11,6 +11,7 @@ use Rattle.language.specs.File.{Kind, kNone, kHeader, kType, kFunctor, kProcedu
 use Rattle.language.specs.Format.{nextWord}
 use Rattle.laws.specs.Counts.{hit, hit-same}
 use Rattle.records.specs.Sizes.{wordEnd}
+use Rattle.records.specs.Blank.{blank-zero}
 use Rattle.chains.specs.Formed.{Formed, counted}
 use Rattle.owners.specs.Referred.{refers-up, times-refers}
 use Rattle.owners.specs.Owner.{nextMore, hand, handEach, kindHere, partsHere, handOn, ownersUpTo, ownersOf}
@@ -78,14 +79,9 @@ more-one kArm = omega arith
 more-one kArgument = omega arith
 more-one (kGoal g) = omega arith
 
-replicate-zero : (n k : ℕ) → getD {A = ℕ} (replicate n 0) k 0 ≡ 0
-replicate-zero zero k = refl
-replicate-zero (suc n) zero = refl
-replicate-zero (suc n) (suc k) = replicate-zero n k
-
 up-to-low : (f : List ℕ) (m k : ℕ) → getD (ownersUpTo f m) k 0 ≤ m
 unfolding ownersUpTo handOn
-up-to-low f zero k = omega (arith, replicate-zero (recordCount f) k)
+up-to-low f zero k = omega (arith, blank-zero (recordCount f) k)
 up-to-low f (suc m) k =
     let t = ownersUpTo f m in
     each-low (partsHere f m) (hand t (word f m nextWord) (getD t m 0 + nextMore (kindHere f m))) (getD t m 0) (suc m)

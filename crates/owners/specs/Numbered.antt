@@ -1,11 +1,11 @@
 -- A test of every goal, procedure by procedure: by the procedures' numbers, and as a test of whole procedures such as the definitions have.
-use Prim.Native.Nat.{ℕ, suc, _+_, _<_}
+use Prim.Native.Nat.{ℕ, zero, suc, _+_, _<_}
 use native.Mathlib.Omega.{arith}
 use mathlib.Core.Bool.{Bool, true}
 use mathlib.Core.List.{List, [], _∷_}
 use mathlib.Core.Path.{_≡_, refl, ap, ap₂, _∙_}
 use lib.ListN.{length}
-use Rattle.sets.specs.Tests.{_&_, true-and}
+use Rattle.sets.specs.Tests.{_&_, and-true, true-and}
 use Rattle.language.specs.Lists.{all, nth}
 use Rattle.language.specs.Program.{done, Goal, Procedure, Program, procedureAt}
 use Rattle.owners.specs.Everywhere.{allGoals, allFrom, everyGoal}
@@ -20,6 +20,12 @@ module _ (L : ℕ → Goal → Bool) (d : Procedure) where
     where
       later : (c r : ℕ) → allGoals (L (c + suc r)) (nth d ps r .body) ≡ true → allGoals (L (suc c + r)) (nth d ps r .body) ≡ true
       later c r e = let z : c + suc r ≡ suc c + r = omega arith in rw z at e
+
+  from-at : (ps : List Procedure) (b : ℕ) → allFrom L b ps ≡ true → (q : ℕ) → q < length ps → allGoals (L (b + q)) (nth d ps q .body) ≡ true
+  unfolding allFrom nth
+  from-at [] b e q l = absurd (omega arith)
+  from-at (p ∷ ps) b e zero l = let z : b + 0 ≡ b = omega arith in rw z (and-true e .0)
+  from-at (p ∷ ps) b e (suc q) l = let z : b + suc q ≡ suc b + q = omega arith in rw z (from-at ps (suc b) (and-true e .1) q (omega arith))
 
   same-from : (t : Procedure → Bool) (ps : List Procedure) (b : ℕ) → ((q : ℕ) → q < length ps → t (nth d ps q) ≡ allGoals (L (b + q)) (nth d ps q .body))
       → all t ps ≡ allFrom L b ps
@@ -41,6 +47,11 @@ module _ (L : ℕ → Goal → Bool) (P : Program) where
   pub at-every : ((q : ℕ) → q < length (P .procedures) → allGoals (L q) (procedureAt P q .body) ≡ true) → everyGoal L P ≡ true
   unfolding everyGoal procedureAt
   at-every h = at-from L none (P .procedures) 0 (λ q l. let z : 0 + q ≡ q = omega arith in rw z (h q l))
+
+  -- .. and only then
+  pub every-at : everyGoal L P ≡ true → (q : ℕ) → q < length (P .procedures) → allGoals (L q) (procedureAt P q .body) ≡ true
+  unfolding everyGoal procedureAt
+  every-at e q l = let z : 0 + q ≡ q = omega arith in rw z at (from-at L none (P .procedures) 0 e q l)
 
   -- a test of whole procedures that is, of procedure q, the test of its goals
   pub every-same : (t : Procedure → Bool) → ((q : ℕ) → q < length (P .procedures) → t (procedureAt P q) ≡ allGoals (L q) (procedureAt P q .body))

@@ -9,7 +9,7 @@ use native.Mathlib.Omega.{arith}
 use lib.ListN.{length}
 use Rattle.sets.specs.Tests.{clash, and-true, false-of}
 use Rattle.language.specs.declared.Refusal.{Refusal}
-use Rattle.language.specs.declared.Refusal.the-variants.{Header, Form, Typing, Values, Regions, Classes, Rules}
+use Rattle.language.specs.declared.Refusal.the-variants.{Header, Form, Typing, Values, Regions, Unreached, Classes, Rules}
 use Rattle.language.specs.declared.Verdict.the-variants.{Refused, Accepted}
 use Rattle.language.specs.Lists.{nth}
 use Rattle.language.specs.File.{word, recordCount, headerOk, formOk}
@@ -17,11 +17,12 @@ use Rattle.language.specs.Program.{Program, procedureAt}
 use Rattle.language.specs.Typing.{procedureOk, typingOk}
 use Rattle.language.specs.Values.{valuesOk}
 use Rattle.language.specs.Regions.{regionsOk}
+use Rattle.language.specs.CallChains.{reachedOk}
 use Rattle.language.specs.Lifetimes.{declaredClassesOk}
 use Rattle.language.specs.Checking.{procedureRules, rulesOk}
-use Rattle.language.specs.Answers.{refusalNumber, Stage, stage, program, fileStages, checkerStages, checked}
+use Rattle.language.specs.Answers.{refusalNumber, Stage, stage, program, fileStages, reachedStages, checkerStages, checked}
 use Rattle.laws.specs.Lists.{all-nth, all-fails}
-use Rattle.laws.specs.Stages.{Passed, lowest-passed, passed-lowest, Others, refused-last, last-refused, passed-read, read-passed}
+use Rattle.laws.specs.Stages.{Passed, lowest-passed, passed-lowest, Others, refused-last, last-refused, passed-reached, reached-passed}
 use Rattle.paths.specs.Paths.{paths, pathRules, EveryProcedure}
 use Rattle.paths.specs.Accepting.{procedure-rules, procedure-named, rules-every-path}
 
@@ -32,6 +33,7 @@ pub record PassesBefore8 (f : List ℕ) : Type 0 where
   pub typing : typingOk (program f) ≡ true
   pub values : valuesOk (program f) ≡ true
   pub regions : regionsOk (program f) ≡ true
+  pub reached : reachedOk (program f) ≡ true
   pub classes : declaredClassesOk (program f) ≡ true
 
 -- a path of a procedure, by their numbers, along which a rule is broken
@@ -45,35 +47,35 @@ pub record BrokenPath (P : Program) : Type 0 where
 -- ---- stages
 -- those before number 8, which give other numbers
 before-8 : List ℕ → List Stage
-before-8 f = fileStages f ++ (stage Classes (declaredClassesOk (program f)) ∷ [])
+before-8 f = reachedStages f ++ (stage Classes (declaredClassesOk (program f)) ∷ [])
 
-not-8 : (r : Refusal) → refusalNumber r < 8 → r ≡ Rules → ⊥
+not-8 : (r : Refusal) → (refusalNumber r ≡ 8 → ⊥) → r ≡ Rules → ⊥
 unfolding refusalNumber
-not-8 r l e = let q = ap refusalNumber e in omega arith
+not-8 r n e = n (ap refusalNumber e)
 
 others : (f : List ℕ) → Others Rules (before-8 f)
-unfolding before-8 fileStages refusalNumber
+unfolding before-8 reachedStages fileStages refusalNumber
 others f = (
-  not-8 Header (omega arith),
-  (not-8 Form (omega arith), (not-8 Typing (omega arith), (not-8 Values (omega arith), (not-8 Regions (omega arith), (not-8 Classes (omega arith), tt))))),
+  not-8 Header (λ e. omega arith),
+  (not-8 Form (λ e. omega arith), (not-8 Typing (λ e. omega arith), (not-8 Values (λ e. omega arith), (not-8 Regions (λ e. omega arith), (not-8 Unreached (λ e. omega arith), (not-8 Classes (λ e. omega arith), tt)))))),
 )
 
 passed-before : (f : List ℕ) (ss : List Stage) → Passed (before-8 f ++ ss) → PassesBefore8 f × Passed ss
-unfolding before-8 fileStages
+unfolding before-8 reachedStages fileStages
 passed-before f ss p =
-    let q = passed-read f (stage Classes (declaredClassesOk (program f)) ∷ ss) p in
+    let q = passed-reached f (stage Classes (declaredClassesOk (program f)) ∷ ss) p in
     let r = q .0 in
-    (record { header = r .header; form = r .form; typing = r .typing; values = r .values; regions = r .regions; classes = q .1 .0 }, q .1 .1)
+    (record { header = r .header; form = r .form; typing = r .typing; values = r .values; regions = r .regions; reached = q .1; classes = q .2 .0 }, q .2 .1)
 
 before-passed : (f : List ℕ) (ss : List Stage) → PassesBefore8 f → Passed ss → Passed (before-8 f ++ ss)
-unfolding before-8 fileStages
+unfolding before-8 reachedStages fileStages
 before-passed f ss q p =
-    read-passed f (stage Classes (declaredClassesOk (program f)) ∷ ss)
-    (record { header = q .header; form = q .form; typing = q .typing; values = q .values; regions = q .regions }) (q .classes, p)
+    reached-passed f (stage Classes (declaredClassesOk (program f)) ∷ ss)
+    (record { header = q .header; form = q .form; typing = q .typing; values = q .values; regions = q .regions }) (q .reached) (q .classes, p)
 
 -- ---- the theorems
 pub accepted-every-path : (f : List ℕ) → (checked f ≡ Accepted) ↔ (PassesBefore8 f × EveryProcedure (program f))
-unfolding checked checkerStages before-8 fileStages
+unfolding checked checkerStages before-8 reachedStages fileStages
 accepted-every-path f = (to, from)
   where
     to : checked f ≡ Accepted → PassesBefore8 f × EveryProcedure (program f)
@@ -107,7 +109,7 @@ broken-path P t = (to, from)
         (rules-every-path P t .0 e (q .procedure) (q .declared) .rules) (q .listed)) (q .breaks))
 
 pub refused-broken-path : (f : List ℕ) → (checked f ≡ Refused Rules) ↔ (PassesBefore8 f × BrokenPath (program f))
-unfolding checked checkerStages before-8 fileStages
+unfolding checked checkerStages before-8 reachedStages fileStages
 refused-broken-path f = (to, from)
   where
     to : checked f ≡ Refused Rules → PassesBefore8 f × BrokenPath (program f)

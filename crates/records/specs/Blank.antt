@@ -1,9 +1,9 @@
 -- How long the tables of zeros are. The code has the numbers under the same names (src/blank.rt).
-use Prim.Native.Nat.{ℕ, _+_, _*_, _≤_}
+use Prim.Native.Nat.{ℕ, zero, suc, _+_, _*_, _≤_}
 use native.Mathlib.Omega.{arith}
 use mathlib.Core.List.{List}
-use mathlib.Core.Path.{_≡_, ap}
-use lib.ListN.{length, replicate, length-replicate}
+use mathlib.Core.Path.{_≡_, refl, ap}
+use lib.ListN.{length, getD, replicate, length-replicate}
 use Rattle.language.specs.Format.{maxBytes, maxRecords, maxProcedures}
 
 -- what a walk over goals carries
@@ -32,3 +32,9 @@ inputBytes = maxBytes + 1
 -- a table of zeros is as long as it was made
 pub blank-fits : (n : ℕ) {t : List ℕ} → t ≡ replicate n 0 → n ≤ length t
 blank-fits n e = omega (arith, ap length e, length-replicate {A = ℕ} n 0)
+
+-- .. and has 0 everywhere
+pub blank-zero : (n k : ℕ) → getD {A = ℕ} (replicate n 0) k 0 ≡ 0
+blank-zero zero k = refl
+blank-zero (suc n) zero = refl
+blank-zero (suc n) (suc k) = blank-zero n k

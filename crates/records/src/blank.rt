@@ -5,7 +5,7 @@ use language::format::MAX_RECORDS;
 use language::format::PLACES;
 ghost use mathlib.Core.Path.{_≡_};
 ghost use lib.ListN.{replicate};
-ghost use Rattle.language.specs.Format.{places, maxRecords};
+ghost use Rattle.language.specs.Format.{places, maxRecords, maxProcedures};
 ghost use Rattle.records.specs.Blank.{walkWords, fileWords, rowWords, inputBytes};
 
 // What a walk over goals carries.
@@ -58,6 +58,13 @@ pub fn blank_owners() -> [u16; MAX_RECORDS]
     ensures { λ r. ⌜ r ≡ replicate maxRecords 0 ⌝ }
 {
     [0; MAX_RECORDS]
+}
+
+// A number for each procedure.
+pub fn blank_procedures() -> [u16; MAX_PROCEDURES]
+    ensures { λ r. ⌜ r ≡ replicate maxProcedures 0 ⌝ }
+{
+    [0; MAX_PROCEDURES]
 }
 
 pub fn blank_file_table() -> [u64; FILE_WORDS]

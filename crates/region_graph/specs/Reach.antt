@@ -1,5 +1,5 @@
 -- Reach along edges, grown as often as there are regions, is the least set that has the region and is closed under edges.
-use Prim.Native.Nat.{ℕ, zero, suc, _≤_}
+use Prim.Native.Nat.{ℕ, zero, suc, _≤_, _<_}
 use mathlib.Core.Bool.{Bool, true, false}
 use mathlib.Core.Logic.{_⊎_, inl, inr, ⊎-elim}
 use mathlib.Core.Path.{_≡_, refl, sym, ap, _∙_}
@@ -15,6 +15,7 @@ use Rattle.sets.specs.declared.Set.{Set}
 use Rattle.language.specs.Program.{Signature}
 use Rattle.language.specs.Typing.{isRegion}
 use Rattle.language.specs.Regions.{targets, grown, grownBy, reachFrom}
+use Rattle.laws.specs.Rounds.{rounds}
 use Rattle.region_graph.specs.Typed.{region-in, region-small}
 
 module _ (S : Signature) where
@@ -88,28 +89,24 @@ module _ (S : Signature) (few : length (S .regions) ≤ 64)
       grownBy-least S (isRegion S) leads k (single r) (λ w i. ap (isRegion S) (sym (single-in r w i)) ∙ h) u m
 
   -- each round adds a region, or nothing is left to add
-  rounds : (k r : ℕ) → isRegion S r ≡ true
+  more : (before : Set) → Small before → (grown S before ≡ before) ⊎ (size before < size (grown S before))
+  more before h = go (truth (sameSet before (grown S before)))
+    where
+      go : (sameSet before (grown S before) ≡ true) ⊎ (sameSet before (grown S before) ≡ false) → (grown S before ≡ before) ⊎ (size before < size (grown S before))
+      go (inl e) = inl (sym (same-eq before (grown S before) e))
+      go (inr e) = inr (size-grows before (grown S before) (small-grown S before h) (grown-old S before) e)
+
+  grown-rounds : (k r : ℕ) → isRegion S r ≡ true
       → (grown S (grownBy S k (single r)) ≡ grownBy S k (single r)) ⊎ (suc k ≤ size (grownBy S k (single r)))
   unfolding grownBy
-  rounds zero r h = let i = region-small S few r h in inr (size-pos (single r) r (single-mk r (i .0) (i .1)) (i .1))
-  rounds (suc k) r h = ⊎-elim (λ p. inl (ap (grown S) p)) (λ q. go q (truth (sameSet before after))) (rounds k r h)
-    where
-      before : Set
-      before = grownBy S k (single r)
-
-      after : Set
-      after = grown S before
-
-      go : suc k ≤ size before → (sameSet before after ≡ true) ⊎ (sameSet before after ≡ false)
-          → (grown S after ≡ after) ⊎ (suc (suc k) ≤ size after)
-      go l (inl e) = inl (ap (grown S) (sym (same-eq before after e)))
-      go l (inr e) =
-          let q = size-grows before after (small-grown S before (small-grownBy S k (single r) (small-single r))) (grown-old S before) e in
-          inr (omega arith)
+  grown-rounds k r h =
+      let i = region-small S few r h in
+      rounds (grown S) size (λ n. grownBy S n (single r)) (λ n. refl) (λ n. more (grownBy S n (single r)) (small-grownBy S n (single r) (small-single r)))
+      (size-pos (single r) r (single-mk r (i .0) (i .1)) (i .1)) k
 
   stable : (r : ℕ) → isRegion S r ≡ true → grown S (reachFrom S r) ≡ reachFrom S r
   unfolding reachFrom
-  stable r h = ⊎-elim (λ p. p) (λ q. absurd (full q)) (rounds (length (S .regions)) r h)
+  stable r h = ⊎-elim (λ p. p) (λ q. absurd (full q)) (grown-rounds (length (S .regions)) r h)
     where
       full : suc (length (S .regions)) ≤ size (grownBy S (length (S .regions)) (single r)) → ⊥
       full q =

@@ -1,13 +1,13 @@
 -- A call: number 5 of it, and its effect, by its mapping and the window of its callee.
 use Prim.Native.Nat.{ℕ, _≤_}
 use native.Mathlib.Omega.{arith}
-use native.Mathlib.Decide.{ℕ-discrete, decLt}
+use native.Mathlib.Decide.{ℕ-discrete}
 use mathlib.Core.Bool.{Bool, true, false}
 use mathlib.Core.List.{List, map}
 use mathlib.Core.Logic.{_⊎_, inl, inr, ⊎-elim}
 use mathlib.Core.Path.{_≡_, refl, sym, ap, _∙_, fun-ext}
 use borrow.Author.Tests.{ltb-true}
-use lib.ListN.{length, getD, replicate, getD-replicate, length-replicate, List·getD-eq-default}
+use lib.ListN.{length, getD, replicate, length-replicate}
 use Rattle.sets.specs.Tests.{and-true}
 use Rattle.sets.specs.Sets.{_∪_}
 use Rattle.sets.specs.Members.{inList, image, cons-here, cons-later}
@@ -25,6 +25,7 @@ use Rattle.region_graph.specs.Shared.{region-top, shared-ranged, shared-closed,
 use Rattle.region_graph.specs.Alike.{parameterRegions, Paired, paired-nil, paired-cons, Alike, region-some, targets-alike}
 use Rattle.region_graph.specs.Mapping.{Due, Image, MappingShown, mapping-outcome}
 use Rattle.region_graph.specs.Calls.{listed-image, regions-map, arguments-paired, called-typed}
+use Rattle.records.specs.Blank.{blank-zero}
 use Rattle.chains.specs.Formed.{Stands, argumentsAt}
 use Rattle.chains.specs.Shapes.{IsCall, call-here, to-arguments}
 use Rattle.owners.specs.Everywhere.{recordTest}
@@ -84,14 +85,7 @@ images-answer b t e = rw e refl
 
 -- a table of zeros
 pub blank : {t : List ℕ} → t ≡ replicate places 0 → Blank t
-blank e = rw e (record { room = length-replicate {A = ℕ} places 0; none = none })
-  where
-    none : (q : ℕ) → getD {A = ℕ} (replicate places 0) q 0 ≡ 0
-    none q =
-        elim (decLt q places) [
-          | yes l ↦ getD-replicate places q 0 0 l
-          | no l ↦ (let m : length {A = ℕ} (replicate places 0) ≤ q = omega (arith, length-replicate {A = ℕ} places 0) in List·getD-eq-default (replicate places 0) 0 m)
-        ]
+blank e = rw e (record { room = length-replicate {A = ℕ} places 0; none = blank-zero places })
 
 -- the call at record i, own the window of its procedure, theirs that of its callee
 pub record CallHere (f own theirs : List ℕ) (i : ℕ) : Type 0 where

@@ -1,7 +1,8 @@
-// Numbers 1 to 3 of any bytes; then numbers 4 and 5, and 7's part for every program, with the tables that later stages read.
+// Numbers 1 to 3 of any bytes; then numbers 4, 5 and 17, and 7's part for every program, with the tables that later stages read.
 use language::Refusal;
 use language::Verdict;
 use owners::list_owners;
+use reachable::all_reached;
 use records::blank::blank_owners;
 use records::check_form;
 use regions::regions_agree;
@@ -23,7 +24,7 @@ ghost use Rattle.chains.specs.Formed.{Formed};
 ghost use Rattle.tables.specs.Window.{FileTable};
 ghost use Rattle.tables.specs.Filled.{Prepared};
 ghost use Rattle.regions.specs.Rowed.{AfterPass};
-ghost use Rattle.rules.specs.Stages.{typingStages, tableStages};
+ghost use Rattle.rules.specs.Stages.{typingStages, regionStages, tableStages};
 ghost use Rattle.rules.specs.Tabled.{TablesAfter};
 
 // Numbers 1 to 3.
@@ -40,21 +41,27 @@ pub fn check_typing(file: &[u8]) -> Verdict
     Verdict::Accepted
 }
 
-// Number 5, with what each step does to regions in its row.
-fn regions_ok(file: &[u8], table: &[u64; TABLE], rows: &mut [u64; ROWS]) -> bool
+// Numbers 5 and 17, with what each step does to regions in its row. Both go by the procedure that each record belongs to.
+fn check_regions(file: &[u8], table: &[u64; TABLE], rows: &mut [u64; ROWS]) -> Verdict
     requires { ⌜ Formed (now file) ⌝ }
     requires { ⌜ typingOk (program (now file)) ≡ true ⌝ }
     requires { ⌜ FileTable (now file) (now table) ⌝ }
     requires { ⌜ rowWords ≤ length (now rows) ⌝ }
-    ensures { λ b. ⌜ b ≡ regionsOk (program (now (file .entry))) ⌝ }
-    ensures { λ b. ⌜ AfterPass (now (file .entry)) (now (rows .entry)) b (now (rows .exit)) ⌝ }
+    ensures { λ r. ⌜ r ≡ lowest (regionStages (now (file .entry))) ⌝ }
+    ensures { λ _. ⌜ AfterPass (now (file .entry)) (now (rows .entry)) (regionsOk (program (now (file .entry)))) (now (rows .exit)) ⌝ }
 {
     let mut owners = blank_owners();
     list_owners(file, &mut owners);
-    regions_agree(file, table, &owners, rows)
+    if !regions_agree(file, table, &owners, rows) {
+        return Verdict::Refused(Refusal::Regions);
+    }
+    if !all_reached(file, &owners) {
+        return Verdict::Refused(Refusal::Unreached);
+    }
+    Verdict::Accepted
 }
 
-// Numbers 4 and 5, and 7's part for every program, of a file that passed number 3. Fills the file's table, and the rows as far as it comes before a
+// Numbers 4, 5 and 17, and 7's part for every program, of a file that passed number 3. Fills the file's table, and the rows as far as it comes before a
 // refusal.
 pub fn check_classes(file: &[u8], table: &mut [u64; TABLE], rows: &mut [u64; ROWS]) -> Verdict
     requires { ⌜ Formed (now file) ⌝ }
@@ -68,9 +75,10 @@ pub fn check_classes(file: &[u8], table: &mut [u64; TABLE], rows: &mut [u64; ROW
     if !values_ok(file, table, rows) {
         return Verdict::Refused(Refusal::Values);
     }
-    if !regions_ok(file, table, rows) {
-        return Verdict::Refused(Refusal::Regions);
-    }
+    let answer = check_regions(file, table, rows);
+    let Verdict::Accepted = answer else {
+        return answer;
+    };
     if !right {
         return Verdict::Refused(Refusal::Classes);
     }

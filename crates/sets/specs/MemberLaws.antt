@@ -42,14 +42,14 @@ setOf-members s h = member-ext (setOf (members s)) s (λ n. same-truth (down n) 
     up n e = let l = small-top s h n e in setOf-mk (members s) n (members-mk s n e l) (member-pos s n e) l
 
 -- ---- the members that pass a test
-filtered-in : (p : ℕ → Bool) (xs : List ℕ) (n : ℕ) → inList n (filtered p xs) ≡ true → (inList n xs ≡ true) × (p n ≡ true)
+pub filtered-in : (p : ℕ → Bool) (xs : List ℕ) (n : ℕ) → inList n (filtered p xs) ≡ true → (inList n xs ≡ true) × (p n ≡ true)
 unfolding filtered
 filtered-in p [] n e = absurd (nil-in n e)
 filtered-in p (x ∷ xs) n e =
     ⊎-elim (λ q. (cons-here n x xs (q .1), ap p (sym (q .1)) ∙ q .0))
     (λ q. let r = filtered-in p xs n q in (cons-later n x xs (r .0), r .1)) (consIf-in (p x) n x (filtered p xs) e)
 
-filtered-mk : (p : ℕ → Bool) (xs : List ℕ) (n : ℕ) → inList n xs ≡ true → p n ≡ true → inList n (filtered p xs) ≡ true
+pub filtered-mk : (p : ℕ → Bool) (xs : List ℕ) (n : ℕ) → inList n xs ≡ true → p n ≡ true → inList n (filtered p xs) ≡ true
 unfolding filtered
 filtered-mk p [] n e t = absurd (nil-in n e)
 filtered-mk p (x ∷ xs) n e t =

@@ -1,21 +1,23 @@
 -- Demand 3, proved: `demand-3` and `written-accepted` are the two claims of `Statement`.
 use Prim.Native.Nat.{ℕ, _≤_}
-use mathlib.Core.Bool.{true, false≢true}
-use mathlib.Core.List.{List, []}
-use mathlib.Core.Path.{_≡_, refl, ap}
+use mathlib.Core.Bool.{true}
+use mathlib.Core.List.{List}
+use mathlib.Core.Path.{_≡_, sym, ap, _∙_}
 use borrow.Author.Tests.{leb-true}
 use Rattle.sets.specs.Tests.{and-true}
-use Rattle.language.specs.declared.Verdict.{Verdict}
-use Rattle.language.specs.declared.Verdict.the-variants.{Refused, Accepted}
+use Rattle.language.specs.declared.Verdict.the-variants.{Accepted}
 use Rattle.language.specs.Layout.{size}
 use Rattle.language.specs.Program.{Program}
 use Rattle.language.specs.Records.{programTree}
+use Rattle.language.specs.CallChains.{reachedOk}
 use Rattle.language.specs.Lifetimes.{declaredClassesOk}
 use Rattle.language.specs.Annotation.{annotate}
 use Rattle.language.specs.Checking.{rulesOk}
-use Rattle.language.specs.Answers.{lowest, program, fileOf, roomOk, annotatorStages, checkerStages, AnnotatorAnswer, refuses, writes, writesUnless, annotated, checked}
-use Rattle.laws.specs.Stages.{lowest-passed, passed-lowest, Read, passed-read, read-passed}
+use Rattle.language.specs.Answers.{lowest, program, fileOf, roomOk, annotatorStages, checkerStages, annotated, checked}
+use Rattle.laws.specs.Stages.{lowest-passed, passed-lowest, Read, passed-reached, reached-passed, writes-passed}
 use Rattle.layout.specs.Programs.{program-written, form-of-program, header-of-program}
+use Rattle.call_graph.specs.Stripped.{stripped-reached}
+use Rattle.placement.specs.Strip.{strip-annotate}
 use Rattle.placement.specs.Whole.{Annotatable, accepted-again, typed-again, values-again, regions-again, classes-again}
 use Rattle.lockstep.specs.Lock as Lock
 use Rattle.safety.specs.Premises as Premises
@@ -23,21 +25,22 @@ use Rattle.safety.specs.Safety.{safe, taken, clean}
 use Rattle.soundness.specs.Statement.{Demand3, Written}
 
 -- ---- an accepted file
--- what it has passed beside numbers 1 to 5
+-- what it has passed: numbers 1 to 5, 17, 7 and 8
 pub record Checked (f : List ℕ) : Type 0 where
   pub read : Read f
+  pub reached : reachedOk (program f) ≡ true
   pub classes : declaredClassesOk (program f) ≡ true
   pub rules : rulesOk (program f) ≡ true
 
 pub checked-is : (f : List ℕ) → checked f ≡ Accepted → Checked f
 unfolding checked checkerStages
 checked-is f e =
-    let p = passed-read f _ (lowest-passed (checkerStages f) e) in
-    record { read = p .0; classes = p .1 .0; rules = p .1 .1 .0 }
+    let p = passed-reached f _ (lowest-passed (checkerStages f) e) in
+    record { read = p .0; reached = p .1; classes = p .2 .0; rules = p .2 .1 .0 }
 
 pub is-checked : (f : List ℕ) → Checked f → checked f ≡ Accepted
 unfolding checked checkerStages
-is-checked f c = passed-lowest (checkerStages f) (read-passed f _ (c .read) (c .classes, (c .rules, tt)))
+is-checked f c = passed-lowest (checkerStages f) (reached-passed f _ (c .read) (c .reached) (c .classes, (c .rules, tt)))
 
 accepted-program : (f : List ℕ) → Checked f → Premises.Accepted (program f)
 accepted-program f c =
@@ -64,10 +67,14 @@ demand-3 f e =
     }
 
 -- ---- an annotated file
+-- its calls are the input's: striking out gives the same of both
+reached-again : (P : Program) → reachedOk (annotate P) ≡ reachedOk P
+reached-again P = sym (stripped-reached (annotate P)) ∙ ap reachedOk (strip-annotate P) ∙ stripped-reached P
+
 -- the annotation of a program passes every stage of the checker
-annotation-checked : (P : Program) → Annotatable P → size (programTree (annotate P)) ≤ 4096 → Checked (fileOf (annotate P))
+annotation-checked : (P : Program) → Annotatable P → reachedOk P ≡ true → size (programTree (annotate P)) ≤ 4096 → Checked (fileOf (annotate P))
 unfolding fileOf
-annotation-checked P A l =
+annotation-checked P A h l =
     let e = program-written (annotate P) in
     record {
       read = record {
@@ -77,31 +84,19 @@ annotation-checked P A l =
         values = rw e (values-again P A);
         regions = rw e (regions-again P A);
       };
+      reached = rw e (reached-again P ∙ h);
       classes = rw e (classes-again P A);
       rules = rw e (accepted-again P A);
     }
-
-unfoldable bytesIn : AnnotatorAnswer → List ℕ
-bytesIn (refuses r) = []
-bytesIn (writes g) = g
-
--- where bytes are written, every stage has been passed
-writes-passed : (v : Verdict) (h g : List ℕ) → writesUnless v h ≡ writes g → (v ≡ Accepted) × (h ≡ g)
-unfolding writesUnless bytesIn
-writes-passed (Refused r) h g e = absurd (no-answer e)
-  where
-    no-answer : refuses r ≡ writes g → ⊥
-    no-answer z = false≢true cc
-writes-passed Accepted h g e = (refl, ap bytesIn e)
 
 pub written-accepted : Written
 unfolding annotated annotatorStages roomOk
 written-accepted f lent g e =
     let w = writes-passed (lowest (annotatorStages f lent)) (fileOf (annotate (program f))) g e in
-    let p = passed-read f _ (lowest-passed (annotatorStages f lent) (w .0)) in
-    let c = and-true (p .1 .1 .0) in
-    let l = leb-true (size (programTree (annotate (program f)))) 4096 (and-true (p .1 .1 .1 .0) .0) in
+    let p = passed-reached f _ (lowest-passed (annotatorStages f lent) (w .0)) in
+    let c = and-true (p .2 .1 .0) in
+    let l = leb-true (size (programTree (annotate (program f)))) 4096 (and-true (p .2 .1 .1 .0) .0) in
     rw (← w .1)
     (is-checked (fileOf (annotate (program f)))
     (annotation-checked (program f)
-    (record { typing = p .0 .typing; values = p .0 .values; regions = p .0 .regions; classes = c .0; calls = c .1 }) l))
+    (record { typing = p .0 .typing; values = p .0 .values; regions = p .0 .regions; classes = c .0; calls = c .1 }) (p .1) l))

@@ -11,7 +11,7 @@ use Rattle.language.specs.AcceptedRun.{start, state}
 use Rattle.language.specs.Machine.{roomIn, run}
 use Rattle.language.specs.Machine as D
 use Rattle.language.specs.Answers.{program, checkerStages, checked, runFor, ran}
-use Rattle.laws.specs.Stages.{lowest-passed, passed-read}
+use Rattle.laws.specs.Stages.{lowest-passed, passed-reached}
 use Rattle.chains.specs.Formed.{Formed}
 use Rattle.safety.specs.Premises as Premises
 use Rattle.word_machine.specs.Tables.{Tables, Tabled}
@@ -25,12 +25,12 @@ use Rattle.word_machine.specs.Tabling.{tabled}
 pub accepted-program : (f : List ℕ) → checked f ≡ Accepted → Premises.Accepted (program f)
 unfolding checked checkerStages
 accepted-program f e =
-    let p = passed-read f _ (lowest-passed (checkerStages f) e) in
-    record { typing = p .0 .typing; values = p .0 .values; regions = p .0 .regions; classes = p .1 .0; rules = p .1 .1 .0 }
+    let p = passed-reached f _ (lowest-passed (checkerStages f) e) in
+    record { typing = p .0 .typing; values = p .0 .values; regions = p .0 .regions; classes = p .2 .0; rules = p .2 .1 .0 }
 
 pub accepted-formed : (f : List ℕ) → checked f ≡ Accepted → Formed f
 unfolding checked checkerStages
-accepted-formed f e = let p = passed-read f _ (lowest-passed (checkerStages f) e) in record { header = p .0 .header; form = p .0 .form }
+accepted-formed f e = let p = passed-reached f _ (lowest-passed (checkerStages f) e) in record { header = p .0 .header; form = p .0 .form }
 
 module _ (f : List ℕ) (e : checked f ≡ Accepted) (T : Tables) (B : Tabled f T) (m rs fw ps : List ℕ) (l : ℕ) where
   -- with or without a frame for the entry

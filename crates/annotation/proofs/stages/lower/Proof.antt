@@ -29,14 +29,17 @@ enum-told-6 c = search needs
 enum-told-7 : tie.Need-enum-told-7
 enum-told-7 c = search needs
 
-six-or-seven-requires : tie.Need-six-or-seven-requires
-six-or-seven-requires c κs = search needs
-
 enum-told-8 : tie.Need-enum-told-8
 enum-told-8 c = search needs
 
+six-or-seven-requires : tie.Need-six-or-seven-requires
+six-or-seven-requires c κs = search needs
+
 enum-told-9 : tie.Need-enum-told-9
 enum-told-9 c = search needs
+
+enum-told-10 : tie.Need-enum-told-10
+enum-told-10 c = search needs
 
 returns : tie.Need-returns
 unfolding sooner
@@ -63,15 +66,19 @@ unfolding sooner
 returns-6 c = search needs
 
 returns-7 : tie.Need-returns-7
-returns-7 c = c .six-or-seven .ensures ∙ ap (λ (r : Refusal). sooner (unannotated (program (c .before .before .before .before .args .file .now))) r) (sym (c .before .enum-told7 .given .1))
+unfolding sooner
+returns-7 c = search needs
 
 returns-8 : tie.Need-returns-8
-unfolding sooner
-returns-8 c = search needs
+returns-8 c = c .six-or-seven .ensures ∙ ap (λ (r : Refusal). sooner (unannotated (program (c .before .before .before .before .args .file .now))) r) (sym (c .before .enum-told8 .given .1))
 
 returns-9 : tie.Need-returns-9
 unfolding sooner
 returns-9 c = search needs
+
+returns-10 : tie.Need-returns-10
+unfolding sooner
+returns-10 c = search needs
 
 pub lower-spec : {M : Type 1} → statement M
 lower-spec =
@@ -84,9 +91,10 @@ lower-spec =
     enum-told-5
     enum-told-6
     enum-told-7
-    six-or-seven-requires
     enum-told-8
+    six-or-seven-requires
     enum-told-9
+    enum-told-10
     returns
     returns-2
     returns-3
@@ -95,4 +103,5 @@ lower-spec =
     returns-6
     returns-7
     returns-8
-    returns-9)
+    returns-9
+    returns-10)

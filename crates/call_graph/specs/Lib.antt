@@ -1,0 +1,4 @@
+pub mod Chains
+pub mod Reached
+pub mod Stripped
+pub mod Before
