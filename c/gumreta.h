@@ -31,7 +31,8 @@ enum gumreta_answer {
     GUMRETA_PLACES = 12,    /* no free region */
     GUMRETA_FRAMES = 13,    /* no free frame */
     GUMRETA_PRINTS = 14,    /* no place for a printed number */
-    GUMRETA_SUMS = 15       /* a sum or difference outside -2,147,483,648 to 2,147,483,647 */
+    GUMRETA_SUMS = 15,      /* a sum or difference outside -2,147,483,648 to 2,147,483,647 */
+    GUMRETA_UNREACHED = 17  /* a procedure that no chain of calls from the entry reaches; looked at after 5 and before 6 */
 };
 
 /* No annotated file is longer. */
@@ -44,15 +45,15 @@ enum gumreta_answer {
 #define GUMRETA_PRINT_WORDS 1
 
 /* The annotator. GUMRETA_DONE: the first *written bytes of `out` are the annotated file, those behind keep their contents.
- * Else 1 to 7 or 9: *written is 0, and `out` is as it was. */
+ * Else 1 to 7, 9 or 17: *written is 0, and `out` is as it was. */
 uint64_t gumreta_annotate(const uint8_t *file, size_t file_bytes, uint8_t *out, size_t out_bytes, size_t *written);
 
-/* The checker. GUMRETA_DONE: the file is accepted. Else 1 to 5, 7 or 8. */
+/* The checker. GUMRETA_DONE: the file is accepted. Else 1 to 5, 7, 8 or 17. */
 uint64_t gumreta_check(const uint8_t *file, size_t file_bytes);
 
 /* The checker, then the runner in lent memory for at most `steps` steps. GUMRETA_DONE: the run has finished. 10 to 15: it stopped before a step that could
  * not be done. Either way *done is the steps done and the first *printed words of `prints` are the numbers printed (read them as int32_t), those behind
- * keep their contents; cells, regions and frames hold anything. 1 to 5, 7 or 8: the file is refused, and all lent memory is as it was. */
+ * keep their contents; cells, regions and frames hold anything. 1 to 5, 7, 8 or 17: the file is refused, and all lent memory is as it was. */
 uint64_t gumreta_run(const uint8_t *file, size_t file_bytes, uint32_t *cells, size_t cell_words, uint32_t *regions, size_t region_words,
                      uint32_t *frames, size_t frame_words, uint32_t *prints, size_t print_words, size_t steps, size_t *done, size_t *printed);
 

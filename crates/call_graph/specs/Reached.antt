@@ -1,16 +1,16 @@
 -- What `reached` computes are the procedures that chains of calls from the entry reach; so number 17 is for just the files that have another one.
 use Prim.Native.Nat.{ℕ, zero, suc, _≤_, _<_}
-use native.Mathlib.Decide.{decLt, ℕ-discrete}
+use native.Mathlib.Decide.{ℕ-discrete}
 use native.Mathlib.Omega.{arith}
-use mathlib.Core.Bool.{Bool, true, false}
+use mathlib.Core.Bool.{true, false}
 use mathlib.Core.List.{List, [], _∷_, _++_}
-use mathlib.Core.Logic.{_⊎_, inl, inr, ⊎-elim, _↔_}
+use mathlib.Core.Logic.{_⊎_, inl, inr, ⊎-elim}
 use mathlib.Core.Path.{_≡_, refl, sym, ap, _∙_}
 use lib.ListN.{length}
 use Rattle.sets.specs.Tests.{clash, same-truth}
-use Rattle.sets.specs.Members.{inList, filtered, nil-in, cons-here, cons-later, cons-in}
+use Rattle.sets.specs.Members.{inList, nil-in, cons-here, cons-later, cons-in}
 use Rattle.sets.specs.MemberLaws.{filtered-in, filtered-mk}
-use Rattle.language.specs.Lists.{all, upFrom}
+use Rattle.language.specs.Lists.{upFrom}
 use Rattle.language.specs.Format.{entryProcedure}
 use Rattle.language.specs.Program.{Program}
 use Rattle.language.specs.CallChains.{callees, CallChain, calledFrom, oneCallOn, reachedIn, reached, reachedOk}

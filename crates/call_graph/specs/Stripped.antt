@@ -1,8 +1,8 @@
 -- Striking out creates and removes leaves the calls as they are, and so number 17's answer.
 use Prim.Native.Nat.{ℕ}
 use mathlib.Core.List.{List, _++_}
-use mathlib.Core.Path.{_≡_, refl, sym, ap, ap₂, _∙_}
-use lib.ListN.{length, length-map}
+use mathlib.Core.Path.{_≡_, refl, ap, ap₂, _∙_}
+use lib.ListN.{length-map}
 use Rattle.language.specs.Program.{Step, literal, sum, assign, construct, call, print, create, remove, Goals, done, _then_, Goal, step, switch, ifLess, Arms, noArms, arm, Program, procedureAt}
 use Rattle.language.specs.Annotation.{plainStep}
 use Rattle.language.specs.CallChains.{stepCallees, goalsCallees, goalCallees, armsCallees, callees, reachedOk}

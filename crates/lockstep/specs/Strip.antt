@@ -4,7 +4,7 @@ use mathlib.Core.Bool.{true, false, false≢true}
 use Prim.Native.Nat.{ℕ}
 use lib.Dec.{eqb}
 use Rattle.language.specs.Lists.{choose}
-use Rattle.language.specs.Program.{argumentsOf, Step, literal, sum, assign, construct, call, print, create, remove, Goals, done, _then_, Goal, step, switch, ifLess, Arms, noArms, arm}
+use Rattle.language.specs.Program.{argumentsOf, Step, literal, sum, assign, construct, call, print, create, remove, Goals, _then_, Goal, step, switch, ifLess, Arms, noArms, arm}
 use Rattle.language.specs.Annotation.{plainStep}
 use Rattle.language.specs.Frames.{Picked, noArm, picked, pick, Frame, withGoals, sumOf, fitsStep, fits}
 use Rattle.language.specs.PlainRun.{thenIf, stripGoals, stripArms}

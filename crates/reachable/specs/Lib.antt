@@ -1,3 +1,5 @@
 pub mod Calls
 pub mod Linked
+pub mod Marks
 pub mod Found
+pub mod Worklist

@@ -4,11 +4,11 @@ use native.Mathlib.Decide.{decLt, ℕ-discrete}
 use native.Mathlib.Omega.{arith}
 use mathlib.Core.Bool.{Bool, true, false}
 use mathlib.Core.List.{List}
-use mathlib.Core.Logic.{_⊎_, inl, inr}
+use mathlib.Core.Logic.{_⊎_, inl, inr, ⊎-elim}
 use mathlib.Core.Path.{_≡_, refl, sym, ap, _∙_}
 use borrow.Author.Tests.{eqb-true, eq-eqb}
 use lib.Dec.{eqb}
-use lib.ListN.{length, getD, set, replicate, length-set, length-replicate, getD-replicate}
+use lib.ListN.{length, getD, set, replicate, length-set, length-replicate}
 use lib.Seq.{getD-set-same, getD-set-other}
 use Rattle.sets.specs.Tests.{_&_, truth, clash, false-of, and-true, true-and}
 use Rattle.language.specs.Lists.{choose}
@@ -17,6 +17,7 @@ use Rattle.language.specs.File.{word, recordCount}
 use Rattle.language.specs.Typing.{typingOk}
 use Rattle.language.specs.Answers.{program}
 use Rattle.laws.specs.Choices.{choose-true, choose-false}
+use Rattle.records.specs.Blank.{blank-zero}
 use Rattle.chains.specs.Formed.{Formed, counted}
 use Rattle.owners.specs.Owner.{ownerOf}
 use Rattle.reachable.specs.Calls.{CallOf, owner-low}
@@ -90,40 +91,46 @@ pub record OwnersIn (f owners : List ℕ) : Type 0 where
   pub fits : recordCount f ≤ length owners
   pub owner : (i : ℕ) → i < recordCount f → getD owners i 0 ≡ ownerOf f i
 
--- ---- the tables once the records before i are linked
+-- ---- the tables once the records before i are linked: each call's place in the table of owners has the link
 pub record LinkedUpTo (f : List ℕ) (i : ℕ) (links lasts : List ℕ) : Type 0 where
-  pub records : length links ≡ maxRecords
   pub procedures : length lasts ≡ maxProcedures
   pub last : (p : ℕ) → p < maxProcedures → getD lasts p 0 ≡ lastCall f p i
-  pub before : (p j : ℕ) → j < i → isCallOf f p j ≡ true → getD links j 0 ≡ lastCall f p j
+  pub before : (p j : ℕ) → 0 < j → j < i → isCallOf f p j ≡ true → getD links j 0 ≡ lastCall f p j
 
 abbrev pub Linked : List ℕ → List ℕ → List ℕ → Type 0
 Linked f links lasts = LinkedUpTo f (recordCount f) links lasts
 
-pub linked-first : {f links lasts : List ℕ} → links ≡ replicate maxRecords 0 → lasts ≡ replicate maxProcedures 0 → LinkedUpTo f 1 links lasts
-linked-first {f} {links} {lasts} a b =
-    record {
-      records = ap length a ∙ length-replicate {A = ℕ} maxRecords 0;
-      procedures = ap length b ∙ length-replicate {A = ℕ} maxProcedures 0;
-      last = λ p l. ap (λ (t : List ℕ). getD t p 0) b ∙ getD-replicate {A = ℕ} maxProcedures p 0 0 l ∙ sym (none p 1 (omega arith));
-      before = λ p j l e. ap (λ (t : List ℕ). getD t j 0) a ∙ getD-replicate {A = ℕ} maxRecords j 0 0 (omega arith) ∙ sym (none p j (omega arith));
-    }
-  where
-    none : (p m : ℕ) → m ≤ 1 → lastCall f p m ≡ 0
-    none p zero l = last-none f p
-    none p (suc m) l = omega (arith, last-less f p (suc m) (omega arith))
+-- .. and every other place is as it was
+pub record KeptFrom (f owners : List ℕ) (i : ℕ) (links : List ℕ) : Type 0 where
+  pub long : length links ≡ length owners
+  pub other : (j : ℕ) → (word f j kindWord ≡ callKind → ⊥) ⊎ (i ≤ j) → getD links j 0 ≡ getD owners j 0
 
-module _ {f links lasts : List ℕ} {i : ℕ} (h : LinkedUpTo f i links lasts) where
+pub linked-first : {f lasts : List ℕ} (links : List ℕ) → lasts ≡ replicate maxProcedures 0 → LinkedUpTo f 1 links lasts × KeptFrom f links 1 links
+linked-first {f} {lasts} links e = (
+  record {
+    procedures = ap length e ∙ length-replicate {A = ℕ} maxProcedures 0;
+    last = λ p l. ap (λ (t : List ℕ). getD t p 0) e ∙ blank-zero maxProcedures p ∙ sym (none p);
+    before = λ p j a b c. absurd (omega arith);
+  },
+  record { long = refl; other = λ j o. refl },
+)
+  where
+    none : (p : ℕ) → lastCall f p 1 ≡ 0
+    none p = omega (arith, last-less f p 1 (omega arith))
+
+module _ {f owners links lasts : List ℕ} {i : ℕ} (h : LinkedUpTo f i links lasts) (k : KeptFrom f owners i links) where
   -- record i is no call
-  pub linked-skip : (word f i kindWord ≡ callKind → ⊥) → LinkedUpTo f (i + 1) links lasts
+  pub linked-skip : (word f i kindWord ≡ callKind → ⊥) → LinkedUpTo f (i + 1) links lasts × KeptFrom f owners (i + 1) links
   linked-skip n =
       let z : i + 1 ≡ suc i = omega arith in
-      rw z (record {
-        records = h .records;
-        procedures = h .procedures;
-        last = λ p l. h .last p l ∙ sym (last-before f p i (no-call p));
-        before = λ p j l e. h .before p j (earlier p j l e) e;
-      })
+      rw z (
+        record {
+          procedures = h .procedures;
+          last = λ p l. h .last p l ∙ sym (last-before f p i (no-call p));
+          before = λ p j a b e. h .before p j a (earlier p j b e) e;
+        },
+        record { long = k .long; other = λ j o. k .other j (⊎-elim (λ m. inl m) (λ l. inr (omega arith)) o) },
+      )
     where
       no-call : (p : ℕ) → isCallOf f p i ≡ false
       no-call p = false-of (λ e. n (call-is f p i e .0))
@@ -132,42 +139,61 @@ module _ {f links lasts : List ℕ} {i : ℕ} (h : LinkedUpTo f i links lasts) w
       earlier p j l e = elim (ℕ-discrete j i) [ yes z ↦ absurd (clash (ap (isCallOf f p) (sym z) ∙ e) (no-call p)) | no z ↦ omega (arith, z) ]
 
   -- record i is a call of procedure o
-  module _ {o : ℕ} (k : word f i kindWord ≡ callKind) (w : ownerOf f i ≡ o) (s : i < maxRecords) (l : o < maxProcedures) where
+  module _ {o : ℕ} (c : word f i kindWord ≡ callKind) (w : ownerOf f i ≡ o) (s : i < length links) (l : o < maxProcedures) where
     lasts-next : (p : ℕ) → p < maxProcedures → getD (set lasts o i) p 0 ≡ lastCall f p (suc i)
     lasts-next p b =
         elim (ℕ-discrete p o) [
-          | yes z ↦ rw z (getD-set-same lasts o i 0 (omega (arith, h .procedures)) ∙ sym (last-here f o i (is-call f o i k w)))
+          | yes z ↦ rw z (getD-set-same lasts o i 0 (omega (arith, h .procedures)) ∙ sym (last-here f o i (is-call f o i c w)))
           | no z ↦ getD-set-other lasts o p i 0 z ∙ h .last p b
               ∙ sym (last-before f p i (false-of (λ e. z (sym (call-is f p i e .1) ∙ w))))
         ]
 
-    links-next : (p j : ℕ) → j < suc i → isCallOf f p j ≡ true → getD (set links i (getD lasts o 0)) j 0 ≡ lastCall f p j
-    links-next p j b e =
+    links-next : (p j : ℕ) → 0 < j → j < suc i → isCallOf f p j ≡ true → getD (set links i (getD lasts o 0)) j 0 ≡ lastCall f p j
+    links-next p j a b e =
         elim (ℕ-discrete j i) [
           | yes z ↦ (let q : p ≡ o = sym (call-is f p i (ap (isCallOf f p) (sym z) ∙ e) .1) ∙ w in
-              rw (z, q) (getD-set-same links i (getD lasts o 0) 0 (omega (arith, h .records)) ∙ h .last o l))
-          | no z ↦ getD-set-other links i j (getD lasts o 0) 0 z ∙ h .before p j (omega (arith, z)) e
+              rw (z, q) (getD-set-same links i (getD lasts o 0) 0 s ∙ h .last o l))
+          | no z ↦ getD-set-other links i j (getD lasts o 0) 0 z ∙ h .before p j a (omega (arith, z)) e
         ]
 
-    pub linked-call : LinkedUpTo f (i + 1) (set links i (getD lasts o 0)) (set lasts o i)
+    others-next : (j : ℕ) → (word f j kindWord ≡ callKind → ⊥) ⊎ (suc i ≤ j) → getD (set links i (getD lasts o 0)) j 0 ≡ getD owners j 0
+    others-next j q =
+        elim (ℕ-discrete j i) [
+          | yes z ↦ absurd (⊎-elim (λ m. m (ap (λ n. word f n kindWord) z ∙ c)) (λ b. omega arith) q)
+          | no z ↦ getD-set-other links i j (getD lasts o 0) 0 z ∙ k .other j (⊎-elim (λ m. inl m) (λ b. inr (omega arith)) q)
+        ]
+
+    pub linked-call : LinkedUpTo f (i + 1) (set links i (getD lasts o 0)) (set lasts o i) × KeptFrom f owners (i + 1) (set links i (getD lasts o 0))
     linked-call =
         let z : i + 1 ≡ suc i = omega arith in
-        rw z (record {
-          records = length-set links i (getD lasts o 0) ∙ h .records;
-          procedures = length-set lasts o i ∙ h .procedures;
-          last = lasts-next;
-          before = links-next;
-        })
+        rw z (
+          record { procedures = length-set lasts o i ∙ h .procedures; last = lasts-next; before = links-next },
+          record { long = length-set links i (getD lasts o 0) ∙ k .long; other = others-next },
+        )
 
--- what `link_call` asks
-pub call-asks : {f owners : List ℕ} {i w : ℕ} → Formed f → typingOk (program f) ≡ true → OwnersIn f owners → 0 < i → i < recordCount f → w ≡ word f i kindWord
-    → w ≡ callKind → (i < length owners) × (getD owners i 0 < maxProcedures) × (i < maxRecords)
-call-asks {f} {owners} {i} F t O p q e k =
-    let c : CallOf f (ownerOf f i) i = record { some = p; below = q; kind = sym e ∙ k; owner = refl } in
-    (omega (arith, O .fits), omega (arith, O .owner i q, owner-low F t c), omega (arith, counted F .most))
+-- what a call among the records still to link asks: its place has its procedure
+pub call-asks : {f owners links : List ℕ} {i w : ℕ} → Formed f → typingOk (program f) ≡ true → OwnersIn f owners → KeptFrom f owners i links → 0 < i
+    → i < recordCount f → w ≡ word f i kindWord → w ≡ callKind
+    → (getD links i 0 ≡ ownerOf f i) × (getD links i 0 < maxProcedures) × (i < length links) × (i < maxRecords)
+call-asks {f} {owners} {links} {i} F t O k p q e c =
+    let here : getD links i 0 ≡ ownerOf f i = k .other i (inr (omega arith)) ∙ O .owner i q in (
+      here,
+      omega (arith, here, owner-low F t {p = ownerOf f i} {i = i} (record { some = p; below = q; kind = sym e ∙ c; owner = refl })),
+      omega (arith, O .fits, k .long),
+      omega (arith, counted F .most),
+    )
 
-pub linked-last : {f links lasts : List ℕ} {n i : ℕ} → LinkedUpTo f i links lasts → n ≡ recordCount f → i ≤ n → n ≤ i → Linked f links lasts
-linked-last {n = n} {i = i} h e a b = let z : i ≡ n = omega arith in rw (← e, ← z) h
+-- what is left in the table of owners: at each call the one before it of its procedure, 0 where there is none; all else is as it was
+pub record LinksLeft (f owners links : List ℕ) : Type 0 where
+  pub calls : (p i : ℕ) → CallOf f p i → getD links i 0 ≡ lastCall f p i
+  pub kept : KeptFrom f owners (recordCount f) links
+
+pub linked-last : {f owners links lasts : List ℕ} {n i : ℕ} → LinkedUpTo f i links lasts → KeptFrom f owners i links → n ≡ recordCount f → i ≤ n → n ≤ i
+    → Linked f links lasts × LinksLeft f owners links
+linked-last {f} {owners} {links} {lasts} {n} {i} h k e a b =
+    let z : i ≡ recordCount f = omega arith in
+    let l : Linked f links lasts = rw z at h in
+    (l, record { calls = λ p j c. l .before p j (c .some) (c .below) (is-call f p j (c .kind) (c .owner)); kept = rw z at k })
 
 -- ---- along the links of procedure p
 -- record j, where it is one, is a call of p before record m, and none between them is
@@ -195,4 +221,4 @@ module _ {f links lasts : List ℕ} (h : Linked f links lasts) {p : ℕ} where
   links-start l = rw (h .last p l) (on-links f p (recordCount f) (omega arith))
 
   pub links-onward : {j : ℕ} → CallOf f p j → OnLinks f p j (getD links j 0)
-  links-onward {j} c = rw (h .before p j (c .below) (is-call f p j (c .kind) (c .owner))) (on-links f p j (omega (arith, c .below)))
+  links-onward {j} c = rw (h .before p j (c .some) (c .below) (is-call f p j (c .kind) (c .owner))) (on-links f p j (omega (arith, c .below)))

@@ -17,7 +17,8 @@ ghost use Rattle.language.specs.Typing.{typingOk};
 ghost use Rattle.language.specs.Answers.{program};
 ghost use Rattle.chains.specs.Formed.{Formed};
 ghost use Rattle.reachable.specs.Linked.{Linked};
-ghost use Rattle.reachable.specs.Found.{Found, Looked};
+ghost use Rattle.reachable.specs.Found.{Found};
+ghost use Rattle.reachable.specs.Worklist.{Looked};
 
 // Marks what procedure p calls; those that had no mark go behind the n procedures found so far. How many those are then.
 fn look_at(

@@ -8,13 +8,13 @@ use language::format::MAX_RECORDS;
 ghost use mathlib.Core.Path.{_≡_};
 ghost use mathlib.Core.Bool.{true};
 ghost use Prim.Native.Nat.{_<_};
-ghost use lib.ListN.{length, getD, set, replicate};
+ghost use lib.ListN.{getD, set, replicate};
 ghost use Rattle.language.specs.Format.{maxRecords, maxProcedures};
 ghost use Rattle.language.specs.Typing.{typingOk};
 ghost use Rattle.language.specs.Answers.{program};
 ghost use Rattle.records.specs.Sizes.{wordEnd};
 ghost use Rattle.chains.specs.Formed.{Formed};
-ghost use Rattle.reachable.specs.Linked.{OwnersIn, Linked};
+ghost use Rattle.reachable.specs.Linked.{OwnersIn, Linked, LinksLeft};
 
 pub fn wide(v: u16) -> usize
     ensures { λ r. ⌜ r ≡ v ⌝ }
@@ -29,39 +29,31 @@ pub fn narrow(v: usize) -> u16
     v as u16
 }
 
-// Puts the call at record i in front of those of its procedure.
-fn link_call(
-    owners: &[u16],
-    i: usize,
-    links: &mut [u16; MAX_RECORDS],
-    lasts: &mut [u16; MAX_PROCEDURES],
-)
-    requires { ⌜ (i < length (now owners)) × (getD (now owners) i 0 < maxProcedures) × (i < maxRecords) ⌝ }
-    ensures { λ _. ⌜ now (links .exit) ≡ set (now (links .entry)) i (getD (now (lasts .entry)) (getD (now (owners .entry)) i 0) 0) ⌝ }
-    ensures { λ _. ⌜ now (lasts .exit) ≡ set (now (lasts .entry)) (getD (now (owners .entry)) i 0) i ⌝ }
+// Puts the call at record i in front of those of its procedure, whose number stands in its place.
+fn link_call(i: usize, links: &mut [u16; MAX_RECORDS], lasts: &mut [u16; MAX_PROCEDURES])
+    requires { ⌜ (getD (now links) i 0 < maxProcedures) × (i < maxRecords) ⌝ }
+    ensures { λ _. ⌜ now (links .exit) ≡ set (now (links .entry)) i (getD (now (lasts .entry)) (getD (now (links .entry)) i 0) 0) ⌝ }
+    ensures { λ _. ⌜ now (lasts .exit) ≡ set (now (lasts .entry)) (getD (now (links .entry)) i 0) i ⌝ }
 {
-    let p = wide(owners[i]);
+    let p = wide(links[i]);
     links[i] = lasts[p];
     lasts[p] = narrow(i);
 }
 
-pub fn link_calls(
-    file: &[u8],
-    owners: &[u16],
-    links: &mut [u16; MAX_RECORDS],
-    lasts: &mut [u16; MAX_PROCEDURES],
-)
+// In `links` stands the procedure of each record; a call's place gets its link.
+pub fn link_calls(file: &[u8], links: &mut [u16; MAX_RECORDS], lasts: &mut [u16; MAX_PROCEDURES])
     requires { ⌜ Formed (now file) ⌝ }
     requires { ⌜ typingOk (program (now file)) ≡ true ⌝ }
-    requires { ⌜ OwnersIn (now file) (now owners) ⌝ }
-    requires { ⌜ (now links ≡ replicate maxRecords 0) × (now lasts ≡ replicate maxProcedures 0) ⌝ }
+    requires { ⌜ OwnersIn (now file) (now links) ⌝ }
+    requires { ⌜ now lasts ≡ replicate maxProcedures 0 ⌝ }
     ensures { λ _. ⌜ Linked (now (file .entry)) (now (links .exit)) (now (lasts .exit)) ⌝ }
+    ensures { λ _. ⌜ LinksLeft (now (file .entry)) (now (links .entry)) (now (links .exit)) ⌝ }
 {
     let n = record_count(file);
     let mut i = 1;
     while i < n {
         if word(file, i, KIND) == CALL {
-            link_call(owners, i, links, lasts);
+            link_call(i, links, lasts);
         }
         i += 1;
     }

@@ -4,7 +4,7 @@ use crate::linking::link_calls;
 use chains::chain_length;
 use chains::word;
 use language::format::HEADER_PROCEDURES;
-use records::blank::blank_owners;
+use language::format::MAX_RECORDS;
 use records::blank::blank_procedures;
 ghost use mathlib.Core.Path.{_≡_};
 ghost use mathlib.Core.Bool.{true};
@@ -12,17 +12,18 @@ ghost use Rattle.language.specs.CallChains.{reachedOk};
 ghost use Rattle.language.specs.Typing.{typingOk};
 ghost use Rattle.language.specs.Answers.{program};
 ghost use Rattle.chains.specs.Formed.{Formed};
-ghost use Rattle.reachable.specs.Linked.{OwnersIn};
+ghost use Rattle.reachable.specs.Linked.{OwnersIn, LinksLeft};
 
-// Whether chains of calls from the entry reach every procedure; `owners` has the procedure that each record belongs to.
-pub fn all_reached(file: &[u8], owners: &[u16]) -> bool
+// Whether chains of calls from the entry reach every procedure. In `owners` stands the procedure that each record belongs to; a call's place gets the link to
+// the call before it of the same procedure.
+pub fn all_reached(file: &[u8], owners: &mut [u16; MAX_RECORDS]) -> bool
     requires { ⌜ Formed (now file) ⌝ }
     requires { ⌜ typingOk (program (now file)) ≡ true ⌝ }
     requires { ⌜ OwnersIn (now file) (now owners) ⌝ }
     ensures { λ b. ⌜ b ≡ reachedOk (program (now (file .entry))) ⌝ }
+    ensures { λ _. ⌜ LinksLeft (now (file .entry)) (now (owners .entry)) (now (owners .exit)) ⌝ }
 {
-    let mut links = blank_owners();
     let mut lasts = blank_procedures();
-    link_calls(file, owners, &mut links, &mut lasts);
-    count_reached(file, &links, &lasts) == chain_length(file, word(file, 0, HEADER_PROCEDURES))
+    link_calls(file, owners, &mut lasts);
+    count_reached(file, owners, &lasts) == chain_length(file, word(file, 0, HEADER_PROCEDURES))
 }

@@ -7,7 +7,7 @@ use mathlib.Core.List.{List, map}
 use mathlib.Core.Logic.{_⊎_, inl, inr, ⊎-elim}
 use mathlib.Core.Path.{_≡_, refl, sym, ap, _∙_, fun-ext}
 use borrow.Author.Tests.{ltb-true}
-use lib.ListN.{length, getD, replicate, length-replicate}
+use lib.ListN.{replicate, length-replicate}
 use Rattle.sets.specs.Tests.{and-true}
 use Rattle.sets.specs.Sets.{_∪_}
 use Rattle.sets.specs.Members.{inList, image, cons-here, cons-later}

@@ -41,7 +41,7 @@ pub fn check_typing(file: &[u8]) -> Verdict
     Verdict::Accepted
 }
 
-// Numbers 5 and 17, with what each step does to regions in its row. Both go by the procedure that each record belongs to.
+// Numbers 5 and 17, with what each step does to regions in its row. Both go by the procedure that each record belongs to; number 17 puts links over that.
 fn check_regions(file: &[u8], table: &[u64; TABLE], rows: &mut [u64; ROWS]) -> Verdict
     requires { ⌜ Formed (now file) ⌝ }
     requires { ⌜ typingOk (program (now file)) ≡ true ⌝ }
@@ -55,7 +55,7 @@ fn check_regions(file: &[u8], table: &[u64; TABLE], rows: &mut [u64; ROWS]) -> V
     if !regions_agree(file, table, &owners, rows) {
         return Verdict::Refused(Refusal::Regions);
     }
-    if !all_reached(file, &owners) {
+    if !all_reached(file, &mut owners) {
         return Verdict::Refused(Refusal::Unreached);
     }
     Verdict::Accepted

@@ -3,9 +3,11 @@
 //! A family is a set of regions of a procedure that has one region for each type that has any, its edges lead to its own regions alone. Variables lie in a
 //! family, so that terms fit their edges; a call maps each family of the callee to one of the caller. Some types have constants only, and so no regions;
 //! now and then a file gives such a type one. Some files have a procedure that gives the lowest and the highest number, and many sums, so that these come
-//! out at the ends of the range and past them.
+//! out at the ends of the range and past them. What no chain of calls from the entry reaches is called in the end, in most files; the others keep it
+//! and are refused with 17.
 use crate::random::Random;
 
+const PROCEDURE: u16 = 4;
 const LITERAL: u16 = 8;
 const SUM: u16 = 9;
 const ASSIGN: u16 = 10;
@@ -27,6 +29,51 @@ struct Node(u16, Vec<Word>);
 
 fn node(kind: u16, words: &[u16]) -> Node {
     Node(kind, words.iter().map(|&w| Word::Number(w)).collect())
+}
+
+fn call_of(q: usize, names: &[u16]) -> Node {
+    let arguments = names.iter().map(|&n| node(ARGUMENT, &[n])).collect();
+    Node(CALL, vec![Word::Number(q as u16), Word::Chain(arguments)])
+}
+
+/// The chains of goals inside a goal.
+fn parts(Node(kind, words): &mut Node) -> Vec<&mut Vec<Node>> {
+    let chains = words.iter_mut().filter_map(|w| if let Word::Chain(c) = w { Some(c) } else { None });
+    match *kind {
+        SWITCH => chains.flatten().flat_map(parts).collect(),
+        ARM | IF => chains.collect(),
+        _ => Vec::new(),
+    }
+}
+
+/// The procedures that goals call, in their parts too.
+fn called(goals: &[Node]) -> Vec<usize> {
+    let mut found = Vec::new();
+    for Node(kind, words) in goals {
+        for word in words {
+            match word {
+                Word::Chain(inside) => found.extend(called(inside)),
+                Word::Number(q) if *kind == CALL => found.push(*q as usize),
+                Word::Number(_) => {}
+            }
+        }
+    }
+    found
+}
+
+/// The procedures that chains of calls from the entry reach.
+fn reached(bodies: &[Vec<Node>]) -> Vec<usize> {
+    let mut found = vec![0];
+    let mut seen = 0;
+    while seen < found.len() {
+        for q in called(&bodies[found[seen]]) {
+            if !found.contains(&q) {
+                found.push(q);
+            }
+        }
+        seen += 1;
+    }
+    found
 }
 
 struct Variable {
@@ -62,6 +109,8 @@ pub struct Generator<'a> {
     procedures: Vec<Procedure>,
     /// The procedure that gives the lowest and the highest number, in files that have one.
     ends: Option<usize>,
+    /// Whether calls lead to later procedures mostly, so that it is not the frames that end the run.
+    onward: bool,
     /// The procedure at hand.
     own: usize,
     budget: usize,
@@ -107,8 +156,9 @@ impl Generator<'_> {
     }
 
     fn signatures(&mut self) {
-        let n = 1 + self.random.below(4);
+        let n = 1 + if self.random.once_in(12) { self.random.below(20) } else { self.random.below(4) };
         self.ends = self.random.once_in(3).then_some(n);
+        self.onward = self.ends.is_some() || !self.random.once_in(3);
         for q in 0..n {
             let families = 1 + self.random.below(3);
             let mut variables = Vec::new();
@@ -217,10 +267,7 @@ impl Generator<'_> {
             let goal = match self.random.below(10) {
                 0 | 1 if deep < 4 => self.switch(known, deep),
                 2 if deep < 4 => self.branches(known, deep),
-                3 | 4 => {
-                    let q = self.callee();
-                    self.call(q, known)
-                }
+                3 | 4 => self.callee().and_then(|q| self.call(q, known)),
                 5 => self.valued(known, 0, 0).map(|y| node(PRINT, &[y])),
                 _ => {
                     let families = self.procedures[self.own].families;
@@ -287,20 +334,24 @@ impl Generator<'_> {
         Some(Node(IF, vec![Word::Number(y), Word::Number(z), Word::Chain(yes), Word::Chain(no)]))
     }
 
-    /// Any procedure; where there are many sums mostly a later one, so that it is not the frames that end the run.
-    fn callee(&mut self) -> usize {
-        let first = if self.ends.is_some() && !self.random.once_in(8) { self.own + 1 } else { 0 };
-        first + self.random.below(self.procedures.len() - first)
+    /// Any procedure, or mostly a later one.
+    fn callee(&mut self) -> Option<usize> {
+        let first = if self.onward && !self.random.once_in(8) { self.own + 1 } else { 0 };
+        let n = self.procedures.len() - first;
+        (n > 0).then(|| first + self.random.below(n))
+    }
+
+    /// The parameters of a procedure: mode, type, and a family of the procedure at hand.
+    fn parameters(&mut self, q: usize) -> Vec<(u16, u16, usize)> {
+        let families = self.procedures[self.own].families;
+        let onto: Vec<usize> = (0..self.procedures[q].families).map(|_| self.random.below(families)).collect();
+        self.procedures[q].variables.iter().filter(|v| v.mode != 0).map(|v| (v.mode, v.ty, onto[v.family])).collect()
     }
 
     fn call(&mut self, q: usize, known: &mut Vec<u16>) -> Option<Node> {
-        let families = self.procedures[self.own].families;
-        let onto: Vec<usize> = (0..self.procedures[q].families).map(|_| self.random.below(families)).collect();
-        let parameters: Vec<(u16, u16, usize)> =
-            self.procedures[q].variables.iter().filter(|v| v.mode != 0).map(|v| (v.mode, v.ty, onto[v.family])).collect();
         let mut names = Vec::new();
         let mut given = Vec::new();
-        for (mode, ty, family) in parameters {
+        for (mode, ty, family) in self.parameters(q) {
             if mode == 1 {
                 names.push(self.valued(known, ty, family)?);
             } else {
@@ -310,8 +361,54 @@ impl Generator<'_> {
             }
         }
         known.extend(given);
-        let arguments = names.iter().map(|&n| node(ARGUMENT, &[n])).collect();
-        Some(Node(CALL, vec![Word::Number(q as u16), Word::Chain(arguments)]))
+        Some(call_of(q, &names))
+    }
+
+    /// A call behind goals that give its in variables a value: it fits at any place.
+    fn call_anywhere(&mut self, q: usize) -> Option<Vec<Node>> {
+        let mut goals = Vec::new();
+        let mut names = Vec::new();
+        self.budget = 10;
+        for (mode, ty, family) in self.parameters(q) {
+            let x = self.new_variable(ty, family)?;
+            if mode == 1 {
+                self.give(&[], x, &mut goals);
+            }
+            names.push(x);
+        }
+        goals.push(call_of(q, &names));
+        Some(goals)
+    }
+
+    /// Puts goals at any place of a chain, or of the parts of its goals.
+    fn put(&mut self, chain: &mut Vec<Node>, goals: Vec<Node>) {
+        let at = self.random.below(chain.len() + 1);
+        let mut parts = chain.get_mut(at).map_or(Vec::new(), parts);
+        if parts.is_empty() {
+            chain.splice(at..at, goals);
+        } else {
+            let n = self.random.below(parts.len());
+            self.put(parts.swap_remove(n), goals);
+        }
+    }
+
+    /// Calls what is not reached: mostly behind the entry's goals, where classes fit, or anywhere in a procedure that is reached.
+    fn reach_all(&mut self, bodies: &mut [Vec<Node>]) {
+        for q in 1..bodies.len() {
+            let found = reached(bodies);
+            if found.contains(&q) {
+                continue;
+            }
+            let behind = !self.random.once_in(4);
+            self.own = if behind { 0 } else { found[self.random.below(found.len())] };
+            let Some(goals) = self.call_anywhere(q) else { continue };
+            let body = &mut bodies[self.own];
+            if behind {
+                body.extend(goals);
+            } else {
+                self.put(body, goals);
+            }
+        }
     }
 
     /// The body of `ends`: −32,768 doubled sixteen times, −1 less that, and a number beside them. Now and then its own last sum does not fit.
@@ -337,7 +434,7 @@ impl Generator<'_> {
         if self.ends == Some(q) {
             return self.ends_of_range();
         }
-        self.budget = 4 + self.random.below(30);
+        self.budget = 4 + self.random.below(if self.procedures.len() > 5 { 8 } else { 30 });
         let of_mode = |p: &Procedure, m: u16| -> Vec<u16> {
             (1..=p.variables.len() as u16).filter(|&x| p.variables[x as usize - 1].mode == m).collect()
         };
@@ -412,12 +509,15 @@ impl Generator<'_> {
     fn program(&mut self) -> (Vec<Node>, Vec<Node>) {
         self.types();
         self.signatures();
-        let bodies: Vec<Vec<Node>> = (0..self.procedures.len()).map(|q| self.body(q)).collect();
+        let mut bodies: Vec<Vec<Node>> = (0..self.procedures.len()).map(|q| self.body(q)).collect();
+        if !self.random.once_in(6) {
+            self.reach_all(&mut bodies);
+        }
         let mut procedures = Vec::new();
         for (q, body) in bodies.into_iter().enumerate() {
             let regions = self.regions(q);
             let variables = self.procedures[q].variables.iter().map(|v| self.declared(v)).collect();
-            procedures.push(Node(4, vec![Word::Chain(variables), Word::Chain(regions), Word::Chain(body)]));
+            procedures.push(Node(PROCEDURE, vec![Word::Chain(variables), Word::Chain(regions), Word::Chain(body)]));
         }
         let types = self
             .types
@@ -466,17 +566,38 @@ fn place(out: &mut Vec<[u16; 8]>, chain: Vec<Node>) -> u16 {
 /// A job file without creates and removes.
 pub fn job(random: &mut Random) -> Vec<u8> {
     let slip = random.once_in(5).then(|| SLIPS[random.below(SLIPS.len())]);
-    let mut g = Generator { random, slip, types: Vec::new(), procedures: Vec::new(), ends: None, own: 0, budget: 0 };
+    let mut g =
+        Generator { random, slip, types: Vec::new(), procedures: Vec::new(), ends: None, onward: false, own: 0, budget: 0 };
     let (types, procedures) = g.program();
     let mut out = vec![[1, 0, 0, 0, 0, 0, 0, 0]];
     out[0][2] = place(&mut out, types);
     out[0][1] = place(&mut out, procedures);
-    out[0][3] = out.len() as u16;
-    out.iter().flatten().flat_map(|w| w.to_le_bytes()).collect()
+    bytes(&mut out)
 }
 
-/// A file with a few words changed.
+/// The bytes of records, as many as the header then says.
+fn bytes(rows: &mut [[u16; 8]]) -> Vec<u8> {
+    rows[0][3] = rows.len() as u16;
+    rows.iter().flatten().flat_map(|w| w.to_le_bytes()).collect()
+}
+
+/// A file with one procedure more, which is not reached: it calls nothing, the entry or itself.
+fn with_spare(random: &mut Random, file: &[u8]) -> Vec<u8> {
+    let row = |r: &[u8]| std::array::from_fn(|k| u16::from_le_bytes([r[2 * k], r[2 * k + 1]]));
+    let mut rows: Vec<[u16; 8]> = file.chunks_exact(16).map(row).collect();
+    let (at, number) = (rows.len() as u16, rows.iter().filter(|r| r[0] == PROCEDURE).count() as u16);
+    rows.iter_mut().find(|r| r[0] == PROCEDURE && r[1] == 0).expect("the last procedure")[1] = at;
+    let callee = [None, Some(0), Some(number)][random.below(3)];
+    rows.push([PROCEDURE, 0, 0, 0, callee.map_or(0, |_| at + 1), 0, 0, 0]);
+    rows.extend(callee.map(|q| [CALL, 0, q, 0, 0, 0, 0, 0]));
+    bytes(&mut rows)
+}
+
+/// A file with a few words changed, or with a procedure more.
 pub fn damaged(random: &mut Random, file: &[u8]) -> Vec<u8> {
+    if random.once_in(12) {
+        return with_spare(random, file);
+    }
     let mut out = file.to_vec();
     for _ in 0..1 + random.below(2) {
         let records = out.len() / 16;

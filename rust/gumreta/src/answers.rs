@@ -1,4 +1,4 @@
-//! Document 01's table of refusals and stops, and the stop of C-15.
+//! Document 01's table of refusals and stops, the stop of C-15 and the refusal of C-18.
 use std::fmt;
 
 /// Why a file is refused.
@@ -13,15 +13,16 @@ pub enum Refusal {
     Classes = 7,
     Rules = 8,
     Room = 9,
+    Unreached = 17,
 }
 
-const REFUSALS: [Refusal; 9] = {
+const REFUSALS: [Refusal; 10] = {
     use Refusal::*;
-    [Header, Form, Typing, Values, Regions, Annotated, Classes, Rules, Room]
+    [Header, Form, Typing, Values, Regions, Annotated, Classes, Rules, Room, Unreached]
 };
 
 impl Refusal {
-    /// Document 01's number.
+    /// Document 01's number, or C-18's.
     pub fn number(self) -> u8 {
         self as u8
     }
@@ -43,6 +44,7 @@ impl fmt::Display for Refusal {
             Refusal::Classes => "a class that does not fit",
             Refusal::Rules => "a rule of the checker is broken on some path",
             Refusal::Room => "the annotated job has over 4,096 records or is longer than the memory lent",
+            Refusal::Unreached => "a procedure that no chain of calls from the entry reaches",
         };
         write!(f, "refused {}: {cause}", self.number())
     }

@@ -1,4 +1,5 @@
-//! Document 01's hand-sized files, as C-14 and C-15 leave them, through the safe functions, with what stands in lent memory afterwards.
+//! Document 01's hand-sized files, as C-14 and C-15 leave them, and C-18's procedures that are not reached, through the safe functions, with what stands
+//! in lent memory afterwards.
 use gumreta::{annotate, check, run, Ending, Lent, Refusal, Stop};
 
 fn file(rows: &[&[u16]]) -> Vec<u8> {
@@ -117,4 +118,23 @@ fn sums() {
     assert_eq!(ran(&doubled(17), 19), (Ending::Stopped(Stop::Sums), 18, [-32768, 9, 9]));
     assert_eq!(ran(&doubled(17), 18), (Ending::Stopped(Stop::Steps), 18, [-32768, 9, 9]));
     assert_eq!(Stop::Sums.number(), 15);
+}
+
+/// An entry that calls `callee`, and a procedure 1 that does nothing.
+fn calling(callee: u16) -> Vec<u8> {
+    file(&[&[1, 1, 0, 4], &[4, 3, 0, 0, 2], &[15, 0, callee], &[4]])
+}
+
+#[test]
+fn unreached() {
+    let (reached, unreached) = (calling(1), calling(0));
+    let mut out = [7; 65];
+    assert_eq!(annotate(&unreached, &mut out), Err(Refusal::Unreached));
+    assert_eq!(out, [7; 65]);
+    assert_eq!(annotate(&reached, &mut out), Ok(&mut calling(1)[..]));
+    assert_eq!(check(&unreached), Err(Refusal::Unreached));
+    assert_eq!(check(&reached), Ok(()));
+    assert_eq!(ran(&unreached, 8, 272, 3), Err(Refusal::Unreached));
+    assert_eq!(ran(&reached, 8, 272, 3), Ok((Ending::Finished, 1)));
+    assert_eq!(Refusal::Unreached.number(), 17);
 }

@@ -1,9 +1,10 @@
-//! Document 01 anew, with what C-14 and C-15 of document 02 change, in Rust: what the annotator, the checker and the runner answer. It shares nothing
-//! with the proved programs, so that the two can be held against each other. Written for reading, not for speed or small memory.
+//! Document 01 anew, with what C-14, C-15 and C-18 of document 02 change, in Rust: what the annotator, the checker and the runner answer. It shares
+//! nothing with the proved programs, so that the two can be held against each other. Written for reading, not for speed or small memory.
 
 mod annotate;
 mod check;
 mod file;
+mod reached;
 mod regions;
 mod run;
 mod typing;
@@ -59,7 +60,7 @@ fn accepted(bytes: &[u8]) -> Result<Program, u8> {
     Ok(program)
 }
 
-/// Numbers 1 to 5.
+/// Numbers 1 to 5, then 17.
 fn stages(bytes: &[u8]) -> Result<Program, u8> {
     let words = file::words(bytes).ok_or(1)?;
     if !file::form_ok(&words) {
@@ -74,6 +75,9 @@ fn stages(bytes: &[u8]) -> Result<Program, u8> {
     }
     if !regions::regions_ok(&program) {
         return Err(5);
+    }
+    if !reached::all_reached(&program) {
+        return Err(17);
     }
     Ok(program)
 }

@@ -5,7 +5,8 @@ use mathlib.Core.Path.{refl}
 use lib.ListN.{length}
 use Rattle.language.specs.Answers.{program}
 use Rattle.laws.specs.Typed.{procedures-count}
-use Rattle.reachable.specs.Found.{Settled, found-entry, settled-first, settled-next, settled-last}
+use Rattle.reachable.specs.Found.{found-entry}
+use Rattle.reachable.specs.Worklist.{Settled, settled-first, settled-next, settled-last}
 use borrow.Author.Needs.{needs}
 use Rattle.reachable.proofs.finding.count_reached.Statement.{statement}
 use Rattle.reachable.proofs.finding.count_reached.Tie as tie

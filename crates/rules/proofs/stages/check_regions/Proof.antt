@@ -20,12 +20,12 @@ all-reached-requires : tie.Need-all-reached-requires
 all-reached-requires c κs = let p = c .before .before .before .before .before .before .before .before .before .before .before .pre in (p .0, (p .1 .0, owners-in _ (c .before .before .before .before .before .before .before .list-owners .ensures)))
 
 returns-2 : tie.Need-returns-2
-returns-2 c = let r = c .before .before .before .before .regions-agree .ensures in (unreached-refused _ (r .0) (not-false _ (c .before .before .before .if1 .left)) (c .before .all-reached .ensures) (not-true _ (c .if2 .taken)), rw (r .0) at (r .1))
+returns-2 c = let r = c .before .before .before .before .regions-agree .ensures in (unreached-refused _ (r .0) (not-false _ (c .before .before .before .if1 .left)) (c .before .all-reached .ensures .0) (not-true _ (c .if2 .taken)), rw (r .0) at (r .1))
 
 returns-3 : tie.Need-returns-3
-returns-3 c = let r = c .before .before .before .before .regions-agree .ensures in (regions-passed _ (r .0) (not-false _ (c .before .before .before .if1 .left)) (c .before .all-reached .ensures) (not-false _ (c .if2 .left)), rw (r .0) at (r .1))
+returns-3 c = let r = c .before .before .before .before .regions-agree .ensures in (regions-passed _ (r .0) (not-false _ (c .before .before .before .if1 .left)) (c .before .all-reached .ensures .0) (not-false _ (c .if2 .left)), rw (r .0) at (r .1))
 
 pub check-regions-spec : {M : Type 1} → statement M
 check-regions-spec =
     tie.close
-    (tie.spec (search needs) (search needs) list-owners-requires (search needs) regions-agree-requires returns (search needs) all-reached-requires returns-2 returns-3)
+    (tie.spec (search needs) (search needs) list-owners-requires (search needs) regions-agree-requires returns all-reached-requires returns-2 returns-3)
