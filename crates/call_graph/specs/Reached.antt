@@ -13,7 +13,7 @@ use Rattle.sets.specs.MemberLaws.{filtered-in, filtered-mk}
 use Rattle.language.specs.Lists.{upFrom}
 use Rattle.language.specs.Format.{entryProcedure}
 use Rattle.language.specs.Program.{Program}
-use Rattle.language.specs.CallChains.{callees, CallChain, calledFrom, oneCallOn, reachedIn, reached, reachedOk}
+use Rattle.language.specs.CallChains.{callees, CallChain, calledFrom, oneCallOn, reachedWithin, reached, reachedOk}
 use Rattle.laws.specs.Numbers.{upFrom-in, upFrom-mk, upFrom-length, all-at, at-all, at-fails}
 use Rattle.laws.specs.Lists.{append-in, append-left, append-right}
 use Rattle.laws.specs.Rounds.{rounds, filtered-most, same-or-more}
@@ -56,21 +56,21 @@ module _ (P : Program) where
     on-new p q l h e = on-mk q l (append-right q ps (calledFrom P ps) (called-mk ps p q h e))
 
   -- ---- what is found in n rounds, a chain reaches
-  pub found-chain : (n q : ℕ) → inList q (reachedIn P n) ≡ true → CallChain P q
-  unfolding reachedIn
+  pub found-chain : (n q : ℕ) → inList q (reachedWithin P n) ≡ true → CallChain P q
+  unfolding reachedWithin
   found-chain zero q e = ⊎-elim (λ z. rw (← z) (chain-start P)) (λ o. absurd (nil-in q o)) (cons-in q entryProcedure [] e)
   found-chain (suc n) q e =
-      ⊎-elim (λ o. found-chain n q o) (λ c. chain-on P (found-chain n (c .0) (c .1)) (c .2)) (on-in (reachedIn P n) q e)
+      ⊎-elim (λ o. found-chain n q o) (λ c. chain-on P (found-chain n (c .0) (c .1)) (c .2)) (on-in (reachedWithin P n) q e)
 
   -- ---- a round more finds nothing: of the rounds from the first on, each adds a procedure or none does
   some-length : (n : ℕ) (xs : List ℕ) → inList n xs ≡ true → 1 ≤ length xs
   some-length n [] e = absurd (nil-in n e)
   some-length n (x ∷ xs) e = omega arith
 
-  entry-found : (n : ℕ) → 0 < length (P .procedures) → inList entryProcedure (reachedIn P n) ≡ true
-  unfolding reachedIn
+  entry-found : (n : ℕ) → 0 < length (P .procedures) → inList entryProcedure (reachedWithin P n) ≡ true
+  unfolding reachedWithin
   entry-found zero l = cons-here entryProcedure entryProcedure [] refl
-  entry-found (suc n) l = on-old (reachedIn P n) entryProcedure l (entry-found n l)
+  entry-found (suc n) l = on-old (reachedWithin P n) entryProcedure l (entry-found n l)
 
   -- .. adds a procedure, or none is left to add
   on-grows : (ps : List ℕ) → (oneCallOn P (oneCallOn P ps) ≡ oneCallOn P ps) ⊎ (length (oneCallOn P ps) < length (oneCallOn P (oneCallOn P ps)))
@@ -94,18 +94,18 @@ module _ (P : Program) where
 
   -- after the first round and n more, no round adds, or n + 1 procedures have been found
   found-rounds : (n : ℕ) → 0 < length (P .procedures)
-      → (oneCallOn P (reachedIn P (suc n)) ≡ reachedIn P (suc n)) ⊎ (suc n ≤ length (reachedIn P (suc n)))
-  unfolding reachedIn
+      → (oneCallOn P (reachedWithin P (suc n)) ≡ reachedWithin P (suc n)) ⊎ (suc n ≤ length (reachedWithin P (suc n)))
+  unfolding reachedWithin
   found-rounds n l =
-      rounds (oneCallOn P) length (λ k. reachedIn P (suc k)) (λ k. refl) (λ k. on-grows (reachedIn P k))
-      (some-length entryProcedure (reachedIn P 1) (entry-found 1 l)) n
+      rounds (oneCallOn P) length (λ k. reachedWithin P (suc k)) (λ k. refl) (λ k. on-grows (reachedWithin P k))
+      (some-length entryProcedure (reachedWithin P 1) (entry-found 1 l)) n
 
   -- with as many rounds as there are procedures all are found
-  settled : (n : ℕ) → length (P .procedures) ≡ suc n → oneCallOn P (reachedIn P (suc n)) ≡ reachedIn P (suc n)
-  unfolding reachedIn
+  settled : (n : ℕ) → length (P .procedures) ≡ suc n → oneCallOn P (reachedWithin P (suc n)) ≡ reachedWithin P (suc n)
+  unfolding reachedWithin
   settled n e =
       ⊎-elim (λ s. s)
-      (λ m. ⊎-elim (λ s. s) (λ l. absurd (omega (arith, on-most (oneCallOn P (reachedIn P n))))) (on-grows (reachedIn P n)))
+      (λ m. ⊎-elim (λ s. s) (λ l. absurd (omega (arith, on-most (oneCallOn P (reachedWithin P n))))) (on-grows (reachedWithin P n)))
       (found-rounds n (omega arith))
 
   reached-settled : (n : ℕ) → length (P .procedures) ≡ n → 0 < n → oneCallOn P (reached P) ≡ reached P

@@ -65,13 +65,13 @@ module _ (P : Program) where
   oneCallOn ps = filtered (λ q. inList q (ps ++ calledFrom ps)) (upFrom 0 (length (P .procedures)))
 
   -- those that a chain of at most n calls reaches;
-  unfoldable pub reachedIn : ℕ → List ℕ
-  reachedIn zero = entryProcedure ∷ []
-  reachedIn (suc n) = oneCallOn (reachedIn n)
+  unfoldable pub reachedWithin : ℕ → List ℕ
+  reachedWithin zero = entryProcedure ∷ []
+  reachedWithin (suc n) = oneCallOn (reachedWithin n)
 
   -- and no procedure needs a chain of more calls than there are procedures
   unfoldable pub reached : List ℕ
-  reached = reachedIn (length (P .procedures))
+  reached = reachedWithin (length (P .procedures))
 
   -- Number 17: "a procedure, other than the entry, that no chain of calls from the entry reaches"
   unfoldable pub reachedOk : Bool

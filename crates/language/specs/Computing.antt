@@ -75,7 +75,7 @@ unfolding Regions.targetsIn Regions.targets Regions.grown Regions.grownBy Region
 regionsOpen = tt
 
 unfoldable pub callChainsOpen : Unit {0}
-unfolding CallChains.stepCallees CallChains.goalsCallees CallChains.goalCallees CallChains.armsCallees CallChains.callees CallChains.calledFrom CallChains.oneCallOn CallChains.reachedIn CallChains.reached CallChains.reachedOk
+unfolding CallChains.stepCallees CallChains.goalsCallees CallChains.goalCallees CallChains.armsCallees CallChains.callees CallChains.calledFrom CallChains.oneCallOn CallChains.reachedWithin CallChains.reached CallChains.reachedOk
 callChainsOpen = tt
 
 unfoldable pub lifetimesOpen : Unit {0}

@@ -97,8 +97,8 @@ pub record LinkedUpTo (f : List ℕ) (i : ℕ) (links lasts : List ℕ) : Type 0
   pub last : (p : ℕ) → p < maxProcedures → getD lasts p 0 ≡ lastCall f p i
   pub before : (p j : ℕ) → 0 < j → j < i → isCallOf f p j ≡ true → getD links j 0 ≡ lastCall f p j
 
-abbrev pub Linked : List ℕ → List ℕ → List ℕ → Type 0
-Linked f links lasts = LinkedUpTo f (recordCount f) links lasts
+abbrev pub CallsLinked : List ℕ → List ℕ → List ℕ → Type 0
+CallsLinked f links lasts = LinkedUpTo f (recordCount f) links lasts
 
 -- .. and every other place is as it was
 pub record KeptFrom (f owners : List ℕ) (i : ℕ) (links : List ℕ) : Type 0 where
@@ -189,10 +189,10 @@ pub record LinksLeft (f owners links : List ℕ) : Type 0 where
   pub kept : KeptFrom f owners (recordCount f) links
 
 pub linked-last : {f owners links lasts : List ℕ} {n i : ℕ} → LinkedUpTo f i links lasts → KeptFrom f owners i links → n ≡ recordCount f → i ≤ n → n ≤ i
-    → Linked f links lasts × LinksLeft f owners links
+    → CallsLinked f links lasts × LinksLeft f owners links
 linked-last {f} {owners} {links} {lasts} {n} {i} h k e a b =
     let z : i ≡ recordCount f = omega arith in
-    let l : Linked f links lasts = rw z at h in
+    let l : CallsLinked f links lasts = rw z at h in
     (l, record { calls = λ p j c. l .before p j (c .some) (c .below) (is-call f p j (c .kind) (c .owner)); kept = rw z at k })
 
 -- ---- along the links of procedure p
@@ -216,7 +216,7 @@ on-links f p m l =
         let some : 0 < m = elim (decLt 0 m) [ yes b ↦ b | no b ↦ absurd (z (let e : m ≡ 0 = omega arith in rw e (last-none f p))) ] in
         record { some = omega (arith, z); below = omega (arith, last-less f p m some); kind = c .0; owner = c .1 }
 
-module _ {f links lasts : List ℕ} (h : Linked f links lasts) {p : ℕ} where
+module _ {f links lasts : List ℕ} (h : CallsLinked f links lasts) {p : ℕ} where
   pub links-start : p < maxProcedures → OnLinks f p (recordCount f) (getD lasts p 0)
   links-start l = rw (h .last p l) (on-links f p (recordCount f) (omega arith))
 

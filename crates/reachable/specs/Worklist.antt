@@ -22,7 +22,7 @@ use Rattle.chains.specs.Formed.{Formed, procedures-stand, program-procedures}
 use Rattle.chains.specs.Records.{chainRecords}
 use Rattle.chains.specs.Elements as Elements
 use Rattle.reachable.specs.Calls.{CallOf, called-record, record-called, callee-low}
-use Rattle.reachable.specs.Linked.{Linked, links-start, links-onward}
+use Rattle.reachable.specs.Linked.{CallsLinked, links-start, links-onward}
 use Rattle.reachable.specs.Marks.{Marked, unmarked-none, none-unmarked}
 use Rattle.reachable.specs.Found.{Found, More, CalleesMarked, one-more, now-marked, found-more}
 
@@ -50,7 +50,7 @@ more-both a b = record {
   ordered = λ k l. b .ordered k (omega (arith, a .most)) ∙ a .ordered k l;
 }
 
-module _ {f links lasts : List ℕ} (K : Linked f links lasts) {p : ℕ} where
+module _ {f links lasts : List ℕ} (K : CallsLinked f links lasts) {p : ℕ} where
   pub looking-first : {marks order : List ℕ} {n j : ℕ} → p < maxProcedures → Found f marks order n → j ≡ getD lasts p 0 → Looking f p j marks order n marks order n
   looking-first {j = j} l h e =
       let s = links-start K l in
@@ -105,17 +105,17 @@ module _ {f links lasts : List ℕ} (K : Linked f links lasts) {p : ℕ} where
   }
 
 -- ---- the worklist: of the first k procedures found, all that they call is marked
-pub record Settled (f marks order : List ℕ) (k n : ℕ) : Type 0 where
+pub record Worklist (f marks order : List ℕ) (k n : ℕ) : Type 0 where
   pub found : Found f marks order n
   pub most : k ≤ n
   pub done : (i : ℕ) → i < k → CalleesMarked f marks (getD order i 0)
 
-pub settled-first : {f marks order : List ℕ} → Found f marks order 1 → Settled f marks order 0 1
-settled-first h = record { found = h; most = omega arith; done = λ i l. absurd (omega arith) }
+pub worklist-first : {f marks order : List ℕ} → Found f marks order 1 → Worklist f marks order 0 1
+worklist-first h = record { found = h; most = omega arith; done = λ i l. absurd (omega arith) }
 
-pub settled-next : {f marks order marks′ order′ : List ℕ} {k n n′ p : ℕ} → Settled f marks order k n → k < n → p ≡ getD order k 0
-    → Looked f p marks order n marks′ order′ n′ → Settled f marks′ order′ (k + 1) n′
-settled-next {f} {marks} {order} {marks′} {order′} {k} {n} h l e a = record {
+pub worklist-next : {f marks order marks′ order′ : List ℕ} {k n n′ p : ℕ} → Worklist f marks order k n → k < n → p ≡ getD order k 0
+    → Looked f p marks order n marks′ order′ n′ → Worklist f marks′ order′ (k + 1) n′
+worklist-next {f} {marks} {order} {marks′} {order′} {k} {n} h l e a = record {
   found = a .found;
   most = omega (arith, a .more .most);
   done = λ i b. each i b (ℕ-discrete i k);
@@ -126,7 +126,7 @@ settled-next {f} {marks} {order} {marks′} {order′} {k} {n} h l e a = record 
     each i b (no z) = rw (a .more .ordered i (omega (arith, z, h .most))) (λ q c. a .more .marked q (h .done i (omega (arith, z)) q c))
 
 -- at the end the marks are what chains reach
-module _ {f marks order : List ℕ} {k n : ℕ} (h : Settled f marks order k n) (l : n ≤ k) where
+module _ {f marks order : List ℕ} {k n : ℕ} (h : Worklist f marks order k n) (l : n ≤ k) where
   chain-marked : {q : ℕ} → CallChain (program f) q → Marked marks q
   chain-marked = chain-holds (program f) (Marked marks) onward (h .found .entry)
     where
@@ -137,8 +137,8 @@ module _ {f marks order : List ℕ} {k n : ℕ} (h : Settled f marks order k n) 
   marked-chain q m = let s = h .found .listed q m in rw (s .2) at (h .found .chained (s .0) (s .1))
 
   -- number 17: as many were found as there are
-  pub settled-last : {m : ℕ} → m ≡ length (program f .procedures) → eqb n m ≡ reachedOk (program f)
-  settled-last {m} e = same-truth all-found found-all
+  pub worklist-last : {m : ℕ} → m ≡ length (program f .procedures) → eqb n m ≡ reachedOk (program f)
+  worklist-last {m} e = same-truth all-found found-all
     where
       N : ℕ
       N = length (program f .procedures)

@@ -1,22 +1,23 @@
 // The procedures that chains of calls from the entry reach: a worklist of them, where each one's calls are looked at once.
 use crate::linking::narrow;
 use crate::linking::wide;
+use chains::chain_length;
 use chains::word;
 use language::format::CALL_PROCEDURE;
 use language::format::ENTRY_PROCEDURE;
+use language::format::HEADER_PROCEDURES;
 use language::format::MAX_PROCEDURES;
 use language::format::MAX_RECORDS;
 use records::blank::blank_procedures;
 ghost use mathlib.Core.Path.{_≡_};
 ghost use mathlib.Core.Bool.{true};
-ghost use lib.Dec.{eqb};
 ghost use lib.ListN.{length};
 ghost use Prim.Native.Nat.{_<_};
 ghost use Rattle.language.specs.CallChains.{CallChain, reachedOk};
 ghost use Rattle.language.specs.Typing.{typingOk};
 ghost use Rattle.language.specs.Answers.{program};
 ghost use Rattle.chains.specs.Formed.{Formed};
-ghost use Rattle.reachable.specs.Linked.{Linked};
+ghost use Rattle.reachable.specs.Linked.{CallsLinked};
 ghost use Rattle.reachable.specs.Found.{Found};
 ghost use Rattle.reachable.specs.Worklist.{Looked};
 
@@ -32,7 +33,7 @@ fn look_at(
 ) -> usize
     requires { ⌜ Formed (now file) ⌝ }
     requires { ⌜ typingOk (program (now file)) ≡ true ⌝ }
-    requires { ⌜ Linked (now file) (now links) (now lasts) ⌝ }
+    requires { ⌜ CallsLinked (now file) (now links) (now lasts) ⌝ }
     requires { ⌜ (p < length (program (now file) .procedures)) × CallChain (program (now file)) p ⌝ }
     requires { ⌜ Found (now file) (now marks) (now order) n ⌝ }
     ensures { λ r. ⌜ Looked (now (file .entry)) p (now (marks .entry)) (now (order .entry)) n (now (marks .exit)) (now (order .exit)) r ⌝ }
@@ -51,16 +52,12 @@ fn look_at(
     found
 }
 
-// How many procedures chains of calls from the entry reach.
-pub fn count_reached(
-    file: &[u8],
-    links: &[u16; MAX_RECORDS],
-    lasts: &[u16; MAX_PROCEDURES],
-) -> usize
+// Whether chains of calls from the entry reach every procedure: as many were found as there are.
+pub fn reaches_all(file: &[u8], links: &[u16; MAX_RECORDS], lasts: &[u16; MAX_PROCEDURES]) -> bool
     requires { ⌜ Formed (now file) ⌝ }
     requires { ⌜ typingOk (program (now file)) ≡ true ⌝ }
-    requires { ⌜ Linked (now file) (now links) (now lasts) ⌝ }
-    ensures { λ r. ⌜ eqb r (length (program (now (file .entry)) .procedures)) ≡ reachedOk (program (now (file .entry))) ⌝ }
+    requires { ⌜ CallsLinked (now file) (now links) (now lasts) ⌝ }
+    ensures { λ b. ⌜ b ≡ reachedOk (program (now (file .entry))) ⌝ }
 {
     let mut marks = blank_procedures();
     let mut order = blank_procedures();
@@ -72,5 +69,5 @@ pub fn count_reached(
         found = look_at(file, links, lasts, p, &mut marks, &mut order, found);
         k += 1;
     }
-    found
+    found == chain_length(file, word(file, 0, HEADER_PROCEDURES))
 }

@@ -14,7 +14,7 @@ ghost use Rattle.language.specs.Typing.{typingOk};
 ghost use Rattle.language.specs.Answers.{program};
 ghost use Rattle.records.specs.Sizes.{wordEnd};
 ghost use Rattle.chains.specs.Formed.{Formed};
-ghost use Rattle.reachable.specs.Linked.{OwnersIn, Linked, LinksLeft};
+ghost use Rattle.reachable.specs.Linked.{OwnersIn, CallsLinked, LinksLeft};
 
 pub fn wide(v: u16) -> usize
     ensures { λ r. ⌜ r ≡ v ⌝ }
@@ -46,7 +46,7 @@ pub fn link_calls(file: &[u8], links: &mut [u16; MAX_RECORDS], lasts: &mut [u16;
     requires { ⌜ typingOk (program (now file)) ≡ true ⌝ }
     requires { ⌜ OwnersIn (now file) (now links) ⌝ }
     requires { ⌜ now lasts ≡ replicate maxProcedures 0 ⌝ }
-    ensures { λ _. ⌜ Linked (now (file .entry)) (now (links .exit)) (now (lasts .exit)) ⌝ }
+    ensures { λ _. ⌜ CallsLinked (now (file .entry)) (now (links .exit)) (now (lasts .exit)) ⌝ }
     ensures { λ _. ⌜ LinksLeft (now (file .entry)) (now (links .entry)) (now (links .exit)) ⌝ }
 {
     let n = record_count(file);

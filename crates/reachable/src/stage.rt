@@ -1,9 +1,6 @@
 // Number 17 as a stage.
-use crate::finding::count_reached;
+use crate::finding::reaches_all;
 use crate::linking::link_calls;
-use chains::chain_length;
-use chains::word;
-use language::format::HEADER_PROCEDURES;
 use language::format::MAX_RECORDS;
 use records::blank::blank_procedures;
 ghost use mathlib.Core.Path.{_≡_};
@@ -25,5 +22,5 @@ pub fn all_reached(file: &[u8], owners: &mut [u16; MAX_RECORDS]) -> bool
 {
     let mut lasts = blank_procedures();
     link_calls(file, owners, &mut lasts);
-    count_reached(file, owners, &lasts) == chain_length(file, word(file, 0, HEADER_PROCEDURES))
+    reaches_all(file, owners, &lasts)
 }
