@@ -62,7 +62,7 @@ module _ (P : Program) where
   found-chain (suc n) q e =
       ⊎-elim (λ o. found-chain n q o) (λ c. chain-on P (found-chain n (c .0) (c .1)) (c .2)) (on-in (reachedWithin P n) q e)
 
-  -- ---- a round more finds nothing: of the rounds from the first on, each adds a procedure or none does
+  -- ---- with as many rounds as there are procedures all are found
   some-length : (n : ℕ) (xs : List ℕ) → inList n xs ≡ true → 1 ≤ length xs
   some-length n [] e = absurd (nil-in n e)
   some-length n (x ∷ xs) e = omega arith
@@ -72,7 +72,7 @@ module _ (P : Program) where
   entry-found zero l = cons-here entryProcedure entryProcedure [] refl
   entry-found (suc n) l = on-old (reachedWithin P n) entryProcedure l (entry-found n l)
 
-  -- .. adds a procedure, or none is left to add
+  -- from the first round on, a round adds a procedure or none is left to add
   on-grows : (ps : List ℕ) → (oneCallOn P (oneCallOn P ps) ≡ oneCallOn P ps) ⊎ (length (oneCallOn P ps) < length (oneCallOn P (oneCallOn P ps)))
   unfolding oneCallOn
   on-grows ps =
@@ -100,7 +100,7 @@ module _ (P : Program) where
       rounds (oneCallOn P) length (λ k. reachedWithin P (suc k)) (λ k. refl) (λ k. on-grows (reachedWithin P k))
       (some-length entryProcedure (reachedWithin P 1) (entry-found 1 l)) n
 
-  -- with as many rounds as there are procedures all are found
+  -- so no round adds then
   settled : (n : ℕ) → length (P .procedures) ≡ suc n → oneCallOn P (reachedWithin P (suc n)) ≡ reachedWithin P (suc n)
   unfolding reachedWithin
   settled n e =

@@ -41,6 +41,7 @@ chainEnd p [] = p
 chainEnd p (q ∷ qs) = chainEnd q qs
 
 module _ (P : Program) where
+  -- the procedures that procedure p calls
   unfoldable pub callees : ℕ → List ℕ
   callees p = goalsCallees (procedureAt P p .body)
 
