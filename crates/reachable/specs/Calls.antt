@@ -11,9 +11,9 @@ use lib.Dec.{eqb}
 use lib.ListN.{length}
 use Rattle.sets.specs.Tests.{neg, truth, clash, false-of, and-true, true-and, neg-true, true-neg}
 use Rattle.sets.specs.Members.{inList, cons-here, cons-in, nil-in}
-use Rattle.language.specs.Lists.{nth, choose}
+use Rattle.language.specs.Lists.{choose}
 use Rattle.language.specs.Format.{kindWord, callKind, callProcedure, maxProcedures}
-use Rattle.language.specs.File.{kLiteral, kSum, kAssign, kConstruct, kSwitch, kIf, kCall, kPrint, kCreate, kRemove, Kind, kNone, kHeader, kType, kFunctor, kProcedure, kVariable, kRegion, kEdge, kArm, kArgument, kGoal, kinds, kindOf, word, recordCount}
+use Rattle.language.specs.File.{kLiteral, kSum, kAssign, kConstruct, kSwitch, kIf, kCall, kPrint, kCreate, kRemove, Kind, kNone, kHeader, kType, kFunctor, kProcedure, kVariable, kRegion, kEdge, kArm, kArgument, kGoal, kindOf, word, recordCount}
 use Rattle.language.specs.Program.{Goals, done, _then_, Goal, step, switch, ifLess, Arms, noArms, arm, Program, procedureAt, signatureOf}
 use Rattle.language.specs.Typing.{stepOk, goalOk, typingOk}
 use Rattle.language.specs.CallChains.{stepCallees, goalsCallees, goalCallees, armsCallees, callees}
@@ -23,7 +23,7 @@ use Rattle.laws.specs.Numbers.{at-fails}
 use Rattle.laws.specs.Lists.{append-in, append-left, append-right}
 use Rattle.laws.specs.Typed.{procedures-count}
 use Rattle.call_graph.specs.Chains.{caller-below}
-use Rattle.chains.specs.Layout.{all-rows}
+use Rattle.chains.specs.Layout.{all-rows, number-is}
 use Rattle.chains.specs.Formed.{Formed, goalAt}
 use Rattle.chains.specs.Kinds.{same-read}
 use Rattle.chains.specs.Goals.{literal-at, sum-at, assign-at, construct-at, print-at, create-at, remove-at}
@@ -129,17 +129,16 @@ module _ (p q : ℕ) where
         spared-goals q (procedureAt P p .body)
         (ap (λ (L : Goal → Bool). allGoals L (procedureAt P p .body)) (sym own-test) ∙ every-at (sparesIn p q) P h p (caller-below P p q e)) e
 
--- ---- a record that calls
-call-number : kindOf callKind ≡ kGoal kCall
-unfolding kindOf kinds nth
-call-number = refl
-
--- record i is a call in the goals of procedure p
+-- ---- a record that calls: record i is a call in the goals of procedure p
 pub record CallOf (f : List ℕ) (p i : ℕ) : Type 0 where
   pub some : 0 < i
   pub below : i < recordCount f
   pub kind : word f i kindWord ≡ callKind
   pub owner : ownerOf f i ≡ p
+
+call-goal : {f : List ℕ} {p i : ℕ} → CallOf f p i → kindOf (word f i kindWord) ≡ kGoal kCall
+unfolding all-rows
+call-goal {f} {p} {i} c = number-is (kGoal kCall) (word f i kindWord) (c .kind)
 
 goal-passed : (k : Kind) → ifGoal k true ≡ true
 unfolding ifGoal
@@ -221,7 +220,7 @@ module _ {f : List ℕ} (F : Formed f) {p i : ℕ} (c : CallOf f p i) where
   unfolding ifGoal spares stepCallees neg
   call-test =
       let a = call-here F refl (c .kind) in
-      record-kind (sparesIn p named) F i (kGoal kCall) (ap kindOf (c .kind) ∙ call-number)
+      record-kind (sparesIn p named) F i (kGoal kCall) (call-goal c)
       ∙ ap (λ (o : ℕ). sparesIn p named o (goalAt f i)) (c .owner)
       ∙ ap (λ (L : Goal → Bool). L (goalAt f i)) (own-test p named)
       ∙ ap (spares named) (a .goal)
@@ -236,15 +235,12 @@ module _ {f : List ℕ} (F : Formed f) {p i : ℕ} (c : CallOf f p i) where
 
 -- ---- what number 3 says of it
 module _ {f : List ℕ} (F : Formed f) (ok : typingOk (program f) ≡ true) {p i : ℕ} (c : CallOf f p i) where
-  call-goal : kindOf (word f i kindWord) ≡ kGoal kCall
-  call-goal = ap kindOf (c .kind) ∙ call-number
-
   pub owner-low : p < maxProcedures
   owner-low =
-      omega (arith, c .owner, goal-owner-below F {i = i} (λ z. omega (arith, c .some)) (kind-goals (c .below) kCall call-goal), procedures-count (program f) ok .1)
+      omega (arith, c .owner, goal-owner-below F {i = i} (λ z. omega (arith, c .some)) (kind-goals (c .below) kCall (call-goal c)), procedures-count (program f) ok .1)
 
   pub callee-low : word f i callProcedure < length (program f .procedures)
   unfolding goalOk stepOk
   callee-low =
       ltb-true (word f i callProcedure) (length (program f .procedures))
-      (and-true (ap (goalOk (program f) (signatureOf (program f) (ownerOf f i))) (sym (call-here F refl (c .kind) .goal)) ∙ typed-goal F ok i (c .some) (c .below) kCall call-goal) .0)
+      (and-true (ap (goalOk (program f) (signatureOf (program f) (ownerOf f i))) (sym (call-here F refl (c .kind) .goal)) ∙ typed-goal F ok i (c .some) (c .below) kCall (call-goal c)) .0)
