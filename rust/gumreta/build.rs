@@ -1,4 +1,4 @@
-//! Links the proved static library, `target/staticlib/liblibrary.a` of the repository, or of the folder that GUMRETA_LIBRARY names.
+//! Links the proved static library, `target/staticlib/libgumreta.a` of the repository, or of the folder that GUMRETA_LIBRARY names.
 use std::path::PathBuf;
 
 fn main() {
@@ -7,15 +7,15 @@ fn main() {
         || PathBuf::from(std::env::var_os("CARGO_MANIFEST_DIR").unwrap()).join("../../target/staticlib"),
         PathBuf::from,
     );
-    let archive = folder.join("liblibrary.a");
+    let archive = folder.join("libgumreta.a");
     if !archive.is_file() {
         eprintln!(
-            "{} is missing: `rt staticlib library`, at the root of the repository, proves and writes it",
+            "{} is missing: `rt staticlib gumreta`, at the root of the repository, proves and writes it",
             archive.display()
         );
         std::process::exit(1);
     }
     println!("cargo:rerun-if-changed={}", archive.display());
     println!("cargo:rustc-link-search=native={}", folder.display());
-    println!("cargo:rustc-link-lib=static=library");
+    println!("cargo:rustc-link-lib=static=gumreta");
 }

@@ -1,4 +1,4 @@
-//! Gumreta's annotator, checker and runner from Rust: safe functions over the proved static library (`crates/library`; docs/LIBRARY.md).
+//! Gumreta's annotator, checker and runner from Rust: safe functions over the proved static library (`crates/gumreta`; docs/LIBRARY.md).
 //!
 //! What is proved ends at the three functions of `raw`; this crate turns slices into pointers and lengths, and numbers into enums. A call takes up
 //! to 1.5 MiB of stack, of the 2 MiB that a thread of the standard library has.

@@ -1,8 +1,8 @@
 -- `gumreta_check` meets its contract.
-use Rattle.library.specs.Numbers.{checker-refuses, checker-accepts}
+use Rattle.gumreta.specs.Numbers.{checker-refuses, checker-accepts}
 use borrow.Author.Needs.{needs}
-use Rattle.library.proofs.gumreta_check.Statement.{statement}
-use Rattle.library.proofs.gumreta_check.Tie as tie
+use Rattle.gumreta.proofs.gumreta_check.Statement.{statement}
+use Rattle.gumreta.proofs.gumreta_check.Tie as tie
 
 check-requires : tie.Need-check-requires
 check-requires c κs = search needs

@@ -14,7 +14,7 @@ ghost use Rattle.language.specs.Answers.{annotated, annotatorMemory, checked, r
 ghost use Rattle.word_machine.specs.Machine.{lentWords};
 ghost use Rattle.word_machine.specs.Statement.{Printed};
 ghost use Rattle.running.specs.Answer.{Kept};
-ghost use Rattle.library.specs.Numbers.{annotatorNumber, writtenBytes, checkerNumber, endingNumber};
+ghost use Rattle.gumreta.specs.Numbers.{annotatorNumber, writtenBytes, checkerNumber, endingNumber};
 
 // 0, and how many bytes at the front of `out` are the annotated file; or the number of a refusal, no bytes, and `out` as it was.
 #[no_mangle]

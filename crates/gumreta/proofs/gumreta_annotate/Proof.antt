@@ -1,8 +1,8 @@
 -- `gumreta_annotate` meets its contract.
-use Rattle.library.specs.Numbers.{annotator-refuses, annotator-writes}
+use Rattle.gumreta.specs.Numbers.{annotator-refuses, annotator-writes}
 use borrow.Author.Needs.{needs}
-use Rattle.library.proofs.gumreta_annotate.Statement.{statement}
-use Rattle.library.proofs.gumreta_annotate.Tie as tie
+use Rattle.gumreta.proofs.gumreta_annotate.Statement.{statement}
+use Rattle.gumreta.proofs.gumreta_annotate.Tie as tie
 
 annotate-requires : tie.Need-annotate-requires
 annotate-requires c κs = search needs

@@ -1,8 +1,8 @@
 -- `ending_number` meets its contract.
-use Rattle.library.specs.Numbers.{run-refuses, run-finishes, run-stops}
+use Rattle.gumreta.specs.Numbers.{run-refuses, run-finishes, run-stops}
 use borrow.Author.Needs.{needs}
-use Rattle.library.proofs.ending_number.Statement.{statement}
-use Rattle.library.proofs.ending_number.Tie as tie
+use Rattle.gumreta.proofs.ending_number.Statement.{statement}
+use Rattle.gumreta.proofs.ending_number.Tie as tie
 
 enum-known-e : tie.Need-enum-known-e
 enum-known-e c = search needs

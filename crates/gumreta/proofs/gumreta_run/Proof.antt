@@ -1,9 +1,9 @@
 -- `gumreta_run` meets its contract.
 use mathlib.Core.Path.{ap, _∙_}
-use Rattle.library.specs.Numbers.{endingNumber}
+use Rattle.gumreta.specs.Numbers.{endingNumber}
 use borrow.Author.Needs.{needs}
-use Rattle.library.proofs.gumreta_run.Statement.{statement}
-use Rattle.library.proofs.gumreta_run.Tie as tie
+use Rattle.gumreta.proofs.gumreta_run.Statement.{statement}
+use Rattle.gumreta.proofs.gumreta_run.Tie as tie
 
 run-requires : tie.Need-run-requires
 run-requires c κs = search needs
