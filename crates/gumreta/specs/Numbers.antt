@@ -15,6 +15,10 @@ use Rattle.annotation.specs.declared.Annotated.{Annotated}
 use Rattle.annotation.specs.declared.Annotated.the-variants.{Refused as NotAnnotated, Written}
 use Rattle.annotation.specs.Answer.{told, Annotates}
 
+-- release 4.2.0: 10,000 a major release, 100 a minor one, 1 a patch
+abbrev pub version : ℕ
+version = 40200
+
 unfoldable pub annotatorNumber : AnnotatorAnswer → ℕ
 annotatorNumber (refuses r) = refusalNumber r
 annotatorNumber (writes g) = 0

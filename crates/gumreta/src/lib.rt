@@ -14,7 +14,18 @@ ghost use Rattle.language.specs.Answers.{annotated, annotatorMemory, checked, r
 ghost use Rattle.word_machine.specs.Machine.{lentWords};
 ghost use Rattle.word_machine.specs.Statement.{Printed};
 ghost use Rattle.running.specs.Answer.{Kept};
-ghost use Rattle.gumreta.specs.Numbers.{annotatorNumber, writtenBytes, checkerNumber, endingNumber};
+ghost use Rattle.gumreta.specs.Numbers.{version, annotatorNumber, writtenBytes, checkerNumber, endingNumber};
+
+// As GUMRETA_VERSION of c/gumreta.h.
+const VERSION: u64 = 40200;
+
+// Which release an archive is of.
+#[no_mangle]
+pub extern "C" fn gumreta_version() -> u64
+    ensures { λ n. ⌜ n ≡ version ⌝ }
+{
+    VERSION
+}
 
 // 0, and how many bytes at the front of `out` are the annotated file; or the number of a refusal, no bytes, and `out` as it was.
 #[no_mangle]
