@@ -1,12 +1,11 @@
-//! Links the proved static library, `target/staticlib/libgumreta.a` of the repository, or of the folder that GUMRETA_LIBRARY names.
+//! Links the proved static library, `target/staticlib/libgumreta.a` of the repository, or that of the folder that GUMRETA_LIBRARY names. The build scripts
+//! of packages that depend on this one find that folder in DEP_GUMRETA_LIBRARY, and that of the C header in DEP_GUMRETA_INCLUDE.
 use std::path::PathBuf;
 
 fn main() {
     println!("cargo:rerun-if-env-changed=GUMRETA_LIBRARY");
-    let folder = std::env::var_os("GUMRETA_LIBRARY").map_or_else(
-        || PathBuf::from(std::env::var_os("CARGO_MANIFEST_DIR").unwrap()).join("../../target/staticlib"),
-        PathBuf::from,
-    );
+    let package = PathBuf::from(std::env::var_os("CARGO_MANIFEST_DIR").expect("cargo names the package's folder"));
+    let folder = std::env::var_os("GUMRETA_LIBRARY").map_or_else(|| package.join("../../target/staticlib"), PathBuf::from);
     let archive = folder.join("libgumreta.a");
     if !archive.is_file() {
         eprintln!(
@@ -18,4 +17,6 @@ fn main() {
     println!("cargo:rerun-if-changed={}", archive.display());
     println!("cargo:rustc-link-search=native={}", folder.display());
     println!("cargo:rustc-link-lib=static=gumreta");
+    println!("cargo:library={}", folder.display());
+    println!("cargo:include={}", package.join("../../c").display());
 }

@@ -14,6 +14,12 @@ use std::collections::BTreeMap;
 const OLD_BYTE: u8 = 0xa5;
 const OLD_WORD: u32 = 0xdead_beef;
 
+/// The number of a refusal; no archive of this release has another error.
+fn refusal(error: gumreta::Error) -> u8 {
+    let gumreta::Error::Refused(refusal) = error else { panic!("{error}") };
+    refusal.number()
+}
+
 #[derive(Default)]
 struct Tally {
     files: usize,
@@ -38,7 +44,7 @@ impl Tally {
     fn annotate(&mut self, file: &[u8], lent: usize) -> Option<Vec<u8>> {
         let mut out = vec![OLD_BYTE; lent];
         let right = reference::annotate(file, lent);
-        let ours = gumreta::annotate(file, &mut out).map(|a| a.to_vec()).map_err(|r| r.number());
+        let ours = gumreta::annotate(file, &mut out).map(|a| a.to_vec()).map_err(refusal);
         self.counted("annotator", &right.as_ref().map_or_else(|n| format!("refused {n}"), |_| "written".into()));
         let mut memory = right.clone().unwrap_or_default();
         memory.resize(lent, OLD_BYTE);
@@ -52,7 +58,7 @@ impl Tally {
 
     fn check(&mut self, file: &[u8]) -> bool {
         let right = reference::check(file);
-        let ours = gumreta::check(file).map_err(|r| r.number());
+        let ours = gumreta::check(file).map_err(refusal);
         self.counted("checker", &right.map_or_else(|n| format!("refused {n}"), |_| "accepted".into()));
         if ours != right {
             self.differ("checker", file, format!("{ours:?}, and {right:?} is right"));
@@ -76,7 +82,7 @@ impl Tally {
         let memory = gumreta::Lent { cells: &mut cells, regions: &mut regions, frames: &mut frames, prints: &mut prints };
         let ran = gumreta::run(file, memory, lent.steps as usize);
         let ours = match ran {
-            Err(refusal) => (Ending::Refused(refusal.number()), 0),
+            Err(error) => (Ending::Refused(refusal(error)), 0),
             Ok(r) => match r.ending {
                 gumreta::Ending::Finished => (Ending::Finished, r.steps as u64),
                 gumreta::Ending::Stopped(s) => (Ending::Stopped(s.number()), r.steps as u64),

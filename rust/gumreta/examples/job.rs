@@ -1,23 +1,20 @@
 //! Annotates a job file, checks and runs it, and prints its log and how it ended: cargo run --release -p gumreta --example job -- FILE
-use gumreta::{annotate, check, run, Ending, Memory, MAX_BYTES};
+use gumreta::{annotate_to_vec, check, run, Memory};
 use std::error::Error;
 
 fn job(path: &str) -> Result<(), Box<dyn Error>> {
     let file = std::fs::read(path).map_err(|e| format!("{path}: {e}"))?;
-    let mut out = vec![0; MAX_BYTES];
-    let annotated = annotate(&file, &mut out)?;
+    let annotated = annotate_to_vec(&file)?;
     println!("annotated: {} records", annotated.len() / 16);
-    check(annotated)?;
+    check(&annotated)?;
     println!("accepted");
     let mut memory = Memory::program();
-    let ran = run(annotated, memory.lent(), 1_000_000)?;
+    let ran = run(&annotated, memory.lent(), 1_000_000)?;
     for n in ran.printed() {
         println!("{n}");
     }
-    match ran.ending {
-        Ending::Finished => println!("finished after {} steps", ran.steps),
-        Ending::Stopped(stop) => return Err(stop.to_string().into()),
-    }
+    ran.ending.finished()?;
+    println!("{ran}");
     Ok(())
 }
 

@@ -1,51 +1,72 @@
 //! Gumreta's annotator, checker and runner from Rust: safe functions over the proved static library (`crates/gumreta`; docs/LIBRARY.md).
 //!
-//! What is proved ends at the three functions of `raw`; this crate turns slices into pointers and lengths, and numbers into enums. A call takes up
-//! to 1.5 MiB of stack, of the 2 MiB that a thread of the standard library has.
+//! What is proved ends at the functions of `raw`; this crate turns slices into pointers and lengths, and numbers into enums.
+//!
+//! ```
+//! let job = std::fs::read("../../examples/reverse.job")?;
+//! let annotated = gumreta::annotate_to_vec(&job)?;
+//! gumreta::check(&annotated)?;
+//! let mut memory = gumreta::Memory::program();
+//! let run = gumreta::run(&annotated, memory.lent(), 1_000_000)?;
+//! assert_eq!(run.to_string(), "finished after 1859 steps");
+//! assert!(run.printed().eq(1..=30));
+//! # Ok::<(), Box<dyn std::error::Error>>(())
+//! ```
+#![warn(missing_docs)]
 
 mod answers;
+mod memory;
 mod raw;
 
-pub use answers::{Ending, Refusal, Stop};
+pub use answers::{Ending, Error, Refusal, Stop};
+pub use memory::{Lent, Memory, CELL_WORDS, FRAME_WORDS, REGION_WORDS};
+use std::fmt;
+
+/// The release of this crate, as c/gumreta.h has it: 10,000 a major one, 100 a minor one, 1 a patch.
+pub const VERSION: u64 = 40200;
 
 /// No annotated file is longer.
 pub const MAX_BYTES: usize = 65536;
 
-/// 32-bit words of memory for one of each sort; more than 65,535 of a sort count as 65,535.
-pub const CELL_WORDS: usize = 8;
-pub const REGION_WORDS: usize = 2;
-pub const FRAME_WORDS: usize = 136;
+/// A call takes less of the stack (docs/LIBRARY.md has what was measured). A thread of the standard library has 2 MiB.
+pub const STACK_BYTES: usize = 1_572_864;
+
+/// The release of the archive that is linked: [`VERSION`] where the two belong together.
+pub fn version() -> u64 {
+    // SAFETY: it takes nothing and gives a number.
+    unsafe { raw::gumreta_version() }
+}
 
 /// The annotated file, which is the front part of `out`; bytes behind it keep their contents, and after a refusal all do.
-pub fn annotate<'a>(file: &[u8], out: &'a mut [u8]) -> Result<&'a mut [u8], Refusal> {
+pub fn annotate<'a>(file: &[u8], out: &'a mut [u8]) -> Result<&'a mut [u8], Error> {
     let mut written = 0;
     // SAFETY: each pointer stands for as many bytes as the length beside it says; `out` is borrowed alone.
     let number = unsafe { raw::gumreta_annotate(file.as_ptr(), file.len(), out.as_mut_ptr(), out.len(), &mut written) };
-    match Refusal::of(number) {
-        None => Ok(&mut out[..written]),
-        Some(refusal) => Err(refusal),
-    }
+    answers::done(number)?;
+    Ok(&mut out[..written])
+}
+
+/// The annotated file, in memory of its own.
+pub fn annotate_to_vec(file: &[u8]) -> Result<Vec<u8>, Error> {
+    let mut out = vec![0; MAX_BYTES];
+    let written = annotate(file, &mut out)?.len();
+    out.truncate(written);
+    Ok(out)
 }
 
 /// Whether the checker accepts an annotated file.
-pub fn check(file: &[u8]) -> Result<(), Refusal> {
+pub fn check(file: &[u8]) -> Result<(), Error> {
     // SAFETY: the pointer stands for as many bytes as the length says.
-    let number = unsafe { raw::gumreta_check(file.as_ptr(), file.len()) };
-    Refusal::of(number).map_or(Ok(()), Err)
-}
-
-/// Memory that a run is lent.
-pub struct Lent<'a> {
-    pub cells: &'a mut [u32],
-    pub regions: &'a mut [u32],
-    pub frames: &'a mut [u32],
-    pub prints: &'a mut [u32],
+    answers::done(unsafe { raw::gumreta_check(file.as_ptr(), file.len()) })
 }
 
 /// What a run came to.
 #[derive(Clone, Copy, Debug, PartialEq, Eq)]
+#[must_use]
 pub struct Run<'a> {
+    /// Whether it finished.
     pub ending: Ending,
+    /// How many steps were done.
     pub steps: usize,
     words: &'a [u32],
 }
@@ -57,8 +78,14 @@ impl<'a> Run<'a> {
     }
 }
 
+impl fmt::Display for Run<'_> {
+    fn fmt(&self, f: &mut fmt::Formatter) -> fmt::Result {
+        write!(f, "{} after {} steps", self.ending, self.steps)
+    }
+}
+
 /// Checks a file and runs it in lent memory for at most `steps` steps. After a refusal all lent memory is as it was.
-pub fn run<'a>(file: &[u8], lent: Lent<'a>, steps: usize) -> Result<Run<'a>, Refusal> {
+pub fn run<'a>(file: &[u8], lent: Lent<'a>, steps: usize) -> Result<Run<'a>, Error> {
     let Lent { cells, regions, frames, prints } = lent;
     let (mut done, mut printed) = (0, 0);
     // SAFETY: each pointer stands for as many elements as the length behind it says; the four memories are borrowed alone.
@@ -79,34 +106,5 @@ pub fn run<'a>(file: &[u8], lent: Lent<'a>, steps: usize) -> Result<Run<'a>, Ref
             &mut printed,
         )
     };
-    Ok(Run { ending: Ending::of(number)?, steps: done, words: &prints[..printed] })
-}
-
-/// Memory of its own for a run, made once and lent as often as wanted.
-pub struct Memory {
-    cells: Vec<u32>,
-    regions: Vec<u32>,
-    frames: Vec<u32>,
-    prints: Vec<u32>,
-}
-
-impl Memory {
-    /// Room for so many cells, regions, frames and printed numbers.
-    pub fn new(cells: usize, regions: usize, frames: usize, prints: usize) -> Memory {
-        Memory {
-            cells: vec![0; cells * CELL_WORDS],
-            regions: vec![0; regions * REGION_WORDS],
-            frames: vec![0; frames * FRAME_WORDS],
-            prints: vec![0; prints],
-        }
-    }
-
-    /// What the runner program has.
-    pub fn program() -> Memory {
-        Memory::new(1024, 1024, 100, 1024)
-    }
-
-    pub fn lent(&mut self) -> Lent<'_> {
-        Lent { cells: &mut self.cells, regions: &mut self.regions, frames: &mut self.frames, prints: &mut self.prints }
-    }
+    Ok(Run { ending: answers::ending(number)?, steps: done, words: &prints[..printed] })
 }

@@ -1,6 +1,8 @@
 //! The library's functions as they stand in c/gumreta.h.
 
 extern "C" {
+    pub fn gumreta_version() -> u64;
+
     pub fn gumreta_annotate(file: *const u8, file_bytes: usize, out: *mut u8, out_bytes: usize, written: *mut usize) -> u64;
 
     pub fn gumreta_check(file: *const u8, file_bytes: usize) -> u64;

@@ -1,6 +1,6 @@
 //! Document 01's hand-sized files, as C-14 and C-15 leave them, and C-18's procedures that are not reached, through the safe functions, with what stands
 //! in lent memory afterwards.
-use gumreta::{annotate, check, run, Ending, Lent, Refusal, Stop};
+use gumreta::{annotate, annotate_to_vec, check, run, Ending, Error, Lent, Refusal, Stop};
 
 fn file(rows: &[&[u16]]) -> Vec<u8> {
     rows.iter().flat_map(|r| (0..8).flat_map(|k| r.get(k).copied().unwrap_or(0).to_le_bytes())).collect()
@@ -49,26 +49,28 @@ fn annotated() {
     assert_eq!(annotate(&file(&U), &mut out[..96]), Ok(&mut file(&U)[..]));
     assert_eq!(out[96..], [7; 6]);
     let mut out = [7; 175];
-    assert_eq!(annotate(&file(&PLAIN), &mut out), Err(Refusal::Room));
-    assert_eq!(annotate(&file(&U), &mut out[..95]), Err(Refusal::Room));
-    assert_eq!(annotate(&file(&ANNOTATED), &mut out), Err(Refusal::Annotated));
-    assert_eq!(annotate(&file(&OLD_A), &mut out), Err(Refusal::Typing));
-    assert_eq!(annotate(&[], &mut out), Err(Refusal::Header));
-    assert_eq!(annotate(&file(&U), &mut []), Err(Refusal::Room));
+    assert_eq!(annotate(&file(&PLAIN), &mut out), Err(Error::Refused(Refusal::Room)));
+    assert_eq!(annotate(&file(&U), &mut out[..95]), Err(Error::Refused(Refusal::Room)));
+    assert_eq!(annotate(&file(&ANNOTATED), &mut out), Err(Error::Refused(Refusal::Annotated)));
+    assert_eq!(annotate(&file(&OLD_A), &mut out), Err(Error::Refused(Refusal::Typing)));
+    assert_eq!(annotate(&[], &mut out), Err(Error::Refused(Refusal::Header)));
+    assert_eq!(annotate(&file(&U), &mut []), Err(Error::Refused(Refusal::Room)));
     assert_eq!(out, [7; 175]);
+    assert_eq!(annotate_to_vec(&file(&PLAIN)), Ok(file(&ANNOTATED)));
+    assert_eq!(annotate_to_vec(&[]), Err(Error::Refused(Refusal::Header)));
 }
 
 #[test]
 fn checked() {
     assert_eq!(check(&file(&U)), Ok(()));
     assert_eq!(check(&file(&ANNOTATED)), Ok(()));
-    assert_eq!(check(&file(&PLAIN)), Err(Refusal::Rules));
-    assert_eq!(check(&file(&OLD_A)), Err(Refusal::Typing));
-    assert_eq!(check(&[]), Err(Refusal::Header));
+    assert_eq!(check(&file(&PLAIN)), Err(Error::Refused(Refusal::Rules)));
+    assert_eq!(check(&file(&OLD_A)), Err(Error::Refused(Refusal::Typing)));
+    assert_eq!(check(&[]), Err(Error::Refused(Refusal::Header)));
     assert_eq!(Refusal::Rules.number(), 8);
 }
 
-fn ran(file: &[u8], cells: usize, frames: usize, steps: usize) -> Result<(Ending, usize), Refusal> {
+fn ran(file: &[u8], cells: usize, frames: usize, steps: usize) -> Result<(Ending, usize), Error> {
     let (mut c, mut r, mut f) = (vec![9; cells], [9; 2], vec![9; frames]);
     let result =
         run(file, Lent { cells: &mut c, regions: &mut r, frames: &mut f, prints: &mut [] }, steps).map(|r| (r.ending, r.steps));
@@ -90,8 +92,8 @@ fn runs() {
     assert_eq!(ran(&cell, 8, 136, 3), Ok((Ending::Stopped(Stop::Steps), 3)));
     assert_eq!(ran(&cell, 0, 136, 4), Ok((Ending::Stopped(Stop::Cells), 2)));
     assert_eq!(ran(&cell, 8, 0, 0), Ok((Ending::Stopped(Stop::Frames), 0)));
-    assert_eq!(ran(&file(&PLAIN), 8, 136, 3), Err(Refusal::Rules));
-    assert_eq!(ran(&file(&OLD_A), 8, 136, 3), Err(Refusal::Typing));
+    assert_eq!(ran(&file(&PLAIN), 8, 136, 3), Err(Error::Refused(Refusal::Rules)));
+    assert_eq!(ran(&file(&OLD_A), 8, 136, 3), Err(Error::Refused(Refusal::Typing)));
 }
 
 /// −32,768 printed, doubled `times` times, and printed again.
@@ -129,12 +131,12 @@ fn calling(callee: u16) -> Vec<u8> {
 fn unreached() {
     let (reached, unreached) = (calling(1), calling(0));
     let mut out = [7; 65];
-    assert_eq!(annotate(&unreached, &mut out), Err(Refusal::Unreached));
+    assert_eq!(annotate(&unreached, &mut out), Err(Error::Refused(Refusal::Unreached)));
     assert_eq!(out, [7; 65]);
     assert_eq!(annotate(&reached, &mut out), Ok(&mut calling(1)[..]));
-    assert_eq!(check(&unreached), Err(Refusal::Unreached));
+    assert_eq!(check(&unreached), Err(Error::Refused(Refusal::Unreached)));
     assert_eq!(check(&reached), Ok(()));
-    assert_eq!(ran(&unreached, 8, 272, 3), Err(Refusal::Unreached));
+    assert_eq!(ran(&unreached, 8, 272, 3), Err(Error::Refused(Refusal::Unreached)));
     assert_eq!(ran(&reached, 8, 272, 3), Ok((Ending::Finished, 1)));
     assert_eq!(Refusal::Unreached.number(), 17);
 }

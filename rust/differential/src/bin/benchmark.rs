@@ -48,11 +48,11 @@ impl Bench {
     fn ours(&mut self, program: Program, file: &[u8]) -> Answer {
         match program {
             Program::Annotator => {
-                gumreta::annotate(file, &mut self.out).map_or_else(|r| (r.number() as u64, 0), |a| (0, a.len() as u64))
+                gumreta::annotate(file, &mut self.out).map_or_else(|e| (e.number(), 0), |a| (0, a.len() as u64))
             }
-            Program::Checker => gumreta::check(file).map_or_else(|r| (r.number() as u64, 0), |_| (0, 0)),
+            Program::Checker => gumreta::check(file).map_or_else(|e| (e.number(), 0), |_| (0, 0)),
             Program::Runner => match gumreta::run(file, self.memory.lent(), STEPS as usize) {
-                Err(r) => (r.number() as u64, 0),
+                Err(e) => (e.number(), 0),
                 Ok(r) => match r.ending {
                     gumreta::Ending::Finished => (0, r.steps as u64),
                     gumreta::Ending::Stopped(s) => (s.number() as u64, r.steps as u64),
