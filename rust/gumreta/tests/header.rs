@@ -1,9 +1,13 @@
-//! This crate, the archive and c/gumreta.h are of one release and have the same numbers.
-use gumreta::{version, CELL_WORDS, FRAME_WORDS, MAX_BYTES, REGION_WORDS, STACK_BYTES, VERSION};
+//! This crate, the archive and c/gumreta.h are of one release and have the same numbers and words.
+use gumreta::{version, Refusal, Stop, CELL_WORDS, FRAME_WORDS, MAX_BYTES, REGION_WORDS, STACK_BYTES, VERSION};
+
+fn header() -> String {
+    std::fs::read_to_string("../../c/gumreta.h").expect("c/gumreta.h")
+}
 
 /// What the header defines a name as.
 fn defined(name: &str) -> String {
-    let header = std::fs::read_to_string("../../c/gumreta.h").expect("c/gumreta.h");
+    let header = header();
     let line = header.lines().find_map(|l| l.strip_prefix(&format!("#define {name} ")));
     line.unwrap_or_else(|| panic!("c/gumreta.h defines {name}")).trim_matches('"').to_string()
 }
@@ -28,5 +32,30 @@ fn the_same_sizes() {
     ];
     for (name, size) in sizes {
         assert_eq!(defined(name), size.to_string(), "{name}");
+    }
+}
+
+/// The header's number by a name, and its message for it.
+fn message(name: &str) -> (u8, String) {
+    let header = header();
+    let behind = |start: String| {
+        header.lines().find_map(|l| l.trim().strip_prefix(&start)).unwrap_or_else(|| panic!("{start}")).to_string()
+    };
+    let number = behind(format!("GUMRETA_{name} = "));
+    let digits = number.split(|c: char| !c.is_ascii_digit()).next().unwrap();
+    let words = behind(format!("case GUMRETA_{name}: return \""));
+    (digits.parse().unwrap(), words.trim_end_matches("\";").to_string())
+}
+
+#[test]
+fn the_same_words() {
+    use {Refusal::*, Stop::*};
+    for refusal in [Header, Form, Typing, Values, Regions, Annotated, Classes, Rules, Room, Unreached] {
+        let (number, words) = message(&format!("{refusal:?}").to_uppercase());
+        assert_eq!(refusal.to_string(), format!("refused {number}: {words}"));
+    }
+    for stop in [Steps, Cells, Places, Frames, Prints, Sums] {
+        let (number, words) = message(&format!("{stop:?}").to_uppercase());
+        assert_eq!(stop.to_string(), format!("stopped {number}: {words}"));
     }
 }
