@@ -23,6 +23,7 @@ REFUSALS = (1, 2, 3, 4, 5, 7, 8, 17)
 STOPS = (10, 11, 12, 13, 14, 15)
 ANNOTATED, TOO_LONG = 6, 9
 STACK = 64 << 20
+NOTHING = '0 0 0 0 0'  # a run that has no frame for its entry
 
 
 def known(who, number, *numbers):
@@ -77,8 +78,15 @@ class Programs:
             return Ran(known('runner', self.refusal('runner', out), *REFUSALS), 0, [])
         return Ran(known('runner', int(found[2] or 0), *STOPS), int(found[3]), [int(n) for n in found[1].split()])
 
-    def profile(self, data, sizes=STANDARD):
-        return self.output('profile', data).decode().splitlines()
+    def profile(self, data, sizes, ending):
+        """The profile's lines up to where a run in no more memory ended, and that ending."""
+        lines = self.output('profile', data).decode().splitlines()
+        if sizes == STANDARD:
+            return lines
+        steps = int(ending.split()[-1])
+        if not lines or int(lines[-1].split()[-1]) < steps:
+            raise Fault('profile ended before the run: the two were not built from the same sources')
+        return ([line for line in lines[:-1] if int(line.split()[0]) <= steps] if sizes.frames else [NOTHING]) + [ending]
 
 
 def apart(work):
@@ -144,9 +152,9 @@ class Profile(Library):
 
     LARGEST = 1 << 28
 
-    def profile(self, data, sizes=STANDARD):
+    def profile(self, data, sizes, ending):
         if not sizes.frames:
-            return ['0 0 0 0 0', 'stopped 13 0']
+            return [NOTHING, ending]
         room = 1 << 20
         while room <= self.LARGEST:
             out, last = (ctypes.c_uint8 * room)(), (ctypes.c_uint8 * 128)()
@@ -194,12 +202,13 @@ def answers(names, sizes=STANDARD):
 
 
 def profiler(sizes=STANDARD):
-    """What says what a run held: the proved program in its own memory, else its parts, not proved."""
-    if sizes == STANDARD and proved('profile'):
+    """What says what a run held: the proved program, in whose memory a run in no more of it goes the same way until it stops; else its parts, not proved."""
+    fits = all(size <= most for size, most in zip(sizes, STANDARD))
+    if fits and proved('profile'):
         return Programs()
     if building.compiles_unproved():
         return Profile(building.unproved('profile'), False)
-    if sizes != STANDARD:
-        raise Fault('what a run holds in memory of another size needs a kit that compiles without a proof')
+    if not fits:
+        raise Fault('what a run holds in more memory than the program profile has needs a kit that compiles without a proof')
     proving.prove(('profile',), False)
     return Programs()

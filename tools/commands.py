@@ -196,14 +196,14 @@ class Held:
 
     def __init__(self, ask, job, ran, sizes):
         profile = asking.profiler(sizes)
-        lines = profile.profile(job.data, sizes)
         ending = f'stopped {ran.number} {ran.steps}' if ran.number else f'finished {ran.steps}'
+        lines = profile.profile(job.data, sizes, ending)
         if lines[-1:] != [ending]:
             raise Fault(f'the profile ended with "{lines[-1] if lines else ""}" and the run with "{ending}": the two were not built from the same sources')
         library = ask if isinstance(ask, asking.Library) else asking.library() if ran.log else ask
         self.proved = profile.proved and library.proved
         if ask.proved and not self.proved:
-            say('what the run held: ' + asking.unproved_note())
+            say('what the run held: ' + (asking.unproved_note() if sizes == STANDARD else 'by a build that is not proved: the proved profile has one size'))
         owners = job_listing.procedures(job.data, job.source, job.names)
         self.rows = figures.placed(figures.read('profile', lines), owners, job.places())
         self.job, self.ran, self.sizes = job, ran, sizes

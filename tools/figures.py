@@ -36,7 +36,7 @@ def row(source, number, words):
 def placed(rows, owners, places):
     """Rows with the procedure, and the line of the text where there is one, in the place of a goal's record."""
     called = {str(record): f'{name} ({places.get(record, f"record {record}")})' for record, name in owners.items()}
-    return [r._replace(where=called.get(r.where, 'the start' if r.where == '0' else r.where)) for r in rows]
+    return [r._replace(where=called.get(r.where, 'the entry' if r.where == '0' else r.where)) for r in rows]
 
 
 def peaks(rows):

@@ -17,21 +17,27 @@ def to_prove(names):
     return crates, [name for name in crates if not (crate_proved(name) or name == LIBRARY and archive_proved())]
 
 
+def told(done, count, name, how):
+    """Says that a crate is proved, once, and how many that makes."""
+    if name not in done:
+        done.append(name)
+        say(f'  {len(done)} of {count}: {name} {how}')
+
+
 def rt(words, done, count):
     """Runs rt and says each crate that it has proved, with how many that makes."""
     try:
         work = subprocess.Popen(['rt', *words], cwd=ROOT, stdout=subprocess.PIPE, stderr=subprocess.STDOUT, text=True, errors='replace')
     except FileNotFoundError:
         raise Fault('the Rattle kit is missing: rt is not on the path')
-    told = []
+    lines = []
     for line in work.stdout:
-        found = re.match(r'rt: (\w+) (proved|NOT PROVED)(.*)', line)
-        if found and found[1] not in done:
-            done.append(found[1])
-            say(f'  {len(done)} of {count}: {found[1]} {found[2]}{found[3]}')
-        told.append(line)
+        found = re.match(r'rt: (\w+) (proved.*)', line)
+        if found:
+            told(done, count, found[1], found[2])
+        lines.append(line)
     if work.wait():
-        raise Fault(f'rt {" ".join(words)}: not proved\n' + ''.join(line for line in told if 'NOT PROVED' in line or 'error' in line)[:2000].rstrip())
+        raise Fault(f'rt {" ".join(words)}: not proved\n' + ''.join(line for line in lines if 'NOT PROVED' in line or 'error' in line)[:2000].rstrip())
 
 
 def fresh(names):
@@ -46,16 +52,15 @@ def prove(programs=PROGRAMS, library=True):
     """Proves what is not proved yet, and notes from which sources."""
     crates, left = to_prove([*programs, *([LIBRARY] if library else [])])
     before = {name: stamp(name) for name in (*programs, LIBRARY)}
-    done = []
+    done = [name for name in crates if name not in left]
+    if left:
+        say(f'proving {len(left)} of {len(crates)} crates; {MINUTES}')
     if not all(proved(name) for name in programs):
-        say(f'proving {", ".join(programs)}: {len(left)} of {len(crates)} crates are left; {MINUTES}')
         fresh(programs)
         rt(['check', *programs], done, len(crates))
     if library and not archive_proved():
-        say(f'proving the library {LIBRARY}')
         rt(['staticlib', LIBRARY], done, len(crates))
-        if LIBRARY not in done:
-            say(f'  {len(crates)} of {len(crates)}: {LIBRARY} proved')
+        told(done, len(crates), LIBRARY, 'proved')
     note(programs, library, before)
 
 
