@@ -98,6 +98,8 @@ def files_of(name):
 @functools.cache
 def stamp(name):
     """The hash of a crate: the kit's, the machine's, its files', and those of what it depends on, as rt makes it."""
+    if name not in crates():
+        raise Fault(f'crates.txt lists no crate {name}')
     rows = sorted(f'{sha256(path)}  {short}\n' for short, path in files_of(name))
     text = kit_identity().decode() + f'machine {platform.machine()}\n' + ''.join(rows) + f'deps: {crates()[name]}\n'
     for d in crates()[name].split():

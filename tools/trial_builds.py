@@ -2,6 +2,7 @@
 import os
 import shutil
 import subprocess
+import sys
 import time
 
 ROOT = os.path.dirname(os.path.dirname(os.path.abspath(__file__)))
@@ -37,9 +38,11 @@ class Clone:
         self.trial, self.folder = trial, folder
         clone(folder, with_target)
 
-    def run(self, what, words, status, says, hushes=()):
+    def run(self, what, words, status, says, hushes=(), path=None):
+        """`path` stands in the place of the path on which programs are looked for."""
         began = time.time()
-        done = subprocess.run([os.path.join(self.folder, 'job'), *words], capture_output=True, text=True, cwd=self.folder)
+        around = {**os.environ, 'PATH': path} if path else None
+        done = subprocess.run([os.path.join(self.folder, 'job'), *words], capture_output=True, text=True, cwd=self.folder, env=around)
         took = time.time() - began
         good = done.returncode == status and all(text in done.stderr for text in says) and not any(text in done.stderr for text in hushes)
         self.trial.judge(good, f'{what}: status {done.returncode}, said {done.stderr!r}, wanted {says}, not {hushes}')
@@ -80,6 +83,35 @@ def try_stale(trial, folder):
     trial.judge(version.count('of other sources, not used') == 4, f'--version: {version!r}')
 
 
+def other_kit(folder, script):
+    """A kit whose rt is a script, and that compiles nothing without a proof; the path to find it on."""
+    home = os.path.join(folder, 'kit', 'bin')
+    os.makedirs(home, exist_ok=True)
+    with open(os.path.join(home, 'rt'), 'w', encoding='utf-8') as out:
+        out.write(script)
+    os.chmod(os.path.join(home, 'rt'), 0o755)
+    with open(os.path.join(folder, 'kit', 'KIT-ID'), 'w', encoding='utf-8') as out:
+        out.write('another kit\n')
+    return home + ':' + os.environ['PATH']
+
+
+def try_other_kits(trial, folder):
+    """A kit without the option proves as ever; without a kit what was proved is used, and nothing else is."""
+    here, gamma = Clone(trial, folder), ['run', 'examples/gamma.text']
+    alone = os.path.join(folder, 'alone')
+    os.makedirs(alone)
+    os.symlink(sys.executable, os.path.join(alone, 'python3'))
+    here.run('no kit and nothing proved', gamma, 1, ('the Rattle kit is missing: rt is not on the path',), ('Traceback',), alone)
+    path = other_kit(folder, '#!/bin/sh\necho "rt: sets proved (1 s)"\necho "rt: rules NOT PROVED (exit 1, 2 s)"\nexit 1\n')
+    here.run('a kit that proves nothing', gamma, 1, (': sets proved (1 s)', 'rt check annotator checker runner: not proved', 'rules NOT PROVED'), (), path)
+    path = other_kit(folder, f'#!/bin/sh\nshift\nmkdir -p target/bin\nfor p in "$@"; do cp {ROOT}/target/bin/$p target/bin/; echo "rt: $p proved (1 s)"; done\n')
+    here.run('a kit without the option', gamma, 0, ('  1 of ', ': runner proved (1 s)', 'finished after 78 steps'), (BUILT, NOTE), path)
+    here.run('the same once more', gamma, 0, ('finished after 78 steps',), (BUILT, NOTE, 'proving'), path)
+    here.run('no kit, and programs that were proved', gamma, 0, ('finished after 78 steps',), (BUILT, NOTE, 'proving'), alone)
+    here.edit('lines')
+    here.run('no kit, and programs of other sources', gamma, 1, ('not used', 'the Rattle kit is missing'), ('finished',), alone)
+
+
 def try_strange(trial, folder, compiler):
     """A library that answers what is no answer: an error of its own."""
     here = Clone(trial, folder)
@@ -112,6 +144,7 @@ def sha256(path):
 def try_builds(trial, folder):
     try_from_nothing(trial, os.path.join(folder, 'clone'))
     try_stale(trial, os.path.join(folder, 'clone'))
+    try_other_kits(trial, os.path.join(folder, 'clone'))
     compiler = shutil.which('cc') or shutil.which('gcc') or shutil.which('clang')
     if compiler:
         try_strange(trial, os.path.join(folder, 'clone'), compiler)
