@@ -35,6 +35,7 @@ CAUSES = {
     15: 'a sum or difference outside -2,147,483,648 to 2,147,483,647',
     17: 'procedures that no chain of calls from the entry reaches',
 }
+# what a half-annotated job is told; it is to name ./job strip once there is one (C-16)
 TAKE_OUT = 'the annotator inserts none beside them; without them it inserts all'
 
 

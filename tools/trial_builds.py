@@ -112,6 +112,20 @@ def try_other_kits(trial, folder):
     here.run('no kit, and programs of other sources', gamma, 1, ('not used', 'the Rattle kit is missing'), ('finished',), alone)
 
 
+def try_strange_programs(trial, folder):
+    """Programs that answer what is no answer of theirs: an error of its own, and never success."""
+    for name, words, says in (('checker', 'refused 16', '16, which is none of its answers'), ('checker', 'refused 6', '6'), ('checker', '', "'', which is none"),
+                              ('checker', 'accepted, or so', "'accepted, or so"), ('annotator', 'refused 18', '18'), ('annotator', '', "''"), ('runner', '', "''"),
+                              ('runner', 'finished', "'finished"), ('runner', '1\nstopped 16 3', '16'), ('runner', 'refused 16', '16')):
+        here = Clone(trial, folder)
+        script = f'#!/bin/sh\nshift\nmkdir -p target/bin\nfor p in "$@"; do cp {ROOT}/target/bin/$p target/bin/; done\n'
+        script += f"printf '#!/bin/sh\\ncat > /dev/null\\ncat {folder}/words\\n' > target/bin/{name}\nchmod 755 target/bin/{name}\n"
+        with open(os.path.join(folder, 'words'), 'w', encoding='utf-8') as out:
+            out.write(words + '\n' * bool(words))
+        log = here.run(f'{name} answers {words!r}', ['run', 'examples/gamma.text'], 1, (f'{name} answered {says}',), ('finished after',), other_kit(folder, script))
+        trial.judge(not log, f'{name} answers {words!r}: {log!r}')
+
+
 def try_strange(trial, folder, compiler):
     """A library that answers what is no answer: an error of its own."""
     here = Clone(trial, folder)
@@ -145,6 +159,7 @@ def try_builds(trial, folder):
     try_from_nothing(trial, os.path.join(folder, 'clone'))
     try_stale(trial, os.path.join(folder, 'clone'))
     try_other_kits(trial, os.path.join(folder, 'clone'))
+    try_strange_programs(trial, os.path.join(folder, 'clone'))
     compiler = shutil.which('cc') or shutil.which('gcc') or shutil.which('clang')
     if compiler:
         try_strange(trial, os.path.join(folder, 'clone'), compiler)

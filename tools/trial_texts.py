@@ -123,3 +123,39 @@ def try_damaged(trial):
         found[came] = found.get(came, 0) + 1
     trial.judge(None not in found, f'damaged texts: {found}')
     print(f'{DAMAGED:,} damaged texts: {found.get("text", 0):,} wrong as texts, ' + ', '.join(f'{n:,} with number {number}' for number, n in sorted((k, n) for k, n in found.items() if isinstance(k, int))))
+
+
+def judge_file(library, data):
+    """What comes of a file: the checker's number. It is listed or is said not to be; a file that passes 1 and 2 has an explanation exactly where it is 3."""
+    number = library.check(data)
+    try:
+        job_listing.listing(data)
+    except Fault:
+        if number not in (1, 2, 3):
+            return None
+    if number not in (1, 2) and bool(explaining.Explainer(data).places()) != (number == 3):
+        return None
+    return number
+
+
+def try_damaged_files(trial):
+    """Job files with a few words changed: no traceback, and number 3 explained where it is given and nowhere else."""
+    library, dice, found, files = asking.library(), random.Random(28), {}, []
+    for path in sorted(glob.glob(os.path.join(ROOT, 'examples', '*.job'))):
+        with open(path, 'rb') as source:
+            files.append(source.read())
+    for k in range(DAMAGED):
+        data = bytearray(dice.choice(files))
+        for _ in range(dice.choice((1, 1, 1, 2, 3))):
+            at = 2 * dice.randrange(len(data) // 2)
+            data[at] = dice.choice((0, 1, 2, 3, 4, 5, data[at] ^ 1, dice.randrange(256)))
+        try:
+            came = judge_file(library, bytes(data))
+        except Exception as error:
+            came = None
+            print(f'damaged file {k}: {error!r}')
+        if came is None:
+            trial.judge(False, f'damaged file {k}: {data.hex()}')
+        found[came] = found.get(came, 0) + 1
+    trial.judge(None not in found, f'damaged files: {found}')
+    print(f'{DAMAGED:,} damaged files: ' + ', '.join(f'{n:,} with number {number}' for number, n in sorted((k, n) for k, n in found.items() if k is not None)))
