@@ -42,8 +42,8 @@ TAKE_OUT = 'the annotator inserts none beside them; without them it inserts all'
 class Refused(Exception):
     """A program's verdict, and what the text says about it."""
 
-    def __init__(self, number, job):
-        self.number, self.places = number, places_of(number, job)
+    def __init__(self, number, job, proved):
+        self.number, self.places, self.proved = number, places_of(number, job), proved
         self.cause = CAUSES[number] + (f': {job_files.unreached_names(job)}' if number == UNREACHED else '')
         super().__init__('\n'.join([f'refused {number}: {self.cause}', *map(str, self.places)]))
 
@@ -79,14 +79,14 @@ def annotated(ask, job):
     if number == ANNOTATED:
         return job, True
     if number:
-        raise Refused(number, job)
+        raise Refused(number, job, ask.proved)
     return job.with_data(data), False
 
 
 def accepted(ask, job):
     number = ask.check(job.data)
     if number:
-        raise Refused(number, job)
+        raise Refused(number, job, ask.proved)
 
 
 # ---- files
@@ -117,9 +117,10 @@ def save(path, data):
 
 def annotate(path, options):
     job = job_files.open_job(path)
-    made, before = annotated(answering(['annotator']), job)
+    ask = answering(['annotator'])
+    made, before = annotated(ask, job)
     if before:
-        raise Refused(ANNOTATED, job)
+        raise Refused(ANNOTATED, job, ask.proved)
     write(made.data, options, job.names)
 
 

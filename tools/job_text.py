@@ -63,7 +63,10 @@ class Reader:
             raise Fault('\n'.join(map(str, places)), places)
         if not procedures:
             raise Fault(f'{self.source}: the text has no procedure')
-        order = in_order(procedures, types)
+        try:
+            order = in_order(procedures, types)
+        except Fault as fault:
+            raise Fault(f'{self.source}: {fault}')
         self.names.source, self.names.lines = self.source, [node.line for node in order]
         return packed(order, procedures)
 
