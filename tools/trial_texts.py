@@ -17,9 +17,10 @@ TABLE = os.path.join(ROOT, 'docs', 'MISTAKES.md')
 DAMAGED = 20000
 HEAD = '''# Fifty mistakes
 
-What `./job run` says of mistakes that are made in a job's text. Each is one change of the text at the end; the line is that of the changed text. Where a
-program refuses the job, its verdict comes first, and what the text says about it after it. {lines} of the {all} get a line. Numbers 4, 5 and 7 name none
-yet. `tools/try-commands` holds this page to what is said.
+What `./job run` says of mistakes that are made in a job's text. Each is one change of the text at the end of the page;
+the line is that of the changed text. Where a program refuses the job, its verdict comes first, and what the text says
+about it behind it. {lines} of the {all} get a line; numbers 4, 5 and 7 name none yet. `tools/try-commands` holds this
+page to what is said.
 
 | mistake | what stands there | what is said |
 |---|---|---|
