@@ -37,7 +37,8 @@ def rt(words, done, count):
             told(done, count, found[1], found[2])
         lines.append(line)
     if work.wait():
-        raise Fault(f'rt {" ".join(words)}: not proved\n' + ''.join(line for line in lines if 'NOT PROVED' in line or 'error' in line)[:2000].rstrip())
+        why = [line for line in lines if re.search('NOT PROVED|FAILED|error', line)] or lines[-5:]
+        raise Fault(f'rt {" ".join(words)}: not proved\n' + ''.join(why)[:2000].rstrip())
 
 
 def fresh(names):
