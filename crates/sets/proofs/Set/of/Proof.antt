@@ -9,11 +9,8 @@ returns c = of-low _ (search needs)
 returns-2 : tie.Need-returns-2
 returns-2 c = of-high _ (search needs)
 
-shl-bits : tie.Need-shl-bits
-shl-bits c = search needs
-
 returns-3 : tie.Need-returns-3
 returns-3 c = of-made _ (search needs) (search needs)
 
 pub of-spec : {M : Type 1} → statement M
-of-spec = tie.close (tie.spec returns returns-2 shl-bits returns-3)
+of-spec = tie.close (tie.spec returns returns-2 (search needs) returns-3)
