@@ -1,4 +1,4 @@
--- `all_once` meets its contract. Invariant: the counts looked at and those still ahead decide. Assumes nothing.
+-- Invariant: the counts looked at and those still ahead decide. Assumes nothing.
 use Prim.Native.Nat.{_-_}
 use native.Mathlib.Omega.{arith}
 use borrow.Author.Needs.{needs}

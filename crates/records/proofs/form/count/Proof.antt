@@ -1,4 +1,3 @@
--- `count` meets its contract. Assumes nothing.
 use mathlib.Core.Path.{sym, ap, _∙_}
 use lib.ListN.{set}
 use Rattle.records.specs.Lists.{counted-none, counted-some}

@@ -1,4 +1,4 @@
--- `records_ok` meets its contract. Invariant: the records still ahead decide. Assumes nothing.
+-- Invariant: the records still ahead decide. Assumes nothing.
 use Prim.Native.Nat.{_-_}
 use native.Mathlib.Omega.{arith}
 use mathlib.Core.Path.{_∙_}

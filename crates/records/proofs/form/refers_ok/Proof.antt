@@ -1,4 +1,4 @@
--- `refers_ok` meets its contract. Invariant: the words still ahead decide; the digits fall. Assumes nothing.
+-- Invariant: the words still ahead decide; the digits fall. Assumes nothing.
 use mathlib.Core.Path.{_∙_}
 use borrow.Author.Needs.{needs}
 use borrow.Author.Tests.{not-true, not-false}

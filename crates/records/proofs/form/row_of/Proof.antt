@@ -1,4 +1,4 @@
--- `row_of` meets its contract: the table at a kind's number, and at any number above. Assumes nothing.
+-- The table at a kind's number, and at any number above. Assumes nothing.
 use native.Mathlib.Omega.{arith}
 use mathlib.Core.Path.{ap, _∙_}
 use lib.ListN.{getD}

@@ -1,4 +1,4 @@
--- `word_ok` meets its contract: no reference, or one. Assumes nothing.
+-- No reference, or one. Assumes nothing.
 use native.Mathlib.Omega.{arith}
 use borrow.Author.Tests.{not-true, not-false}
 use Rattle.records.proofs.Steps.{use-none, use-refused, use-counted}

@@ -1,4 +1,4 @@
--- `header_ok` meets its contract: one law for each test of number 1. Assumes nothing.
+-- One law for each test of number 1. Assumes nothing.
 use native.Mathlib.Omega.{arith}
 use Rattle.records.proofs.Stages.{header-short, header-long, header-count, header-kind}
 use borrow.Author.Needs.{needs}

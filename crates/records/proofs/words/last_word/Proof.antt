@@ -1,4 +1,4 @@
--- `last_word` meets its contract: past the file every word is 0, else each byte by itself. Assumes nothing.
+-- Past the file every word is 0, else each byte by itself. Assumes nothing.
 use mathlib.Core.Path.{sym}
 use native.Mathlib.Omega.{arith}
 use Rattle.language.specs.File.{word}
