@@ -1,4 +1,4 @@
--- `record_count` meets its contract: number 1 has the length be 16 bytes for each record.
+-- Number 1 has the length be 16 bytes for each record.
 use native.Mathlib.Omega.{arith}
 use Rattle.chains.specs.Formed.{counted}
 use Rattle.chains.proofs.words.record_count.Statement.{statement}
