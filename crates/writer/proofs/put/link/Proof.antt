@@ -1,4 +1,3 @@
--- `link` meets its contract.
 use Rattle.writer.specs.Laid.{linked-none, linked-some}
 use Rattle.writer.proofs.put.link.Statement.{statement}
 use Rattle.writer.proofs.put.link.Tie as tie

@@ -72,10 +72,6 @@ skip-chain-skip-record-requires t c κs =
     let F = c .before .before .before .pre .1 .0 in
     (omega (arith, skipping-less F v (c .loop-test .taken), c .before .before .before .pre .0), (F, v .below))
 
-skip-chain-word-requires : (t : ℕ) → skip-chain-lts.Need-word-requires (skip-chain-calls t) (skip-chain-at t) skip-chain.Post skip-chain-Inv-loop skip-chain-μ-loop
-skip-chain-word-requires t c κs =
-    search needs
-
 skip-chain-loop-less : (t : ℕ) → skip-chain-lts.Need-loop-less (skip-chain-calls t) (skip-chain-at t) skip-chain.Post skip-chain-Inv-loop skip-chain-μ-loop
 skip-chain-loop-less t c =
     skipping-falls (c .before .before .before .before .before .pre .1 .0) (c .before .before .before .loop .inv) (c .before .before .loop-test .taken) (c .word .ensures .0)
@@ -96,14 +92,6 @@ abbrev skip-record-μ-loop : skip-record-lts.MeasureT-loop
 skip-record-μ-loop file i first kind at₀ k₀ at k =
     recordWords - k
 
-skip-record-word-requires : (t : ℕ) → skip-record-lts.Need-word-requires (skip-record-calls t) (skip-record-at t) skip-record.Post skip-record-Inv-loop skip-record-μ-loop
-skip-record-word-requires t c κs =
-    search needs
-
-skip-record-behind-requires : (t : ℕ) → skip-record-lts.Need-behind-requires (skip-record-calls t) (skip-record-at t) skip-record.Post skip-record-Inv-loop skip-record-μ-loop
-skip-record-behind-requires t c κs =
-    search needs
-
 skip-record-loop-holds : (t : ℕ) → skip-record-lts.Need-loop-holds (skip-record-calls t) (skip-record-at t) skip-record.Post skip-record-Inv-loop skip-record-μ-loop
 skip-record-loop-holds t c =
     passing-first (c .before .before .before .pre .1 .0) (c .before .before .before .pre .1 .1) (c .behind .ensures)
@@ -111,10 +99,6 @@ skip-record-loop-holds t c =
 skip-record-leads-requires : (t : ℕ) → skip-record-lts.Need-leads-requires (skip-record-calls t) (skip-record-at t) skip-record.Post skip-record-Inv-loop skip-record-μ-loop
 skip-record-leads-requires t c κs =
     (c .before .loop .inv .low, c .loop-test .taken)
-
-skip-record-word-requires-2 : (t : ℕ) → skip-record-lts.Need-word-requires-2 (skip-record-calls t) (skip-record-at t) skip-record.Post skip-record-Inv-loop skip-record-μ-loop
-skip-record-word-requires-2 t c κs =
-    search needs
 
 skip-record-skip-chain-requires : (t : ℕ) → skip-record-lts.Need-skip-chain-requires (skip-record-calls t) (skip-record-at t) skip-record.Post skip-record-Inv-loop skip-record-μ-loop
 skip-record-skip-chain-requires t c κs =
@@ -124,27 +108,11 @@ skip-record-skip-chain-requires t c κs =
     let l = passing-falls (p .0) (p .1) (c .before .before .before .before .loop .inv) (c .before .before .before .loop-test .taken) e (c .word2 .ensures .0) in
     (omega (arith, l, c .before .before .before .before .before .before .before .before .pre .0), (p .0, b))
 
-skip-record-add-k : (t : ℕ) → skip-record-lts.Need-add-k (skip-record-calls t) (skip-record-at t) skip-record.Post skip-record-Inv-loop skip-record-μ-loop
-skip-record-add-k t c =
-    search needs
-
-skip-record-loop-less : (t : ℕ) → skip-record-lts.Need-loop-less (skip-record-calls t) (skip-record-at t) skip-record.Post skip-record-Inv-loop skip-record-μ-loop
-skip-record-loop-less t c =
-    search needs
-
 skip-record-loop-again : (t : ℕ) → skip-record-lts.Need-loop-again (skip-record-calls t) (skip-record-at t) skip-record.Post skip-record-Inv-loop skip-record-μ-loop
 skip-record-loop-again t c =
     let p = c .before .before .before .before .before .before .before .before .before .pre .1 in
     let e = told _ _ _ (c .before .before .before .leads .ensures) (c .before .before .before .before .before .before .before .word .ensures .0) (c .before .before .if1 .taken) in
     passing-leads (p .0) (p .1) (c .before .before .before .before .before .loop .inv) (c .before .before .before .before .loop-test .taken) e (c .before .word2 .ensures .0) (c .skip-chain .ensures)
-
-skip-record-add-k-2 : (t : ℕ) → skip-record-lts.Need-add-k-2 (skip-record-calls t) (skip-record-at t) skip-record.Post skip-record-Inv-loop skip-record-μ-loop
-skip-record-add-k-2 t c =
-    search needs
-
-skip-record-loop-less-2 : (t : ℕ) → skip-record-lts.Need-loop-less-2 (skip-record-calls t) (skip-record-at t) skip-record.Post skip-record-Inv-loop skip-record-μ-loop
-skip-record-loop-less-2 t c =
-    search needs
 
 skip-record-loop-again-2 : (t : ℕ) → skip-record-lts.Need-loop-again-2 (skip-record-calls t) (skip-record-at t) skip-record.Post skip-record-Inv-loop skip-record-μ-loop
 skip-record-loop-again-2 t c =
@@ -156,32 +124,11 @@ skip-record-returns t c =
     passing-done (c .before .before .before .before .before .pre .1 .0) (c .before .before .before .before .before .pre .1 .1) (c .before .loop .inv) (c .loop-test .left)
 
 pub +skip-chain+skip-record-spec : {M : Type 1} → statement M
-+skip-chain+skip-record-spec = close μ-skip-chain μ-skip-record (λ t. skip-chain-lts.spec (skip-chain-calls t)
-    (skip-chain-at t)
-    skip-chain.Post
-    skip-chain-Inv-loop
-    skip-chain-μ-loop
-    (skip-chain-loop-holds t)
-    (skip-chain-skip-record-requires t)
-    (skip-chain-word-requires t)
-    (skip-chain-loop-less t)
-    (skip-chain-loop-again t)
-    (skip-chain-returns t))
-    λ t. skip-record-lts.spec (skip-record-calls t)
-    (skip-record-at t)
-    skip-record.Post
-    skip-record-Inv-loop
-    skip-record-μ-loop
-    (skip-record-word-requires t)
-    (skip-record-behind-requires t)
-    (skip-record-loop-holds t)
-    (skip-record-leads-requires t)
-    (skip-record-word-requires-2 t)
-    (skip-record-skip-chain-requires t)
-    (skip-record-add-k t)
-    (skip-record-loop-less t)
-    (skip-record-loop-again t)
-    (skip-record-add-k-2 t)
-    (skip-record-loop-less-2 t)
-    (skip-record-loop-again-2 t)
++skip-chain+skip-record-spec =
+    close μ-skip-chain μ-skip-record
+    (λ t. skip-chain-lts.spec (skip-chain-calls t) (skip-chain-at t) skip-chain.Post skip-chain-Inv-loop skip-chain-μ-loop (skip-chain-loop-holds t)
+    (skip-chain-skip-record-requires t) (λ c κs. search needs) (skip-chain-loop-less t) (skip-chain-loop-again t) (skip-chain-returns t))
+    λ t. skip-record-lts.spec (skip-record-calls t) (skip-record-at t) skip-record.Post skip-record-Inv-loop skip-record-μ-loop (λ c κs. search needs)
+    (λ c κs. search needs) (skip-record-loop-holds t) (skip-record-leads-requires t) (λ c κs. search needs) (skip-record-skip-chain-requires t)
+    (λ c. search needs) (λ c. search needs) (skip-record-loop-again t) (λ c. search needs) (λ c. search needs) (skip-record-loop-again-2 t)
     (skip-record-returns t)

@@ -1,4 +1,4 @@
--- The walk in written order meets its contracts: the invariants are `Writing` along a chain and `Spelling` along the words of a record.
+-- The walk in written order: the invariants are `Writing` along a chain and `Spelling` along the words of a record.
 use borrow.Author.Needs.{needs}
 use mathlib.Core.Path.{_∙_}
 use native.Mathlib.Omega.{arith}
@@ -74,10 +74,6 @@ write-chain-loop-holds : (t : ℕ) → write-chain-lts.Need-loop-holds (write-ch
 write-chain-loop-holds t c =
     writing-first _ (c .before .before .pre .1)
 
-write-chain-word-requires : (t : ℕ) → write-chain-lts.Need-word-requires (write-chain-calls t) (write-chain-at t) write-chain.Post write-chain-Inv-loop write-chain-μ-loop
-write-chain-word-requires t c κs =
-    search needs
-
 write-chain-write-record-requires : (t : ℕ) → write-chain-lts.Need-write-record-requires (write-chain-calls t) (write-chain-at t) write-chain.Post write-chain-Inv-loop write-chain-μ-loop
 write-chain-write-record-requires t c κs =
     let v = c .before .before .before .loop .inv in
@@ -108,10 +104,6 @@ abbrev write-record-μ-loop : write-record-lts.MeasureT-loop
 write-record-μ-loop file out₀ i on at kind end₀ k₀ out end k =
     recordWords - k
 
-write-record-word-requires : (t : ℕ) → write-record-lts.Need-word-requires (write-record-calls t) (write-record-at t) write-record.Post write-record-Inv-loop write-record-μ-loop
-write-record-word-requires t c κs =
-    search needs
-
 write-record-add-end : (t : ℕ) → write-record-lts.Need-add-end (write-record-calls t) (write-record-at t) write-record.Post write-record-Inv-loop write-record-μ-loop
 write-record-add-end t c =
     omega (arith, c .before .before .before .pre .1 .few)
@@ -120,17 +112,9 @@ write-record-loop-holds : (t : ℕ) → write-record-lts.Need-loop-holds (write-
 write-record-loop-holds t c =
     spelling-first _ (c .before .before .before .pre .1)
 
-write-record-word-requires-2 : (t : ℕ) → write-record-lts.Need-word-requires-2 (write-record-calls t) (write-record-at t) write-record.Post write-record-Inv-loop write-record-μ-loop
-write-record-word-requires-2 t c κs =
-    search needs
-
 write-record-leads-requires : (t : ℕ) → write-record-lts.Need-leads-requires (write-record-calls t) (write-record-at t) write-record.Post write-record-Inv-loop write-record-μ-loop
 write-record-leads-requires t c κs =
     (omega (arith, c .before .before .loop .inv .begun .many), c .before .loop-test .taken)
-
-write-record-link-requires : (t : ℕ) → write-record-lts.Need-link-requires (write-record-calls t) (write-record-at t) write-record.Post write-record-Inv-loop write-record-μ-loop
-write-record-link-requires t c κs =
-    search needs
 
 write-record-put-word-requires : (t : ℕ) → write-record-lts.Need-put-word-requires (write-record-calls t) (write-record-at t) write-record.Post write-record-Inv-loop write-record-μ-loop
 write-record-put-word-requires t c κs =
@@ -147,14 +131,6 @@ write-record-write-chain-requires t c κs =
     let g = c .before .before .before .before .before .before .before .before .word2 .ensures .0 in
     (omega (arith, spelling-falls R G m e g, c .before .before .before .before .before .before .before .before .before .before .before .before .before .before .pre .0), spelling-chain R G m e g (c .before .before .before .put-word .ensures))
 
-write-record-add-k : (t : ℕ) → write-record-lts.Need-add-k (write-record-calls t) (write-record-at t) write-record.Post write-record-Inv-loop write-record-μ-loop
-write-record-add-k t c =
-    search needs
-
-write-record-loop-less : (t : ℕ) → write-record-lts.Need-loop-less (write-record-calls t) (write-record-at t) write-record.Post write-record-Inv-loop write-record-μ-loop
-write-record-loop-less t c =
-    search needs
-
 write-record-loop-again : (t : ℕ) → write-record-lts.Need-loop-again (write-record-calls t) (write-record-at t) write-record.Post write-record-Inv-loop write-record-μ-loop
 write-record-loop-again t c =
     let R = c .before .before .before .before .before .before .before .before .before .before .before .before .before .before .before .before .before .pre .1 in
@@ -168,22 +144,10 @@ write-record-put-word-requires-2 t c κs =
     let m = c .before .before .before .before .loop-test .taken in
     (spelling-room (c .before .before .before .before .before .before .before .before .before .pre .1) (c .before .before .before .before .before .loop .inv) m .0, (m, c .before .before .before .word2 .ensures .1))
 
-write-record-add-k-2 : (t : ℕ) → write-record-lts.Need-add-k-2 (write-record-calls t) (write-record-at t) write-record.Post write-record-Inv-loop write-record-μ-loop
-write-record-add-k-2 t c =
-    search needs
-
-write-record-loop-less-2 : (t : ℕ) → write-record-lts.Need-loop-less-2 (write-record-calls t) (write-record-at t) write-record.Post write-record-Inv-loop write-record-μ-loop
-write-record-loop-less-2 t c =
-    search needs
-
 write-record-loop-again-2 : (t : ℕ) → write-record-lts.Need-loop-again-2 (write-record-calls t) (write-record-at t) write-record.Post write-record-Inv-loop write-record-μ-loop
 write-record-loop-again-2 t c =
     let e = told _ _ _ (c .before .before .before .before .before .leads .ensures) (c .before .before .before .before .before .before .before .before .before .word .ensures .0) (c .before .before .before .before .if1 .left) in
     spelling-plain (c .before .before .before .before .before .before .before .before .before .before .before .before .pre .1) (c .before .before .before .before .before .before .before .before .loop .inv) (c .before .before .before .before .before .before .before .loop-test .taken) e (c .before .before .before .before .before .before .word2 .ensures .0) (c .before .before .put-word2 .ensures)
-
-write-record-link-requires-2 : (t : ℕ) → write-record-lts.Need-link-requires-2 (write-record-calls t) (write-record-at t) write-record.Post write-record-Inv-loop write-record-μ-loop
-write-record-link-requires-2 t c κs =
-    search needs
 
 write-record-put-word-requires-3 : (t : ℕ) → write-record-lts.Need-put-word-requires-3 (write-record-calls t) (write-record-at t) write-record.Post write-record-Inv-loop write-record-μ-loop
 write-record-put-word-requires-3 t c κs =
@@ -203,40 +167,14 @@ write-record-returns t c =
     spelling-done (c .before .before .before .before .before .before .before .before .before .before .before .before .before .before .pre .1) (c .before .before .before .before .before .before .before .before .before .before .loop .inv) (c .before .before .before .before .before .before .before .before .before .loop-test .left) _ (c .before .before .before .before .before .before .before .before .before .before .before .word .ensures .0) (c .before .before .before .before .before .before .before .before .link2 .ensures) (c .before .before .before .before .before .before .put-word3 .ensures) (c .before .before .put-word4 .ensures)
 
 pub +write-chain+write-record-spec : {M : Type 1} → statement M
-+write-chain+write-record-spec = close μ-write-chain μ-write-record (λ t. write-chain-lts.spec (write-chain-calls t)
-    (write-chain-at t)
-    write-chain.Post
-    write-chain-Inv-loop
-    write-chain-μ-loop
-    (write-chain-loop-holds t)
-    (write-chain-word-requires t)
-    (write-chain-write-record-requires t)
-    (write-chain-loop-less t)
-    (write-chain-loop-again t)
-    (write-chain-same-length t)
-    (write-chain-returns t))
-    λ t. write-record-lts.spec (write-record-calls t)
-    (write-record-at t)
-    write-record.Post
-    write-record-Inv-loop
-    write-record-μ-loop
-    (write-record-word-requires t)
-    (write-record-add-end t)
-    (write-record-loop-holds t)
-    (write-record-word-requires-2 t)
-    (write-record-leads-requires t)
-    (write-record-link-requires t)
-    (write-record-put-word-requires t)
-    (write-record-write-chain-requires t)
-    (write-record-add-k t)
-    (write-record-loop-less t)
-    (write-record-loop-again t)
-    (write-record-put-word-requires-2 t)
-    (write-record-add-k-2 t)
-    (write-record-loop-less-2 t)
-    (write-record-loop-again-2 t)
-    (write-record-link-requires-2 t)
-    (write-record-put-word-requires-3 t)
-    (write-record-put-word-requires-4 t)
-    (write-record-same-length t)
++write-chain+write-record-spec =
+    close μ-write-chain μ-write-record
+    (λ t. write-chain-lts.spec (write-chain-calls t) (write-chain-at t) write-chain.Post write-chain-Inv-loop write-chain-μ-loop
+    (write-chain-loop-holds t) (λ c κs. search needs) (write-chain-write-record-requires t) (write-chain-loop-less t) (write-chain-loop-again t)
+    (write-chain-same-length t) (write-chain-returns t))
+    λ t. write-record-lts.spec (write-record-calls t) (write-record-at t) write-record.Post write-record-Inv-loop write-record-μ-loop
+    (λ c κs. search needs) (write-record-add-end t) (write-record-loop-holds t) (λ c κs. search needs) (write-record-leads-requires t)
+    (λ c κs. search needs) (write-record-put-word-requires t) (write-record-write-chain-requires t) (λ c. search needs) (λ c. search needs)
+    (write-record-loop-again t) (write-record-put-word-requires-2 t) (λ c. search needs) (λ c. search needs) (write-record-loop-again-2 t)
+    (λ c κs. search needs) (write-record-put-word-requires-3 t) (write-record-put-word-requires-4 t) (write-record-same-length t)
     (write-record-returns t)
