@@ -1,4 +1,3 @@
--- `position_ok` meets its contract.
 use native.Mathlib.Omega.{arith}
 use mathlib.Core.Path.{refl}
 use Rattle.declarations.specs.Declares.{functor-low}

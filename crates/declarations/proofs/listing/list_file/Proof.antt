@@ -1,4 +1,3 @@
--- `list_file` meets its contract.
 use native.Mathlib.Omega.{arith}
 use mathlib.Core.Path.{_∙_}
 use mathlib.Core.Logic.{inl, inr}

@@ -1,4 +1,4 @@
--- `list_functors` meets its contract: after t turns the functors of the first t types are listed.
+-- After t turns the functors of the first t types are listed.
 use native.Mathlib.Omega.{arith}
 use native.Mathlib.Numerals.{add-one}
 use mathlib.Core.Path.{refl}

@@ -1,4 +1,4 @@
--- `list_parameters` meets its contract: after a turn the links of the records from i on are right.
+-- After a turn the links of the records from i on are right.
 use native.Mathlib.Omega.{arith}
 use mathlib.Core.Path.{sym, _∙_}
 use Prim.Native.Nat.{_≤_}
@@ -15,14 +15,8 @@ Inv-loop file table₀ i₀ table i = Linked file table₀ table i × (i ≤ rec
 abbrev μ-loop : tie.MeasureT-loop
 μ-loop file table₀ i₀ table i = i
 
-record-count-requires : tie.Need-record-count-requires Inv-loop μ-loop
-record-count-requires c κs = search needs
-
 loop-holds : tie.Need-loop-holds Inv-loop μ-loop
 loop-holds c = (linked-none (c .before .before .pre .0) (c .record-count .ensures) (c .before .before .pre .1 .1), omega (arith, c .record-count .ensures))
-
-sub-i : tie.Need-sub-i Inv-loop μ-loop
-sub-i c = search needs
 
 word-requires : tie.Need-word-requires Inv-loop μ-loop
 word-requires c κs = (c .before .before .before .before .pre .0, (omega arith, omega (arith, c .before .loop .inv .1)))
@@ -53,5 +47,6 @@ returns c = linked-all (c .before .loop .inv .0) (c .loop-test .left)
 
 pub list-parameters-spec : {M : Type 1} → statement M
 list-parameters-spec =
-    tie.close (tie.spec Inv-loop μ-loop record-count-requires loop-holds sub-i word-requires link-requires mul-table element-write-table loop-less
+    tie.close
+    (tie.spec Inv-loop μ-loop (λ c κs. search needs) loop-holds (search needs) word-requires link-requires mul-table element-write-table loop-less
     loop-again loop-less-2 loop-again-2 returns)

@@ -1,4 +1,4 @@
--- `list_records` meets its contract: after n turns the first n records are listed, and the chain at record i is what is left.
+-- After n turns the first n records are listed, and the chain at record i is what is left.
 use native.Mathlib.Omega.{arith}
 use native.Mathlib.Numerals.{add-one}
 use Prim.Native.Nat.{_<_}

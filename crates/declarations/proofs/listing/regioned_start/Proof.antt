@@ -1,4 +1,4 @@
--- `regioned_start` meets its contract: the rest of the chain decides as the whole does.
+-- The rest of the chain decides as the whole does.
 use native.Mathlib.Omega.{arith}
 use mathlib.Core.Path.{_≡_, refl, _∙_}
 use Rattle.language.specs.File.{functors}

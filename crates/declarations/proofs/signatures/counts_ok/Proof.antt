@@ -1,4 +1,3 @@
--- `counts_ok` meets its contract.
 use native.Mathlib.Omega.{arith}
 use mathlib.Core.Path.{refl}
 use Rattle.chains.specs.Is.{procedure-is}

@@ -1,4 +1,3 @@
--- `type_ok` meets its contract.
 use mathlib.Core.Path.{_∙_, sym}
 use Rattle.chains.specs.Elements.{functors-count}
 use Rattle.declarations.specs.Types.{type-none, type-many, type-all}
