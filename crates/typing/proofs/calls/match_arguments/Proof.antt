@@ -1,4 +1,4 @@
--- `match_arguments` meets its contract: what is left of the two chains decides as the whole does.
+-- What is left of the two chains decides as the whole does.
 use native.Mathlib.Omega.{arith}
 use mathlib.Core.Path.{_≡_, refl, _∙_}
 use borrow.Author.Tests.{not-true, not-false}

@@ -1,4 +1,4 @@
--- `each_procedure_ok` meets its contract: the rest of the chain decides as the whole does.
+-- The rest of the chain decides as the whole does.
 use native.Mathlib.Omega.{arith}
 use mathlib.Core.Path.{_≡_, refl, _∙_}
 use borrow.Author.Tests.{not-true, not-false}

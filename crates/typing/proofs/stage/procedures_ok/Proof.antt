@@ -1,4 +1,3 @@
--- `procedures_ok` meets its contract.
 use native.Mathlib.Omega.{arith}
 use Rattle.chains.specs.Formed.{procedures-stand, counted}
 use Rattle.declarations.specs.Functors.{stands-same}
@@ -19,9 +18,6 @@ returns c = no-procedure _ (c .before .before .before .before .pre .0) (c .befor
 returns-2 : tie.Need-returns-2
 returns-2 c = many-procedures _ (c .before .before .before .before .before .pre .0) (c .before .before .before .word .ensures .0) (c .before .before .chain-length .ensures) (c .before .if1 .left) (c .if2 .taken)
 
-blank-file-requires : tie.Need-blank-file-requires
-blank-file-requires c κs = search needs
-
 list-file-requires : tie.Need-list-file-requires
 list-file-requires c κs = (c .before .before .before .before .before .before .before .pre .0, ((c .before .before .before .before .before .before .before .pre .1, omega (arith, c .before .before .if2 .left, procedure-count _ (c .before .before .before .before .before .before .before .pre .0) (c .before .before .before .before .before .word .ensures .0) (c .before .before .before .before .chain-length .ensures))), c .before .blank-file .ensures))
 
@@ -33,4 +29,5 @@ returns-3 c = procedures-all _ (c .before .before .before .before .before .befor
 
 pub procedures-ok-spec : {M : Type 1} → statement M
 procedures-ok-spec =
-    tie.close (tie.spec word-requires chain-length-requires returns returns-2 blank-file-requires list-file-requires each-procedure-ok-requires returns-3)
+    tie.close
+    (tie.spec word-requires chain-length-requires returns returns-2 (search needs) list-file-requires each-procedure-ok-requires returns-3)

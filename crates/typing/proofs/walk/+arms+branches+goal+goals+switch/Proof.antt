@@ -1,4 +1,4 @@
--- The walk over goals meets its contracts: a chain of goals, a goal, an if, a switch, its arms. The records still ahead fall.
+-- The walk over goals: a chain of goals, a goal, an if, a switch, its arms. The records still ahead fall.
 use Prim.Native.Nat.{ℕ, _<_, _≤_, _+_, _*_}
 use native.Mathlib.Numerals.{add-one}
 use native.Mathlib.Omega.{arith}
@@ -243,9 +243,6 @@ goals-returns-2 t c = goals-end _ _ (c .loop-test .left) ∙ c .before .loop .in
 switch-word-requires : (t : ℕ) → switch-lts.Need-word-requires (switch-calls t) (switch-at t) the-switch.Post
 switch-word-requires t c κs = (c .before .pre .1 .0 .0 .formed, (omega arith, c .before .pre .1 .1 .1))
 
-switch-variable-requires : (t : ℕ) → switch-lts.Need-variable-requires (switch-calls t) (switch-at t) the-switch.Post
-switch-variable-requires t c κs = search needs
-
 switch-returns : (t : ℕ) → switch-lts.Need-returns (switch-calls t) (switch-at t) the-switch.Post
 switch-returns t c = switch-none (c .before .before .before .before .pre .1 .0 .0) (c .before .before .before .before .pre .1 .0 .1) _ (c .before .before .before .before .pre .1 .1 .0) (c .before .before .word .ensures .0) (c .before .variable .ensures) (c .if1 .taken)
 
@@ -258,9 +255,6 @@ switch-returns-2 t c = switch-number (c .before .before .before .before .before 
 switch-word-requires-3 : (t : ℕ) → switch-lts.Need-word-requires-3 (switch-calls t) (switch-at t) the-switch.Post
 switch-word-requires-3 t c κs = (c .before .before .before .before .before .before .pre .1 .0 .0 .formed, (omega arith, c .before .before .before .before .before .before .pre .1 .1 .1))
 
-switch-functor-requires : (t : ℕ) → switch-lts.Need-functor-requires (switch-calls t) (switch-at t) the-switch.Post
-switch-functor-requires t c κs = search needs
-
 switch-arms-requires : (t : ℕ) → switch-lts.Need-arms-requires (switch-calls t) (switch-at t) the-switch.Post
 switch-arms-requires t c κs = let o = to-arms (c .before .before .before .before .before .before .before .before .pre .1 .0 .0 .formed) (c .before .before .before .before .before .before .before .before .pre .1 .1 .0) (c .before .word3 .ensures .0) in
     (omega (arith, o .falls, c .before .before .before .before .before .before .before .before .pre .0), (c .before .before .before .before .before .before .before .before .pre .1 .0, (o .stands, stands-same (c .functor .ensures) (functor-stands (c .before .before .before .before .before .before .before .before .pre .1 .0 .0) _ _))))
@@ -271,8 +265,15 @@ switch-returns-3 t c = switch-arms (c .before .before .before .before .before .b
 pub +arms+branches+goal+goals+switch-spec : {M : Type 1} → statement M
 +arms+branches+goal+goals+switch-spec =
     close μ-arms μ-branches μ-goal μ-goals μ-switch
-    (λ t. arms-lts.spec (arms-calls t) (arms-at t) the-arms.Post arms-Inv-loop arms-μ-loop (arms-loop-holds t) (arms-arm-fits-requires t) (arms-returns t) (arms-word-requires t) (arms-goals-requires t) (arms-returns-2 t) (arms-add-n t) (arms-word-requires-2 t) (arms-word-requires-3 t) (arms-loop-less t) (arms-loop-again t) (arms-returns-3 t))
-    (λ t. branches-lts.spec (branches-calls t) (branches-at t) the-branches.Post (branches-is-number-requires t) (branches-returns t) (branches-is-number-requires-2 t) (branches-returns-2 t) (branches-word-requires t) (branches-goals-requires t) (branches-returns-3 t) (branches-word-requires-2 t) (branches-returns-4 t) (branches-goals-requires-2 t) (branches-returns-5 t))
-    (λ t. goal-lts.spec (goal-calls t) (goal-at t) the-goal.Post (goal-word-requires t) (goal-switch-requires t) (goal-branches-requires t) (goal-step-ok-requires t) (goal-returns t) (goal-returns-2 t) (goal-returns-3 t))
-    (λ t. goals-lts.spec (goals-calls t) (goals-at t) the-goals.Post goals-Inv-loop goals-μ-loop (goals-loop-holds t) (goals-goal-requires t) (goals-returns t) (goals-word-requires t) (goals-loop-less t) (goals-loop-again t) (goals-returns-2 t))
-    λ t. switch-lts.spec (switch-calls t) (switch-at t) the-switch.Post (switch-word-requires t) (switch-variable-requires t) (switch-returns t) (switch-word-requires-2 t) (switch-returns-2 t) (switch-word-requires-3 t) (switch-functor-requires t) (switch-arms-requires t) (switch-returns-3 t)
+    (λ t. arms-lts.spec (arms-calls t) (arms-at t) the-arms.Post arms-Inv-loop arms-μ-loop (arms-loop-holds t) (arms-arm-fits-requires t)
+    (arms-returns t) (arms-word-requires t) (arms-goals-requires t) (arms-returns-2 t) (arms-add-n t) (arms-word-requires-2 t)
+    (arms-word-requires-3 t) (arms-loop-less t) (arms-loop-again t) (arms-returns-3 t))
+    (λ t. branches-lts.spec (branches-calls t) (branches-at t) the-branches.Post (branches-is-number-requires t) (branches-returns t)
+    (branches-is-number-requires-2 t) (branches-returns-2 t) (branches-word-requires t) (branches-goals-requires t) (branches-returns-3 t)
+    (branches-word-requires-2 t) (branches-returns-4 t) (branches-goals-requires-2 t) (branches-returns-5 t))
+    (λ t. goal-lts.spec (goal-calls t) (goal-at t) the-goal.Post (goal-word-requires t) (goal-switch-requires t) (goal-branches-requires t)
+    (goal-step-ok-requires t) (goal-returns t) (goal-returns-2 t) (goal-returns-3 t))
+    (λ t. goals-lts.spec (goals-calls t) (goals-at t) the-goals.Post goals-Inv-loop goals-μ-loop (goals-loop-holds t) (goals-goal-requires t)
+    (goals-returns t) (goals-word-requires t) (goals-loop-less t) (goals-loop-again t) (goals-returns-2 t))
+    λ t. switch-lts.spec (switch-calls t) (switch-at t) the-switch.Post (switch-word-requires t) (λ c κs. search needs) (switch-returns t)
+    (switch-word-requires-2 t) (switch-returns-2 t) (switch-word-requires-3 t) (λ c κs. search needs) (switch-arms-requires t) (switch-returns-3 t)
