@@ -1,4 +1,4 @@
--- `reach_all` meets its contract: a walk over the members.
+-- A walk over the members.
 use Prim.Native.Nat.{_-_}
 use borrow.Author.Needs.{needs}
 use Rattle.language.specs.Format.{places}

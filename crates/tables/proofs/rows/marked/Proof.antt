@@ -1,4 +1,3 @@
--- `marked` meets its contract.
 use mathlib.Core.Path.{refl}
 use Rattle.tables.specs.Rows.{mark-some, mark-past}
 use borrow.Author.Needs.{needs}

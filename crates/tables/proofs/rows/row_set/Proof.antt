@@ -1,4 +1,3 @@
--- `row_set` meets its contract.
 use Rattle.tables.specs.Rows.{row-some, row-past}
 use borrow.Author.Needs.{needs}
 use Rattle.tables.proofs.rows.row_set.Statement.{statement}

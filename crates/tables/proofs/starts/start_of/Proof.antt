@@ -1,4 +1,3 @@
--- `start_of` meets its contract.
 use mathlib.Core.Path.{sym}
 use native.Mathlib.Omega.{arith}
 use Rattle.tables.specs.Starts.{start-is, start-past, start-none}

@@ -1,4 +1,3 @@
--- `edges` meets its contract.
 use native.Mathlib.Omega.{arith}
 use Rattle.tables.specs.Window.{number-few, edges-past, edges-some, edges-none}
 use borrow.Author.Needs.{needs}

@@ -1,4 +1,3 @@
--- `is_number` meets its contract.
 use mathlib.Core.Path.{refl}
 use Rattle.tables.specs.Window.{number-none, number-past, number-some}
 use Rattle.tables.proofs.window.is_number.Statement.{statement}
