@@ -1,4 +1,3 @@
--- `call_access` meets its contract.
 use mathlib.Core.Path.{refl}
 use native.Mathlib.Omega.{arith}
 use Rattle.chains.specs.Shapes.{call-here, to-arguments}

@@ -1,4 +1,4 @@
--- `called_access` meets its contract: the callee's window has the sets of its in and out variables.
+-- The callee's window has the sets of its in and out variables.
 use native.Mathlib.Omega.{arith}
 use Rattle.values.specs.Fitting.{call-none, window-fits, callee-declares, callee-accesses}
 use borrow.Author.Needs.{needs}

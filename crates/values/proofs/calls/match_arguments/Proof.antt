@@ -1,4 +1,4 @@
--- `match_arguments` meets its contract: what is gathered so far and what the parameters left would take make the whole.
+-- What is gathered so far and what the parameters left would take make the whole.
 use Prim.Native.Nat.{_-_}
 use native.Mathlib.Omega.{arith}
 use borrow.Author.Needs.{needs}

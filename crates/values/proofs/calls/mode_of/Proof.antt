@@ -1,4 +1,3 @@
--- `mode_of` meets its contract.
 use borrow.Author.Needs.{needs}
 use Rattle.values.specs.Parameters.{told-in, told-out}
 use Rattle.values.proofs.calls.mode_of.Statement.{statement}

@@ -1,4 +1,3 @@
--- `pass` meets its contract.
 use Rattle.values.specs.Gathering.{pass-in, pass-out, pass-none}
 use borrow.Author.Needs.{needs}
 use Rattle.values.proofs.calls.pass.Statement.{statement}

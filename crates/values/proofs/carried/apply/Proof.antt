@@ -1,4 +1,3 @@
--- `apply` meets its contract.
 use mathlib.Core.Path.{sym, ap₂, _∙_}
 use borrow.Author.Tests.{not-true, not-false}
 use Rattle.sets.specs.Sets.{_∪_, _∩_, subset}

@@ -1,4 +1,3 @@
--- `carry` meets its contract.
 use Rattle.values.specs.Carrying.{carried-both}
 use borrow.Author.Needs.{needs}
 use Rattle.values.proofs.carried.carry.Statement.{statement}

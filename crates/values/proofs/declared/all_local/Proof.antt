@@ -1,4 +1,3 @@
--- `all_local` meets its contract.
 use Rattle.values.specs.Modes.{Local, local-first, local-next, local-stop, local-last}
 use Rattle.chains.specs.Is.{chain-next}
 use Rattle.chains.specs.Shapes.{variable-here}

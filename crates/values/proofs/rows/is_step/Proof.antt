@@ -1,4 +1,3 @@
--- `is_step` meets its contract.
 use mathlib.Core.Path.{refl}
 use Rattle.sets.specs.Tests.{_or_}
 use Rattle.sets.specs.Members.{inList}

@@ -1,4 +1,3 @@
--- `list_access` meets its contract, kind by kind.
 use native.Mathlib.Omega.{arith}
 use mathlib.Core.Path.{refl, sym, ap, _∙_}
 use mathlib.Core.Logic.{inl, inr}

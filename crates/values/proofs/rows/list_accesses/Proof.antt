@@ -1,4 +1,4 @@
--- `list_accesses` meets its contract: the rows of the records passed are filled.
+-- The rows of the records passed are filled.
 use Prim.Native.Nat.{_<_, _-_}
 use native.Mathlib.Omega.{arith}
 use borrow.Author.Needs.{needs}

@@ -1,4 +1,3 @@
--- `procedure_ok` meets its contract.
 use native.Mathlib.Omega.{arith}
 use borrow.Author.Tests.{not-true, not-false}
 use Rattle.values.specs.Fitting.{window-fits}

@@ -1,4 +1,4 @@
--- `procedures_ok` meets its contract: the procedures passed in turn.
+-- The procedures passed in turn.
 use Prim.Native.Nat.{_-_}
 use borrow.Author.Needs.{needs}
 use borrow.Author.Tests.{not-true, not-false}

@@ -1,4 +1,3 @@
--- `values_ok` meets its contract.
 use borrow.Author.Tests.{not-true, not-false}
 use Rattle.values.specs.Callees.{entry-declares}
 use Rattle.values.specs.Turns.{entry-stop, entry-goes}

@@ -1,4 +1,3 @@
--- `arm_access` meets its contract.
 use Rattle.language.specs.Program.{fourWords}
 use Rattle.values.specs.Gathering.{fourGiven, giveAll}
 use borrow.Author.Needs.{needs}

@@ -1,4 +1,3 @@
--- `assign_access` meets its contract.
 use borrow.Author.Needs.{needs}
 use Rattle.values.proofs.steps.assign_access.Statement.{statement}
 use Rattle.values.proofs.steps.assign_access.Tie as tie

@@ -1,4 +1,3 @@
--- `construct_access` meets its contract.
 use mathlib.Core.Path.{ap₂, _∙_}
 use Rattle.values.specs.Gathering.{givenIn}
 use Rattle.values.specs.Fitting.{four-gathered}

@@ -1,4 +1,3 @@
--- `give` meets its contract.
 use Rattle.values.specs.Gathering.{given-is}
 use borrow.Author.Needs.{needs}
 use Rattle.values.proofs.steps.give.Statement.{statement}

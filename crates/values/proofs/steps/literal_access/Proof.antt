@@ -1,4 +1,3 @@
--- `literal_access` meets its contract.
 use borrow.Author.Needs.{needs}
 use Rattle.values.proofs.steps.literal_access.Statement.{statement}
 use Rattle.values.proofs.steps.literal_access.Tie as tie

@@ -1,4 +1,3 @@
--- `no_access` meets its contract.
 use Rattle.values.specs.Gathering.{noAccess}
 use mathlib.Core.Path.{refl}
 use Rattle.values.proofs.steps.no_access.Statement.{statement}

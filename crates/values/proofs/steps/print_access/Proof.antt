@@ -1,4 +1,3 @@
--- `print_access` meets its contract.
 use borrow.Author.Needs.{needs}
 use Rattle.values.proofs.steps.print_access.Statement.{statement}
 use Rattle.values.proofs.steps.print_access.Tie as tie

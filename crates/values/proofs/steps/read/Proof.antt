@@ -1,4 +1,3 @@
--- `read` meets its contract.
 use Rattle.values.specs.Gathering.{readIn}
 use borrow.Author.Needs.{needs}
 use Rattle.values.proofs.steps.read.Statement.{statement}

@@ -1,4 +1,3 @@
--- `sum_access` meets its contract.
 use borrow.Author.Needs.{needs}
 use Rattle.values.proofs.steps.sum_access.Statement.{statement}
 use Rattle.values.proofs.steps.sum_access.Tie as tie

@@ -1,4 +1,4 @@
--- The walk over goals meets its contract: one law of Along for each way through it. The records ahead fall.
+-- The walk over goals: one law of Along for each way through it. The records ahead fall.
 use Prim.Native.Nat.{ℕ, _<_, _+_, _*_}
 use native.Mathlib.Omega.{arith}
 use mathlib.Core.Path.{refl, sym, ap₂, _∙_}
