@@ -1,3 +1,8 @@
+mod ListsLaws
+mod WordsLaws
+mod TableLaws
+mod FormLaws
+mod SpareLaws
 mod Decoding
 mod Steps
 mod Loops

@@ -13,7 +13,7 @@ use Rattle.language.specs.declared.Verdict.the-variants.{Refused, Accepted}
 use Rattle.language.specs.Format.{headerCount, maxRecords, kindWord, maxBytes, recordBytes}
 use Rattle.language.specs.File.{word, recordCount, headerOk, formOk}
 use Rattle.language.specs.Answers.{lowest}
-use Rattle.records.specs.Words.{header-in}
+use Rattle.records.proofs.WordsLaws.{header-in}
 use Rattle.records.specs.Verdicts.{formStages, formVerdict}
 
 module _ (f : List ℕ) where
