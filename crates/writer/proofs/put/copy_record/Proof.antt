@@ -1,6 +1,6 @@
 -- What was read is what is put.
 use borrow.Author.Needs.{needs}
-use Rattle.writer.specs.Laid.{laid-next}
+use Rattle.writer.proofs.LaidLaws.{laid-next}
 use Rattle.writer.proofs.put.copy_record.Statement.{statement}
 use Rattle.writer.proofs.put.copy_record.Tie as tie
 

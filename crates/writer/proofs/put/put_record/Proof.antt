@@ -2,7 +2,7 @@
 use native.Mathlib.Omega.{arith}
 use mathlib.Core.Path.{refl, _∙_}
 use borrow.Author.Needs.{needs}
-use Rattle.writer.specs.Laid.{row-none, row-more, laid-row}
+use Rattle.writer.proofs.LaidLaws.{row-none, row-more, laid-row}
 use Rattle.writer.proofs.put.put_record.Statement.{statement}
 use Rattle.writer.proofs.put.put_record.Tie as tie
 

@@ -2,7 +2,7 @@
 use native.Mathlib.Omega.{arith}
 use lib.ListN.{length-set}
 use borrow.Author.Needs.{needs}
-use Rattle.writer.specs.Laid.{put-made}
+use Rattle.writer.proofs.LaidLaws.{put-made}
 use Rattle.writer.proofs.put.put_word.Statement.{statement}
 use Rattle.writer.proofs.put.put_word.Tie as tie
 

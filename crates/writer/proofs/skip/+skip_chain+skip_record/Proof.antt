@@ -4,8 +4,8 @@ use native.Mathlib.Omega.{arith}
 use Rattle.language.specs.File.{recordCount}
 use Rattle.records.specs.Sizes.{recordWords}
 use Rattle.chains.specs.Formed.{ahead}
-use Rattle.writer.specs.Leads.{told}
-use Rattle.writer.specs.Skips.{Skipping, skipping-first, skipping-last, skipping-less, skipping-falls, skipping-next, Passing, passing-first, passing-plain, passing-below, passing-falls, passing-leads, passing-done}
+use Rattle.writer.proofs.LeadsLaws.{told}
+use Rattle.writer.proofs.SkipsLaws.{Skipping, skipping-first, skipping-last, skipping-less, skipping-falls, skipping-next, Passing, passing-first, passing-plain, passing-below, passing-falls, passing-leads, passing-done}
 use Prim.Native.Nat.{_+_, _-_, _*_, ℕ, _<_}
 use borrow.Fn.Kinds.{In}
 use borrow.Fn.PlainCycle.{Measures, is, falls, and}

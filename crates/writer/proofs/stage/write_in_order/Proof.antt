@@ -1,6 +1,6 @@
 -- The header with the types, then the procedures, are the whole (`whole-written`).
 use borrow.Author.Needs.{needs}
-use Rattle.writer.specs.Whole.{header-ready, procedures-ready, whole-written}
+use Rattle.writer.proofs.WholeLaws.{header-ready, procedures-ready, whole-written}
 use Rattle.writer.proofs.stage.write_in_order.Statement.{statement}
 use Rattle.writer.proofs.stage.write_in_order.Tie as tie
 

@@ -5,10 +5,10 @@ use native.Mathlib.Omega.{arith}
 use Rattle.language.specs.File.{recordCount}
 use Rattle.records.specs.Sizes.{recordWords}
 use Rattle.chains.specs.Formed.{ahead}
-use Rattle.writer.specs.Laid.{linked-small}
-use Rattle.writer.specs.Leads.{told}
-use Rattle.writer.specs.Ready.{Writing, writing-first, writing-record, writing-less, writing-falls, writing-next, writing-last}
-use Rattle.writer.specs.Spelling.{Spelling, spelling-first, spelling-room, spelling-falls, spelling-chain, spelling-leads, spelling-plain, done-room, spelling-done}
+use Rattle.writer.proofs.LaidLaws.{linked-small}
+use Rattle.writer.proofs.LeadsLaws.{told}
+use Rattle.writer.proofs.ReadyLaws.{Writing, writing-first, writing-record, writing-less, writing-falls, writing-next, writing-last}
+use Rattle.writer.proofs.Spelling.{Spelling, spelling-first, spelling-room, spelling-falls, spelling-chain, spelling-leads, spelling-plain, done-room, spelling-done}
 use Prim.Native.Nat.{_+_, _-_, _*_, ℕ, _<_}
 use borrow.Fn.Kinds.{In}
 use borrow.Fn.PlainCycle.{Measures, is, falls, and}

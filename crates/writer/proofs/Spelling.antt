@@ -16,8 +16,10 @@ use Rattle.records.specs.Sizes.{wordEnd, recordWords}
 use Rattle.chains.specs.Layout.{row-length, Used, record-used, known-number, header-kind, lay-length}
 use Rattle.chains.specs.Shapes.{kind-number}
 use Rattle.chains.specs.Formed.{Formed, counted, ahead, ahead-none, ahead-some}
-use Rattle.writer.specs.Laid.{PutWord, linked, Begun, begun-none, begun-put, begun-part, begun-done}
-use Rattle.writer.specs.Ready.{Wrote, treeAt, usesAt, wordsAt, frontTo, ChainReady, RecordReady, reference-is}
+use Rattle.writer.specs.Laid.{PutWord, linked, Begun, begun-put, begun-part, begun-done}
+use Rattle.writer.proofs.LaidLaws.{begun-none}
+use Rattle.writer.specs.Ready.{Wrote, treeAt, usesAt, wordsAt, frontTo, ChainReady, RecordReady}
+use Rattle.writer.proofs.ReadyLaws.{reference-is}
 use Rattle.writer.specs.Leads.{isFirst, leadsAt}
 
 pub record Spelling (f : List ℕ) (i at : ℕ) (a b : List ℕ) (k c : ℕ) : Type 0 where
