@@ -12,7 +12,7 @@ use Rattle.language.specs.Answers.{program}
 use Rattle.language.specs.Typing.{functorOk, placesFrom, edgesOk}
 use Rattle.chains.specs.Formed.{Stands, functorsAt, edgesAt, ahead, ahead-below}
 use Rattle.chains.specs.Is.{chain-next}
-use Rattle.declarations.specs.EdgeLaws.{fit-here, fit-next, edges-wrong, edges-next, edges-end}
+use Rattle.declarations.proofs.EdgeLaws.{fit-here, fit-next, edges-wrong, edges-next, edges-end}
 use borrow.Author.Needs.{needs}
 use Rattle.declarations.proofs.edges.edges_ok.Statement.{statement}
 use Rattle.declarations.proofs.edges.edges_ok.Tie as tie

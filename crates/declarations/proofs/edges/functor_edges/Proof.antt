@@ -1,7 +1,7 @@
 -- The four positions one after the other.
 use Rattle.chains.specs.Is.{functor-else}
 use Rattle.chains.specs.Declared.{functor-at}
-use Rattle.declarations.specs.EdgeLaws.{functor-none, types-below, functor-first, functor-second, functor-third, functor-all}
+use Rattle.declarations.proofs.EdgeLaws.{functor-none, types-below, functor-first, functor-second, functor-third, functor-all}
 use borrow.Author.Needs.{needs}
 use Rattle.declarations.proofs.edges.functor_edges.Statement.{statement}
 use Rattle.declarations.proofs.edges.functor_edges.Tie as tie

@@ -1,7 +1,7 @@
 use borrow.Author.Tests.{not-true, not-false}
 use Rattle.chains.specs.Is.{edge-else}
 use Rattle.chains.specs.Declared.{edge-at}
-use Rattle.declarations.specs.EdgeLaws.{place-none, place-functor, place-position, place-target, place-all}
+use Rattle.declarations.proofs.EdgeLaws.{place-none, place-functor, place-position, place-target, place-all}
 use borrow.Author.Needs.{needs}
 use Rattle.declarations.proofs.edges.place_ok.Statement.{statement}
 use Rattle.declarations.proofs.edges.place_ok.Tie as tie

@@ -1,7 +1,7 @@
 use native.Mathlib.Omega.{arith}
 use mathlib.Core.Path.{refl}
-use Rattle.declarations.specs.Declares.{functor-low}
-use Rattle.declarations.specs.EdgeLaws.{position-bare, position-regioned}
+use Rattle.declarations.proofs.DeclaresLaws.{functor-low}
+use Rattle.declarations.proofs.EdgeLaws.{position-bare, position-regioned}
 use Rattle.declarations.proofs.edges.position_ok.Statement.{statement}
 use Rattle.declarations.proofs.edges.position_ok.Tie as tie
 

@@ -4,8 +4,8 @@ use Rattle.chains.specs.Is.{procedure-is}
 use Rattle.chains.specs.Declared.{procedure-at}
 use Rattle.declarations.specs.Places.{ownPlaces}
 use Rattle.declarations.specs.Functors.{stands-same}
-use Rattle.declarations.specs.Listing.{blank-length}
-use Rattle.declarations.specs.Filling.{variables-few, regions-few, own-listed}
+use Rattle.declarations.proofs.ListingLaws.{blank-length}
+use Rattle.declarations.proofs.FillingLaws.{variables-few, regions-few, own-listed}
 use borrow.Author.Needs.{needs}
 use Rattle.declarations.proofs.listing.list_own.Statement.{statement}
 use Rattle.declarations.proofs.listing.list_own.Tie as tie

@@ -4,7 +4,8 @@ use mathlib.Core.Path.{sym, _∙_}
 use Prim.Native.Nat.{_≤_}
 use Rattle.language.specs.File.{recordCount}
 use Rattle.chains.specs.Formed.{counted}
-use Rattle.declarations.specs.Parameters.{Linked, linked-none, linked-other, linked-variable, linked-all}
+use Rattle.declarations.specs.Parameters.{Linked, linked-variable}
+use Rattle.declarations.proofs.ParametersLaws.{linked-none, linked-other, linked-all}
 use borrow.Author.Needs.{needs}
 use Rattle.declarations.proofs.listing.list_parameters.Statement.{statement}
 use Rattle.declarations.proofs.listing.list_parameters.Tie as tie

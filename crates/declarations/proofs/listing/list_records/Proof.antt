@@ -5,7 +5,7 @@ use Prim.Native.Nat.{_<_}
 use Rattle.language.specs.File.{recordCount}
 use Rattle.chains.specs.Formed.{ahead, counted}
 use Rattle.chains.specs.Records.{next-onward}
-use Rattle.declarations.specs.Listing.{ListsSo, ChainLeft, left-all, left-here, left-next, left-end, left-room, lists-none, lists-next, lists-all}
+use Rattle.declarations.proofs.ListingLaws.{ListsSo, ChainLeft, left-all, left-here, left-next, left-end, left-room, lists-none, lists-next, lists-all}
 use borrow.Author.Needs.{needs}
 use Rattle.declarations.proofs.listing.list_records.Statement.{statement}
 use Rattle.declarations.proofs.listing.list_records.Tie as tie

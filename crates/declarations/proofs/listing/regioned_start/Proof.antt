@@ -4,7 +4,8 @@ use mathlib.Core.Path.{_≡_, refl, _∙_}
 use Rattle.language.specs.File.{functors}
 use Rattle.chains.specs.Formed.{Stands, ahead, counted}
 use Rattle.chains.specs.Is.{chain-next}
-use Rattle.declarations.specs.Regioned.{constantsAt, constants-end, constants-stop, constants-next}
+use Rattle.declarations.specs.Regioned.{constantsAt}
+use Rattle.declarations.proofs.RegionedLaws.{constants-end, constants-stop, constants-next}
 use Rattle.declarations.proofs.listing.regioned_start.Statement.{statement}
 use Rattle.declarations.proofs.listing.regioned_start.Tie as tie
 

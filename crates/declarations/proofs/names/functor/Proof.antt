@@ -1,4 +1,4 @@
-use Rattle.declarations.specs.Places.{functor-past, functor-there}
+use Rattle.declarations.proofs.PlacesLaws.{functor-past, functor-there}
 use borrow.Author.Needs.{needs}
 use Rattle.declarations.proofs.names.functor.Statement.{statement}
 use Rattle.declarations.proofs.names.functor.Tie as tie

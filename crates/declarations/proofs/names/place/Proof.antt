@@ -1,4 +1,4 @@
-use Rattle.declarations.specs.Places.{place-past, place-there}
+use Rattle.declarations.proofs.PlacesLaws.{place-past, place-there}
 use mathlib.Core.Path.{_∙_}
 use borrow.Author.Needs.{needs}
 use Rattle.declarations.proofs.names.place.Statement.{statement}

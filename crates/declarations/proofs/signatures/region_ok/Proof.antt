@@ -3,8 +3,8 @@ use mathlib.Core.Path.{refl}
 use Rattle.chains.specs.Is.{region-is}
 use Rattle.chains.specs.Declared.{region-at}
 use Rattle.declarations.specs.Functors.{stands-same}
-use Rattle.declarations.specs.Declares.{functor-low, regioned-stands, regioned-fit}
-use Rattle.declarations.specs.Signatures.{region-type, region-class, region-edges}
+use Rattle.declarations.proofs.DeclaresLaws.{functor-low, regioned-stands, regioned-fit}
+use Rattle.declarations.proofs.SignaturesLaws.{region-type, region-class, region-edges}
 use Rattle.declarations.proofs.signatures.region_ok.Statement.{statement}
 use Rattle.declarations.proofs.signatures.region_ok.Tie as tie
 

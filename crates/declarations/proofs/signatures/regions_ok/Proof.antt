@@ -10,7 +10,7 @@ use Rattle.chains.specs.Formed.{Stands, regionsAt, regions-none, ahead}
 use Rattle.chains.specs.Is.{chain-next}
 use Rattle.laws.specs.Lists.{all-end, all-no, all-yes}
 use Rattle.declarations.specs.Own.{declared}
-use Rattle.declarations.specs.Signatures.{regions-step}
+use Rattle.declarations.proofs.SignaturesLaws.{regions-step}
 use Rattle.declarations.proofs.signatures.regions_ok.Statement.{statement}
 use Rattle.declarations.proofs.signatures.regions_ok.Tie as tie
 

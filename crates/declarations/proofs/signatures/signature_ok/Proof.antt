@@ -1,6 +1,6 @@
 use borrow.Author.Tests.{not-true, not-false}
 use Rattle.declarations.specs.Functors.{stands-same}
-use Rattle.declarations.specs.Signatures.{variables-tested, regions-tested, wrong-variable, each-all}
+use Rattle.declarations.proofs.SignaturesLaws.{variables-tested, regions-tested, wrong-variable, each-all}
 use borrow.Author.Needs.{needs}
 use Rattle.declarations.proofs.signatures.signature_ok.Statement.{statement}
 use Rattle.declarations.proofs.signatures.signature_ok.Tie as tie

@@ -1,6 +1,6 @@
 use native.Mathlib.Omega.{arith}
-use Rattle.declarations.specs.Declares.{functor-low}
-use Rattle.declarations.specs.Signatures.{variable-mode, variable-number, variable-regioned, variable-type, variable-bare}
+use Rattle.declarations.proofs.DeclaresLaws.{functor-low}
+use Rattle.declarations.proofs.SignaturesLaws.{variable-mode, variable-number, variable-regioned, variable-type, variable-bare}
 use borrow.Author.Needs.{needs}
 use Rattle.declarations.proofs.signatures.variable_ok.Statement.{statement}
 use Rattle.declarations.proofs.signatures.variable_ok.Tie as tie

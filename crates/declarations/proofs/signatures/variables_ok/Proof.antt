@@ -10,7 +10,7 @@ use Rattle.chains.specs.Formed.{Stands, variablesAt, variables-none, ahead}
 use Rattle.chains.specs.Is.{chain-next}
 use Rattle.laws.specs.Lists.{all-end, all-no, all-yes}
 use Rattle.declarations.specs.Own.{declared}
-use Rattle.declarations.specs.Signatures.{variables-step}
+use Rattle.declarations.proofs.SignaturesLaws.{variables-step}
 use Rattle.declarations.proofs.signatures.variables_ok.Statement.{statement}
 use Rattle.declarations.proofs.signatures.variables_ok.Tie as tie
 

@@ -1,6 +1,6 @@
 use borrow.Author.Tests.{not-true, not-false}
 use borrow.Author.Needs.{needs}
-use Rattle.declarations.specs.Types.{functor-many, functor-first, functor-second, functor-third, functor-all}
+use Rattle.declarations.proofs.TypeLaws.{functor-many, functor-first, functor-second, functor-third, functor-all}
 use Rattle.declarations.proofs.types.functor_ok.Statement.{statement}
 use Rattle.declarations.proofs.types.functor_ok.Tie as tie
 

@@ -1,4 +1,4 @@
-use Rattle.declarations.specs.Types.{slot-in, slot-past}
+use Rattle.declarations.proofs.TypeLaws.{slot-in, slot-past}
 use Rattle.declarations.proofs.types.slot_ok.Statement.{statement}
 use Rattle.declarations.proofs.types.slot_ok.Tie as tie
 

@@ -1,6 +1,6 @@
 use mathlib.Core.Path.{_∙_, sym}
 use Rattle.chains.specs.Elements.{functors-count}
-use Rattle.declarations.specs.Types.{type-none, type-many, type-all}
+use Rattle.declarations.proofs.TypeLaws.{type-none, type-many, type-all}
 use Rattle.declarations.proofs.types.type_ok.Statement.{statement}
 use Rattle.declarations.proofs.types.type_ok.Tie as tie
 

@@ -1,6 +1,6 @@
 use Rattle.chains.specs.Formed.{types-stand}
 use Rattle.declarations.specs.Functors.{stands-same}
-use Rattle.declarations.specs.TypeLaws.{type-count, many-types, types-all}
+use Rattle.declarations.proofs.TypeLaws.{type-count, many-types, types-all}
 use borrow.Author.Needs.{needs}
 use Rattle.declarations.proofs.types.types_ok.Statement.{statement}
 use Rattle.declarations.proofs.types.types_ok.Tie as tie

@@ -1,9 +1,11 @@
 -- What the code that matches edges computes: one place, a functor's places, all places.
 use Prim.Native.Nat.{ℕ, zero, suc, _+_, _<_}
+use mathlib.Core.Path.{_≡_, ap, refl, sym, _∙_}
+use mathlib.Core.Bool.{Bool, true, false, false≢true}
+use Rattle.declarations.specs.declared.Rest.{Rest}
+use Rattle.declarations.specs.declared.Rest.the-variants.{At, Wrong}
 use native.Mathlib.Omega.{arith}
 use native.Mathlib.Decide.{decLt}
-use mathlib.Core.Path.{_≡_, refl, ap, sym, _∙_}
-use mathlib.Core.Bool.{Bool, true, false}
 use mathlib.Core.List.{List, [], _∷_, _++_, append-assoc}
 use lib.Dec.{eqb}
 use lib.ListN.{length, getD, take, drop}
@@ -21,12 +23,23 @@ use Rattle.chains.specs.Declared.{EdgeAt, edge-at, FunctorAt}
 use Rattle.laws.specs.Tests.{and-stop, and-on, refuse, pass}
 use Rattle.laws.specs.Lists.{all-weaker}
 use Rattle.declarations.specs.Functors.{functorAtRecord, functors-step}
-use Rattle.declarations.specs.TypeLaws.{few-types}
+use Rattle.declarations.proofs.TypeLaws.{few-types}
 use Rattle.declarations.specs.Places.{functorIn}
-use Rattle.declarations.specs.Declares.{Declares, regioned-none, regioned-some}
-use Rattle.declarations.specs.Edges.{goesOn, EdgesMatch, placeAt, at-same, wrong-at}
-use Rattle.declarations.specs.declared.Rest.{Rest}
-use Rattle.declarations.specs.declared.Rest.the-variants.{At, Wrong}
+use Rattle.declarations.specs.Declares.{Declares}
+use Rattle.declarations.proofs.DeclaresLaws.{regioned-none, regioned-some}
+use Rattle.declarations.specs.Edges.{goesOn, EdgesMatch, placeAt}
+
+-- ---- two rests
+pub at-same : {a b : ℕ} → At a ≡ At b → a ≡ b
+at-same e = cc
+
+isAt : Rest → Bool
+isAt (At a) = true
+isAt Wrong = false
+
+pub wrong-at : {b : ℕ} → Wrong ≡ At b → ⊥
+unfolding isAt
+wrong-at e = false≢true (ap isAt e)
 
 -- ---- one place
 module _ (f : List ℕ) (S : Signature) (g k ty e : ℕ) where

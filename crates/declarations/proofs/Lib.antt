@@ -1,0 +1,10 @@
+mod PlacesLaws
+mod ListingLaws
+mod ParametersLaws
+mod RegionedLaws
+mod TypeLaws
+mod DeclaresLaws
+mod OwnLaws
+mod FillingLaws
+mod EdgeLaws
+mod SignaturesLaws
