@@ -5,7 +5,7 @@ use Rattle.chains.specs.Declared.{procedure-at}
 use Rattle.chains.specs.Shapes.{to-arguments}
 use Rattle.declarations.specs.Functors.{stands-same}
 use Rattle.declarations.specs.Declares.{procedure-stands}
-use Rattle.typing.specs.Calls.{call-none, call-some}
+use Rattle.typing.proofs.CallsLaws.{call-none, call-some}
 use borrow.Author.Needs.{needs}
 use Rattle.typing.proofs.calls.call_ok.Statement.{statement}
 use Rattle.typing.proofs.calls.call_ok.Tie as tie

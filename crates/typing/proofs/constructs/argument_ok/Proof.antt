@@ -1,5 +1,5 @@
 use native.Mathlib.Omega.{arith}
-use Rattle.typing.specs.Arguments.{argument-in, argument-past}
+use Rattle.typing.proofs.ArgumentsLaws.{argument-in, argument-past}
 use borrow.Author.Needs.{needs}
 use Rattle.typing.proofs.constructs.argument_ok.Statement.{statement}
 use Rattle.typing.proofs.constructs.argument_ok.Tie as tie

@@ -1,4 +1,4 @@
-use Rattle.typing.specs.Arguments.{arm-none, arm-order, arm-all}
+use Rattle.typing.proofs.ArgumentsLaws.{arm-none, arm-order, arm-all}
 use borrow.Author.Needs.{needs}
 use Rattle.typing.proofs.constructs.arm_fits.Statement.{statement}
 use Rattle.typing.proofs.constructs.arm_fits.Tie as tie

@@ -2,7 +2,7 @@ use native.Mathlib.Omega.{arith}
 use Rattle.declarations.specs.Functors.{stands-same}
 use Rattle.declarations.specs.Declares.{functor-stands}
 use Rattle.declarations.specs.Own.{variable-stands}
-use Rattle.typing.specs.Steps.{construct-unlisted, construct-none, construct-all}
+use Rattle.typing.proofs.StepsLaws.{construct-unlisted, construct-none, construct-all}
 use borrow.Author.Needs.{needs}
 use Rattle.typing.proofs.constructs.construct_ok.Statement.{statement}
 use Rattle.typing.proofs.constructs.construct_ok.Tie as tie

@@ -9,7 +9,7 @@ use Rattle.language.specs.Typing.{procedureOk}
 use Rattle.chains.specs.Formed.{Stands, proceduresAt, procedures-none, ahead}
 use Rattle.chains.specs.Is.{chain-next}
 use Rattle.laws.specs.Lists.{all-end}
-use Rattle.typing.specs.Procedures.{procedures-no, procedures-yes}
+use Rattle.typing.proofs.ProceduresLaws.{procedures-no, procedures-yes}
 use Rattle.typing.proofs.stage.each_procedure_ok.Statement.{statement}
 use Rattle.typing.proofs.stage.each_procedure_ok.Tie as tie
 

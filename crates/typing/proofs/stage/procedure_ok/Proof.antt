@@ -4,7 +4,7 @@ use borrow.Author.Tests.{not-true, not-false}
 use Rattle.chains.specs.Is.{procedure-is}
 use Rattle.chains.specs.Declared.{procedure-at}
 use Rattle.declarations.specs.Functors.{stands-same}
-use Rattle.typing.specs.Procedures.{many-declared, wrong-signature, procedure-all}
+use Rattle.typing.proofs.ProceduresLaws.{many-declared, wrong-signature, procedure-all}
 use borrow.Author.Needs.{needs}
 use Rattle.typing.proofs.stage.procedure_ok.Statement.{statement}
 use Rattle.typing.proofs.stage.procedure_ok.Tie as tie

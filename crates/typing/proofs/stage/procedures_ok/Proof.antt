@@ -1,7 +1,7 @@
 use native.Mathlib.Omega.{arith}
 use Rattle.chains.specs.Formed.{procedures-stand, counted}
 use Rattle.declarations.specs.Functors.{stands-same}
-use Rattle.typing.specs.Procedures.{procedure-count, no-procedure, many-procedures, procedures-all}
+use Rattle.typing.proofs.ProceduresLaws.{procedure-count, no-procedure, many-procedures, procedures-all}
 use borrow.Author.Needs.{needs}
 use Rattle.typing.proofs.stage.procedures_ok.Statement.{statement}
 use Rattle.typing.proofs.stage.procedures_ok.Tie as tie

@@ -1,6 +1,6 @@
 use mathlib.Core.Path.{sym, _∙_}
 use borrow.Author.Tests.{not-true, not-false}
-use Rattle.typing.specs.Procedures.{wrong-types, typing-all}
+use Rattle.typing.proofs.ProceduresLaws.{wrong-types, typing-all}
 use borrow.Author.Needs.{needs}
 use Rattle.typing.proofs.stage.typing_ok.Statement.{statement}
 use Rattle.typing.proofs.stage.typing_ok.Tie as tie

@@ -1,7 +1,7 @@
 use native.Mathlib.Omega.{arith}
 use Rattle.declarations.specs.Functors.{stands-same}
 use Rattle.declarations.specs.Own.{variable-stands}
-use Rattle.typing.specs.Steps.{assign-none, assign-all}
+use Rattle.typing.proofs.StepsLaws.{assign-none, assign-all}
 use borrow.Author.Needs.{needs}
 use Rattle.typing.proofs.steps.assign_ok.Statement.{statement}
 use Rattle.typing.proofs.steps.assign_ok.Tie as tie

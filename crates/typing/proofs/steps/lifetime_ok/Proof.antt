@@ -1,5 +1,5 @@
 use mathlib.Core.Logic.{inl, inr}
-use Rattle.typing.specs.Steps.{create-is, remove-is}
+use Rattle.typing.proofs.StepsLaws.{create-is, remove-is}
 use borrow.Author.Needs.{needs}
 use Rattle.typing.proofs.steps.lifetime_ok.Statement.{statement}
 use Rattle.typing.proofs.steps.lifetime_ok.Tie as tie

@@ -2,7 +2,7 @@ use native.Mathlib.Omega.{arith}
 use mathlib.Core.Path.{sym, _∙_}
 use mathlib.Core.Logic.{inl, inr}
 use Rattle.chains.specs.Shapes.{no-goal-left}
-use Rattle.typing.specs.Steps.{literal-is, print-is}
+use Rattle.typing.proofs.StepsLaws.{literal-is, print-is}
 use Rattle.typing.proofs.steps.step_ok.Statement.{statement}
 use Rattle.typing.proofs.steps.step_ok.Tie as tie
 

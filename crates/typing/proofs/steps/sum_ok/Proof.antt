@@ -1,5 +1,5 @@
 use borrow.Author.Tests.{not-true, not-false}
-use Rattle.typing.specs.Steps.{sum-first, sum-operation, sum-second, sum-all}
+use Rattle.typing.proofs.StepsLaws.{sum-first, sum-operation, sum-second, sum-all}
 use borrow.Author.Needs.{needs}
 use Rattle.typing.proofs.steps.sum_ok.Statement.{statement}
 use Rattle.typing.proofs.steps.sum_ok.Tie as tie

@@ -17,8 +17,8 @@ use Rattle.chains.specs.Shapes.{to-arms, to-then, to-else, arm-goals}
 use Rattle.declarations.specs.Functors.{stands-same}
 use Rattle.declarations.specs.Declares.{functor-stands}
 use Rattle.declarations.specs.Own.{declared, variable-stands}
-use Rattle.typing.specs.Arguments.{arm-some}
-use Rattle.typing.specs.Walk.{goals-no, goals-yes, goals-end, if-first, if-second, if-then, if-else, switch-none, switch-number, switch-arms, arms-unfit, arms-goals, arms-next, arms-end}
+use Rattle.typing.proofs.ArgumentsLaws.{arm-some}
+use Rattle.typing.proofs.WalkLaws.{goals-no, goals-yes, goals-end, if-first, if-second, if-then, if-else, switch-none, switch-number, switch-arms, arms-unfit, arms-goals, arms-next, arms-end}
 use Rattle.typing.proofs.walk.arms.Reads as the-arms
 use Rattle.typing.proofs.walk.arms.Kinds as arms-kinds
 use Rattle.typing.proofs.walk.+arms+branches+goal+goals+switch.Lts-arms as arms-lts
