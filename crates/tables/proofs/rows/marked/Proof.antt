@@ -1,5 +1,5 @@
 use mathlib.Core.Path.{refl}
-use Rattle.tables.specs.Rows.{mark-some, mark-past}
+use Rattle.tables.proofs.Finding.{mark-some, mark-past}
 use borrow.Author.Needs.{needs}
 use Rattle.tables.proofs.rows.marked.Statement.{statement}
 use Rattle.tables.proofs.rows.marked.Tie as tie

@@ -1,4 +1,4 @@
-use Rattle.tables.specs.Rows.{row-some, row-past}
+use Rattle.tables.proofs.Finding.{row-some, row-past}
 use borrow.Author.Needs.{needs}
 use Rattle.tables.proofs.rows.row_set.Statement.{statement}
 use Rattle.tables.proofs.rows.row_set.Tie as tie
