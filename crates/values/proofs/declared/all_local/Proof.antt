@@ -1,4 +1,4 @@
-use Rattle.values.specs.Modes.{Local, local-first, local-next, local-stop, local-last}
+use Rattle.values.proofs.Entry.{Local, local-first, local-next, local-stop, local-last}
 use Rattle.chains.specs.Is.{chain-next}
 use Rattle.chains.specs.Shapes.{variable-here}
 use Rattle.chains.specs.Formed.{Stands, ahead, variablesAt, variables-none}

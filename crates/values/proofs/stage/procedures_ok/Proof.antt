@@ -5,8 +5,8 @@ use borrow.Author.Tests.{not-true, not-false}
 use Rattle.language.specs.Values.{procedureValues}
 use Rattle.language.specs.Answers.{program}
 use Rattle.chains.specs.Formed.{procedures-stand}
-use Rattle.values.specs.Listing.{procedure-count}
-use Rattle.values.specs.Turns.{TestTurn, turn-first, turn-stop, turn-next, turn-last}
+use Rattle.rows.specs.Listing.{procedure-count}
+use Rattle.values.proofs.Turns.{TestTurn, turn-first, turn-stop, turn-next, turn-last}
 use Rattle.values.proofs.stage.procedures_ok.Statement.{statement}
 use Rattle.values.proofs.stage.procedures_ok.Tie as tie
 

@@ -9,10 +9,10 @@ use Rattle.language.specs.Answers.{program}
 use Rattle.chains.specs.Formed.{ahead}
 use Rattle.chains.specs.Is.{chain-next}
 use Rattle.chains.specs.Shapes.{switch-here, if-here, to-arms, to-then, to-else, arm-goals, arm-next}
-use Rattle.values.specs.Along.{WalkedAlong, along-first, none-walked, along-last, along-stop, along-next, switch-stops, switch-walked, if-unread, if-unread-2, if-then-stops, if-else-stops, if-walked, arms-none-walked, arm-refused, arm-stops, arm-last, arm-rest-stops, arms-walked}
+use Rattle.walks.specs.Along.{WalkedAlong, along-first, none-walked, along-last, along-stop, along-next, switch-stops, switch-walked, if-unread, if-unread-2, if-then-stops, if-else-stops, if-walked, arms-none-walked, arm-refused, arm-stops, arm-last, arm-rest-stops, arms-walked}
 use Rattle.values.specs.Valuing.{both, valuation, valuer}
-use Rattle.values.specs.Closed.{goal-closed, arm-closed}
-use Rattle.values.specs.Carrying.{goal-step, row-arm, readable-is, joined}
+use Rattle.walks.specs.Closed.{goal-closed, arm-closed}
+use Rattle.values.proofs.CarryingLaws.{goal-step, row-arm, readable-is, joined}
 use borrow.Fn.Kinds.{In, Out}
 use borrow.Fn.PlainCycle.{Measures, is, falls, and}
 use Rattle.values.proofs.walk.arms.Reads as arms
@@ -37,7 +37,7 @@ use Rattle.values.proofs.carried.carry.Reads as carry-reads
 use Rattle.values.proofs.carried.every_in.Reads as every-in-reads
 use Rattle.values.proofs.carried.join.Reads as join-reads
 use Rattle.values.proofs.carried.some_in.Reads as some-in-reads
-use Rattle.values.proofs.rows.is_step.Reads as is-step-reads
+use Rattle.walks.proofs.is_step.Reads as is-step-reads
 use Rattle.values.proofs.walk.+arms+branches+goal+goals+switch.{statement}
 use Rattle.values.proofs.walk.+arms+branches+goal+goals+switch.Tie.{close}
 

@@ -1,0 +1,7 @@
+mod GatheringLaws
+mod MatchingLaws
+mod ParametersLaws
+mod AccessesLaws
+mod FittingLaws
+mod NotingLaws
+mod Turning

@@ -1,0 +1,8 @@
+pub mod Ranged
+pub mod Gathering
+pub mod Matching
+pub mod Parameters
+pub mod Accesses
+pub mod Listing
+pub mod Fitting
+pub mod Noting

@@ -1,9 +1,0 @@
-use borrow.Author.Needs.{needs}
-use Rattle.values.proofs.steps.assign_access.Statement.{statement}
-use Rattle.values.proofs.steps.assign_access.Tie as tie
-
-returns : tie.Need-returns
-returns c = cc
-
-pub assign-access-spec : {M : Type 1} → statement M
-assign-access-spec = tie.close (tie.spec (search needs) (search needs) (search needs) (search needs) (search needs) returns)

@@ -1,9 +1,0 @@
-use borrow.Author.Needs.{needs}
-use Rattle.values.proofs.steps.print_access.Statement.{statement}
-use Rattle.values.proofs.steps.print_access.Tie as tie
-
-returns : tie.Need-returns
-returns c = cc
-
-pub print-access-spec : {M : Type 1} → statement M
-print-access-spec = tie.close (tie.spec (search needs) (search needs) (search needs) returns)

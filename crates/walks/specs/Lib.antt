@@ -1,0 +1,4 @@
+pub mod Steps
+pub mod Closed
+pub mod Walk
+pub mod Along
