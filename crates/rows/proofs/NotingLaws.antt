@@ -14,7 +14,7 @@ use Rattle.language.specs.Program.{Step, _then_, step}
 use Rattle.chains.specs.Layout.{all-rows}
 use Rattle.chains.specs.Formed.{Formed, counted, goalsAt}
 use Rattle.chains.specs.Is.{goals-step}
-use Rattle.records.specs.Blank.{rowWords}
+use Rattle.tables.specs.Places.{rowWords, rowPlace, rowSize}
 use Rattle.tables.specs.Rows.{putAccess, Still, StillAt, row-same, access-length, access-word, access-still, access-reads, access-gives, access-mark}
 use Rattle.tables.specs.Filled.{GoalIsStep}
 use Rattle.tables.specs.declared.Access.{Access}
@@ -22,7 +22,6 @@ use Rattle.rows.specs.Gathering.{Gathers}
 use Rattle.rows.specs.Fitting.{AccessFits}
 use Rattle.walks.specs.Steps.{isStep, step-kind, arm-kind, arm-some}
 use Rattle.chains.specs.Shapes.{kind-number}
-use Rattle.tables.specs.Places.{rowPlace, rowSize}
 use Rattle.rows.specs.Noting.{AllNoted, Beside, RowHas, RowListed, RowOf, RowsKept}
 
 -- the code has found a step

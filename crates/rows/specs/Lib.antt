@@ -3,6 +3,5 @@ pub mod Gathering
 pub mod Matching
 pub mod Parameters
 pub mod Accesses
-pub mod Listing
 pub mod Fitting
 pub mod Noting

@@ -14,10 +14,9 @@ use Rattle.sets.specs.Sets.{emptySet, loaded, stored, loaded-stored}
 use Rattle.sets.specs.declared.Set.{Set}
 use Rattle.language.specs.Lists.{choose}
 use Rattle.language.specs.Format.{maxRecords}
-use Rattle.records.specs.Blank.{rowWords}
+use Rattle.tables.specs.Places.{rowWords, bearsPlace, endsPlace, givesPlace, markPlace, needsPlace, readsPlace, rowPlace, rowSize}
 use Rattle.tables.specs.declared.Access.{Access}
 use Rattle.tables.specs.declared.Effect.{Effect}
-use Rattle.tables.specs.Places.{bearsPlace, endsPlace, givesPlace, markPlace, needsPlace, readsPlace, rowPlace, rowSize}
 
 -- word k of the row of record i, as a set
 unfoldable pub rowSet : List ℕ → ℕ → ℕ → Set

@@ -16,7 +16,7 @@ use Rattle.language.specs.Typing.{typesOk, goalsOk, procedureOk, typingOk}
 use Rattle.chains.specs.Formed.{Formed, Stands, procedures-stand, program-procedures, goalsAt, proceduresAt}
 use Rattle.chains.specs.Is.{procedure-is}
 use Rattle.chains.specs.Declared.{procedure-at}
-use Rattle.chains.specs.Elements.{procedures-count}
+use Rattle.chains.specs.Elements.{procedure-count}
 use Rattle.chains.specs.Records.{chainRecords}
 use Rattle.laws.specs.Tests.{and-assoc, and-stop, and-on, refuse, pass}
 use Rattle.laws.specs.Lists.{all-no, all-yes}
@@ -55,22 +55,19 @@ module _ (f : List ℕ) (i : ℕ) (F : Formed f) (s : Stands f procedures i) (z 
 
 -- ---- all procedures
 module _ (f : List ℕ) (F : Formed f) {i n : ℕ} (ei : i ≡ word f 0 headerProcedures) (en : n ≡ length (chainRecords f i)) where
-  pub procedure-count : n ≡ length (program f .procedures)
-  procedure-count = en ∙ ap (λ j. length (chainRecords f j)) ei ∙ sym (ap length (program-procedures F) ∙ procedures-count F _ (procedures-stand F))
-
   pub no-procedure : n ≡ 0 → false ≡ proceduresOk (program f)
   unfolding proceduresOk among
-  no-procedure h = and-stop _ (sym (and-stop _ (lt-leb 1 (length (program f .procedures)) (omega (arith, procedure-count)))))
+  no-procedure h = and-stop _ (sym (and-stop _ (lt-leb 1 (length (program f .procedures)) (omega (arith, procedure-count F ei en)))))
 
   module _ (z : n ≡ 0 → ⊥) where
     pub many-procedures : maxProcedures < n → false ≡ proceduresOk (program f)
     unfolding proceduresOk among
-    many-procedures h = and-stop _ (sym (and-on (le-leb 1 (length (program f .procedures)) (omega (arith, procedure-count))) (sym (lt-leb (length (program f .procedures)) maxProcedures (omega (arith, procedure-count))))))
+    many-procedures h = and-stop _ (sym (and-on (le-leb 1 (length (program f .procedures)) (omega (arith, procedure-count F ei en))) (sym (lt-leb (length (program f .procedures)) maxProcedures (omega (arith, procedure-count F ei en))))))
 
     pub procedures-all : n ≤ maxProcedures → {q : Bool} → q ≡ all (procedureOk (program f)) (proceduresAt f i) → q ≡ proceduresOk (program f)
     unfolding proceduresOk among
     procedures-all h eq =
-        and-on (sym (and-on (le-leb 1 (length (program f .procedures)) (omega (arith, procedure-count))) (sym (le-leb (length (program f .procedures)) maxProcedures (omega (arith, procedure-count))))))
+        and-on (sym (and-on (le-leb 1 (length (program f .procedures)) (omega (arith, procedure-count F ei en))) (sym (le-leb (length (program f .procedures)) maxProcedures (omega (arith, procedure-count F ei en))))))
         (eq ∙ ap (all (procedureOk (program f))) (sym (program-procedures F ∙ ap (proceduresAt f) (sym ei))))
 
 -- ---- the whole

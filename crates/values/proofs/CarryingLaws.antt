@@ -16,7 +16,7 @@ use Rattle.language.specs.Values.{reads, gives}
 use Rattle.language.specs.Answers.{program}
 use Rattle.chains.specs.Formed.{Formed, Stands}
 use Rattle.chains.specs.Parts.{fourAt}
-use Rattle.records.specs.Blank.{walkWords}
+use Rattle.walks.specs.Carried.{walkWords}
 use Rattle.tables.specs.Filled.{GoalIsStep}
 use Rattle.rows.specs.Fitting.{armArguments}
 use Rattle.rows.specs.Noting.{AllNoted}

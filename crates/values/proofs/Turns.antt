@@ -38,20 +38,20 @@ module _ {A : Type 0} (d : A) (p : A → Bool) where
   from-past (x ∷ xs) (suc q) h = from-past xs q (omega arith)
 
 -- ---- a test of each procedure: those before number q passed
-module _ (P : Program) (test : Procedure → Bool) where
+module _ (P : Program) (passes : Procedure → Bool) where
   pub record TestTurn (q : ℕ) : Type 0 where
-    pub rest : all test (drop q (P .procedures)) ≡ all test (P .procedures)
+    pub rest : all passes (drop q (P .procedures)) ≡ all passes (P .procedures)
 
   pub turn-first : TestTurn 0
   turn-first = record { rest = refl }
 
   module _ {q : ℕ} (h : TestTurn q) where
-    module _ (l : q < length (P .procedures)) {b : Bool} (m : b ≡ test (procedureAt P q)) where
-      turn-is : b & all test (drop (suc q) (P .procedures)) ≡ all test (P .procedures)
+    module _ (l : q < length (P .procedures)) {b : Bool} (m : b ≡ passes (procedureAt P q)) where
+      turn-is : b & all passes (drop (suc q) (P .procedures)) ≡ all passes (P .procedures)
       unfolding procedureAt
-      turn-is = rw m (sym (from-here _ test (P .procedures) q l) ∙ h .rest)
+      turn-is = rw m (sym (from-here _ passes (P .procedures) q l) ∙ h .rest)
 
-      pub turn-stop : b ≡ false → false ≡ all test (P .procedures)
+      pub turn-stop : b ≡ false → false ≡ all passes (P .procedures)
       unfolding _&_
       turn-stop e = rw e at turn-is
 
@@ -59,8 +59,8 @@ module _ (P : Program) (test : Procedure → Bool) where
       unfolding _&_
       turn-next e = record { rest = rw (add-one q) (rw e at turn-is) }
 
-    pub turn-last : length (P .procedures) ≤ q → true ≡ all test (P .procedures)
-    turn-last l = sym (from-past (procedureAt P 0) test (P .procedures) q l) ∙ h .rest
+    pub turn-last : length (P .procedures) ≤ q → true ≡ all passes (P .procedures)
+    turn-last l = sym (from-past (procedureAt P 0) passes (P .procedures) q l) ∙ h .rest
 
 -- each passed number 3
 pub typed-at : (P : Program) → typingOk P ≡ true → (q : ℕ) → q < length (P .procedures) → TypedGoals P (procedureAt P q .body)

@@ -4,7 +4,7 @@ use native.Mathlib.Omega.{arith}
 use borrow.Author.Needs.{needs}
 use Rattle.language.specs.File.{recordCount}
 use Rattle.chains.specs.Formed.{procedures-stand}
-use Rattle.rows.specs.Listing.{procedure-count}
+use Rattle.chains.specs.Elements.{procedure-count}
 use Rattle.rows.specs.Noting.{noted-accessed}
 use Rattle.rows.proofs.NotingLaws.{Noting, noting-first, noting-next, noting-last}
 use Rattle.rows.proofs.filling.list_accesses.Statement.{statement}

@@ -1,7 +1,8 @@
 use native.Mathlib.Omega.{arith}
 use Rattle.chains.specs.Formed.{procedures-stand, counted}
+use Rattle.chains.specs.Elements.{procedure-count}
 use Rattle.declarations.specs.Functors.{stands-same}
-use Rattle.typing.proofs.ProceduresLaws.{procedure-count, no-procedure, many-procedures, procedures-all}
+use Rattle.typing.proofs.ProceduresLaws.{no-procedure, many-procedures, procedures-all}
 use borrow.Author.Needs.{needs}
 use Rattle.typing.proofs.stage.procedures_ok.Statement.{statement}
 use Rattle.typing.proofs.stage.procedures_ok.Tie as tie
@@ -19,7 +20,7 @@ returns-2 : tie.Need-returns-2
 returns-2 c = many-procedures _ (c .before .before .before .before .before .pre .0) (c .before .before .before .word .ensures .0) (c .before .before .chain-length .ensures) (c .before .if1 .left) (c .if2 .taken)
 
 list-file-requires : tie.Need-list-file-requires
-list-file-requires c κs = (c .before .before .before .before .before .before .before .pre .0, ((c .before .before .before .before .before .before .before .pre .1, omega (arith, c .before .before .if2 .left, procedure-count _ (c .before .before .before .before .before .before .before .pre .0) (c .before .before .before .before .before .word .ensures .0) (c .before .before .before .before .chain-length .ensures))), c .before .blank-file .ensures))
+list-file-requires c κs = (c .before .before .before .before .before .before .before .pre .0, ((c .before .before .before .before .before .before .before .pre .1, omega (arith, c .before .before .if2 .left, procedure-count (c .before .before .before .before .before .before .before .pre .0) (c .before .before .before .before .before .word .ensures .0) (c .before .before .before .before .chain-length .ensures))), c .before .blank-file .ensures))
 
 each-procedure-ok-requires : tie.Need-each-procedure-ok-requires
 each-procedure-ok-requires c κs = (c .before .list-file .ensures, stands-same (c .before .before .before .before .before .before .before .word .ensures .0) (procedures-stand (c .before .before .before .before .before .before .before .before .before .pre .0)))

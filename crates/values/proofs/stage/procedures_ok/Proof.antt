@@ -5,7 +5,7 @@ use borrow.Author.Tests.{not-true, not-false}
 use Rattle.language.specs.Values.{procedureValues}
 use Rattle.language.specs.Answers.{program}
 use Rattle.chains.specs.Formed.{procedures-stand}
-use Rattle.rows.specs.Listing.{procedure-count}
+use Rattle.chains.specs.Elements.{procedure-count}
 use Rattle.values.proofs.Turns.{TestTurn, turn-first, turn-stop, turn-next, turn-last}
 use Rattle.values.proofs.stage.procedures_ok.Statement.{statement}
 use Rattle.values.proofs.stage.procedures_ok.Tie as tie
