@@ -1,9 +1,7 @@
 mod ListsLaws
-mod WordsLaws
+mod Stages
 mod TableLaws
 mod FormLaws
-mod SpareLaws
 mod Decoding
 mod Steps
 mod Loops
-mod Stages

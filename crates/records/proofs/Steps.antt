@@ -13,7 +13,7 @@ use Rattle.records.specs.Table.{digit, packed, uses, lowMost, highMost}
 use Rattle.records.proofs.TableLaws.{pack-first}
 use Rattle.records.specs.Form.{Tallied, useOk, leads, spareOk}
 use Rattle.records.specs.Spare.{LowWords, HighWords}
-use Rattle.records.proofs.SpareLaws.{zeros-small}
+use Rattle.records.proofs.FormLaws.{zeros-small}
 use Rattle.records.specs.Sizes.{digitEnd}
 
 packed-chain : (k : Kind) → packed k % digitEnd ≡ digit (first (row k .chain))
