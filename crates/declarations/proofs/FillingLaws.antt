@@ -23,14 +23,13 @@ use Rattle.chains.specs.Elements.{procedures-count, variables-count, regions-co
 use Rattle.chains.specs.Is.{procedure-is}
 use Rattle.chains.specs.Declared.{procedure-at}
 use Rattle.declarations.specs.Places.{procedurePlaces, functorPlaces, filePlaces, placeIn, functorIn, regionPlaces, ownPlaces, variableIn, regionIn}
-use Rattle.declarations.proofs.PlacesLaws.{place-past, place-there, place-same, functor-past, functor-there, functor-same}
+use Rattle.declarations.proofs.LookupLaws.{place-past, place-there, place-same, functor-past, functor-there, functor-same}
 use Rattle.declarations.specs.Listing.{Lists}
 use Rattle.declarations.proofs.ListingLaws.{lists-entry, lists-place, ChainLeft, blank-at}
 use Rattle.declarations.specs.Parameters.{Linked}
 use Rattle.declarations.specs.Regioned.{regionedStart}
-use Rattle.declarations.proofs.RegionedLaws.{no-start}
+use Rattle.declarations.proofs.DeclaresLaws.{no-start, few-functors}
 use Rattle.declarations.specs.Declares.{typeStart, start-stands, functors-length, first-record, Declares}
-use Rattle.declarations.proofs.DeclaresLaws.{few-functors}
 use Rattle.declarations.specs.Functors.{stands-same}
 use Rattle.declarations.specs.Own.{OwnOf, signatureFrom, signatureAt, declared, fewDeclared}
 use Rattle.declarations.proofs.TypeLaws.{few-types, type-count}

@@ -1,10 +1,8 @@
-mod PlacesLaws
+mod LookupLaws
 mod ListingLaws
 mod ParametersLaws
-mod RegionedLaws
-mod TypeLaws
 mod DeclaresLaws
-mod OwnLaws
+mod TypeLaws
 mod FillingLaws
 mod EdgeLaws
 mod SignaturesLaws

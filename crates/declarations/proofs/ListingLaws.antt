@@ -14,7 +14,7 @@ use Rattle.language.specs.File.{word, recordCount}
 use Rattle.chains.specs.Formed.{Formed}
 use Rattle.chains.specs.Records.{chainRecords, records-none, records-step}
 use Rattle.declarations.specs.Places.{placeIn}
-use Rattle.declarations.proofs.PlacesLaws.{place-past, place-there}
+use Rattle.declarations.proofs.LookupLaws.{place-past, place-there}
 use Rattle.declarations.specs.Listing.{Lists}
 
 -- the chain at record i is what is left of the chain at record start after n records

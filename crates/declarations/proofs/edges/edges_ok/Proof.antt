@@ -32,9 +32,6 @@ functor-edges-requires c κs = (c .before .before .before .pre .0, (c .before .l
 returns : tie.Need-returns Inv-loop μ-loop
 returns c = edges-wrong _ _ _ (c .before .before .before .before .before .before .pre .0 .0 .formed) (c .before .before .before .before .loop .inv .0 .0) (c .before .before .before .loop-test .taken) (c .before .before .functor-edges .ensures) (c .enum-told .given .1) ∙ c .before .before .before .before .loop .inv .3
 
-add-g : tie.Need-add-g Inv-loop μ-loop
-add-g c = omega arith
-
 word-requires : tie.Need-word-requires Inv-loop μ-loop
 word-requires c κs = (c .before .before .before .before .before .before .before .pre .0 .0 .formed, (omega arith, c .before .before .before .before .before .loop .inv .0 .0 .below))
 
@@ -54,5 +51,5 @@ returns-2 c = edges-end _ _ _ (c .before .before .before .pre .0 .0 .formed) (c 
 pub edges-ok-spec : {M : Type 1} → statement M
 edges-ok-spec =
     tie.close
-    (tie.spec Inv-loop μ-loop loop-holds functor-edges-requires (search needs) (search needs) returns add-g word-requires loop-less loop-again
-    returns-2)
+    (tie.spec Inv-loop μ-loop loop-holds functor-edges-requires (search needs) (search needs) returns (λ c. omega arith) word-requires loop-less
+    loop-again returns-2)

@@ -31,23 +31,14 @@ mul-table c = search (needs, counted (c .before .before .before .before .before 
 element-write-table : tie.Need-element-write-table Inv-loop μ-loop
 element-write-table c = omega (arith, counted (c .before .before .before .before .before .before .before .before .pre .0) .most, c .before .before .before .before .before .loop .inv .1)
 
-loop-less : tie.Need-loop-less Inv-loop μ-loop
-loop-less c = omega arith
-
 loop-again : tie.Need-loop-again Inv-loop μ-loop
 loop-again c = (linked-variable (c .before .before .before .before .before .before .before .before .pre .0) (c .before .before .before .before .before .loop .inv .0) _ (omega arith) (λ z. omega arith) (sym (c .before .before .before .word .ensures .0) ∙ c .before .before .if1 .taken) (omega (arith, c .before .before .before .before .before .loop .inv .1)) (c .before .before .before .before .before .before .before .before .pre .1 .0) (c .link .ensures), omega (arith, c .before .before .before .before .before .loop .inv .1))
-
-loop-less-2 : tie.Need-loop-less-2 Inv-loop μ-loop
-loop-less-2 c = omega arith
 
 loop-again-2 : tie.Need-loop-again-2 Inv-loop μ-loop
 loop-again-2 c = (linked-other (c .before .before .before .before .before .before .pre .0) (c .before .before .before .loop .inv .0) _ (omega arith) (λ z. omega arith) (λ k. c .if1 .left (c .before .word .ensures .0 ∙ k)), omega (arith, c .before .before .before .loop .inv .1))
 
-returns : tie.Need-returns Inv-loop μ-loop
-returns c = linked-all (c .before .loop .inv .0) (c .loop-test .left)
-
 pub list-parameters-spec : {M : Type 1} → statement M
 list-parameters-spec =
     tie.close
-    (tie.spec Inv-loop μ-loop (λ c κs. search needs) loop-holds (search needs) word-requires link-requires mul-table element-write-table loop-less
-    loop-again loop-less-2 loop-again-2 returns)
+    (tie.spec Inv-loop μ-loop (λ c κs. search needs) loop-holds (search needs) word-requires link-requires mul-table element-write-table
+    (λ c. omega arith) loop-again (λ c. omega arith) loop-again-2 (λ c. linked-all (c .before .loop .inv .0) (c .loop-test .left)))

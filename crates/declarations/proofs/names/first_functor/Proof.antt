@@ -1,5 +1,5 @@
 use mathlib.Core.Path.{refl, _∙_}
-use Rattle.declarations.proofs.PlacesLaws.{functor-first}
+use Rattle.declarations.proofs.LookupLaws.{functor-first}
 use borrow.Author.Needs.{needs}
 use Rattle.declarations.proofs.names.first_functor.Statement.{statement}
 use Rattle.declarations.proofs.names.first_functor.Tie as tie

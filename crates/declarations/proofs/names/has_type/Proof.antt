@@ -1,7 +1,7 @@
 use native.Mathlib.Omega.{arith}
 use Rattle.declarations.specs.Functors.{stands-same}
 use Rattle.declarations.specs.Own.{variable-stands}
-use Rattle.declarations.proofs.OwnLaws.{typed-none, typed-some}
+use Rattle.declarations.proofs.LookupLaws.{typed-none, typed-some}
 use borrow.Author.Needs.{needs}
 use Rattle.declarations.proofs.names.has_type.Statement.{statement}
 use Rattle.declarations.proofs.names.has_type.Tie as tie

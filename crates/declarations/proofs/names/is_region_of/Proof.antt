@@ -1,6 +1,6 @@
 use native.Mathlib.Omega.{arith}
 use Rattle.declarations.specs.Functors.{stands-same}
-use Rattle.declarations.proofs.OwnLaws.{region-stands, region-none, region-some}
+use Rattle.declarations.proofs.LookupLaws.{region-stands, region-none, region-some}
 use borrow.Author.Needs.{needs}
 use Rattle.declarations.proofs.names.is_region_of.Statement.{statement}
 use Rattle.declarations.proofs.names.is_region_of.Tie as tie

@@ -11,9 +11,6 @@ use Rattle.declarations.proofs.signatures.region_ok.Tie as tie
 word-requires : tie.Need-word-requires
 word-requires c κs = (c .before .pre .0 .0 .formed, (omega arith, c .before .pre .1 .0 .below))
 
-regioned-requires : tie.Need-regioned-requires
-regioned-requires c κs = functor-low (c .before .before .pre .0 .0) _ 0
-
 returns : tie.Need-returns
 returns c = region-type (c .before .before .before .before .pre .0 .0) _ _ (c .before .before .word .ensures .0) (c .before .regioned .ensures) (c .if1 .taken)
 
@@ -36,4 +33,7 @@ returns-3 : tie.Need-returns-3
 returns-3 c = region-edges (c .before .before .before .before .before .before .before .before .pre .0 .0) _ _ (c .before .before .before .before .before .before .word .ensures .0) (c .before .before .before .before .before .regioned .ensures) (c .before .before .before .before .if1 .left) (c .before .before .before .word2 .ensures .0) (c .before .before .if2 .left) (c .before .word3 .ensures .0) (c .edges-ok .ensures)
 
 pub region-ok-spec : {M : Type 1} → statement M
-region-ok-spec = tie.close (tie.spec word-requires regioned-requires returns word-requires-2 returns-2 word-requires-3 edges-ok-requires returns-3)
+region-ok-spec =
+    tie.close
+    (tie.spec word-requires (λ c κs. functor-low (c .before .before .pre .0 .0) _ 0) returns word-requires-2 returns-2 word-requires-3
+    edges-ok-requires returns-3)

@@ -18,9 +18,6 @@ Inv-loop file n start i₀ i = Stands file types i × (all (typeFits n) (typesAt
 abbrev μ-loop : tie.MeasureT-loop
 μ-loop file n start i₀ i = ahead file i
 
-loop-holds : tie.Need-loop-holds Inv-loop μ-loop
-loop-holds c = let s = c .before in (s .pre .1, refl)
-
 returns : tie.Need-returns Inv-loop μ-loop
 returns c = absurd (type-else (c .before .before .before .loop .inv .0) (c .before .before .loop-test .taken) (c .before .record-at .ensures) (c .match .keys2))
 
@@ -42,4 +39,5 @@ returns-3 c = all-end _ (types-none _ (c .loop-test .left)) ∙ c .before .loop 
 pub each-type-ok-spec : {M : Type 1} → statement M
 each-type-ok-spec =
     tie.close
-    (tie.spec Inv-loop μ-loop loop-holds (search needs) (search needs) returns type-ok-requires returns-2 loop-less loop-again returns-3)
+    (tie.spec Inv-loop μ-loop (λ c. let s = c .before in (s .pre .1, refl)) (search needs) (search needs) returns type-ok-requires returns-2 loop-less
+    loop-again returns-3)

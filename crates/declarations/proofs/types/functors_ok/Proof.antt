@@ -18,9 +18,6 @@ Inv-loop file n start i₀ i = Stands file functors i × (all (functorFits n) (f
 abbrev μ-loop : tie.MeasureT-loop
 μ-loop file n start i₀ i = ahead file i
 
-loop-holds : tie.Need-loop-holds Inv-loop μ-loop
-loop-holds c = let s = c .before in (s .pre .1, refl)
-
 returns : tie.Need-returns Inv-loop μ-loop
 returns c = absurd (functor-else (c .before .before .before .loop .inv .0) (c .before .before .loop-test .taken) (c .before .record-at .ensures) (c .match .keys2))
 
@@ -39,4 +36,5 @@ returns-3 c = all-end _ (functors-none _ (c .loop-test .left)) ∙ c .before .lo
 pub functors-ok-spec : {M : Type 1} → statement M
 functors-ok-spec =
     tie.close
-    (tie.spec Inv-loop μ-loop loop-holds (search needs) (search needs) returns (search needs) returns-2 loop-less loop-again returns-3)
+    (tie.spec Inv-loop μ-loop (λ c. let s = c .before in (s .pre .1, refl)) (search needs) (search needs) returns (search needs) returns-2 loop-less
+    loop-again returns-3)
