@@ -1,14 +1,20 @@
--- What was gathered of a record fits it, a law for each kind that the code reads.
+-- What each sort of step reads and gives, and that what was gathered of a record fits it, a law for each kind that the code reads.
 use Prim.Native.Nat.{ℕ, _+_, _≤_, _<_}
-use native.Mathlib.Omega.{arith}
 use mathlib.Core.Path.{_≡_, refl, sym, ap, _∙_}
 use mathlib.Core.List.{List, []}
+use Rattle.language.specs.Program.{Four, Variable, Step, literal, sum, assign, construct, call, print, create, remove, Goals, _then_, step, Program, signatureOf, parametersOf, fourWords, done, procedureAt}
+use Rattle.language.specs.Values.{access, accessing}
+use Rattle.tables.specs.declared.Access.{Access}
+use Rattle.rows.specs.Gathering.{noAccess, readIn, givenIn, fourRead, readAll, fourGiven}
+use Rattle.rows.proofs.GatheringLaws.{gathers-none, gathers-read, gathers-give, four-read, four-given}
+use Rattle.rows.specs.Matching.{passing, CallMatches}
+use Rattle.rows.specs.Accesses.{Accesses}
+use native.Mathlib.Omega.{arith}
 use mathlib.Core.Bool.{true}
 use lib.ListN.{length, getD}
 use Rattle.laws.specs.Lists.{nth-past}
 use Rattle.language.specs.Format.{literalKind, sumKind, assignKind, constructKind, armKind, callKind, printKind, createKind, removeKind, goalX, sumY, sumZ, assignY, printY, callProcedure, callArguments, kindWord, termArguments}
 use Rattle.language.specs.File.{GoalKind, kLiteral, kSum, kAssign, kConstruct, kCall, kPrint, kCreate, kRemove, Kind, kArm, kGoal, goals, arms, row, kindOf, word, recordCount}
-use Rattle.language.specs.Program.{fourWords, step, call, Program, done, procedureAt, signatureOf}
 use Rattle.language.specs.Typing.{typingOk}
 use Rattle.language.specs.Answers.{program}
 use Rattle.chains.specs.Layout.{all-rows, number-is, starts-kind, goals-kind}
@@ -18,16 +24,52 @@ use Rattle.tables.specs.Window.{insPlace, outsPlace, setIn, FileTable}
 use Rattle.sets.specs.Sets.{loaded}
 use Rattle.sets.specs.declared.Set.{Set}
 use Rattle.chains.specs.Parts.{fourAt}
-use Rattle.tables.specs.declared.Access.{Access}
 use Rattle.walks.specs.Steps.{arm-kind}
-use Rattle.rows.specs.Gathering.{noAccess, readIn, givenIn, readAll, fourRead, fourGiven}
-use Rattle.rows.proofs.GatheringLaws.{four-given}
-use Rattle.rows.specs.Matching.{CallMatches}
-use Rattle.rows.proofs.MatchingLaws.{none-matches}
+use Rattle.rows.proofs.Turning.{none-matches}
 use Rattle.rows.specs.Parameters.{DeclaredSets, declares}
-use Rattle.rows.specs.Accesses.{Accesses}
-use Rattle.rows.proofs.AccessesLaws.{literal-access, sum-access, assign-access, construct-access, print-access, create-access, remove-access, call-access, at-step}
 use Rattle.rows.specs.Fitting.{AccessFits, Stepped, armArguments, in-window}
+
+module _ (P : Program) where
+  pub literal-access : (x v : ℕ) → Accesses P (literal x v) (givenIn noAccess x)
+  unfolding access accessing
+  literal-access x v = record { gathered = gathers-give gathers-none x }
+
+  pub sum-access : (x o y z : ℕ) → Accesses P (sum x o y z) (givenIn (readIn (readIn noAccess y) z) x)
+  unfolding access accessing
+  sum-access x o y z = record { gathered = gathers-give (gathers-read (gathers-read gathers-none y) z) x }
+
+  pub assign-access : (x y : ℕ) → Accesses P (assign x y) (givenIn (readIn noAccess y) x)
+  unfolding access accessing
+  assign-access x y = record { gathered = gathers-give (gathers-read gathers-none y) x }
+
+  pub construct-access : (x f : ℕ) (ws : Four) → Accesses P (construct x f ws) (givenIn (fourRead ws) x)
+  unfolding access accessing
+  construct-access x f ws = record { gathered = gathers-give (four-read ws) x }
+
+  pub print-access : (y : ℕ) → Accesses P (print y) (readIn noAccess y)
+  unfolding access accessing
+  print-access y = record { gathered = gathers-read gathers-none y }
+
+  pub create-access : (r : ℕ) → Accesses P (create r) noAccess
+  unfolding access accessing
+  create-access r = record { gathered = gathers-none }
+
+  pub remove-access : (r : ℕ) → Accesses P (remove r) noAccess
+  unfolding access accessing
+  remove-access r = record { gathered = gathers-none }
+
+  pub call-access : {q : ℕ} {vs : List Variable} {ys : List ℕ} {a : Access} → vs ≡ signatureOf P q .variables → CallMatches vs ys a → Accesses P (call q ys) a
+  unfolding access accessing passing parametersOf
+  call-access e m = record { gathered = rw e at m }
+
+-- ---- a goal that is a step is one step alone
+same-step : {gs hs is : Goals} {g h : Step} → gs ≡ step g then hs → gs ≡ step h then is → h ≡ g
+same-step p q = cc
+
+module _ {P : Program} {gs hs : Goals} {h : Step} {a : Access} where
+  -- what the record says, at the step that the contract names
+  pub at-step : gs ≡ step h then hs → Accesses P h a → (g : Step) (is : Goals) → gs ≡ step g then is → Accesses P g a
+  at-step v n g is e = rw (same-step e v) at n
 
 -- ---- a record is of one kind
 two-kinds : {A : Type 0} {g : GoalKind} {k : Kind} → k ≡ kArm → k ≡ kGoal g → A

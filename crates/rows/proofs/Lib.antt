@@ -1,7 +1,4 @@
 mod GatheringLaws
-mod MatchingLaws
-mod ParametersLaws
-mod AccessesLaws
+mod Turning
 mod FittingLaws
 mod NotingLaws
-mod Turning

@@ -19,9 +19,6 @@ abbrev μ-loop : tie.MeasureT-loop
 chain-length-requires : tie.Need-chain-length-requires Inv-loop μ-loop
 chain-length-requires c κs = let F = c .before .before .pre .0 in (F, rw (c .word .ensures .0) (procedures-stand F .below))
 
-loop-holds : tie.Need-loop-holds Inv-loop μ-loop
-loop-holds c = (omega arith, noting-first _ _)
-
 list-access-requires : tie.Need-list-access-requires Inv-loop μ-loop
 unfolding recordCount
 list-access-requires c κs =
@@ -41,5 +38,5 @@ returns c =
 pub list-accesses-spec : {M : Type 1} → statement M
 list-accesses-spec =
     tie.close
-    (tie.spec Inv-loop μ-loop (search needs) chain-length-requires (λ c κs. search needs) loop-holds list-access-requires (search needs)
-    (search needs) loop-again returns)
+    (tie.spec Inv-loop μ-loop (search needs) chain-length-requires (λ c κs. search needs) (λ c. (omega arith, noting-first _ _)) list-access-requires
+    (search needs) (search needs) loop-again returns)

@@ -2,8 +2,5 @@ use borrow.Author.Needs.{needs}
 use Rattle.rows.proofs.steps.assign_access.Statement.{statement}
 use Rattle.rows.proofs.steps.assign_access.Tie as tie
 
-returns : tie.Need-returns
-returns c = cc
-
 pub assign-access-spec : {M : Type 1} → statement M
-assign-access-spec = tie.close (tie.spec (search needs) (search needs) (search needs) (search needs) (search needs) returns)
+assign-access-spec = tie.close (tie.spec (search needs) (search needs) (search needs) (search needs) (search needs) (λ c. cc))

@@ -2,10 +2,7 @@ use borrow.Author.Needs.{needs}
 use Rattle.rows.proofs.steps.sum_access.Statement.{statement}
 use Rattle.rows.proofs.steps.sum_access.Tie as tie
 
-returns : tie.Need-returns
-returns c = cc
-
 pub sum-access-spec : {M : Type 1} → statement M
 sum-access-spec =
     tie.close
-    (tie.spec (search needs) (search needs) (search needs) (search needs) (search needs) (search needs) (search needs) returns)
+    (tie.spec (search needs) (search needs) (search needs) (search needs) (search needs) (search needs) (search needs) (λ c. cc))
