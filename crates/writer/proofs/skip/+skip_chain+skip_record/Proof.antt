@@ -70,9 +70,6 @@ module _ (t : ℕ) where
   abbrev skip-chain-past-in-loop : SkipChain skip-chain-lts.In-loop → SkipChain skip-chain-lts.At-loop × SkipChain skip-chain-lts.Start
   skip-chain-past-in-loop c = (c .before, c .before .before .before)
 
-  skip-chain-loop-holds : SkipChain skip-chain-lts.Need-loop-holds
-  skip-chain-loop-holds c = skipping-first (c .before .pre .1 .1)
-
   skip-chain-skip-record-requires : SkipChain skip-chain-lts.Need-skip-record-requires
   skip-chain-skip-record-requires c κs = let (al, s) = skip-chain-past-in-loop c in
       let v = al .loop .inv in
@@ -142,8 +139,9 @@ module _ (t : ℕ) where
 pub +skip-chain+skip-record-spec : {M : Type 1} → statement M
 +skip-chain+skip-record-spec =
     close μ-skip-chain μ-skip-record
-    (λ t. skip-chain-lts.spec (skip-chain-calls t) (skip-chain-at t) skip-chain.Post skip-chain-Inv-loop skip-chain-μ-loop (skip-chain-loop-holds t)
-    (skip-chain-skip-record-requires t) (λ c κs. search needs) (skip-chain-loop-less t) (skip-chain-loop-again t) (skip-chain-returns t))
+    (λ t. skip-chain-lts.spec (skip-chain-calls t) (skip-chain-at t) skip-chain.Post skip-chain-Inv-loop skip-chain-μ-loop
+    (λ c. skipping-first (c .before .pre .1 .1)) (skip-chain-skip-record-requires t) (λ c κs. search needs) (skip-chain-loop-less t)
+    (skip-chain-loop-again t) (skip-chain-returns t))
     λ t. skip-record-lts.spec (skip-record-calls t) (skip-record-at t) skip-record.Post skip-record-Inv-loop skip-record-μ-loop (λ c κs. search needs)
     (λ c κs. search needs) (skip-record-loop-holds t) (skip-record-leads-requires t) (λ c κs. search needs) (skip-record-skip-chain-requires t)
     (λ c. search needs) (λ c. search needs) (skip-record-loop-again t) (λ c. search needs) (λ c. search needs) (skip-record-loop-again-2 t)

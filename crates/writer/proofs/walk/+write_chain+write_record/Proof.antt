@@ -81,9 +81,6 @@ module _ (t : ℕ) where
   abbrev write-chain-past-after-loop : WriteChain write-chain-lts.After-loop → WriteChain write-chain-lts.At-loop
   write-chain-past-after-loop c = c .before
 
-  write-chain-loop-holds : WriteChain write-chain-lts.Need-loop-holds
-  write-chain-loop-holds c = writing-first _ (c .before .before .pre .1)
-
   write-chain-write-record-requires : WriteChain write-chain-lts.Need-write-record-requires
   write-chain-write-record-requires c κs = let il = c .before .before in let (al, s) = write-chain-past-in-loop il in
       let v = al .loop .inv in
@@ -133,12 +130,6 @@ module _ (t : ℕ) where
   abbrev write-record-past-after-loop : WriteRecord write-record-lts.After-loop → WriteRecord write-record-lts.At-loop ×
       WriteRecord write-record-lts.After-word × WriteRecord write-record-lts.Start
   write-record-past-after-loop c = (c .before, c .before .before, c .before .before .before .before .before)
-
-  write-record-add-end : WriteRecord write-record-lts.Need-add-end
-  write-record-add-end c = omega (arith, c .before .before .before .pre .1 .few)
-
-  write-record-loop-holds : WriteRecord write-record-lts.Need-loop-holds
-  write-record-loop-holds c = spelling-first _ (c .before .before .before .pre .1)
 
   write-record-leads-requires : WriteRecord write-record-lts.Need-leads-requires
   write-record-leads-requires c κs = let (al, w, s) = write-record-past-in-loop (c .before) in
@@ -206,11 +197,11 @@ pub +write-chain+write-record-spec : {M : Type 1} → statement M
 +write-chain+write-record-spec =
     close μ-write-chain μ-write-record
     (λ t. write-chain-lts.spec (write-chain-calls t) (write-chain-at t) write-chain.Post write-chain-Inv-loop write-chain-μ-loop
-    (write-chain-loop-holds t) (λ c κs. search needs) (write-chain-write-record-requires t) (write-chain-loop-less t) (write-chain-loop-again t)
-    (write-chain-same-length t) (write-chain-returns t))
+    (λ c. writing-first _ (c .before .before .pre .1)) (λ c κs. search needs) (write-chain-write-record-requires t) (write-chain-loop-less t)
+    (write-chain-loop-again t) (write-chain-same-length t) (write-chain-returns t))
     λ t. write-record-lts.spec (write-record-calls t) (write-record-at t) write-record.Post write-record-Inv-loop write-record-μ-loop
-    (λ c κs. search needs) (write-record-add-end t) (write-record-loop-holds t) (λ c κs. search needs) (write-record-leads-requires t)
-    (λ c κs. search needs) (write-record-put-word-requires t) (write-record-write-chain-requires t) (λ c. search needs) (λ c. search needs)
-    (write-record-loop-again t) (write-record-put-word-requires-2 t) (λ c. search needs) (λ c. search needs) (write-record-loop-again-2 t)
-    (λ c κs. search needs) (write-record-put-word-requires-3 t) (write-record-put-word-requires-4 t) (write-record-same-length t)
-    (write-record-returns t)
+    (λ c κs. search needs) (λ c. omega (arith, c .before .before .before .pre .1 .few)) (λ c. spelling-first _ (c .before .before .before .pre .1))
+    (λ c κs. search needs) (write-record-leads-requires t) (λ c κs. search needs) (write-record-put-word-requires t)
+    (write-record-write-chain-requires t) (λ c. search needs) (λ c. search needs) (write-record-loop-again t) (write-record-put-word-requires-2 t)
+    (λ c. search needs) (λ c. search needs) (write-record-loop-again-2 t) (λ c κs. search needs) (write-record-put-word-requires-3 t)
+    (write-record-put-word-requires-4 t) (write-record-same-length t) (write-record-returns t)
