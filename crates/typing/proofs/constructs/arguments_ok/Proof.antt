@@ -16,14 +16,8 @@ Inv-loop file own g i k₀ k = slotsLeft file (declared file own) g i k ≡ slot
 abbrev μ-loop : tie.MeasureT-loop
 μ-loop file own g i k₀ k = maxArity - k
 
-loop-holds : tie.Need-loop-holds Inv-loop μ-loop
-loop-holds c = refl
-
 returns : tie.Need-returns Inv-loop μ-loop
 returns c = slots-stop _ _ _ _ (c .before .before .loop-test .taken) (c .before .argument-ok .ensures) (not-true _ (c .if1 .taken)) ∙ c .before .before .before .loop .inv ∙ slots-whole _ _ _ _
-
-loop-less : tie.Need-loop-less Inv-loop μ-loop
-loop-less c = omega arith
 
 loop-again : tie.Need-loop-again Inv-loop μ-loop
 loop-again c = slots-on _ _ _ _ (c .before .before .loop-test .taken) (c .before .argument-ok .ensures) (not-false _ (c .if1 .left)) ∙ c .before .before .before .loop .inv
@@ -32,4 +26,6 @@ returns-2 : tie.Need-returns-2 Inv-loop μ-loop
 returns-2 c = slots-end _ _ _ _ (c .loop-test .left) ∙ c .before .loop .inv ∙ slots-whole _ _ _ _
 
 pub arguments-ok-spec : {M : Type 1} → statement M
-arguments-ok-spec = tie.close (tie.spec Inv-loop μ-loop loop-holds (λ c κs. search needs) returns (search needs) loop-less loop-again returns-2)
+arguments-ok-spec =
+    tie.close
+    (tie.spec Inv-loop μ-loop (λ c. refl) (λ c κs. search needs) returns (search needs) (λ c. omega arith) loop-again returns-2)

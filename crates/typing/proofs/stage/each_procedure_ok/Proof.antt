@@ -19,9 +19,6 @@ Inv-loop file table start i₀ i = Stands file procedures i × (all (procedureOk
 abbrev μ-loop : tie.MeasureT-loop
 μ-loop file table start i₀ i = ahead file i
 
-loop-holds : tie.Need-loop-holds Inv-loop μ-loop
-loop-holds c = (c .before .pre .1, refl)
-
 procedure-ok-requires : tie.Need-procedure-ok-requires Inv-loop μ-loop
 procedure-ok-requires c κs = (c .before .before .before .pre .0, (c .before .loop .inv .0, c .loop-test .taken))
 
@@ -41,4 +38,6 @@ returns-2 : tie.Need-returns-2 Inv-loop μ-loop
 returns-2 c = all-end _ (procedures-none _ (c .loop-test .left)) ∙ c .before .loop .inv .1
 
 pub each-procedure-ok-spec : {M : Type 1} → statement M
-each-procedure-ok-spec = tie.close (tie.spec Inv-loop μ-loop loop-holds procedure-ok-requires returns word-requires loop-less loop-again returns-2)
+each-procedure-ok-spec =
+    tie.close
+    (tie.spec Inv-loop μ-loop (λ c. (c .before .pre .1, refl)) procedure-ok-requires returns word-requires loop-less loop-again returns-2)

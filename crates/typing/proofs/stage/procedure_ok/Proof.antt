@@ -9,9 +9,6 @@ use borrow.Author.Needs.{needs}
 use Rattle.typing.proofs.stage.procedure_ok.Statement.{statement}
 use Rattle.typing.proofs.stage.procedure_ok.Tie as tie
 
-counts-ok-requires : tie.Need-counts-ok-requires
-counts-ok-requires c κs = (c .before .pre .0 .formed, c .before .pre .1)
-
 returns : tie.Need-returns
 returns c = many-declared _ _ (c .before .counts-ok .ensures) (not-true _ (c .if1 .taken))
 
@@ -36,4 +33,5 @@ returns-3 c = procedure-all _ _ (c .before .before .before .before .before .befo
 pub procedure-ok-spec : {M : Type 1} → statement M
 procedure-ok-spec =
     tie.close
-    (tie.spec counts-ok-requires returns (search needs) list-own-requires signature-ok-requires returns-2 word-requires goals-requires returns-3)
+    (tie.spec (λ c κs. (c .before .pre .0 .formed, c .before .pre .1)) returns (search needs) list-own-requires signature-ok-requires returns-2
+    word-requires goals-requires returns-3)

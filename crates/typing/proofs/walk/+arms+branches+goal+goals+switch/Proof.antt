@@ -261,15 +261,6 @@ module _ (t : ℕ) where
   goal-step-ok-requires c κs = let s = c .before .before .before in
       let e = c .before .word .ensures .0 in (s .pre .1 .0, (s .pre .1 .1, ((λ k. c .match .rest .0 .1 (e ∙ k)), (λ k. c .match .rest .1 (e ∙ k)))))
 
-  goal-returns : Goal goal-lts.Need-returns
-  goal-returns c = c .switch .ensures
-
-  goal-returns-2 : Goal goal-lts.Need-returns-2
-  goal-returns-2 c = c .branches .ensures
-
-  goal-returns-3 : Goal goal-lts.Need-returns-3
-  goal-returns-3 c = c .step-ok .ensures
-
 abbrev goals-Inv-loop : goals-lts.InvT-loop
 goals-Inv-loop file table own start i₀ i = Stands file goals i × (ahead file i ≤ ahead file start) × (goalsOk (program file) (declared file own) (goalsAt file i) ≡ goalsOk (program file) (declared file own) (goalsAt file start))
 
@@ -286,9 +277,6 @@ module _ (t : ℕ) where
   abbrev goals-past-else1 : Goals goals-lts.Else1 → Goals goals-lts.After-goal × Goals goals-lts.In-loop × Goals goals-lts.At-loop ×
       Goals goals-lts.Start
   goals-past-else1 c = let (al, s) = goals-past-in-loop (c .before .before) in (c .before, c .before .before, al, s)
-
-  goals-loop-holds : Goals goals-lts.Need-loop-holds
-  goals-loop-holds c = (c .before .pre .1 .1, omega arith, refl)
 
   goals-goal-requires : Goals goals-lts.Need-goal-requires
   goals-goal-requires c κs = let (al, s) = goals-past-in-loop c in
@@ -310,9 +298,6 @@ module _ (t : ℕ) where
       let l = al .loop .inv in
       let o = chain-next (s .pre .1 .0 .0 .formed) (l .0) (il .loop-test .taken) (c .word .ensures .0) in
       (o .stands, omega (arith, o .falls, l .1), goals-yes _ _ _ (s .pre .1 .0 .0 .formed) (l .0) (il .loop-test .taken) (go .goal .ensures) (not-false _ (c .before .if1 .left)) (c .word .ensures .0) ∙ l .2)
-
-  goals-returns-2 : Goals goals-lts.Need-returns-2
-  goals-returns-2 c = goals-end _ _ (c .loop-test .left) ∙ c .before .loop .inv .2
 
 module _ (t : ℕ) where
   abbrev Switch : (switch-lts.Claims → In 3 switch-kinds.ps → Out 3 switch-kinds.ps switch-kinds.r → Type 0) → Type 0
@@ -362,8 +347,9 @@ pub +arms+branches+goal+goals+switch-spec : {M : Type 1} → statement M
     (branches-is-number-requires-2 t) (branches-returns-2 t) (branches-word-requires t) (branches-goals-requires t) (branches-returns-3 t)
     (branches-word-requires-2 t) (branches-returns-4 t) (branches-goals-requires-2 t) (branches-returns-5 t))
     (λ t. goal-lts.spec (goal-calls t) (goal-at t) the-goal.Post (goal-word-requires t) (goal-switch-requires t) (goal-branches-requires t)
-    (goal-step-ok-requires t) (goal-returns t) (goal-returns-2 t) (goal-returns-3 t))
-    (λ t. goals-lts.spec (goals-calls t) (goals-at t) the-goals.Post goals-Inv-loop goals-μ-loop (goals-loop-holds t) (goals-goal-requires t)
-    (goals-returns t) (goals-word-requires t) (goals-loop-less t) (goals-loop-again t) (goals-returns-2 t))
+    (goal-step-ok-requires t) (λ c. c .switch .ensures) (λ c. c .branches .ensures) (λ c. c .step-ok .ensures))
+    (λ t. goals-lts.spec (goals-calls t) (goals-at t) the-goals.Post goals-Inv-loop goals-μ-loop (λ c. (c .before .pre .1 .1, omega arith, refl))
+    (goals-goal-requires t) (goals-returns t) (goals-word-requires t) (goals-loop-less t) (goals-loop-again t)
+    (λ c. goals-end _ _ (c .loop-test .left) ∙ c .before .loop .inv .2))
     λ t. switch-lts.spec (switch-calls t) (switch-at t) the-switch.Post (switch-word-requires t) (λ c κs. search needs) (switch-returns t)
     (switch-word-requires-2 t) (switch-returns-2 t) (switch-word-requires-3 t) (λ c κs. search needs) (switch-arms-requires t) (switch-returns-3 t)
