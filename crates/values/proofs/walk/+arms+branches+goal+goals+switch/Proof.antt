@@ -131,9 +131,6 @@ module _ (t : ℕ) where
       Arms arms-lts.Else1 × Arms arms-lts.Start
   arms-past-else5 c = let (g, w2, e3, ap, si, ei, e1, s) = arms-past-else4 (c .before .before) in (c .before, c .before .before, g, w2, e3, ap, si, ei, e1, s)
 
-  arms-returns : Arms arms-lts.Need-returns
-  arms-returns c = arms-none-walked _ _ _ (c .if1 .taken)
-
   arms-word-requires : Arms arms-lts.Need-word-requires
   arms-word-requires c κs = let s = arms-past-else1 c in let p = s .pre .1 in (p .0, (omega arith, p .1 .1 .below))
 
@@ -273,12 +270,6 @@ module _ (t : ℕ) where
   goal-returns c = let mr = c .before .before in let (w, s) = goal-past-at-match-rest mr in
       goal-closed (s .pre .1 .0) _ (s .pre .1 .1 .1 .0) (s .pre .1 .1 .1 .1) (w .word .ensures .0) (mr .match .rest .0 .1) (mr .match .rest .1) (c .before .is-step .ensures) (not-true _ (c .if1 .taken))
 
-  goal-returns-2 : Goal goal-lts.Need-returns-2
-  goal-returns-2 c = c .switch .ensures
-
-  goal-returns-3 : Goal goal-lts.Need-returns-3
-  goal-returns-3 c = c .branches .ensures
-
   goal-returns-4 : Goal goal-lts.Need-returns-4
   goal-returns-4 c = let mr = c .before .before .before .before in let (w, s) = goal-past-at-match-rest mr in
       goal-step _ (s .pre .1 .1 .0) (s .pre .1 .0) _ (s .pre .1 .1 .1 .0) (s .pre .1 .1 .1 .1) (w .word .ensures .0) (mr .match .rest .0 .1) (mr .match .rest .1) _ _ _ (c .apply .ensures)
@@ -299,9 +290,6 @@ module _ (t : ℕ) where
   abbrev goals-past-else1 : Goals goals-lts.Else1 → Goals goals-lts.After-goal × Goals goals-lts.In-loop × Goals goals-lts.At-loop ×
       Goals goals-lts.Start
   goals-past-else1 c = let (al, s) = goals-past-in-loop (c .before .before .before) in (c .before, c .before .before .before, al, s)
-
-  goals-loop-holds : Goals goals-lts.Need-loop-holds
-  goals-loop-holds c = along-first _ _ _ (c .before .pre .1 .1 .1)
 
   goals-goal-requires : Goals goals-lts.Need-goal-requires
   goals-goal-requires c κs = let (al, s) = goals-past-in-loop (c .before) in
@@ -352,19 +340,19 @@ module _ (t : ℕ) where
 pub +arms+branches+goal+goals+switch-spec : {M : Type 1} → statement M
 +arms+branches+goal+goals+switch-spec =
     close μ-arms μ-branches μ-goal μ-goals μ-switch
-    (λ t. arms-lts.spec (arms-calls t) (arms-at t) arms.Post (arms-returns t) (arms-word-requires t) (arms-returns-2 t) (λ c κs. search needs)
-    (λ c κs. search needs) (λ c κs. search needs) (arms-returns-3 t) (arms-word-requires-2 t) (arms-goals-requires t) (arms-returns-4 t)
-    (arms-word-requires-3 t) (arms-returns-5 t) (λ c κs. search needs) (λ c κs. search needs) (λ c κs. search needs) (arms-arms-requires t)
-    (arms-returns-6 t) (λ c κs. search needs) (arms-returns-7 t))
+    (λ t. arms-lts.spec (arms-calls t) (arms-at t) arms.Post (λ c. arms-none-walked _ _ _ (c .if1 .taken)) (arms-word-requires t) (arms-returns-2 t)
+    (λ c κs. search needs) (λ c κs. search needs) (λ c κs. search needs) (arms-returns-3 t) (arms-word-requires-2 t) (arms-goals-requires t)
+    (arms-returns-4 t) (arms-word-requires-3 t) (arms-returns-5 t) (λ c κs. search needs) (λ c κs. search needs) (λ c κs. search needs)
+    (arms-arms-requires t) (arms-returns-6 t) (λ c κs. search needs) (arms-returns-7 t))
     (λ t. branches-lts.spec (branches-calls t) (branches-at t) branches.Post (λ c κs. search needs) (λ c κs. search needs) (branches-word-requires t)
     (λ c κs. search needs) (branches-returns t) (branches-word-requires-2 t) (λ c κs. search needs) (branches-returns-2 t)
     (branches-word-requires-3 t) (branches-goals-requires t) (branches-returns-3 t) (λ c κs. search needs) (λ c κs. search needs)
     (λ c κs. search needs) (branches-word-requires-4 t) (λ c κs. search needs) (branches-returns-4 t) (branches-goals-requires-2 t)
     (branches-returns-5 t) (λ c κs. search needs) (branches-returns-6 t))
     (λ t. goal-lts.spec (goal-calls t) (goal-at t) goal.Post (λ c κs. search needs) (goal-switch-requires t) (goal-branches-requires t)
-    (λ c κs. search needs) (goal-returns t) (λ c κs. search needs) (goal-returns-2 t) (goal-returns-3 t) (goal-returns-4 t))
+    (λ c κs. search needs) (goal-returns t) (λ c κs. search needs) (λ c. c .switch .ensures) (λ c. c .branches .ensures) (goal-returns-4 t))
     (λ t. goals-lts.spec (goal-below t, goal.Post, word-reads.Asked, word-reads.Learnt) (goals-at t) goals.Post goals-Inv-loop goals-μ-loop
-    (goals-loop-holds t) (goals-goal-requires t) (goals-returns t) (λ c κs. search needs) (goals-loop-less t) (goals-loop-again t)
-    (goals-returns-2 t))
+    (λ c. along-first _ _ _ (c .before .pre .1 .1 .1)) (goals-goal-requires t) (goals-returns t) (λ c κs. search needs) (goals-loop-less t)
+    (goals-loop-again t) (goals-returns-2 t))
     λ t. switch-lts.spec (switch-calls t) (switch-at t) switch.Post (λ c κs. search needs) (switch-word-requires t) (λ c κs. search needs)
     (switch-returns t) (switch-word-requires-2 t) (switch-arms-requires t) (switch-returns-2 t)
