@@ -16,7 +16,7 @@ ghost use Rattle.language.specs.declared.Verdict.the-variants.{Accepted};
 ghost use Rattle.language.specs.Typing.{typingOk};
 ghost use Rattle.language.specs.Annotation.{unannotated};
 ghost use Rattle.language.specs.Answers.{lowest, program};
-ghost use Rattle.records.specs.Blank.{fileWords, rowWords};
+ghost use Rattle.tables.specs.Places.{fileWords, rowWords};
 ghost use Rattle.chains.specs.Formed.{Formed};
 ghost use Rattle.tables.specs.Filled.{Prepared};
 ghost use Rattle.liveness.specs.Points.{pointWords};

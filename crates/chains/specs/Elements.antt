@@ -1,15 +1,16 @@
 -- What stands in a chain is one element for each of its records: the element of record j, in words of j. Record 0, "none", has the element that
 -- the definitions take where there is none. A count of a chain is the count of its records: `variables-count` and its like, beside `chain_length`.
 use Prim.Native.Nat.{ℕ, _+_}
-use mathlib.Core.Path.{_≡_, refl, ap, _∙_}
+use mathlib.Core.Path.{_≡_, refl, sym, ap, _∙_}
 use mathlib.Core.List.{List, map}
 use lib.ListN.{length, length-map}
-use Rattle.language.specs.Format.{typeFunctors, functorArity, procedureVariables, procedureRegions, procedureGoals, variableMode, variableType, variableRegion, regionType, regionClass, regionEdges, argumentVariable, functorTypes}
-use Rattle.language.specs.File.{types, functors, procedures, variables, regions, arguments}
+use Rattle.language.specs.Format.{headerProcedures, typeFunctors, functorArity, procedureVariables, procedureRegions, procedureGoals, variableMode, variableType, variableRegion, regionType, regionClass, regionEdges, argumentVariable, functorTypes}
+use Rattle.language.specs.File.{types, functors, procedures, variables, regions, arguments, word}
+use Rattle.language.specs.Answers.{program}
 use Rattle.language.specs.Program.{four, Functor, Variable, Region, Procedure}
 use Rattle.layout.specs.Chains.{real}
 use Rattle.layout.specs.Steps.{procedureOf}
-use Rattle.chains.specs.Formed.{Formed, Stands, typesAt, functorsAt, proceduresAt, variablesAt, regionsAt, edgesAt, goalsAt, argumentsAt, types-none, functors-none, procedures-none, variables-none, regions-none, arguments-none}
+use Rattle.chains.specs.Formed.{Formed, Stands, procedures-stand, program-procedures, typesAt, functorsAt, proceduresAt, variablesAt, regionsAt, edgesAt, goalsAt, argumentsAt, types-none, functors-none, procedures-none, variables-none, regions-none, arguments-none}
 use Rattle.chains.specs.Declared.{type-at, functor-at, procedure-at, variable-at, region-at}
 use Rattle.chains.specs.Parts.{argument-at}
 use Rattle.chains.specs.Is.{type-is, functor-is, procedure-is, variable-is, region-is, argument-is}
@@ -99,3 +100,9 @@ module _ {f : List ℕ} (F : Formed f) (i : ℕ) where
 
   pub procedures-count : Stands f procedures i → length (proceduresAt f i) ≡ length (chainRecords f i)
   procedures-count s = ap length (procedures-map s) ∙ length-map (chainRecords f i) (procedureFrom f)
+
+-- how many procedures the file has, as the code counts them
+pub procedure-count : {f : List ℕ} → Formed f → {i n : ℕ} → i ≡ word f 0 headerProcedures → n ≡ length (chainRecords f i) → n ≡ length (program f .procedures)
+procedure-count {f} F {i} e h =
+    h ∙ ap (λ j. length (chainRecords f j)) e
+    ∙ sym (ap length (program-procedures F) ∙ procedures-count F (word f 0 headerProcedures) (procedures-stand F))

@@ -16,8 +16,8 @@ use Rattle.chains.specs.Formed.{Formed, Stands, Onward, ahead, goalsAt, goalAt}
 use Rattle.chains.specs.Is.{goals-step}
 use Rattle.chains.specs.Shapes.{IsSwitch, IsIf, goal-here, step-here}
 use Rattle.chains.specs.Parts.{fourAt}
-use Rattle.values.specs.Walk.{outcome, goesOn, Walker, walkGoals, chain-stop, chain-next, step-goes}
-use Rattle.values.specs.Along.{GoalsWalked, none-walked, switch-stops, switch-walked, if-unread, if-unread-2, if-then-stops, if-else-stops, if-walked, arms-none-walked, arm-stops, arm-last, arm-rest-stops, arms-walked}
+use Rattle.walks.specs.Walk.{outcome, goesOn, Walker, walkGoals, chain-stop, chain-next, step-goes}
+use Rattle.walks.specs.Along.{GoalsWalked, none-walked, switch-stops, switch-walked, if-unread, if-unread-2, if-then-stops, if-else-stops, if-walked, arms-none-walked, arm-stops, arm-last, arm-rest-stops, arms-walked}
 use Rattle.tables.specs.Rows.{givesIn}
 use Rattle.tables.specs.Filled.{Belongs}
 use Rattle.checking.specs.Checker.{CheckState, carrying, checker}

@@ -9,8 +9,8 @@ use lib.Seq.{getD-set-same, getD-set-other}
 use Rattle.sets.specs.Sets.{_∩_, sameSet, stored, loaded, loaded-stored}
 use Rattle.sets.specs.declared.Set.{Set}
 use Rattle.language.specs.Program.{Signature, Program}
-use Rattle.records.specs.Blank.{walkWords}
-use Rattle.values.specs.Walk.{outcome, goesOn, require}
+use Rattle.walks.specs.Carried.{walkWords}
+use Rattle.walks.specs.Walk.{outcome, goesOn, require}
 use Rattle.checking.specs.Checker.{CheckState, carrying, checker}
 
 -- the two words

@@ -8,7 +8,7 @@ use Rattle.sets.specs.Members.{setOf}
 use Rattle.sets.specs.declared.Set.{Set}
 use Rattle.language.specs.Program.{Four, argumentsOf, Step, Goals, done, _then_, Goal, step, switch, ifLess, Arms, noArms, arm, Signature, Program}
 use Rattle.language.specs.Checking.{Carried, broken, carries, requireRule, carryOn, joinArms, soundGiven, checkStep, checkGoals, checkGoal, checkArms}
-use Rattle.values.specs.Walk.{WalkOutcome, stopped, goesOn, require, onwards, Walker, meet, walkGoals, walkGoal, walkArms}
+use Rattle.walks.specs.Walk.{WalkOutcome, stopped, goesOn, require, onwards, Walker, meet, walkGoals, walkGoal, walkArms}
 
 pub record CheckState : Type 0 where
   pub held : Set

@@ -19,7 +19,7 @@ use Rattle.chains.specs.Formed.{Stands, goalsAt}
 use Rattle.tables.specs.Window.{WindowOf, setIn, bodyPlace, insPlace, outsPlace, bornPlace, deadPlace, keptPlace}
 use Rattle.tables.specs.Filled.{Belongs, Prepared}
 use Rattle.checking.specs.Carried.{heldIn, soundIn, state}
-use Rattle.values.specs.Walk.{outcome, walkGoals}
+use Rattle.walks.specs.Walk.{outcome, walkGoals}
 use Rattle.checking.specs.Checker.{carrying, checker, told, goals-agree}
 use Rattle.checking.specs.Ready.{Ready, GoalsChecked}
 

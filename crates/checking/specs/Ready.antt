@@ -7,7 +7,7 @@ use Rattle.language.specs.Program.{signatureOf}
 use Rattle.language.specs.Answers.{program}
 use Rattle.tables.specs.Window.{Window}
 use Rattle.tables.specs.Filled.{Accessed, Belongs, Owned}
-use Rattle.values.specs.Along.{GoalsWalked, GoalWalked, ArmsWalked}
+use Rattle.walks.specs.Along.{GoalsWalked, GoalWalked, ArmsWalked}
 use Rattle.checking.specs.Checker.{checker}
 use Rattle.checking.specs.Carried.{state}
 

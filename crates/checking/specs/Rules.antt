@@ -14,7 +14,7 @@ use Rattle.language.specs.Answers.{program}
 use Rattle.tables.specs.Window.{Window, keptPlace, setIn}
 use Rattle.tables.specs.Rows.{readsIn, givesIn, needsIn, bearsIn, endsIn, markIn}
 use Rattle.tables.specs.Filled.{GoalIsStep, Accessed, Effected}
-use Rattle.values.specs.Walk.{outcome, goesOn}
+use Rattle.walks.specs.Walk.{outcome, goesOn}
 use Rattle.checking.specs.Checker.{carrying, asOutcome, checker}
 use Rattle.checking.specs.Carried.{heldIn, soundIn, state}
 use Rattle.checking.specs.Sound.{ReachesAll}

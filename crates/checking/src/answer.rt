@@ -2,10 +2,10 @@
 use crate::procedures::rules_ok;
 use language::Refusal;
 use language::Verdict;
-use records::blank::blank_file_table;
-use records::blank::blank_rows;
 use rules::check_classes;
 use rules::check_typing;
+use tables::blank_file_table;
+use tables::blank_rows;
 ghost use mathlib.Core.Path.{_≡_};
 ghost use mathlib.Core.Bool.{true};
 ghost use Rattle.language.specs.Typing.{typingOk};

@@ -1,12 +1,12 @@
 // What the walk carries, in place: a word for the held regions and one for the sound variables.
-use records::blank::WALK_WORDS;
 use sets::Set;
+use walks::WALK_WORDS;
 ghost use mathlib.Core.Path.{_≡_};
 ghost use Prim.Native.Nat.{_≤_};
 ghost use lib.ListN.{length};
 ghost use Rattle.language.specs.Program.{Signature, Program};
-ghost use Rattle.values.specs.Walk.{outcome};
-ghost use Rattle.records.specs.Blank.{walkWords};
+ghost use Rattle.walks.specs.Walk.{outcome};
+ghost use Rattle.walks.specs.Carried.{walkWords};
 ghost use Rattle.checking.specs.Checker.{carrying, checker};
 ghost use Rattle.checking.specs.Carried.{heldIn, soundIn, state};
 

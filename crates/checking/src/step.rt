@@ -4,7 +4,6 @@ use crate::carried::held_in;
 use crate::carried::sound_in;
 use crate::sound::sound_given;
 use crate::sound::sound_without;
-use records::blank::WALK_WORDS;
 use sets::Set;
 use tables::KEPT;
 use tables::ROWS;
@@ -15,6 +14,7 @@ use tables::marked;
 use tables::needs_at;
 use tables::reads_at;
 use tables::set_at;
+use walks::WALK_WORDS;
 ghost use mathlib.Core.Path.{_≡_};
 ghost use Rattle.checking.specs.Rules.{rulesAt, StepChecked, Entered};
 

@@ -1,34 +1,29 @@
 -- What the file's table has: functors by type and number, the first of each type with regions, procedures by number, links between variables by their
 -- records.
-use Prim.Native.Nat.{ℕ, zero, suc, _≤_, _<_}
+use Prim.Native.Nat.{ℕ}
 use native.Mathlib.Omega.{arith}
 use native.Mathlib.Decide.{decLt}
-use borrow.Author.Tests.{le-leb, lt-leb, leb-true, lt-ltb, le-ltb}
+use borrow.Author.Tests.{lt-ltb, le-ltb}
 use mathlib.Core.Path.{_≡_, refl, ap, sym, _∙_}
-use mathlib.Core.Bool.{true, false}
-use mathlib.Core.List.{List, []}
-use mathlib.Core.Logic.{inl, inr}
-use lib.Dec.{eqb, leb, ltb}
+use mathlib.Core.Bool.{true}
+use mathlib.Core.List.{List}
+use lib.Dec.{ltb}
 use lib.ListN.{length, getD}
-use Rattle.sets.specs.Tests.{_&_, neg, truth, clash, false-of, and-true, true-and}
-use Rattle.laws.specs.Tests.{and-yes, no-and, and-no}
-use Rattle.laws.specs.Choices.{choose-true, choose-false}
-use Rattle.laws.specs.Lists.{all-weaker, all-nth, all-or-default, nth-past as nth-none}
-use Rattle.language.specs.Format.{nextWord, headerTypes, headerProcedures, typeFunctors, procedureVariables, maxRecords, maxFunctors}
-use Rattle.language.specs.Lists.{all, choose, among, nth, nth1}
+use Rattle.language.specs.Format.{nextWord, headerTypes, headerProcedures, typeFunctors, procedureVariables}
+use Rattle.language.specs.Lists.{nth, nth1}
 use Rattle.language.specs.File.{Chain, types, functors, procedures, variables, word}
-use Rattle.language.specs.Program.{Functor, functorsOf, functorAt, signatureOf}
-use Rattle.language.specs.Typing.{isType, regioned, functorOk, typeOk, typesOk}
+use Rattle.language.specs.Program.{functorsOf, functorAt, signatureOf}
+use Rattle.language.specs.Typing.{typesOk}
 use Rattle.language.specs.Answers.{program}
 use Rattle.chains.specs.Layout.{real}
 use Rattle.chains.specs.Fields.{fieldOf, field-some}
-use Rattle.chains.specs.Formed.{Formed, Stands, counted, types-stand, procedures-stand, program-types, program-procedures, functorsAt, functors-none, variablesAt}
+use Rattle.chains.specs.Formed.{Formed, Stands, types-stand, procedures-stand, program-types, program-procedures, functorsAt, variablesAt}
 use Rattle.chains.specs.Records.{chainRecords, records-some, records-none, records-step}
 use Rattle.chains.specs.Elements.{functors-count, procedures-count}
 use Rattle.chains.specs.Reached.{stands-nth, stands-nth1, type-functors, place-below, place-past}
 use Rattle.chains.specs.Lookups.{functors-of, functor-of, procedure-of}
 use Rattle.declarations.specs.Functors.{functorAtRecord, functor-same}
-use Rattle.declarations.specs.Regioned.{constantsAt, regionedStart}
+use Rattle.declarations.specs.Regioned.{regionedStart}
 use Rattle.declarations.specs.Parameters.{ParameterFrom}
 use Rattle.declarations.specs.Places.{regionedIn, functorIn, procedureIn}
 
@@ -57,11 +52,6 @@ module _ {f : List ℕ} (F : Formed f) (ty : ℕ) where
   pub functors-length : length (chainRecords f (typeStart f ty)) ≡ length (functorsOf (program f .types) ty)
   functors-length = sym (functors-count F (typeStart f ty) start-stands) ∙ ap length functors-are
 
-  -- a type with regions has a functor
-  start-some : regioned (program f .types) ty ≡ true → typeStart f ty ≡ 0 → ⊥
-  unfolding regioned all neg
-  start-some r z = clash r (ap (λ fs. neg (all (λ g. eqb (g .arity) 0) fs)) (sym functors-are ∙ functors-none f z))
-
 -- there is an n-th record where the chain is that long
 record-listed : (f : List ℕ) (i n : ℕ) → ltb 0 (nth 0 (chainRecords f i) n) ≡ ltb n (length (chainRecords f i))
 record-listed f i n =
@@ -79,85 +69,20 @@ first-record {f} F {i = i} s =
       | no l ↦ let z : i ≡ 0 = omega arith in ap (λ xs. nth 0 xs 0) (records-none f z) ∙ sym z
     ]
 
--- "32 functors a type (at least 1)": a type is one with functors
-some-functors : (T : List (List Functor)) → typesOk T ≡ true → (ty : ℕ) → ltb 0 (length (functorsOf T ty)) ≡ (isType T ty & leb 1 ty)
-unfolding typesOk typeOk functorsOf nth1 isType among
-some-functors T h zero = sym (and-no (leb 0 (length T)) refl)
-some-functors T h (suc n) =
-    elim (decLt n (length T)) [
-      | yes l ↦
-          let k = and-true (and-true (all-nth (typeOk T) [] T n (and-true h .1) l) .0) .0 in
-          lt-ltb 0 (length (nth [] T n)) (leb-true 1 (length (nth [] T n)) k) ∙ sym (true-and (le-leb (suc n) (length T) (omega arith)) (le-leb 1 (suc n) (omega arith)))
-      | no l ↦ ap (λ fs. ltb 0 (length fs)) (nth-none [] T n (omega arith)) ∙ sym (no-and (leb 1 (suc n)) (lt-leb (suc n) (length T) (omega arith)))
-    ]
-
-pub few-functors : (T : List (List Functor)) → typesOk T ≡ true → (ty : ℕ) → length (functorsOf T ty) ≤ maxFunctors
-unfolding typesOk typeOk functorsOf nth1 among
-few-functors T h zero = omega arith
-few-functors T h (suc n) =
-    elim (decLt n (length T)) [
-      | yes l ↦ leb-true (length (nth [] T n)) maxFunctors (and-true (and-true (all-nth (typeOk T) [] T n (and-true h .1) l) .0) .1)
-      | no l ↦ omega (arith, ap length (nth-none [] T n (omega arith)))
-    ]
-
--- each functor of a type is in order
-functors-fit : (T : List (List Functor)) → typesOk T ≡ true → (ty : ℕ) → all (functorOk T) (functorsOf T ty) ≡ true
-unfolding typesOk typeOk functorsOf nth1 all
-functors-fit T h zero = refl
-functors-fit T h (suc n) = all-or-default (all (functorOk T)) [] refl T n (all-weaker (typeOk T) (all (functorOk T)) T (λ fs e. and-true e .1) (and-true h .1))
-
 module _ {f t : List ℕ} (D : Declares f t) where
   pub functor-stands : (ty n : ℕ) → Stands f functors (functorIn t ty n)
   unfolding real
   functor-stands ty n = rw (D .functors ty n) (stands-nth (D .formed) functors refl (typeStart f ty) (start-stands (D .formed) ty) n)
 
-  pub functor-low : (ty n : ℕ) → functorIn t ty n < maxRecords
-  functor-low ty n = omega (arith, functor-stands ty n .below, counted (D .formed) .most)
-
   pub functor-listed : (ty n : ℕ) → ltb 0 (functorIn t ty n) ≡ ltb n (length (functorsOf (program f .types) ty))
   functor-listed ty n = ap (ltb 0) (D .functors ty n) ∙ record-listed f (typeStart f ty) n ∙ ap (ltb n) (functors-length (D .formed) ty)
 
-  type-listed : (ty : ℕ) → ltb 0 (functorIn t ty 0) ≡ (isType (program f .types) ty & leb 1 ty)
-  type-listed ty = functor-listed ty 0 ∙ some-functors (program f .types) (D .types-ok) ty
-
   module _ (ty : ℕ) {g : ℕ} (e : g ≡ functorIn t ty 0) where
-    pub type-some : (g ≡ 0 → ⊥) → isType (program f .types) ty ≡ true
-    type-some z = and-true (sym (type-listed ty) ∙ lt-ltb 0 (functorIn t ty 0) (omega arith)) .0
-
-    pub type-none : (ty ≡ 0 → ⊥) → g ≡ 0 → isType (program f .types) ty ≡ false
-    type-none z n =
-        sym (and-yes (isType (program f .types) ty)) ∙ ap (λ b. isType (program f .types) ty & b) (sym (le-leb 1 ty (omega arith)))
-        ∙ sym (type-listed ty) ∙ le-ltb 0 (functorIn t ty 0) (omega arith)
-
     -- the functors from the first of a type on
     pub functors-here : functorsAt f g ≡ functorsOf (program f .types) ty
     functors-here = ap (functorsAt f) (e ∙ D .functors ty 0 ∙ first-record (D .formed) (start-stands (D .formed) ty)) ∙ functors-are (D .formed) ty
 
   -- ---- types with regions
-  regioned-start : (ty : ℕ) → regionedIn t ty ≡ choose (regioned (program f .types) ty) (typeStart f ty) 0
-  unfolding regioned regionedStart constantsAt
-  regioned-start ty = D .starts ty ∙ ap (λ fs. choose (neg (all (λ g. eqb (g .arity) 0) fs)) (typeStart f ty) 0) (functors-are (D .formed) ty)
-
-  module _ (ty : ℕ) {g : ℕ} (e : g ≡ regionedIn t ty) where
-    pub regioned-none : g ≡ 0 → regioned (program f .types) ty ≡ false
-    regioned-none z = false-of λ r. start-some (D .formed) ty r (sym (choose-true _ (typeStart f ty) 0 r) ∙ sym (regioned-start ty) ∙ sym e ∙ z)
-
-    module _ (z : g ≡ 0 → ⊥) where
-      pub regioned-some : regioned (program f .types) ty ≡ true
-      regioned-some = elim (truth (regioned (program f .types) ty)) [ inl r ↦ r | inr r ↦ absurd (z (e ∙ regioned-start ty ∙ choose-false _ (typeStart f ty) 0 r)) ]
-
-      start-same : g ≡ typeStart f ty
-      start-same = e ∙ regioned-start ty ∙ choose-true _ (typeStart f ty) 0 regioned-some
-
-      pub regioned-stands : Stands f functors g
-      regioned-stands = rw start-same (start-stands (D .formed) ty)
-
-      pub regioned-functors : functorsAt f g ≡ functorsOf (program f .types) ty
-      regioned-functors = ap (functorsAt f) start-same ∙ functors-are (D .formed) ty
-
-      pub regioned-fit : all (functorOk (program f .types)) (functorsAt f g) ≡ true
-      regioned-fit = rw regioned-functors (functors-fit (program f .types) (D .types-ok) ty)
-
   pub functor-here : (ty n : ℕ) {g : ℕ} → g ≡ functorIn t ty n → (g ≡ 0 → ⊥) → functorAt (functorsOf (program f .types) ty) n ≡ functorAtRecord f g
   functor-here ty n {g} e z = functor-of (D .formed) (start-stands (D .formed) ty) (sym (functors-are (D .formed) ty)) n (e ∙ D .functors ty n) ∙ functor-same f g z
 

@@ -1,7 +1,7 @@
 -- The edges of a region against the places of its type, a few places at a time: whatever places follow, the whole is what the rest says.
 use Prim.Native.Nat.{ℕ}
-use mathlib.Core.Path.{_≡_, ap}
-use mathlib.Core.Bool.{Bool, true, false, false≢true}
+use mathlib.Core.Path.{_≡_}
+use mathlib.Core.Bool.{Bool, false}
 use mathlib.Core.List.{List, [], _∷_, _++_}
 use Rattle.language.specs.File.{edges}
 use Rattle.language.specs.Program.{Signature}
@@ -41,15 +41,3 @@ placeAt f g k t = placeIf (regioned (program f .types) t) (record { functor = g;
 -- all places of the functors from record start on
 abbrev pub AllMatch : List ℕ → List ℕ → ℕ → ℕ → Bool → Type 0
 AllMatch f own start e r = r ≡ edgesOk (program f .types) (declared f own) (placesFrom (program f .types) 0 (functorsAt f start)) (edgesAt f e)
-
--- ---- two rests
-pub at-same : {a b : ℕ} → At a ≡ At b → a ≡ b
-at-same e = cc
-
-isAt : Rest → Bool
-isAt (At a) = true
-isAt Wrong = false
-
-pub wrong-at : {b : ℕ} → Wrong ≡ At b → ⊥
-unfolding isAt
-wrong-at e = false≢true (ap isAt e)

@@ -4,10 +4,8 @@ pub mod Parameters
 pub mod Functors
 pub mod Regioned
 pub mod Types
-pub mod TypeLaws
 pub mod Declares
 pub mod Own
 pub mod Filling
 pub mod Edges
-pub mod EdgeLaws
 pub mod Signatures

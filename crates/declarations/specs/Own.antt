@@ -6,22 +6,21 @@ use borrow.Author.Tests.{lt-ltb, le-ltb}
 use mathlib.Core.Path.{_≡_, refl, ap, sym, _∙_}
 use mathlib.Core.Bool.{Bool, true, false}
 use mathlib.Core.List.{List}
-use lib.Dec.{eqb, leb, ltb}
+use lib.Dec.{leb, ltb}
 use lib.ListN.{length}
 use Rattle.sets.specs.Tests.{_&_}
-use Rattle.laws.specs.Tests.{refuse, pass}
-use Rattle.language.specs.Format.{procedureVariables, procedureRegions, variableType, regionType, maxVariables, maxRegions}
+use Rattle.language.specs.Format.{procedureVariables, procedureRegions, variableType, maxVariables, maxRegions}
 use Rattle.language.specs.Lists.{among, nth1}
 use Rattle.language.specs.File.{variables, regions, word}
 use Rattle.language.specs.Program.{Signature, typeOf}
-use Rattle.language.specs.Typing.{isVariable, isRegion, hasType, isRegionOf}
+use Rattle.language.specs.Typing.{isVariable, isRegion}
 use Rattle.chains.specs.Layout.{real}
 use Rattle.chains.specs.Fields.{field-some}
 use Rattle.chains.specs.Formed.{Formed, Stands, variablesAt, regionsAt}
 use Rattle.chains.specs.Records.{chainRecords, records-some}
 use Rattle.chains.specs.Elements.{variables-count, regions-count}
 use Rattle.chains.specs.Reached.{stands-nth1, among-place, among-past}
-use Rattle.chains.specs.Lookups.{variable-of, region-of}
+use Rattle.chains.specs.Lookups.{variable-of}
 use Rattle.declarations.specs.Places.{variableIn, regionIn}
 
 pub record Own (f t : List ℕ) : Type 0 where
@@ -63,10 +62,6 @@ module _ {f t : List ℕ} (F : Formed f) (O : Own f t) where
   unfolding real
   variable-stands x = rw (O .variables x) (stands-nth1 F variables refl _ (O .variables-stand) x)
 
-  pub region-stands : (r : ℕ) → Stands f regions (regionIn t r)
-  unfolding real
-  region-stands r = rw (O .regions r) (stands-nth1 F regions refl _ (O .regions-stand) r)
-
   pub variable-listed : (x : ℕ) → ltb 0 (variableIn t x) ≡ isVariable (declared f t) x
   unfolding isVariable declared signatureFrom
   variable-listed x = ap (ltb 0) (O .variables x) ∙ record-listed1 f (variableIn t 1) x (sym (variables-count F _ (O .variables-stand)))
@@ -86,22 +81,3 @@ module _ {f t : List ℕ} (F : Formed f) (O : Own f t) where
       pub variable-type : typeOf (declared f t) x ≡ word f v variableType
       unfolding typeOf declared signatureFrom
       variable-type = ap (λ u. u .type) (variable-of F (declared f t) (O .variables-stand) refl x (e ∙ O .variables x)) ∙ sym (field-some f v variableType z)
-
-      pub typed-some : {w : ℕ} (ty : ℕ) → w ≡ word f v variableType → eqb w ty ≡ hasType (declared f t) ty x
-      unfolding hasType
-      typed-some ty ew = pass (sym variable-some) refl (ap (λ u. eqb u ty) (ew ∙ sym variable-type))
-
-    pub typed-none : v ≡ 0 → (ty : ℕ) → false ≡ hasType (declared f t) ty x
-    unfolding hasType
-    typed-none z ty = refuse _ (sym (variable-none z)) refl
-
-  module _ (r : ℕ) {i : ℕ} (e : i ≡ regionIn t r) where
-    pub region-none : i ≡ 0 → (ty : ℕ) → false ≡ isRegionOf (declared f t) ty r
-    unfolding isRegionOf
-    region-none z ty = refuse _ (sym (le-ltb 0 (regionIn t r) (omega arith)) ∙ region-listed r) refl
-
-    pub region-some : (i ≡ 0 → ⊥) → {w : ℕ} (ty : ℕ) → w ≡ word f i regionType → eqb w ty ≡ isRegionOf (declared f t) ty r
-    unfolding isRegionOf declared signatureFrom
-    region-some z ty ew =
-        pass (sym (lt-ltb 0 (regionIn t r) (omega arith)) ∙ region-listed r) refl
-        (ap (λ u. eqb u ty) (ew ∙ field-some f i regionType z ∙ sym (ap (λ s. s .type) (region-of F (declared f t) (O .regions-stand) refl r (e ∙ O .regions r)))))

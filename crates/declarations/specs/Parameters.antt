@@ -13,9 +13,9 @@ use Rattle.language.specs.Format.{kindWord, nextWord, variableMode, variableTyp
 use Rattle.language.specs.Lists.{choose}
 use Rattle.language.specs.File.{kVariable, functors, variables, rowIn, row, word, recordCount}
 use Rattle.language.specs.Program.{Variable}
-use Rattle.chains.specs.Formed.{Formed, Stands, stands-none, counted, Onward, variablesAt, ahead}
+use Rattle.chains.specs.Formed.{Formed, Stands, counted, Onward, variablesAt, ahead}
 use Rattle.chains.specs.Is.{functor-is, variable-is}
-use Rattle.chains.specs.Shapes.{variable-number, by-number}
+use Rattle.chains.specs.Shapes.{by-number}
 use Rattle.chains.specs.Declared.{variable-at}
 use Rattle.declarations.specs.Places.{filePlaces}
 
@@ -86,29 +86,7 @@ pub record Linked (f t u : List ℕ) (i : ℕ) : Type 0 where
   pub other : (k : ℕ) → Stands f functors k ⊎ (maxRecords ≤ k) → getD u k 0 ≡ getD t k 0
 
 module _ {f : List ℕ} (F : Formed f) where
-  parameter-none : {v u : ℕ} → v ≡ 0 → u ≡ 0 → ParameterFrom f v u
-  parameter-none e d = record { stands = stands-none F d; falls = rw (d, e) (omega arith); passes = λ n m. n d; same = rw (d, e) }
-
-  pub linked-none : {t : List ℕ} {i : ℕ} → i ≡ recordCount f → getD t 0 0 ≡ 0 → Linked f t t i
-  linked-none {t} {i} e h = record { kept = refl; right = at; other = λ k l. refl }
-    where
-      at : (v : ℕ) → (v ≡ 0) ⊎ (i ≤ v) → Stands f variables v → ParameterFrom f v (getD t v 0)
-      at v (inl d) s = rw d (parameter-none refl h)
-      at v (inr l) s = absurd (omega (arith, s .below))
-
   module _ {t u : List ℕ} {i : ℕ} (L : Linked f t u i) (j : ℕ) (e : i ≡ suc j) (z : j ≡ 0 → ⊥) where
-    -- the kinds tell that j is no variable
-    pub linked-other : (word f j kindWord ≡ variableKind → ⊥) → Linked f t u j
-    linked-other n = record { kept = L .kept; right = at; other = L .other }
-      where
-        at : (v : ℕ) → (v ≡ 0) ⊎ (j ≤ v) → Stands f variables v → ParameterFrom f v (getD u v 0)
-        at v (inl d) s = L .right v (inl d) s
-        at v (inr l) s =
-            elim (decLt j v) [
-              | yes m ↦ L .right v (inr (omega arith)) s
-              | no m ↦ let d : v ≡ j = omega arith in absurd (n (rw (sym d) (variable-number s λ y. z (sym d ∙ y))))
-            ]
-
     parameter-here : Stands f variables j → ParameterFrom f j (linkOf f u j)
     unfolding linkOf
     parameter-here s =
@@ -138,6 +116,3 @@ module _ {f : List ℕ} (F : Formed f) where
 
     pub linked-variable : word f j kindWord ≡ variableKind → j < recordCount f → filePlaces ≤ length t → {w : ℕ} → w ≡ linkOf f u j → Linked f t (set u j w) j
     linked-variable ek b h {w} ew = linked-next ek (omega (arith, counted F .most)) h λ s. rw ew (parameter-here s)
-
-pub linked-all : {f t u : List ℕ} {i : ℕ} → Linked f t u i → i ≤ 1 → Linked f t u 1
-linked-all L h = record { kept = L .kept; right = λ v o s. L .right v (elim o [ inl d ↦ inl d | inr l ↦ inr (omega arith) ]) s; other = L .other }

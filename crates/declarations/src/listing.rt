@@ -17,6 +17,7 @@ use language::format::PROCEDURE_VARIABLES;
 use language::format::TYPE_FUNCTORS;
 use language::format::VARIABLE;
 use language::format::VARIABLE_MODE;
+use records::narrow;
 ghost use mathlib.Core.Path.{_≡_};
 ghost use mathlib.Core.Bool.{true};
 ghost use Prim.Native.Nat.{ℕ, _+_, _≤_, _<_};
@@ -25,7 +26,6 @@ ghost use Rattle.language.specs.Format.{maxProcedures};
 ghost use Rattle.language.specs.File.{functors, procedures, recordCount};
 ghost use Rattle.language.specs.Typing.{typesOk};
 ghost use Rattle.language.specs.Answers.{program};
-ghost use Rattle.records.specs.Sizes.{wordEnd};
 ghost use Rattle.chains.specs.Formed.{Formed, Stands};
 ghost use Rattle.chains.specs.Records.{chainRecords};
 ghost use Rattle.declarations.specs.Places.{filePlaces, functorPlaces, ownPlaces};
@@ -35,19 +35,6 @@ ghost use Rattle.declarations.specs.Filling.{Functors};
 ghost use Rattle.declarations.specs.Regioned.{regionedStart};
 ghost use Rattle.declarations.specs.Declares.{Declares};
 ghost use Rattle.declarations.specs.Own.{signatureAt, fewDeclared, OwnOf};
-
-pub fn wide(v: u16) -> usize
-    ensures { λ r. ⌜ r ≡ v ⌝ }
-{
-    v as usize
-}
-
-fn narrow(v: usize) -> u16
-    requires { ⌜ v < wordEnd ⌝ }
-    ensures { λ r. ⌜ r ≡ v ⌝ }
-{
-    v as u16
-}
 
 // Lists the chain at record start in the places from `at` on.
 fn list_records(file: &[u8], start: usize, at: usize, table: &mut [u16])

@@ -1,5 +1,4 @@
 // Numbers that name something declared: the record that a table has for it, 0 where there is no such thing.
-use crate::listing::wide;
 use crate::places::FILE_PLACES;
 use crate::places::FUNCTOR_PLACES;
 use crate::places::OWN_PLACES;
@@ -11,6 +10,7 @@ use language::format::MAX_PROCEDURES;
 use language::format::PLACES;
 use language::format::REGION_TYPE;
 use language::format::VARIABLE_TYPE;
+use records::wide;
 ghost use mathlib.Core.Path.{_≡_};
 ghost use Prim.Native.Nat.{_+_, _≤_, _<_};
 ghost use lib.ListN.{length, getD};

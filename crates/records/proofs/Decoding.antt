@@ -7,7 +7,7 @@ use mathlib.Core.List.{List}
 use Rattle.language.specs.Lists.{nth}
 use Rattle.language.specs.File.{word, kindOf, kinds, kNone}
 use Rattle.language.specs.Format.{kindWord}
-use Rattle.records.specs.Table.{kind-high}
+use Rattle.records.proofs.TableLaws.{kind-high}
 use Rattle.records.specs.declared.Record.{Record}
 use Rattle.records.specs.declared.Record.the-variants.{Other}
 use Rattle.records.specs.Records.{recordAs, recordAt, record-as}

@@ -1,4 +1,7 @@
+mod ListsLaws
+mod Stages
+mod TableLaws
+mod FormLaws
 mod Decoding
 mod Steps
 mod Loops
-mod Stages

@@ -10,9 +10,12 @@ use Rattle.sets.specs.Tests.{_&_}
 use Rattle.language.specs.Lists.{all, upFrom}
 use Rattle.language.specs.Format.{maxRecords, kindWord}
 use Rattle.language.specs.File.{Use, number, unused, first, row, kindOf, kindAt, recordOk, leading, references, referencesOf, onceIn, formOk}
-use Rattle.records.specs.Lists.{all-same, from-here, from-end, tally, tally-append, tally-once}
-use Rattle.records.specs.Table.{digit, pack, packed, uses, seven, pack-first, pack-rest}
-use Rattle.records.specs.Form.{Tallied, UseTallied, useOk, refers, leads, refersOk, spareOk, leading-cons, references-by-uses, record-apart}
+use Rattle.records.specs.Lists.{all-same, from-here, from-end, tally}
+use Rattle.records.proofs.ListsLaws.{tally-append, tally-once}
+use Rattle.records.specs.Table.{digit, pack, packed, uses}
+use Rattle.records.proofs.TableLaws.{seven, pack-first, pack-rest}
+use Rattle.records.specs.Form.{Tallied, UseTallied, useOk, refers, leads, refersOk, spareOk, references-by-uses}
+use Rattle.records.proofs.FormLaws.{leading-cons, record-apart}
 use Rattle.records.specs.Sizes.{digitEnd, recordWords}
 
 and-first : {a b : Bool} → a ≡ true → (a & b) ≡ b

@@ -9,9 +9,11 @@ use borrow.Author.Tests.{eq-eqb, ne-eqb, lt-ltb, le-ltb, lt-leb, le-leb, eqb-tru
 use Rattle.sets.specs.Tests.{_&_, _or_, same-truth}
 use Rattle.language.specs.File.{Chain, Use, number, unused, first, Kind, row, kindOf, kindAt, code, standsIn, referenceOk}
 use Rattle.records.specs.Lists.{counted, tally}
-use Rattle.records.specs.Table.{digit, packed, uses, lowMost, highMost, pack-first}
+use Rattle.records.specs.Table.{digit, packed, uses, lowMost, highMost}
+use Rattle.records.proofs.TableLaws.{pack-first}
 use Rattle.records.specs.Form.{Tallied, useOk, leads, spareOk}
-use Rattle.records.specs.Spare.{LowWords, HighWords, zeros-small}
+use Rattle.records.specs.Spare.{LowWords, HighWords}
+use Rattle.records.proofs.FormLaws.{zeros-small}
 use Rattle.records.specs.Sizes.{digitEnd}
 
 packed-chain : (k : Kind) → packed k % digitEnd ≡ digit (first (row k .chain))

@@ -1,29 +1,10 @@
--- How long the tables of zeros are. The code has the numbers under the same names (src/blank.rt).
+-- Tables of zeros, and how long a file may be. The code has the number under the same name (src/blank.rt).
 use Prim.Native.Nat.{ℕ, zero, suc, _+_, _*_, _≤_}
 use native.Mathlib.Omega.{arith}
 use mathlib.Core.List.{List}
 use mathlib.Core.Path.{_≡_, refl, ap}
 use lib.ListN.{length, getD, replicate, length-replicate}
-use Rattle.language.specs.Format.{maxBytes, maxRecords, maxProcedures}
-
--- what a walk over goals carries
-abbrev pub walkWords : ℕ
-walkWords = 2
-
--- the first words of a procedure's window
-abbrev pub headSize : ℕ
-headSize = 10
-
--- for each procedure where its window starts and the window's first words; two words for each record
-abbrev pub fileWords : ℕ
-fileWords = (1 + headSize) * maxProcedures + 2 * maxRecords
-
--- words of a record's row
-abbrev pub rowSize : ℕ
-rowSize = 6
-
-abbrev pub rowWords : ℕ
-rowWords = rowSize * maxRecords
+use Rattle.language.specs.Format.{maxBytes}
 
 -- the longest file and one byte, so that a longer one is told
 abbrev pub inputBytes : ℕ

@@ -1,11 +1,11 @@
 -- Number 2 as the code goes through it: the words that must be 0 apart from the references. Assumes nothing.
 use Prim.Native.Nat.{ℕ, suc}
-use mathlib.Core.Path.{_≡_, refl, ap, _∙_}
-use mathlib.Core.Bool.{Bool, true, false}
-use mathlib.Core.List.{List, [], _∷_, _++_}
+use mathlib.Core.Path.{_≡_, refl}
+use mathlib.Core.Bool.{Bool, true}
+use mathlib.Core.List.{List, [], _∷_}
 use lib.Dec.{eqb}
 use Rattle.sets.specs.Tests.{_&_}
-use Rattle.language.specs.File.{Use, number, unused, first, row, kindOf, kindAt, referenceOk, wordsOk, recordOk, leading, references}
+use Rattle.language.specs.File.{Use, number, unused, first, row, kindOf, kindAt, referenceOk, leading, references}
 use Rattle.records.specs.Lists.{tally}
 use Rattle.records.specs.Table.{uses}
 
@@ -13,25 +13,6 @@ use Rattle.records.specs.Table.{uses}
 pub record Tallied (b t : Bool) (rs before after : List ℕ) : Type 0 where
   pub says : b ≡ t
   pub counts : b ≡ true → after ≡ tally before rs
-
--- tests may stand in any order
-and-later : (a b c : Bool) → (a & b & c) ≡ (b & a & c)
-unfolding _&_
-and-later true b c = refl
-and-later false true c = refl
-and-later false false c = refl
-
-and-turned : (a b : Bool) → (a & b) ≡ (b & a)
-unfolding _&_
-and-turned true true = refl
-and-turned true false = refl
-and-turned false true = refl
-and-turned false false = refl
-
-and-apart : (a b c : Bool) → (a & b & c) ≡ ((a & b) & c)
-unfolding _&_
-and-apart true b c = refl
-and-apart false b c = refl
 
 -- ---- the words that must be 0
 module _ (W : ℕ → ℕ → ℕ) (i : ℕ) where
@@ -67,12 +48,6 @@ module _ (W : ℕ → ℕ → ℕ) (n i : ℕ) where
   abbrev pub UseTallied : ℕ → Use → Bool → List ℕ → List ℕ → Type 0
   UseTallied k u b before after = Tallied b (useOk k u) (leads k u) before after
 
-  pub leading-cons : (k : ℕ) (u : Use) (us : List Use) → leading W n i k (u ∷ us) ≡ leads k u ++ leading W n i (suc k) us
-  unfolding leading leads
-  leading-cons k number us = refl
-  leading-cons k unused us = refl
-  leading-cons k (first c) us = refl
-
   -- w1 is a word like the others
   pub references-by-uses : references W n i ≡ leading W n i 1 (uses (row (kindAt W n i)))
   unfolding references leading uses
@@ -81,14 +56,3 @@ module _ (W : ℕ → ℕ → ℕ) (n i : ℕ) where
   -- those of record i
   unfoldable pub refersOk : Bool
   refersOk = refers 1 (uses (row (kindAt W n i)))
-
-  words-apart : (k : ℕ) (us : List Use) → wordsOk W n i k us ≡ (refers k us & zeros W i k us)
-  unfolding wordsOk refers useOk zeros _&_
-  words-apart k [] = refl
-  words-apart k (number ∷ us) = words-apart (suc k) us
-  words-apart k (unused ∷ us) = ap (λ t. eqb (W i k) 0 & t) (words-apart (suc k) us) ∙ and-later (eqb (W i k) 0) (refers (suc k) us) (zeros W i (suc k) us)
-  words-apart k (first c ∷ us) = ap (λ t. referenceOk W n i c (W i k) & t) (words-apart (suc k) us) ∙ and-apart (referenceOk W n i c (W i k)) (refers (suc k) us) (zeros W i (suc k) us)
-
-  pub record-apart : recordOk W n i ≡ (spareOk W i & refersOk)
-  unfolding recordOk wordsOk refersOk spareOk uses zeros kindAt
-  record-apart = words-apart 1 (uses (row (kindAt W n i))) ∙ and-turned refersOk (spareOk W i)

@@ -4,10 +4,13 @@ mod decode;
 mod form;
 pub mod sizes;
 mod stage;
+mod widths;
 mod words;
 
 pub use decode::record_at;
 pub use stage::check_form;
+pub use widths::narrow;
+pub use widths::wide;
 pub use words::header_ok;
 pub use words::word;
 pub use words::word_in;

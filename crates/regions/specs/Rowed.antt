@@ -15,7 +15,7 @@ use Rattle.language.specs.Program.{Step}
 use Rattle.language.specs.Regions.{regionsOk}
 use Rattle.language.specs.Answers.{program}
 use Rattle.records.specs.Lists.{from-here, from-end}
-use Rattle.records.specs.Blank.{rowWords}
+use Rattle.tables.specs.Places.{rowWords, givesPlace, needsPlace, readsPlace, rowPlace, rowSize}
 use Rattle.chains.specs.Formed.{Formed, counted}
 use Rattle.chains.specs.Shapes.{IsCall, call-here}
 use Rattle.owners.specs.Owner.{ownerOf}
@@ -23,7 +23,6 @@ use Rattle.owners.specs.Everywhere.{recordTest}
 use Rattle.tables.specs.Rows.{readsIn, givesIn, effectIn, putEffect, Still, StillAt, word-same, row-same, effect-length, effect-word, effect-still, effect-put}
 use Rattle.tables.specs.Filled.{GoalIsStep, Accessed, Effected}
 use Rattle.tables.specs.declared.Effect.{Effect}
-use Rattle.tables.specs.Places.{givesPlace, needsPlace, readsPlace, rowPlace, rowSize}
 use Rattle.regions.specs.Single.{agrees, number-5}
 use Rattle.regions.specs.Effects.{SomeStep, NoStep, EffectAt, call-step}
 

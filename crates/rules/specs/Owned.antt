@@ -19,7 +19,7 @@ use Rattle.chains.specs.Shapes.{by-number}
 use Rattle.owners.specs.Owner.{ownersUpTo, ownersOf, ownerOf}
 use Rattle.owners.specs.Handing.{up-to-length}
 use Rattle.owners.specs.Owners.{listed-owner, goals-owned, switch-owned, if-owned, arm-owned, procedureRecord, procedure-first}
-use Rattle.values.specs.Noting.{AllNoted, noted-accessed}
+use Rattle.rows.specs.Noting.{AllNoted, noted-accessed}
 use Rattle.reachable.specs.Linked.{OwnersIn}
 use Rattle.regions.specs.Here.{Given}
 use Rattle.regions.specs.Rowed.{AfterPass, passed-accessed, passed-effected}

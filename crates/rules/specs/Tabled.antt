@@ -11,7 +11,7 @@ use Rattle.language.specs.Regions.{regionsOk}
 use Rattle.language.specs.Answers.{lowest, program}
 use Rattle.tables.specs.Window.{FileTable}
 use Rattle.windows.specs.Listing.{OnlyWindows}
-use Rattle.values.specs.Noting.{AllNoted, RowsKept}
+use Rattle.rows.specs.Noting.{AllNoted, RowsKept}
 use Rattle.regions.specs.Rowed.{AfterPass}
 use Rattle.rules.specs.Stages.{regionStages, regions-told}
 

@@ -19,7 +19,7 @@ ghost use Rattle.language.specs.declared.Verdict.the-variants.{Accepted};
 ghost use Rattle.language.specs.Typing.{typingOk};
 ghost use Rattle.language.specs.Regions.{regionsOk};
 ghost use Rattle.language.specs.Answers.{lowest, program};
-ghost use Rattle.records.specs.Blank.{fileWords, rowWords};
+ghost use Rattle.tables.specs.Places.{fileWords, rowWords};
 ghost use Rattle.chains.specs.Formed.{Formed};
 ghost use Rattle.tables.specs.Window.{FileTable};
 ghost use Rattle.tables.specs.Filled.{Prepared};

@@ -8,7 +8,7 @@ use plans::blank_callees;
 use plans::blank_images;
 use plans::blank_plan;
 use plans::fill_plan;
-use records::blank::blank_file_table;
+use tables::blank_file_table;
 use windows::list_procedures;
 ghost use mathlib.Core.Path.{_≡_};
 ghost use lib.ListN.{replicate};

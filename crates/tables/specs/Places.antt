@@ -1,6 +1,21 @@
--- The places of words in the rows and in the windows of the file's table. The code has them under the same names (src/lib.rt).
+-- How long the rows and the file's table are, and the places of words in them. The code has them under the same names (src/lib.rt).
 use Prim.Native.Nat.{ℕ, _+_, _*_}
-pub use Rattle.records.specs.Blank.{rowSize, headSize}
+use Rattle.language.specs.Format.{maxRecords, maxProcedures}
+
+-- words of a row, and of the rows of 4,096 records
+abbrev pub rowSize : ℕ
+rowSize = 6
+
+abbrev pub rowWords : ℕ
+rowWords = rowSize * maxRecords
+
+-- the first words of a procedure's window
+abbrev pub headSize : ℕ
+headSize = 10
+
+-- words of the file's table: for each procedure where its window starts and the window's first words; two words for each record
+abbrev pub fileWords : ℕ
+fileWords = (1 + headSize) * maxProcedures + 2 * maxRecords
 
 -- word k of the row of record i
 abbrev pub rowPlace : ℕ → ℕ → ℕ

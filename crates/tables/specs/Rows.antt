@@ -5,7 +5,7 @@ use mathlib.Core.List.{List}
 use native.Mathlib.Omega.{arith}
 use mathlib.Core.Logic.{_≢_}
 use mathlib.Core.Path.{_≡_, refl, ap, _∙_}
-use borrow.Author.Tests.{lt-ltb, le-ltb}
+use borrow.Author.Tests.{lt-ltb}
 use lib.Dec.{eqb, ltb}
 use lib.ListN.{length, getD, set, length-set}
 use lib.Seq.{getD-set-same, getD-set-other}
@@ -14,10 +14,9 @@ use Rattle.sets.specs.Sets.{emptySet, loaded, stored, loaded-stored}
 use Rattle.sets.specs.declared.Set.{Set}
 use Rattle.language.specs.Lists.{choose}
 use Rattle.language.specs.Format.{maxRecords}
-use Rattle.records.specs.Blank.{rowWords}
+use Rattle.tables.specs.Places.{rowWords, bearsPlace, endsPlace, givesPlace, markPlace, needsPlace, readsPlace, rowPlace, rowSize}
 use Rattle.tables.specs.declared.Access.{Access}
 use Rattle.tables.specs.declared.Effect.{Effect}
-use Rattle.tables.specs.Places.{bearsPlace, endsPlace, givesPlace, markPlace, needsPlace, readsPlace, rowPlace, rowSize}
 
 -- word k of the row of record i, as a set
 unfoldable pub rowSet : List ℕ → ℕ → ℕ → Set
@@ -58,24 +57,6 @@ unfoldable pub putEffect : List ℕ → ℕ → Effect → List ℕ
 putEffect t i e =
     set (set (set (set t (rowPlace i needsPlace) (stored (e .needs))) (rowPlace i bearsPlace) (stored (e .bears))) (rowPlace i endsPlace) (stored (e .ends)))
     (rowPlace i markPlace) (bitOf (e .unshared))
-
--- ---- what the code finds, a law for each way through it
-module _ (t : List ℕ) (i : ℕ) where
-  pub row-some : (k : ℕ) {s : Set} → i < maxRecords → s ≡ loaded (getD t (rowPlace i k) 0) → s ≡ rowSet t i k
-  unfolding rowSet choose
-  row-some k h e = e ∙ rw (lt-ltb i maxRecords h) refl
-
-  pub row-past : (k : ℕ) → maxRecords ≤ i → emptySet ≡ rowSet t i k
-  unfolding rowSet choose
-  row-past k h = rw (le-ltb i maxRecords h) refl
-
-  pub mark-some : {b : Bool} → i < maxRecords → b ≡ eqb (getD t (rowPlace i markPlace) 0) 1 → b ≡ markIn t i
-  unfolding markIn _&_
-  mark-some h e = e ∙ rw (lt-ltb i maxRecords h) refl
-
-  pub mark-past : maxRecords ≤ i → false ≡ markIn t i
-  unfolding markIn _&_
-  mark-past h = rw (le-ltb i maxRecords h) refl
 
 -- ---- what storing leaves
 -- a mark that is stored is read

@@ -1,12 +1,11 @@
 -- Where a procedure's window starts in the file's table. A start that is past the table's end counts as 0, so that a window can be lent in any case.
 use Prim.Native.Nat.{ℕ, _-_, _≤_, _<_}
 use native.Mathlib.Omega.{arith}
-use native.Mathlib.Decide.{decLt}
 use mathlib.Core.List.{List}
-use mathlib.Core.Path.{_≡_, _∙_}
-use borrow.Author.Tests.{le-leb, lt-leb}
+use mathlib.Core.Path.{_≡_}
+use borrow.Author.Tests.{le-leb}
 use lib.Dec.{leb}
-use lib.ListN.{length, getD, take, drop, List·getD-eq-default, length-drop}
+use lib.ListN.{length, getD, take, drop, length-drop}
 use lib.Seq.{take-all}
 use Rattle.language.specs.Lists.{nth, choose}
 use Rattle.language.specs.File.{goals, word}
@@ -27,21 +26,6 @@ module _ (t : List ℕ) (q : ℕ) where
   pub start-is : getD t q 0 ≤ length t → startIn t q ≡ getD t q 0
   unfolding startIn choose
   start-is h = rw (le-leb (getD t q 0) (length t) h)
-
-  pub start-past : length t < getD t q 0 → startIn t q ≡ 0
-  unfolding startIn choose
-  start-past h = rw (lt-leb (getD t q 0) (length t) h)
-
-  -- no such place
-  pub start-none : length t ≤ q → startIn t q ≡ 0
-  start-none h = let e = List·getD-eq-default t 0 h in start-is (omega arith) ∙ e
-
-  pub start-within : startIn t q ≤ length t
-  start-within =
-      elim (decLt (length t) (getD t q 0)) [
-        | yes l ↦ (let e = start-past l in omega arith)
-        | no l ↦ (let e = start-is (omega arith) in omega arith)
-      ]
 
   -- what is lent from a start on is the window
   pub window-lent : {s : ℕ} → s ≡ startIn t q → take (length t - s) (drop s t) ≡ windowIn t q

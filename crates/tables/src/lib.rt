@@ -1,15 +1,16 @@
 // The tables that the stages share. The file's table has a window for each procedure, behind the places where the windows start; the rows say of
 // each record what its goal does.
+mod blank;
 mod reaches;
 mod rows;
 mod starts;
 mod window;
 
+pub use blank::blank_file_table;
+pub use blank::blank_rows;
+use language::format::MAX_PROCEDURES;
+use language::format::MAX_RECORDS;
 pub use reaches::reach_all;
-use records::blank::FILE_WORDS;
-use records::blank::HEAD_SIZE;
-use records::blank::ROW_SIZE;
-use records::blank::ROW_WORDS;
 pub use rows::access_at;
 pub use rows::bears_at;
 pub use rows::ends_at;
@@ -29,9 +30,9 @@ pub use window::set_at;
 pub use window::word_at;
 
 // Words of a row, and of the rows of 4,096 records.
-pub const ROW: usize = ROW_SIZE;
+pub const ROW: usize = 6;
 
-pub const ROWS: usize = ROW_WORDS;
+pub const ROWS: usize = ROW * MAX_RECORDS;
 
 // The words of a row: what the goal reads, gives, needs, bears and ends, and a mark.
 pub const READS: usize = 0;
@@ -70,7 +71,7 @@ pub const FIRST: usize = 9;
 
 // Behind them two words for each variable and one for each region: variable x has its region at 2 * x + HOMES and its reach at 2 * x + REACHES, and
 // region r, where there are n variables, its first edge at 2 * n + r + EDGES.
-pub const HEAD: usize = HEAD_SIZE;
+pub const HEAD: usize = 10;
 
 pub const HOMES: usize = 8;
 
@@ -78,8 +79,8 @@ pub const REACHES: usize = 9;
 
 pub const EDGES: usize = 9;
 
-// Words of the file's table: a start and a window for each procedure.
-pub const TABLE: usize = FILE_WORDS;
+// Words of the file's table: for each procedure where its window starts and the window's first words; two words for each record.
+pub const TABLE: usize = (1 + HEAD) * MAX_PROCEDURES + 2 * MAX_RECORDS;
 
 // What a goal reads, what it gives a value, and whether it gives no variable twice.
 pub struct Access {

@@ -1,14 +1,14 @@
 -- The arguments of a construct or an arm, slot by slot, as the code tests them.
 use Prim.Native.Nat.{ℕ, zero, suc, _+_, _-_, _≤_, _<_}
 use native.Mathlib.Omega.{arith}
-use borrow.Author.Tests.{lt-ltb, le-ltb, eq-eqb, ne-eqb}
+use borrow.Author.Tests.{lt-ltb}
 use mathlib.Core.Path.{_≡_, refl, ap, sym, _∙_}
-use mathlib.Core.Bool.{Bool, true, false, false≢true}
+use mathlib.Core.Bool.{Bool, true, false}
 use mathlib.Core.List.{List, [], _∷_}
 use lib.Dec.{eqb, eqb·suc-zero, ltb}
 use lib.ListN.{length, take}
 use Rattle.sets.specs.Tests.{_&_}
-use Rattle.laws.specs.Tests.{and-stop, and-on, and-yes, refuse, pass}
+use Rattle.laws.specs.Tests.{and-yes, refuse, pass}
 use Rattle.language.specs.Format.{functorArity, functorTypes, termFunctor, termArguments, maxArity}
 use Rattle.language.specs.Lists.{among, choose}
 use Rattle.language.specs.File.{word}
@@ -21,15 +21,6 @@ module _ (S : Signature) where
   -- argument a at position k, counted from 0, for the type ty: a variable of that type, or 0 past the arity
   unfoldable pub argumentSlot : ℕ → ℕ → ℕ → ℕ → Bool
   argumentSlot arity k ty a = choose (ltb k arity) (hasType S ty a) (eqb a 0)
-
-  module _ (arity k u : ℕ) {a v : ℕ} (ea : a ≡ v) where
-    pub argument-in : {ty : ℕ} {r : Bool} → k < arity → ty ≡ u → r ≡ hasType S ty a → r ≡ argumentSlot arity k u v
-    unfolding argumentSlot choose
-    argument-in h et e = rw (lt-ltb k arity h, sym et, sym ea) e
-
-    pub argument-past : arity ≤ k → eqb a 0 ≡ argumentSlot arity k u v
-    unfolding argumentSlot choose
-    argument-past h = rw (le-ltb k arity h, ea)
 
   -- ---- the first n arguments have the first n types, the others are 0
   zeros : List ℕ → Bool
@@ -131,20 +122,3 @@ module _ (f : List ℕ) (S : Signature) (g i : ℕ) where
 -- ---- an arm against functor n, of record g: the number and the arguments
 unfoldable pub armFits : List ℕ → Signature → ℕ → ℕ → ℕ → Bool
 armFits f S g n i = ltb 0 g & eqb (word f i termFunctor) n & argumentsOk S (functorAtRecord f g) (fourAt f i)
-
-module _ (f : List ℕ) (S : Signature) (g n i : ℕ) where
-  pub arm-none : g ≡ 0 → false ≡ armFits f S g n i
-  unfolding armFits
-  arm-none e = and-stop _ (le-ltb 0 g (omega arith))
-
-  pub arm-some : {r : Bool} → r ≡ armFits f S g n i → r ≡ true → g ≡ 0 → ⊥
-  arm-some e p z = false≢true (arm-none z ∙ sym e ∙ p)
-
-  module _ (z : g ≡ 0 → ⊥) {w : ℕ} (ew : w ≡ word f i termFunctor) where
-    pub arm-order : (w ≡ n → ⊥) → false ≡ armFits f S g n i
-    unfolding armFits
-    arm-order h = and-on (lt-ltb 0 g (omega arith)) (and-stop _ (rw (sym ew) (ne-eqb w n h)))
-
-    pub arm-all : w ≡ n → {q : Bool} → q ≡ argumentsOk S (functorAtRecord f g) (fourAt f i) → q ≡ armFits f S g n i
-    unfolding armFits
-    arm-all h k = and-on (lt-ltb 0 g (omega arith)) (and-on (rw (sym ew) (eq-eqb w n h)) k)

@@ -1,1 +1,6 @@
-mod Turning
+mod Entry
+mod Typed
+mod ValuingLaws
+mod CarryingLaws
+mod Turns
+mod Windows

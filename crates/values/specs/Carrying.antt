@@ -1,30 +1,13 @@
 -- Number 4's walk as the code makes it: two words carried in place, and what a step and an arm do read off their rows.
-use Prim.Native.Nat.{ℕ, _≤_}
-use native.Mathlib.Omega.{arith}
-use mathlib.Core.Path.{_≡_, refl, ap, ap₂, _∙_}
-use mathlib.Core.Bool.{Bool, true}
+use Prim.Native.Nat.{ℕ}
+use mathlib.Core.Path.{_≡_}
+use mathlib.Core.Bool.{Bool}
 use mathlib.Core.List.{List}
-use lib.ListN.{length, set, length-set}
-use lib.Seq.{getD-set-same, getD-set-other}
-use Rattle.sets.specs.Sets.{member, _∪_, _∩_, stored, loaded, loaded-stored}
-use Rattle.sets.specs.Members.{setOf}
-use Rattle.sets.specs.declared.Set.{Set}
-use Rattle.language.specs.File.{goals, arms, word}
-use Rattle.language.specs.Format.{kindWord, switchKind, ifKind}
-use Rattle.language.specs.Program.{Step}
-use Rattle.language.specs.Values.{reads, gives}
 use Rattle.language.specs.Answers.{program}
-use Rattle.chains.specs.Formed.{Formed, Stands}
-use Rattle.chains.specs.Parts.{fourAt}
-use Rattle.records.specs.Blank.{walkWords}
 use Rattle.tables.specs.Rows.{readsIn, givesIn, markIn}
-use Rattle.tables.specs.Filled.{GoalIsStep}
-use Rattle.values.specs.Fitting.{armArguments}
-use Rattle.values.specs.Noting.{AllNoted}
-use Rattle.values.specs.Closed.{one-at}
-use Rattle.values.specs.Walk.{outcome, goesOn, step-goes}
-use Rattle.values.specs.Along.{GoalsWalked, GoalWalked, ArmsWalked}
-use Rattle.values.specs.Valuing.{Valuation, everyPlace, somePlace, everyIn, someIn, both, valuation, giving, valuer}
+use Rattle.walks.specs.Walk.{outcome}
+use Rattle.walks.specs.Along.{GoalsWalked, GoalWalked, ArmsWalked}
+use Rattle.values.specs.Valuing.{valuation, giving, valuer}
 
 -- with the words c before and d behind, the answer r is right
 abbrev pub GoalsValued : List ℕ → ℕ → List ℕ → Bool → List ℕ → Type 0
@@ -39,43 +22,3 @@ ArmsValued f i c r d = ArmsWalked (valuer (program f)) f i (valuation c) r (valu
 -- what row i does
 abbrev pub RowValued : List ℕ → ℕ → List ℕ → Bool → List ℕ → Type 0
 RowValued rows i c r d = outcome r (valuation d) ≡ giving (readsIn rows i) (givesIn rows i) (markIn rows i) (valuation c)
-
--- ---- two words stored
-pub carried-both : (c : List ℕ) {x y : ℕ} {e s : Set} → walkWords ≤ length c → x ≡ stored e → y ≡ stored s
-    → valuation (set (set c everyPlace x) somePlace y) ≡ both e s
-unfolding everyIn someIn
-carried-both c {x} {y} {e} {s} l p q =
-    let n = length-set c everyPlace x in
-    ap₂ both
-    (ap loaded (getD-set-other (set c everyPlace x) somePlace everyPlace y 0 (λ z. omega arith) ∙ getD-set-same c everyPlace x 0 (omega arith) ∙ p)
-    ∙ loaded-stored e)
-    (ap loaded (getD-set-same (set c everyPlace x) somePlace y 0 (omega arith) ∙ q) ∙ loaded-stored s)
-
-module _ (f : List ℕ) {rows : List ℕ} (N : AllNoted f rows) where
-  -- ---- a step's row
-  row-step : (i : ℕ) {g : Step} (c d : List ℕ) (r : Bool) → GoalIsStep f i g → RowValued rows i c r d → outcome r (valuation d) ≡ valuer (program f) .atStep g (valuation c)
-  unfolding valuer reads gives
-  row-step i {g} c d r s m = let h = N .at i .step g s in m ∙ rw (h .read, h .given, h .none-twice) refl
-
-  pub goal-step : (F : Formed f) (i : ℕ) (S : Stands f goals i) (z : i ≡ 0 → ⊥) {w : ℕ} (e : w ≡ word f i kindWord) (p : w ≡ switchKind → ⊥) (q : w ≡ ifKind → ⊥)
-      → (c d : List ℕ) (r : Bool) → RowValued rows i c r d → GoalValued f i c r d
-  goal-step F i S z e p q c d r m =
-      let s = one-at F i S z e p q in
-      step-goes (valuer (program f)) (valuation c) (valuation d) r (s .view) (row-step i c d r s m)
-
-  -- ---- an arm's row
-  module _ (i : ℕ) (S : Stands f arms i) (z : i ≡ 0 → ⊥) where
-    pub row-arm : (c d : List ℕ) (r : Bool) → RowValued rows i c r d
-        → outcome r (valuation d) ≡ valuer (program f) .enter (fourAt f i) (valuation c)
-    unfolding valuer setOf armArguments
-    row-arm c d r m = let h = N .at i .arm S z in m ∙ rw (h .read, h .given, h .none-twice) refl
-
--- ---- what may be read
-pub readable-is : (f c : List ℕ) {b : Bool} {e : Set} (x : ℕ) → b ≡ member e x → e ≡ everyIn c → b ≡ valuer (program f) .readable (valuation c) x
-unfolding valuer
-readable-is f c x h e = h ∙ ap (λ s. member s x) e
-
--- ---- paths meet: a was carried behind the one, b behind the other
-pub joined : (f : List ℕ) (a b c : Valuation) → c ≡ both (a .every ∩ b .every) (a .some ∪ b .some) → outcome true c ≡ valuer (program f) .join a b
-unfolding valuer outcome
-joined f a b c e = ap goesOn e

@@ -1,15 +1,15 @@
 // What number 4 carries, in place: a word for the variables with a value on every path that leads here, and one for those with a value on some path.
-use records::blank::WALK_WORDS;
 use sets::Set;
 use tables::ROWS;
 use tables::gives_at;
 use tables::marked;
 use tables::reads_at;
+use walks::WALK_WORDS;
 ghost use mathlib.Core.Path.{_≡_};
 ghost use Prim.Native.Nat.{_≤_};
 ghost use lib.ListN.{length};
 ghost use Rattle.sets.specs.Sets.{_∪_, _∩_};
-ghost use Rattle.records.specs.Blank.{walkWords};
+ghost use Rattle.walks.specs.Carried.{walkWords};
 ghost use Rattle.values.specs.Valuing.{everyIn, someIn, both, valuation};
 ghost use Rattle.values.specs.Carrying.{RowValued};
 

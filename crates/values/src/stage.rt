@@ -2,14 +2,13 @@
 use crate::carried::carry;
 use crate::carried::every_in;
 use crate::declared::all_local;
-use crate::rows::list_accesses;
 use crate::walk::goals;
 use chains::chain_length;
 use chains::field;
 use language::format::HEADER_PROCEDURES;
 use language::format::PROCEDURE_VARIABLES;
-use records::blank::blank_walk;
 use records::word;
+use rows::list_accesses;
 use tables::BODY;
 use tables::INS;
 use tables::OUTS;
@@ -17,6 +16,7 @@ use tables::ROWS;
 use tables::TABLE;
 use tables::set_at;
 use tables::word_at;
+use walks::blank_walk;
 ghost use mathlib.Core.Path.{_≡_};
 ghost use mathlib.Core.Bool.{true};
 ghost use Prim.Native.Nat.{_<_, _≤_};
@@ -26,10 +26,10 @@ ghost use Rattle.language.specs.Program.{procedureAt};
 ghost use Rattle.language.specs.Typing.{typingOk};
 ghost use Rattle.language.specs.Values.{procedureValues, valuesOk};
 ghost use Rattle.language.specs.Answers.{program};
-ghost use Rattle.records.specs.Blank.{rowWords};
+ghost use Rattle.tables.specs.Places.{rowWords};
 ghost use Rattle.chains.specs.Formed.{Formed};
 ghost use Rattle.tables.specs.Window.{FileTable};
-ghost use Rattle.values.specs.Noting.{AllNoted, RowsKept};
+ghost use Rattle.rows.specs.Noting.{AllNoted, RowsKept};
 
 // Number 4. Fills the rows of steps and arms, whatever the answer.
 pub fn values_ok(file: &[u8], table: &[u64; TABLE], rows: &mut [u64; ROWS]) -> bool

@@ -4,7 +4,6 @@ use crate::carried::carry;
 use crate::carried::every_in;
 use crate::carried::join;
 use crate::carried::some_in;
-use crate::rows::is_step;
 use chains::word;
 use language::format::ARM;
 use language::format::ARM_GOALS;
@@ -18,13 +17,14 @@ use language::format::KIND;
 use language::format::NEXT;
 use language::format::SWITCH;
 use language::format::SWITCH_ARMS;
-use records::blank::WALK_WORDS;
 use tables::ROWS;
+use walks::WALK_WORDS;
+use walks::is_step;
 ghost use mathlib.Core.Path.{_≡_};
 ghost use Rattle.language.specs.File.{goals, arms, word};
 ghost use Rattle.language.specs.Format.{kindWord, switchKind, ifKind};
 ghost use Rattle.chains.specs.Formed.{Formed, Stands};
-ghost use Rattle.values.specs.Noting.{AllNoted};
+ghost use Rattle.rows.specs.Noting.{AllNoted};
 ghost use Rattle.values.specs.Carrying.{GoalsValued, GoalValued, ArmsValued};
 
 // The goals from record start on.

@@ -14,9 +14,8 @@ use Rattle.language.specs.Answers.{program}
 use Rattle.language.specs.Format.{maxProcedures}
 use Rattle.chains.specs.Layout.{program-size, chain-size, signatureSize, proceduresSize, program-records}
 use Rattle.region_graph.specs.Typed.{procedures-count}
-use Rattle.records.specs.Blank.{fileWords}
+use Rattle.tables.specs.Places.{fileWords, headSize, windowWords}
 use Rattle.chains.specs.Formed.{Formed, counted}
-use Rattle.tables.specs.Places.{headSize, windowWords}
 
 -- the variables and regions that procedures declare
 unfoldable pub partsIn : List Procedure → ℕ

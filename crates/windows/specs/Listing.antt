@@ -17,13 +17,12 @@ use Rattle.language.specs.Answers.{program}
 use Rattle.language.specs.Format.{headerProcedures, nextWord, procedureGoals, procedureRegions, procedureVariables, maxProcedures}
 use Rattle.laws.specs.Tests.{and-assoc, and-yes}
 use Rattle.region_graph.specs.Typed.{noProcedure, signature-typed, procedures-count, regions-few}
-use Rattle.records.specs.Blank.{fileWords}
+use Rattle.tables.specs.Places.{fileWords, bodyPlace, regionsPlace, variablesPlace, windowWords}
 use Rattle.chains.specs.Formed.{Formed, proceduresAt, goalsAt, procedures-none, procedures-stand, program-procedures}
 use Rattle.chains.specs.Elements.{variables-count, regions-count}
 use Rattle.chains.specs.Shapes.{procedure-here}
 use Rattle.chains.specs.Records.{chainRecords}
 use Rattle.tables.specs.Window.{WindowOf, FileTable}
-use Rattle.tables.specs.Places.{bodyPlace, regionsPlace, variablesPlace, windowWords}
 use Rattle.windows.specs.Along.{Along, along-first, along-here, along-next}
 use Rattle.windows.specs.Storing.{set-here, set-else}
 use Rattle.windows.specs.Fitting.{windowSize, windowsSize, windows-fit}

@@ -1,10 +1,9 @@
 -- What a writer promises: these records stand from here on, every other byte is as it was, the length is kept. How such promises are joined.
-use Prim.Native.Nat.{ℕ, zero, suc, _+_, _*_, _/_, _%_, _≤_, _<_}
+use Prim.Native.Nat.{ℕ, zero, suc, _+_, _*_, _≤_, _<_}
 use native.Mathlib.Omega.{arith}
 use mathlib.Core.List.{List, [], _∷_, _++_}
 use mathlib.Core.Path.{_≡_, refl, ap₂, _∙_}
-use lib.ListN.{length, getD, set, length-set, length-append}
-use lib.Seq.{getD-set-same, getD-set-other}
+use lib.ListN.{length, getD, length-append}
 use Rattle.language.specs.Format.{recordBytes, kindWord, nextWord}
 use Rattle.records.specs.Sizes.{byteEnd, wordEnd, recordWords}
 use Rattle.chains.specs.Layout.{Spelled, Stand, Eights, stand-join, stand-same, spelled-same, spelled-more}
@@ -23,46 +22,6 @@ pub record PutWord (a b : List ℕ) (i k x : ℕ) : Type 0 where
   pub below : (j : ℕ) → j < recordBytes * i + 2 * k → getD b j 0 ≡ getD a j 0
   pub past : (j : ℕ) → recordBytes * i + 2 * k + 2 ≤ j → getD b j 0 ≡ getD a j 0
 
-pub put-made : (a : List ℕ) (i k x : ℕ) {p q : ℕ} → recordBytes * i + recordBytes ≤ length a → k < recordWords → p ≡ x % byteEnd → q ≡ x / byteEnd
-    → PutWord a (set (set a (recordBytes * i + 2 * k) p) (recordBytes * i + 2 * k + 1) q) i k x
-unfolding word
-put-made a i k x {p = p} {q = q} l h e f =
-    let c = set a (recordBytes * i + 2 * k) p in
-    let d = set c (recordBytes * i + 2 * k + 1) q in
-    let n : length c ≡ length a = length-set a (recordBytes * i + 2 * k) p in
-    record {
-      same = length-set c (recordBytes * i + 2 * k + 1) q ∙ n;
-      there =
-          let s : getD d (recordBytes * i + 2 * k) 0 ≡ p = getD-set-other c (recordBytes * i + 2 * k + 1) (recordBytes * i + 2 * k) q 0 (λ z. omega arith) ∙ getD-set-same a (recordBytes * i + 2 * k) p 0 (omega arith) in
-          let t : getD d (recordBytes * i + 2 * k + 1) 0 ≡ q = getD-set-same c (recordBytes * i + 2 * k + 1) q 0 (omega arith) in
-          omega arith;
-      below = λ j g.
-          getD-set-other c (recordBytes * i + 2 * k + 1) j q 0 (λ z. omega arith) ∙ getD-set-other a (recordBytes * i + 2 * k) j p 0 (λ z. omega arith);
-      past = λ j g.
-          getD-set-other c (recordBytes * i + 2 * k + 1) j q 0 (λ z. omega arith) ∙ getD-set-other a (recordBytes * i + 2 * k) j p 0 (λ z. omega arith);
-    }
-
--- ---- the words of a record, from word k on
--- words k and up of record i are xs now, and no other byte changed
-pub record PutWords (a b : List ℕ) (i k : ℕ) (xs : List ℕ) : Type 0 where
-  pub same : length b ≡ length a
-  pub there : Spelled (word b i) k xs
-  pub below : (j : ℕ) → j < recordBytes * i + 2 * k → getD b j 0 ≡ getD a j 0
-  pub past : (j : ℕ) → recordBytes * i + 2 * (k + length xs) ≤ j → getD b j 0 ≡ getD a j 0
-
-pub row-none : (a : List ℕ) (i k : ℕ) → PutWords a a i k []
-row-none a i k = record { same = refl; there = tt; below = λ j l. refl; past = λ j l. refl }
-
-pub row-more : {a b d : List ℕ} {i k x : ℕ} {xs : List ℕ} → PutWord a b i k x → PutWords b d i (suc k) xs → PutWords a d i k (x ∷ xs)
-unfolding word
-row-more {b = b} {d = d} {i = i} {k = k} p q =
-    record {
-      same = q .same ∙ p .same;
-      there = (ap₂ (λ u v. u + byteEnd * v) (q .below (recordBytes * i + 2 * k) (omega arith)) (q .below (recordBytes * i + 2 * k + 1) (omega arith)) ∙ p .there, q .there);
-      below = λ j l. q .below j (omega arith) ∙ p .below j l;
-      past = λ j l. q .past j (omega arith) ∙ p .past j (omega arith);
-    }
-
 -- ---- records
 -- the records rs stand from record c on now, and no other byte changed
 pub record Laid (a b : List ℕ) (c : ℕ) (rs : List (List ℕ)) : Type 0 where
@@ -74,16 +33,6 @@ pub record Laid (a b : List ℕ) (c : ℕ) (rs : List (List ℕ)) : Type 0 where
 
 pub laid-none : (a : List ℕ) (c : ℕ) → Laid a a c []
 laid-none a c = record { same = refl; eights = tt; there = tt; below = λ j l. refl; past = λ j l. refl }
-
-pub laid-row : {a b : List ℕ} {c : ℕ} {r : List ℕ} → length r ≡ recordWords → PutWords a b c 0 r → Laid a b c (r ∷ [])
-laid-row e h =
-    record {
-      same = h .same;
-      eights = (e, tt);
-      there = (h .there, tt);
-      below = λ j l. h .below j (omega arith);
-      past = λ j l. h .past j (omega (arith, e));
-    }
 
 words-same : (a b : List ℕ) (i k : ℕ) → getD b (recordBytes * i + 2 * k) 0 ≡ getD a (recordBytes * i + 2 * k) 0
     → getD b (recordBytes * i + 2 * k + 1) 0 ≡ getD a (recordBytes * i + 2 * k + 1) 0 → word b i k ≡ word a i k
@@ -134,19 +83,6 @@ pub record Begun (a b : List ℕ) (at k c : ℕ) (xs : List ℕ) (rs : List (Lis
   pub place : c ≡ suc at + length rs
   pub below : (j : ℕ) → j < recordBytes * at + 2 * 2 → getD b j 0 ≡ getD a j 0
   pub past : (j : ℕ) → recordBytes * c ≤ j → getD b j 0 ≡ getD a j 0
-
-pub begun-none : (a : List ℕ) (at : ℕ) → Begun a a at 2 (at + 1) [] []
-begun-none a at = record {
-  same = refl;
-  few = omega arith;
-  many = refl;
-  words = tt;
-  eights = tt;
-  there = tt;
-  place = omega arith;
-  below = λ j l. refl;
-  past = λ j l. refl;
-}
 
 module _ {a b d : List ℕ} {at k c : ℕ} {xs : List ℕ} {rs : List (List ℕ)} (B : Begun a b at k c xs rs) where
   -- the next word
@@ -211,11 +147,6 @@ begun-done {a} {b} {d} {e} {at} {k} {c} {u} {v} {xs} {rs} B l p q =
 unfoldable pub withNext : List ℕ → ℕ → ℕ → List ℕ
 withNext f i n = word f i kindWord ∷ n ∷ word f i 2 ∷ word f i 3 ∷ word f i 4 ∷ word f i 5 ∷ word f i 6 ∷ word f i 7 ∷ []
 
-pub laid-next : (f : List ℕ) (i : ℕ) {a b : List ℕ} {c : ℕ} {u0 n u2 u3 u4 u5 u6 u7 : ℕ} → u0 ≡ word f i kindWord → u2 ≡ word f i 2 → u3 ≡ word f i 3 → u4 ≡ word f i 4
-    → u5 ≡ word f i 5 → u6 ≡ word f i 6 → u7 ≡ word f i 7 → Laid a b c ((u0 ∷ n ∷ u2 ∷ u3 ∷ u4 ∷ u5 ∷ u6 ∷ u7 ∷ []) ∷ []) → Laid a b c (withNext f i n ∷ [])
-unfolding withNext
-laid-next f i p q r s t u v h = rw (← p, ← q, ← r, ← s, ← t, ← u, ← v) h
-
 -- ---- references
 unfoldable pub linked : ℕ → ℕ → ℕ
 linked zero c = 0
@@ -229,8 +160,3 @@ pub linked-some : (w c : ℕ) → (w ≡ 0 → ⊥) → c ≡ linked w c
 unfolding linked
 linked-some zero c z = absurd (z refl)
 linked-some (suc w) c z = refl
-
-pub linked-small : (w c : ℕ) {x : ℕ} → x ≡ linked w c → c < wordEnd → x < wordEnd
-unfolding linked
-linked-small zero c e h = omega arith
-linked-small (suc w) c e h = omega arith

@@ -1,7 +1,6 @@
 pub mod Laid
 pub mod Ready
 pub mod Leads
-pub mod Spelling
 pub mod Skips
 pub mod Whole
 pub mod Trees

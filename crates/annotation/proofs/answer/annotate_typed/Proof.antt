@@ -1,7 +1,8 @@
 -- `annotate_typed` meets its contract.
 use native.Mathlib.Omega.{arith}
 use mathlib.Core.Path.{refl, sym}
-use Rattle.records.specs.Blank.{fileWords, rowWords, blank-fits}
+use Rattle.records.specs.Blank.{blank-fits}
+use Rattle.tables.specs.Places.{fileWords, rowWords}
 use Rattle.annotation.specs.Stages.{marks-found}
 use Rattle.annotation.specs.Answer.{refusal-told, stage-refuses, stage-goes, answer-moved}
 use borrow.Author.Needs.{needs}

@@ -1,4 +1,3 @@
--- `field` meets its contract.
 use mathlib.Core.Path.{_∙_}
 use borrow.Author.Needs.{needs}
 use Rattle.chains.specs.Fields.{field-none, field-some}

@@ -1,4 +1,4 @@
--- `chain_length` meets its contract: the count so far and the rest of the chain make the whole.
+-- The count so far and the rest of the chain make the whole.
 use Prim.Native.Nat.{_+_, _<_}
 use mathlib.Core.Path.{_≡_, ap}
 use native.Mathlib.Omega.{arith}

@@ -1,11 +1,8 @@
--- `record_count` meets its contract: number 1 has the length be 16 bytes for each record.
+-- Number 1 has the length be 16 bytes for each record.
 use native.Mathlib.Omega.{arith}
 use Rattle.chains.specs.Formed.{counted}
 use Rattle.chains.proofs.words.record_count.Statement.{statement}
 use Rattle.chains.proofs.words.record_count.Tie as tie
 
-returns : tie.Need-returns
-returns c = let n = counted (c .pre) in omega arith
-
 pub record-count-spec : {M : Type 1} → statement M
-record-count-spec = tie.close (tie.spec returns)
+record-count-spec = tie.close (tie.spec (λ c. let n = counted (c .pre) in omega arith))

@@ -1,4 +1,4 @@
--- `word` meets its contract: the file has its records whole.
+-- The file has its records whole.
 use native.Mathlib.Omega.{arith}
 use borrow.Author.Needs.{needs}
 use Rattle.chains.specs.Formed.{counted}

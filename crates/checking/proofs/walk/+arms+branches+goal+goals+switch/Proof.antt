@@ -4,7 +4,7 @@ use native.Mathlib.Omega.{arith}
 use mathlib.Core.Path.{refl, sym, _∙_}
 use Rattle.chains.specs.Formed.{ahead}
 use Rattle.chains.specs.Shapes.{switch-here, if-here, to-arms, to-then, to-else, arm-goals, arm-next}
-use Rattle.values.specs.Closed.{goal-closed, arm-closed}
+use Rattle.walks.specs.Closed.{goal-closed, arm-closed}
 use Rattle.checking.proofs.Walking.{Walking, none-checked, walk-last, walk-onward, walk-stop, walk-next, step-checked, switch-broken, switch-done, if-broken, if-broken-2, then-broken, else-broken, if-done, arms-none-checked, arm-broken, arm-ended, rest-broken, arm-more}
 use borrow.Author.Needs.{needs}
 use Prim.Native.Nat.{ℕ, _<_, _+_, _*_}
@@ -33,7 +33,7 @@ use Rattle.checking.proofs.step.enter.Reads as enter-reads
 use Rattle.checking.proofs.step.step.Reads as step-reads
 use Rattle.chains.proofs.word.Reads as word-reads
 use Rattle.sets.proofs.Set.has.Reads as has-reads
-use Rattle.values.proofs.is_step.Reads as is-step-reads
+use Rattle.walks.proofs.is_step.Reads as is-step-reads
 use Rattle.checking.proofs.walk.+arms+branches+goal+goals+switch.{statement}
 use Rattle.checking.proofs.walk.+arms+branches+goal+goals+switch.Tie.{close}
 

@@ -1,4 +1,4 @@
--- `edges_ok` meets its contract: what is left of the two chains decides as the whole does.
+-- What is left of the two chains decides as the whole does.
 use mathlib.Core.Bool.{true}
 use mathlib.Core.Path.{_≡_, refl, _∙_}
 use native.Mathlib.Omega.{arith}
@@ -12,7 +12,7 @@ use Rattle.language.specs.Answers.{program}
 use Rattle.language.specs.Typing.{functorOk, placesFrom, edgesOk}
 use Rattle.chains.specs.Formed.{Stands, functorsAt, edgesAt, ahead, ahead-below}
 use Rattle.chains.specs.Is.{chain-next}
-use Rattle.declarations.specs.EdgeLaws.{fit-here, fit-next, edges-wrong, edges-next, edges-end}
+use Rattle.declarations.proofs.EdgeLaws.{fit-here, fit-next, edges-wrong, edges-next, edges-end}
 use borrow.Author.Needs.{needs}
 use Rattle.declarations.proofs.edges.edges_ok.Statement.{statement}
 use Rattle.declarations.proofs.edges.edges_ok.Tie as tie
@@ -29,17 +29,8 @@ loop-holds c = (c .before .pre .1 .0, c .before .pre .1 .1, omega (arith, ahead-
 functor-edges-requires : tie.Need-functor-edges-requires Inv-loop μ-loop
 functor-edges-requires c κs = (c .before .before .before .pre .0, (c .before .loop .inv .1, ((c .before .loop .inv .0 .0, c .loop-test .taken), fit-here _ (c .before .before .before .pre .0 .0 .formed) (c .before .loop .inv .0 .0) (c .loop-test .taken) (c .before .loop .inv .0 .1))))
 
-enum-known-after : tie.Need-enum-known-after Inv-loop μ-loop
-enum-known-after c = search needs
-
-enum-told : tie.Need-enum-told Inv-loop μ-loop
-enum-told c = search needs
-
 returns : tie.Need-returns Inv-loop μ-loop
 returns c = edges-wrong _ _ _ (c .before .before .before .before .before .before .pre .0 .0 .formed) (c .before .before .before .before .loop .inv .0 .0) (c .before .before .before .loop-test .taken) (c .before .before .functor-edges .ensures) (c .enum-told .given .1) ∙ c .before .before .before .before .loop .inv .3
-
-add-g : tie.Need-add-g Inv-loop μ-loop
-add-g c = omega arith
 
 word-requires : tie.Need-word-requires Inv-loop μ-loop
 word-requires c κs = (c .before .before .before .before .before .before .before .pre .0 .0 .formed, (omega arith, c .before .before .before .before .before .loop .inv .0 .0 .below))
@@ -59,5 +50,6 @@ returns-2 c = edges-end _ _ _ (c .before .before .before .pre .0 .0 .formed) (c 
 
 pub edges-ok-spec : {M : Type 1} → statement M
 edges-ok-spec =
-    tie.close (tie.spec Inv-loop μ-loop loop-holds functor-edges-requires enum-known-after enum-told returns add-g word-requires loop-less loop-again
-    returns-2)
+    tie.close
+    (tie.spec Inv-loop μ-loop loop-holds functor-edges-requires (search needs) (search needs) returns (λ c. omega arith) word-requires loop-less
+    loop-again returns-2)

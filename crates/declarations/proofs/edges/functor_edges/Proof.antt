@@ -1,22 +1,13 @@
--- `functor_edges` meets its contract: the four positions one after the other.
+-- The four positions one after the other.
 use Rattle.chains.specs.Is.{functor-else}
 use Rattle.chains.specs.Declared.{functor-at}
-use Rattle.declarations.specs.EdgeLaws.{functor-none, types-below, functor-first, functor-second, functor-third, functor-all}
+use Rattle.declarations.proofs.EdgeLaws.{functor-none, types-below, functor-first, functor-second, functor-third, functor-all}
 use borrow.Author.Needs.{needs}
 use Rattle.declarations.proofs.edges.functor_edges.Statement.{statement}
 use Rattle.declarations.proofs.edges.functor_edges.Tie as tie
 
-word-requires : tie.Need-word-requires
-word-requires c κs = search needs
-
 returns : tie.Need-returns
 returns c = functor-none _ _ (c .before .before .before .pre .1 .0) (c .before .word .ensures .0) (c .if1 .taken)
-
-record-at-requires : tie.Need-record-at-requires
-record-at-requires c κs = search needs
-
-enum-known-t1 : tie.Need-enum-known-t1
-enum-known-t1 c = search needs
 
 returns-2 : tie.Need-returns-2
 returns-2 c = absurd (functor-else (c .before .before .before .before .before .pre .1 .1 .0 .0) (c .before .before .before .before .before .pre .1 .1 .0 .1) (c .before .record-at .ensures) (c .match .keys2))
@@ -24,35 +15,17 @@ returns-2 c = absurd (functor-else (c .before .before .before .before .before .p
 position-ok-requires : tie.Need-position-ok-requires
 position-ok-requires c κs = (c .before .before .before .before .before .before .before .pre .0, (c .before .before .before .before .before .before .before .pre .1 .0, types-below (functor-at (c .before .before .before .before .before .before .before .pre .0 .0 .formed) (c .before .before .before .record-at .ensures) (c .before .t1 .given .1)) (c .before .before .before .before .before .before .before .pre .1 .1 .1) (c .before .before .before .before .before .before .before .pre .0 .0 .types-ok) .0))
 
-enum-known-e1 : tie.Need-enum-known-e1
-enum-known-e1 c = search needs
-
-enum-told : tie.Need-enum-told
-enum-told c = search needs
-
 returns-3 : tie.Need-returns-3
 returns-3 c = functor-first _ _ (functor-at (c .before .before .before .before .before .before .before .before .before .before .pre .0 .0 .formed) (c .before .before .before .before .before .before .record-at .ensures) (c .before .before .before .before .t1 .given .1)) (c .before .before .before .before .before .before .before .before .before .before .pre .1 .1 .1) (c .before .before .position-ok .ensures) (c .enum-told .given .1)
 
 position-ok-requires-2 : tie.Need-position-ok-requires-2
 position-ok-requires-2 c κs = (c .before .before .before .before .before .before .before .before .before .before .before .pre .0, (c .before .before .before .position-ok .ensures .stands _ (c .before .e1 .given .1), types-below (functor-at (c .before .before .before .before .before .before .before .before .before .before .before .pre .0 .0 .formed) (c .before .before .before .before .before .before .before .record-at .ensures) (c .before .before .before .before .before .t1 .given .1)) (c .before .before .before .before .before .before .before .before .before .before .before .pre .1 .1 .1) (c .before .before .before .before .before .before .before .before .before .before .before .pre .0 .0 .types-ok) .1))
 
-enum-known-e2 : tie.Need-enum-known-e2
-enum-known-e2 c = search needs
-
-enum-told-2 : tie.Need-enum-told-2
-enum-told-2 c = search needs
-
 returns-4 : tie.Need-returns-4
 returns-4 c = functor-second _ _ (functor-at (c .before .before .before .before .before .before .before .before .before .before .before .before .before .before .pre .0 .0 .formed) (c .before .before .before .before .before .before .before .before .before .before .record-at .ensures) (c .before .before .before .before .before .before .before .before .t1 .given .1)) (c .before .before .before .before .before .before .before .before .before .before .before .before .before .before .pre .1 .1 .1) (c .before .before .before .before .before .before .position-ok .ensures) (c .before .before .before .before .e1 .given .1) (c .before .before .position-ok2 .ensures) (c .enum-told2 .given .1)
 
 position-ok-requires-3 : tie.Need-position-ok-requires-3
 position-ok-requires-3 c κs = (c .before .before .before .before .before .before .before .before .before .before .before .before .before .before .before .pre .0, (c .before .before .before .position-ok2 .ensures .stands _ (c .before .e2 .given .1), types-below (functor-at (c .before .before .before .before .before .before .before .before .before .before .before .before .before .before .before .pre .0 .0 .formed) (c .before .before .before .before .before .before .before .before .before .before .before .record-at .ensures) (c .before .before .before .before .before .before .before .before .before .t1 .given .1)) (c .before .before .before .before .before .before .before .before .before .before .before .before .before .before .before .pre .1 .1 .1) (c .before .before .before .before .before .before .before .before .before .before .before .before .before .before .before .pre .0 .0 .types-ok) .2))
-
-enum-known-e3 : tie.Need-enum-known-e3
-enum-known-e3 c = search needs
-
-enum-told-3 : tie.Need-enum-told-3
-enum-told-3 c = search needs
 
 returns-5 : tie.Need-returns-5
 returns-5 c = functor-third _ _ (functor-at (c .before .before .before .before .before .before .before .before .before .before .before .before .before .before .before .before .before .before .pre .0 .0 .formed) (c .before .before .before .before .before .before .before .before .before .before .before .before .before .before .record-at .ensures) (c .before .before .before .before .before .before .before .before .before .before .before .before .t1 .given .1)) (c .before .before .before .before .before .before .before .before .before .before .before .before .before .before .before .before .before .before .pre .1 .1 .1) (c .before .before .before .before .before .before .before .before .before .before .position-ok .ensures) (c .before .before .before .before .before .before .before .before .e1 .given .1) (c .before .before .before .before .before .before .position-ok2 .ensures) (c .before .before .before .before .e2 .given .1) (c .before .before .position-ok3 .ensures) (c .enum-told3 .given .1)
@@ -65,5 +38,7 @@ returns-6 c = functor-all _ _ (functor-at (c .before .before .before .before .be
 
 pub functor-edges-spec : {M : Type 1} → statement M
 functor-edges-spec =
-    tie.close (tie.spec word-requires returns record-at-requires enum-known-t1 returns-2 position-ok-requires enum-known-e1 enum-told returns-3
-    position-ok-requires-2 enum-known-e2 enum-told-2 returns-4 position-ok-requires-3 enum-known-e3 enum-told-3 returns-5 position-ok-requires-4 returns-6)
+    tie.close
+    (tie.spec (λ c κs. search needs) returns (search needs) (search needs) returns-2 position-ok-requires (search needs) (search needs) returns-3
+    position-ok-requires-2 (search needs) (search needs) returns-4 position-ok-requires-3 (search needs) (search needs) returns-5
+    position-ok-requires-4 returns-6)

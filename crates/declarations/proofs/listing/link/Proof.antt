@@ -1,4 +1,3 @@
--- `link` meets its contract.
 use native.Mathlib.Omega.{arith}
 use mathlib.Core.Path.{sym, _∙_}
 use Rattle.chains.specs.Formed.{counted}
@@ -7,15 +6,6 @@ use Rattle.declarations.specs.Parameters.{link-local, link-parameter}
 use borrow.Author.Needs.{needs}
 use Rattle.declarations.proofs.listing.link.Statement.{statement}
 use Rattle.declarations.proofs.listing.link.Tie as tie
-
-word-requires : tie.Need-word-requires
-word-requires c κs = search needs
-
-word-requires-2 : tie.Need-word-requires-2
-word-requires-2 c κs = search needs
-
-mul-result : tie.Need-mul-result
-mul-result c = search needs
 
 element-copy-out-result : tie.Need-element-copy-out-result
 element-copy-out-result c = omega (arith, counted (c .before .before .before .before .pre .0) .most, next-onward (c .before .before .before .before .pre .0) (λ z. omega (arith, c .before .before .before .before .pre .1 .0)) (c .before .before .before .before .pre .1 .1) (c .word2 .ensures .0) .stands .below)
@@ -30,4 +20,6 @@ returns-2 : tie.Need-returns-2
 returns-2 c = (c .narrow .ensures) ∙ link-parameter _ _ _ (λ z. c .before .if1 .left (c .before .before .word .ensures .0 ∙ z))
 
 pub link-spec : {M : Type 1} → statement M
-link-spec = tie.close (tie.spec word-requires word-requires-2 mul-result element-copy-out-result returns narrow-requires returns-2)
+link-spec =
+    tie.close
+    (tie.spec (λ c κs. search needs) (λ c κs. search needs) (search needs) element-copy-out-result returns narrow-requires returns-2)

@@ -1,12 +1,11 @@
--- `list_file` meets its contract.
 use native.Mathlib.Omega.{arith}
 use mathlib.Core.Path.{_∙_}
 use mathlib.Core.Logic.{inl, inr}
 use Rattle.chains.specs.Formed.{procedures-stand, counted}
 use Rattle.declarations.specs.Places.{filePlaces}
 use Rattle.declarations.specs.Functors.{stands-same}
-use Rattle.declarations.specs.Listing.{blank-length, blank-at}
-use Rattle.declarations.specs.Filling.{functors-zero, procedures-few, file-listed}
+use Rattle.declarations.proofs.ListingLaws.{blank-length, blank-at}
+use Rattle.declarations.proofs.FillingLaws.{functors-zero, procedures-few, file-listed}
 use Rattle.declarations.proofs.listing.list_file.Statement.{statement}
 use Rattle.declarations.proofs.listing.list_file.Tie as tie
 

@@ -1,4 +1,4 @@
--- `list_functors` meets its contract: after t turns the functors of the first t types are listed.
+-- After t turns the functors of the first t types are listed.
 use native.Mathlib.Omega.{arith}
 use native.Mathlib.Numerals.{add-one}
 use mathlib.Core.Path.{refl}
@@ -8,8 +8,8 @@ use Rattle.chains.specs.Formed.{Stands, types-stand, ahead, counted}
 use Rattle.chains.specs.Is.{chain-next, type-is}
 use Rattle.chains.specs.Declared.{type-at}
 use Rattle.declarations.specs.Functors.{stands-same}
-use Rattle.declarations.specs.Listing.{ChainLeft, left-all, left-here, left-next, left-end}
-use Rattle.declarations.specs.Filling.{type-room, functors-few, FunctorsSo, functors-none, functors-next, functors-all}
+use Rattle.declarations.proofs.ListingLaws.{ChainLeft, left-all, left-here, left-next, left-end}
+use Rattle.declarations.proofs.FillingLaws.{type-room, functors-few, FunctorsSo, functors-none, functors-next, functors-all}
 use borrow.Author.Needs.{needs}
 use Rattle.declarations.proofs.listing.list_functors.Statement.{statement}
 use Rattle.declarations.proofs.listing.list_functors.Tie as tie

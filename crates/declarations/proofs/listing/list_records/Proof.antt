@@ -1,11 +1,11 @@
--- `list_records` meets its contract: after n turns the first n records are listed, and the chain at record i is what is left.
+-- After n turns the first n records are listed, and the chain at record i is what is left.
 use native.Mathlib.Omega.{arith}
 use native.Mathlib.Numerals.{add-one}
 use Prim.Native.Nat.{_<_}
 use Rattle.language.specs.File.{recordCount}
 use Rattle.chains.specs.Formed.{ahead, counted}
 use Rattle.chains.specs.Records.{next-onward}
-use Rattle.declarations.specs.Listing.{ListsSo, ChainLeft, left-all, left-here, left-next, left-end, left-room, lists-none, lists-next, lists-all}
+use Rattle.declarations.proofs.ListingLaws.{ListsSo, ChainLeft, left-all, left-here, left-next, left-end, left-room, lists-none, lists-next, lists-all}
 use borrow.Author.Needs.{needs}
 use Rattle.declarations.proofs.listing.list_records.Statement.{statement}
 use Rattle.declarations.proofs.listing.list_records.Tie as tie
@@ -45,13 +45,11 @@ loop-again c = let l = c .before .before .before .loop .inv in
     let z = c .before .before .loop-test .taken in
     (lists-next (l .0) (add-one _) (omega (arith, left-room (l .1) (c .before .before .before .before .before .before .pre .0) z (l .2), c .before .before .before .before .before .before .pre .1 .1)) (rw (c .before .narrow .ensures) (left-here (l .1) (c .before .before .before .before .before .before .pre .0) z (l .2))), left-next (l .1) (c .before .before .before .before .before .before .pre .0) z (l .2) (c .word .ensures .0) (add-one _), next-onward (c .before .before .before .before .before .before .pre .0) z (l .2) (c .word .ensures .0) .stands .below)
 
-same-length : tie.Need-same-length Inv-loop μ-loop
-same-length c = c .before .loop .inv .0 .kept
-
 returns : tie.Need-returns Inv-loop μ-loop
 returns c = lists-all (c .before .loop .inv .0) (left-end (c .before .loop .inv .1) (c .loop-test .left))
 
 pub list-records-spec : {M : Type 1} → statement M
 list-records-spec =
-    tie.close (tie.spec Inv-loop μ-loop loop-holds narrow-requires add-table mul-table slice-write-table add-n word-requires loop-less loop-again
-    same-length returns)
+    tie.close
+    (tie.spec Inv-loop μ-loop loop-holds narrow-requires add-table mul-table slice-write-table add-n word-requires loop-less loop-again
+    (λ c. c .before .loop .inv .0 .kept) returns)

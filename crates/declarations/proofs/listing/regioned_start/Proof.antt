@@ -1,10 +1,11 @@
--- `regioned_start` meets its contract: the rest of the chain decides as the whole does.
+-- The rest of the chain decides as the whole does.
 use native.Mathlib.Omega.{arith}
 use mathlib.Core.Path.{_≡_, refl, _∙_}
 use Rattle.language.specs.File.{functors}
 use Rattle.chains.specs.Formed.{Stands, ahead, counted}
 use Rattle.chains.specs.Is.{chain-next}
-use Rattle.declarations.specs.Regioned.{constantsAt, constants-end, constants-stop, constants-next}
+use Rattle.declarations.specs.Regioned.{constantsAt}
+use Rattle.declarations.proofs.DeclaresLaws.{constants-end, constants-stop, constants-next}
 use Rattle.declarations.proofs.listing.regioned_start.Statement.{statement}
 use Rattle.declarations.proofs.listing.regioned_start.Tie as tie
 
@@ -13,9 +14,6 @@ Inv-loop file start i₀ i = Stands file functors i × (constantsAt file i ≡ c
 
 abbrev μ-loop : tie.MeasureT-loop
 μ-loop file start i₀ i = ahead file i
-
-loop-holds : tie.Need-loop-holds Inv-loop μ-loop
-loop-holds c = (c .before .pre .1, refl)
 
 word-requires : tie.Need-word-requires Inv-loop μ-loop
 word-requires c κs = (c .before .before .before .pre .0, (omega arith, c .before .loop .inv .0 .below))
@@ -40,4 +38,5 @@ returns-2 c = constants-end _ _ (c .before .loop .inv .1) (c .loop-test .left)
 
 pub regioned-start-spec : {M : Type 1} → statement M
 regioned-start-spec =
-    tie.close (tie.spec Inv-loop μ-loop loop-holds word-requires narrow-requires returns word-requires-2 loop-less loop-again returns-2)
+    tie.close
+    (tie.spec Inv-loop μ-loop (λ c. (c .before .pre .1, refl)) word-requires narrow-requires returns word-requires-2 loop-less loop-again returns-2)

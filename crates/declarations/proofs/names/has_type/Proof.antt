@@ -1,13 +1,10 @@
--- `has_type` meets its contract.
 use native.Mathlib.Omega.{arith}
 use Rattle.declarations.specs.Functors.{stands-same}
-use Rattle.declarations.specs.Own.{variable-stands, typed-none, typed-some}
+use Rattle.declarations.specs.Own.{variable-stands}
+use Rattle.declarations.proofs.LookupLaws.{typed-none, typed-some}
 use borrow.Author.Needs.{needs}
 use Rattle.declarations.proofs.names.has_type.Statement.{statement}
 use Rattle.declarations.proofs.names.has_type.Tie as tie
-
-variable-requires : tie.Need-variable-requires
-variable-requires c κs = search needs
 
 returns : tie.Need-returns
 returns c = typed-none (c .before .before .before .pre .0) (c .before .before .before .pre .1) _ (c .before .variable .ensures) (c .if1 .taken) _
@@ -19,4 +16,4 @@ returns-2 : tie.Need-returns-2
 returns-2 c = typed-some (c .before .before .before .before .pre .0) (c .before .before .before .before .pre .1) _ (c .before .before .variable .ensures) (c .before .if1 .left) _ (c .word .ensures .0)
 
 pub has-type-spec : {M : Type 1} → statement M
-has-type-spec = tie.close (tie.spec variable-requires returns word-requires returns-2)
+has-type-spec = tie.close (tie.spec (search needs) returns word-requires returns-2)

@@ -1,27 +1,11 @@
--- `place` meets its contract.
-use Rattle.declarations.specs.Places.{place-past, place-there}
+use Rattle.declarations.proofs.LookupLaws.{place-past, place-there}
 use mathlib.Core.Path.{_∙_}
 use borrow.Author.Needs.{needs}
 use Rattle.declarations.proofs.names.place.Statement.{statement}
 use Rattle.declarations.proofs.names.place.Tie as tie
 
-returns : tie.Need-returns
-returns c = place-past _ _ _ _ (c .if1 .taken)
-
-add-wide : tie.Need-add-wide
-add-wide c = search needs
-
-mul-wide : tie.Need-mul-wide
-mul-wide c = search needs
-
-shared-slice-read-wide : tie.Need-shared-slice-read-wide
-shared-slice-read-wide c = search needs
-
-wide-requires : tie.Need-wide-requires
-wide-requires c κs = search needs
-
 returns-2 : tie.Need-returns-2
 returns-2 c = (c .wide .ensures) ∙ place-there _ _ _ _ (c .before .before .if1 .left)
 
 pub place-spec : {M : Type 1} → statement M
-place-spec = tie.close (tie.spec returns add-wide mul-wide shared-slice-read-wide wide-requires returns-2)
+place-spec = tie.close (tie.spec (λ c. place-past _ _ _ _ (c .if1 .taken)) (search needs) (search needs) (search needs) (search needs) returns-2)

@@ -1,10 +1,9 @@
--- `counts_ok` meets its contract.
 use native.Mathlib.Omega.{arith}
 use mathlib.Core.Path.{refl}
 use Rattle.chains.specs.Is.{procedure-is}
 use Rattle.chains.specs.Declared.{procedure-at}
 use Rattle.declarations.specs.Functors.{stands-same}
-use Rattle.declarations.specs.Signatures.{many-variables, counts-all}
+use Rattle.declarations.proofs.SignaturesLaws.{many-variables, counts-all}
 use Rattle.declarations.proofs.signatures.counts_ok.Statement.{statement}
 use Rattle.declarations.proofs.signatures.counts_ok.Tie as tie
 

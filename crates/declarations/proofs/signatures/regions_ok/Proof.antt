@@ -1,4 +1,4 @@
--- `regions_ok` meets its contract: the rest of the chain decides as the whole does.
+-- The rest of the chain decides as the whole does.
 use native.Mathlib.Omega.{arith}
 use mathlib.Core.Path.{_≡_, refl, _∙_}
 use borrow.Author.Tests.{not-true, not-false}
@@ -10,7 +10,7 @@ use Rattle.chains.specs.Formed.{Stands, regionsAt, regions-none, ahead}
 use Rattle.chains.specs.Is.{chain-next}
 use Rattle.laws.specs.Lists.{all-end, all-no, all-yes}
 use Rattle.declarations.specs.Own.{declared}
-use Rattle.declarations.specs.Signatures.{regions-step}
+use Rattle.declarations.proofs.SignaturesLaws.{regions-step}
 use Rattle.declarations.proofs.signatures.regions_ok.Statement.{statement}
 use Rattle.declarations.proofs.signatures.regions_ok.Tie as tie
 
@@ -19,9 +19,6 @@ Inv-loop file table own start i₀ i = Stands file regions i × (all (regionOk (
 
 abbrev μ-loop : tie.MeasureT-loop
 μ-loop file table own start i₀ i = ahead file i
-
-loop-holds : tie.Need-loop-holds Inv-loop μ-loop
-loop-holds c = (c .before .pre .1, refl)
 
 region-ok-requires : tie.Need-region-ok-requires Inv-loop μ-loop
 region-ok-requires c κs = (c .before .before .before .pre .0, (c .before .loop .inv .0, c .loop-test .taken))
@@ -42,4 +39,6 @@ returns-2 : tie.Need-returns-2 Inv-loop μ-loop
 returns-2 c = all-end _ (regions-none _ (c .loop-test .left)) ∙ c .before .loop .inv .1
 
 pub regions-ok-spec : {M : Type 1} → statement M
-regions-ok-spec = tie.close (tie.spec Inv-loop μ-loop loop-holds region-ok-requires returns word-requires loop-less loop-again returns-2)
+regions-ok-spec =
+    tie.close
+    (tie.spec Inv-loop μ-loop (λ c. (c .before .pre .1, refl)) region-ok-requires returns word-requires loop-less loop-again returns-2)

@@ -1,7 +1,6 @@
--- `variable_ok` meets its contract.
 use native.Mathlib.Omega.{arith}
-use Rattle.declarations.specs.Declares.{functor-low}
-use Rattle.declarations.specs.Signatures.{variable-mode, variable-number, variable-regioned, variable-type, variable-bare}
+use Rattle.declarations.proofs.DeclaresLaws.{functor-low}
+use Rattle.declarations.proofs.SignaturesLaws.{variable-mode, variable-number, variable-regioned, variable-type, variable-bare}
 use borrow.Author.Needs.{needs}
 use Rattle.declarations.proofs.signatures.variable_ok.Statement.{statement}
 use Rattle.declarations.proofs.signatures.variable_ok.Tie as tie
@@ -30,9 +29,6 @@ is-region-of-requires c κs = (c .before .before .before .before .before .before
 returns-3 : tie.Need-returns-3
 returns-3 c = variable-regioned (c .before .before .before .before .before .before .before .before .before .pre .0 .0) _ _ (c .before .before .before .before .before .before .before .word .ensures .0) (c .before .before .before .before .before .before .if1 .left) (c .before .before .before .before .before .word2 .ensures .0) (c .before .before .before .before .word3 .ensures .0) (c .before .before .regioned .ensures) (c .before .if3 .taken) (c .is-region-of .ensures)
 
-functor-requires : tie.Need-functor-requires
-functor-requires c κs = search needs
-
 returns-4 : tie.Need-returns-4
 returns-4 c = variable-type (c .before .before .before .before .before .before .before .before .before .before .pre .0 .0) _ _ (c .before .before .before .before .before .before .before .before .word .ensures .0) (c .before .before .before .before .before .before .before .if1 .left) (c .before .before .before .before .before .before .word2 .ensures .0) (c .before .before .before .before .before .word3 .ensures .0) (c .before .before .before .regioned .ensures) (omega (arith, c .before .before .if3 .left)) (c .before .before .before .before .if2 .left) (c .before .functor .ensures) (c .if4 .taken)
 
@@ -41,5 +37,6 @@ returns-5 c = variable-bare (c .before .before .before .before .before .before .
 
 pub variable-ok-spec : {M : Type 1} → statement M
 variable-ok-spec =
-    tie.close (tie.spec word-requires returns word-requires-2 word-requires-3 returns-2 regioned-requires is-region-of-requires returns-3 functor-requires
+    tie.close
+    (tie.spec word-requires returns word-requires-2 word-requires-3 returns-2 regioned-requires is-region-of-requires returns-3 (search needs)
     returns-4 returns-5)

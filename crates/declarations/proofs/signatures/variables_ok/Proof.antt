@@ -1,4 +1,4 @@
--- `variables_ok` meets its contract: the rest of the chain decides as the whole does.
+-- The rest of the chain decides as the whole does.
 use native.Mathlib.Omega.{arith}
 use mathlib.Core.Path.{_≡_, refl, _∙_}
 use borrow.Author.Tests.{not-true, not-false}
@@ -10,7 +10,7 @@ use Rattle.chains.specs.Formed.{Stands, variablesAt, variables-none, ahead}
 use Rattle.chains.specs.Is.{chain-next}
 use Rattle.laws.specs.Lists.{all-end, all-no, all-yes}
 use Rattle.declarations.specs.Own.{declared}
-use Rattle.declarations.specs.Signatures.{variables-step}
+use Rattle.declarations.proofs.SignaturesLaws.{variables-step}
 use Rattle.declarations.proofs.signatures.variables_ok.Statement.{statement}
 use Rattle.declarations.proofs.signatures.variables_ok.Tie as tie
 
@@ -19,12 +19,6 @@ Inv-loop file table own start i₀ i = Stands file variables i × (all (variable
 
 abbrev μ-loop : tie.MeasureT-loop
 μ-loop file table own start i₀ i = ahead file i
-
-loop-holds : tie.Need-loop-holds Inv-loop μ-loop
-loop-holds c = (c .before .pre .1, refl)
-
-variable-ok-requires : tie.Need-variable-ok-requires Inv-loop μ-loop
-variable-ok-requires c κs = (c .before .before .before .pre .0, c .before .loop .inv .0)
 
 returns : tie.Need-returns Inv-loop μ-loop
 returns c = all-no _ (variables-step (c .before .before .before .before .before .pre .0 .0 .formed) (c .before .before .before .loop .inv .0) (c .before .before .loop-test .taken)) (c .before .variable-ok .ensures) (not-true _ (c .if1 .taken)) ∙ c .before .before .before .loop .inv .1
@@ -42,4 +36,7 @@ returns-2 : tie.Need-returns-2 Inv-loop μ-loop
 returns-2 c = all-end _ (variables-none _ (c .loop-test .left)) ∙ c .before .loop .inv .1
 
 pub variables-ok-spec : {M : Type 1} → statement M
-variables-ok-spec = tie.close (tie.spec Inv-loop μ-loop loop-holds variable-ok-requires returns word-requires loop-less loop-again returns-2)
+variables-ok-spec =
+    tie.close
+    (tie.spec Inv-loop μ-loop (λ c. (c .before .pre .1, refl)) (λ c κs. (c .before .before .before .pre .0, c .before .loop .inv .0)) returns
+    word-requires loop-less loop-again returns-2)

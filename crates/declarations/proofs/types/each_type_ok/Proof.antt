@@ -1,4 +1,4 @@
--- `each_type_ok` meets its contract: the rest of the chain decides as the whole does.
+-- The rest of the chain decides as the whole does.
 use mathlib.Core.Path.{_≡_, refl, _∙_}
 use borrow.Author.Tests.{not-true, not-false}
 use borrow.Author.Needs.{needs}
@@ -17,15 +17,6 @@ Inv-loop file n start i₀ i = Stands file types i × (all (typeFits n) (typesAt
 
 abbrev μ-loop : tie.MeasureT-loop
 μ-loop file n start i₀ i = ahead file i
-
-loop-holds : tie.Need-loop-holds Inv-loop μ-loop
-loop-holds c = let s = c .before in (s .pre .1, refl)
-
-record-at-requires : tie.Need-record-at-requires Inv-loop μ-loop
-record-at-requires c κs = search needs
-
-enum-known-next : tie.Need-enum-known-next Inv-loop μ-loop
-enum-known-next c = search needs
 
 returns : tie.Need-returns Inv-loop μ-loop
 returns c = absurd (type-else (c .before .before .before .loop .inv .0) (c .before .before .loop-test .taken) (c .before .record-at .ensures) (c .match .keys2))
@@ -47,4 +38,6 @@ returns-3 c = all-end _ (types-none _ (c .loop-test .left)) ∙ c .before .loop 
 
 pub each-type-ok-spec : {M : Type 1} → statement M
 each-type-ok-spec =
-    tie.close (tie.spec Inv-loop μ-loop loop-holds record-at-requires enum-known-next returns type-ok-requires returns-2 loop-less loop-again returns-3)
+    tie.close
+    (tie.spec Inv-loop μ-loop (λ c. let s = c .before in (s .pre .1, refl)) (search needs) (search needs) returns type-ok-requires returns-2 loop-less
+    loop-again returns-3)

@@ -1,4 +1,4 @@
--- `functors_ok` meets its contract: the rest of the chain decides as the whole does.
+-- The rest of the chain decides as the whole does.
 use mathlib.Core.Path.{_≡_, refl, _∙_}
 use borrow.Author.Tests.{not-true, not-false}
 use borrow.Author.Needs.{needs}
@@ -18,20 +18,8 @@ Inv-loop file n start i₀ i = Stands file functors i × (all (functorFits n) (f
 abbrev μ-loop : tie.MeasureT-loop
 μ-loop file n start i₀ i = ahead file i
 
-loop-holds : tie.Need-loop-holds Inv-loop μ-loop
-loop-holds c = let s = c .before in (s .pre .1, refl)
-
-record-at-requires : tie.Need-record-at-requires Inv-loop μ-loop
-record-at-requires c κs = search needs
-
-enum-known-next : tie.Need-enum-known-next Inv-loop μ-loop
-enum-known-next c = search needs
-
 returns : tie.Need-returns Inv-loop μ-loop
 returns c = absurd (functor-else (c .before .before .before .loop .inv .0) (c .before .before .loop-test .taken) (c .before .record-at .ensures) (c .match .keys2))
-
-functor-ok-requires : tie.Need-functor-ok-requires Inv-loop μ-loop
-functor-ok-requires c κs = search needs
 
 returns-2 : tie.Need-returns-2 Inv-loop μ-loop
 returns-2 c = let b = c .before in let t = b .before .before in let e = t .before .before in let l = e .before .before in let s = l .before .before in let v = functor-at (s .pre .0) (e .record-at .ensures) (t .next .given .1) in all-no _ (v .view) (b .functor-ok .ensures) (not-true _ (c .if1 .taken)) ∙ l .loop .inv .1
@@ -47,4 +35,6 @@ returns-3 c = all-end _ (functors-none _ (c .loop-test .left)) ∙ c .before .lo
 
 pub functors-ok-spec : {M : Type 1} → statement M
 functors-ok-spec =
-    tie.close (tie.spec Inv-loop μ-loop loop-holds record-at-requires enum-known-next returns functor-ok-requires returns-2 loop-less loop-again returns-3)
+    tie.close
+    (tie.spec Inv-loop μ-loop (λ c. let s = c .before in (s .pre .1, refl)) (search needs) (search needs) returns (search needs) returns-2 loop-less
+    loop-again returns-3)

@@ -1,4 +1,4 @@
--- `record_at` meets its contract: each arm of the match by the law of its number. Assumes nothing.
+-- Each arm of the match by the law of its number. Assumes nothing.
 use Rattle.language.specs.Lists.{nth}
 use Rattle.language.specs.File.{kinds, kindOf}
 use Rattle.records.proofs.Decoding.{decoded, decoded-none}

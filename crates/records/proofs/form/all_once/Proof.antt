@@ -1,4 +1,4 @@
--- `all_once` meets its contract. Invariant: the counts looked at and those still ahead decide. Assumes nothing.
+-- Invariant: the counts looked at and those still ahead decide. Assumes nothing.
 use Prim.Native.Nat.{_-_}
 use native.Mathlib.Omega.{arith}
 use borrow.Author.Needs.{needs}
@@ -12,14 +12,8 @@ Inv-loop seen n once₀ j₀ once j = Once seen n once j
 abbrev μ-loop : tie.MeasureT-loop
 μ-loop seen n once₀ j₀ once j = n - j
 
-loop-holds : tie.Need-loop-holds Inv-loop μ-loop
-loop-holds c = once-first _ _
-
-loop-again : tie.Need-loop-again Inv-loop μ-loop
-loop-again c = once-next _ _ (c .before .before .loop .inv) (omega arith)
-
-returns : tie.Need-returns Inv-loop μ-loop
-returns c = once-last _ _ (c .before .loop .inv) (omega arith)
-
 pub all-once-spec : {M : Type 1} → statement M
-all-once-spec = tie.close (tie.spec Inv-loop μ-loop loop-holds (search needs) (search needs) (search needs) loop-again returns)
+all-once-spec =
+    tie.close
+    (tie.spec Inv-loop μ-loop (λ c. once-first _ _) (search needs) (search needs) (search needs)
+    (λ c. once-next _ _ (c .before .before .loop .inv) (omega arith)) (λ c. once-last _ _ (c .before .loop .inv) (omega arith)))

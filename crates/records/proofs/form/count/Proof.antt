@@ -1,7 +1,6 @@
--- `count` meets its contract. Assumes nothing.
 use mathlib.Core.Path.{sym, ap, _∙_}
 use lib.ListN.{set}
-use Rattle.records.specs.Lists.{counted-none, counted-some}
+use Rattle.records.proofs.ListsLaws.{counted-none, counted-some}
 use borrow.Author.Needs.{needs}
 use Rattle.records.proofs.form.count.Statement.{statement}
 use Rattle.records.proofs.form.count.Tie as tie

@@ -1,4 +1,4 @@
--- `form_ok` meets its contract: every record in order, and each counted once from nothing. Assumes nothing.
+-- Every record in order, and each counted once from nothing. Assumes nothing.
 use native.Mathlib.Omega.{arith}
 use mathlib.Core.Path.{_∙_}
 use borrow.Author.Tests.{not-true, not-false}

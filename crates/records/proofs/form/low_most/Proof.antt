@@ -1,4 +1,4 @@
--- `low_most` meets its contract: the code's table is that of the definitions, by computing. Assumes nothing.
+-- The code's table is that of the definitions, by computing. Assumes nothing.
 use mathlib.Core.Path.{refl}
 use Rattle.language.specs.File.{row, rowIn, padded, kinds}
 use Rattle.records.specs.Table.{lowMost, listed, tableOf}

@@ -1,4 +1,4 @@
--- `record_ok` meets its contract: the unused words, then the references. Assumes nothing.
+-- The unused words, then the references. Assumes nothing.
 use borrow.Author.Needs.{needs}
 use borrow.Author.Tests.{not-true, not-false}
 use Rattle.records.proofs.Loops.{record-spare, record-refers}

@@ -1,4 +1,4 @@
--- `records_ok` meets its contract. Invariant: the records still ahead decide. Assumes nothing.
+-- Invariant: the records still ahead decide. Assumes nothing.
 use Prim.Native.Nat.{_-_}
 use native.Mathlib.Omega.{arith}
 use mathlib.Core.Path.{_∙_}
@@ -15,9 +15,6 @@ Inv-loop file seen₀ n table low high i₀ seen i = Records (word file) n seen�
 abbrev μ-loop : tie.MeasureT-loop
 μ-loop file seen₀ n table low high i₀ seen i = n - i
 
-loop-holds : tie.Need-loop-holds Inv-loop μ-loop
-loop-holds c = records-first _ _ _
-
 same-length : tie.Need-same-length Inv-loop μ-loop
 same-length c = c .before .before .before .record-ok .kept .1 .1 .1 .1 .0 ∙ c .before .before .before .before .before .before .before .before .before .loop .inv .same
 
@@ -31,14 +28,8 @@ loop-again c =
     let b = c .before .before .before in
     records-next _ _ (b .before .before .before .before .before .before .loop .inv) (omega arith) (b .record-ok .ensures) (not-false _ (c .if1 .left)) (b .record-ok .kept .1 .1 .1 .1 .0)
 
-same-length-2 : tie.Need-same-length-2 Inv-loop μ-loop
-same-length-2 c = c .before .loop .inv .same
-
-returns-2 : tie.Need-returns-2 Inv-loop μ-loop
-returns-2 c = records-last _ _ (c .before .loop .inv) (omega arith)
-
 pub records-ok-spec : {M : Type 1} → statement M
 records-ok-spec =
     tie.close
-    (tie.spec Inv-loop μ-loop (search needs) (search needs) (search needs) loop-holds (λ c κs. search needs) same-length returns (search needs)
-    (search needs) loop-again same-length-2 returns-2)
+    (tie.spec Inv-loop μ-loop (search needs) (search needs) (search needs) (λ c. records-first _ _ _) (λ c κs. search needs) same-length returns
+    (search needs) (search needs) loop-again (λ c. c .before .loop .inv .same) (λ c. records-last _ _ (c .before .loop .inv) (omega arith)))

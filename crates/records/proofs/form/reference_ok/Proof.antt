@@ -1,4 +1,4 @@
--- `reference_ok` meets its contract: one law for each test of a reference. Assumes nothing.
+-- One law for each test of a reference. Assumes nothing.
 use native.Mathlib.Omega.{arith}
 use mathlib.Core.Bool.{false≢true}
 use Rattle.records.proofs.Steps.{reference-end, reference-low, reference-past, reference-chain}

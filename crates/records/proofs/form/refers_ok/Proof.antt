@@ -1,4 +1,4 @@
--- `refers_ok` meets its contract. Invariant: the words still ahead decide; the digits fall. Assumes nothing.
+-- Invariant: the words still ahead decide; the digits fall. Assumes nothing.
 use mathlib.Core.Path.{_∙_}
 use borrow.Author.Needs.{needs}
 use borrow.Author.Tests.{not-true, not-false}
@@ -33,14 +33,8 @@ loop-again c =
     let b = c .before .before .before in
     words-next _ _ _ (b .before .before .before .loop .inv) (b .before .before .loop-test .taken) (b .word-ok .ensures) (not-false _ (c .if1 .left)) (b .word-ok .kept .1 .1 .0)
 
-same-length-2 : tie.Need-same-length-2 Inv-loop μ-loop
-same-length-2 c = c .before .loop .inv .same
-
-returns-2 : tie.Need-returns-2 Inv-loop μ-loop
-returns-2 c = words-last _ _ _ (c .before .loop .inv) (c .loop-test .left)
-
 pub refers-ok-spec : {M : Type 1} → statement M
 refers-ok-spec =
     tie.close
     (tie.spec Inv-loop μ-loop (search needs) (search needs) loop-holds word-ok-requires same-length returns (search needs) (search needs) loop-again
-    same-length-2 returns-2)
+    (λ c. c .before .loop .inv .same) (λ c. words-last _ _ _ (c .before .loop .inv) (c .loop-test .left)))

@@ -1,8 +1,8 @@
--- `row_of` meets its contract: the table at a kind's number, and at any number above. Assumes nothing.
+-- The table at a kind's number, and at any number above. Assumes nothing.
 use native.Mathlib.Omega.{arith}
 use mathlib.Core.Path.{ap, _∙_}
 use lib.ListN.{getD}
-use Rattle.records.specs.Table.{table-at, table-past}
+use Rattle.records.proofs.TableLaws.{table-at, table-past}
 use borrow.Author.Needs.{needs}
 use Rattle.records.proofs.form.row_of.Statement.{statement}
 use Rattle.records.proofs.form.row_of.Tie as tie

@@ -1,4 +1,4 @@
--- `spare_ok` meets its contract: two numbers against the most that the kind allows. Assumes nothing.
+-- Two numbers against the most that the kind allows. Assumes nothing.
 use borrow.Author.Needs.{needs}
 use Rattle.records.specs.Table.{lowMost, highMost}
 use Rattle.records.proofs.Steps.{spare-low, spare-high}

@@ -1,13 +1,10 @@
--- `word_ok` meets its contract: no reference, or one. Assumes nothing.
+-- No reference, or one. Assumes nothing.
 use native.Mathlib.Omega.{arith}
 use borrow.Author.Tests.{not-true, not-false}
 use Rattle.records.proofs.Steps.{use-none, use-refused, use-counted}
 use borrow.Author.Needs.{needs}
 use Rattle.records.proofs.form.word_ok.Statement.{statement}
 use Rattle.records.proofs.form.word_ok.Tie as tie
-
-returns : tie.Need-returns
-returns c = λ u e. use-none _ _ _ _ _ u (c .if1 .taken) e
 
 returns-2 : tie.Need-returns-2
 returns-2 c =
@@ -24,4 +21,7 @@ returns-3 c =
     (not-false _ (c .before .before .before .before .if2 .left)) (c .before .before .count .ensures) e
 
 pub word-ok-spec : {M : Type 1} → statement M
-word-ok-spec = tie.close (tie.spec returns (search needs) (λ c κs. search needs) returns-2 count-requires (search needs) returns-3)
+word-ok-spec =
+    tie.close
+    (tie.spec (λ c. λ u e. use-none _ _ _ _ _ u (c .if1 .taken) e) (search needs) (λ c κs. search needs) returns-2 count-requires (search needs)
+    returns-3)

@@ -1,4 +1,4 @@
--- `check_form` meets its contract: the first test that fails gives the verdict. Assumes nothing.
+-- The first test that fails gives the verdict. Assumes nothing.
 use borrow.Author.Tests.{not-true, not-false}
 use Rattle.records.proofs.Stages.{count-most, form-header, form-form, form-accepted}
 use borrow.Author.Needs.{needs}

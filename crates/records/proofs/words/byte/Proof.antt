@@ -1,4 +1,4 @@
--- `byte` meets its contract: past the end a list gives 0. Assumes nothing.
+-- Past the end a list gives 0. Assumes nothing.
 use mathlib.Core.Path.{sym}
 use native.Mathlib.Omega.{arith}
 use lib.ListN.{List·getD-eq-default}

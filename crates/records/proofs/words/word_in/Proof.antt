@@ -1,4 +1,4 @@
--- `word_in` meets its contract: both bytes are there. Assumes nothing.
+-- Both bytes are there. Assumes nothing.
 use Rattle.language.specs.File.{word}
 use borrow.Author.Needs.{needs}
 use Rattle.records.proofs.words.word_in.Statement.{statement}

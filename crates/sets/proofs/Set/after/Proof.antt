@@ -12,14 +12,8 @@ returns c =
     next-eq _ _ _
     (record { low = omega arith; top = omega arith; none = λ k h l. absurd (omega arith); found = λ h. absurd (omega arith) })
 
-shr-rest : tie.Need-shr-rest
-shr-rest c = search needs
-
 cast-zeros : tie.Need-cast-zeros
 cast-zeros c = let a = c .before .before .args in omega (arith, trailing-le 64 (a .self .bits / 2 ^ a .n))
-
-add-found : tie.Need-add-found
-add-found c = search needs
 
 add-found-2 : tie.Need-add-found-2
 add-found-2 c = let a = c .before .before .args in omega (arith, trailing-le 64 (a .self .bits / 2 ^ a .n))
@@ -40,5 +34,4 @@ returns-3 c =
     })
 
 pub after-spec : {M : Type 1} → statement M
-after-spec =
-    tie.close (tie.spec returns shr-rest cast-zeros add-found add-found-2 returns-2 returns-3)
+after-spec = tie.close (tie.spec returns (search needs) cast-zeros (search needs) add-found-2 returns-2 returns-3)

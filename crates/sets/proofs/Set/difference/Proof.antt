@@ -3,8 +3,5 @@ use Rattle.sets.proofs.Set.difference.Statement.{statement}
 use Rattle.sets.proofs.Set.difference.Tie as tie
 use Rattle.sets.specs.Code.{difference-made}
 
-returns : tie.Need-returns
-returns c = difference-made _ _ (search needs) (search needs)
-
 pub difference-spec : {M : Type 1} → statement M
-difference-spec = tie.close (tie.spec returns)
+difference-spec = tie.close (tie.spec (λ c. difference-made _ _ (search needs) (search needs)))

@@ -10,14 +10,7 @@ use Rattle.sets.specs.Tests.{false-of}
 returns : tie.Need-returns
 returns c = sym (false-of (λ e. let h = member-pos _ _ e in omega arith))
 
-returns-2 : tie.Need-returns-2
-returns-2 c = sym ((small-of-bits _ (search needs)) .high _ (omega arith))
-
-shr-result : tie.Need-shr-result
-shr-result c = search needs
-
-returns-3 : tie.Need-returns-3
-returns-3 c = member-made _ _ (omega arith)
-
 pub has-spec : {M : Type 1} → statement M
-has-spec = tie.close (tie.spec returns returns-2 shr-result returns-3)
+has-spec =
+    tie.close
+    (tie.spec returns (λ c. sym ((small-of-bits _ (search needs)) .high _ (omega arith))) (search needs) (λ c. member-made _ _ (omega arith)))

@@ -3,8 +3,5 @@ use Rattle.sets.proofs.Set.is_empty.Tie as tie
 use Rattle.sets.specs.Code.{same-made}
 use Rattle.sets.specs.Sets.{emptySet}
 
-returns : tie.Need-returns
-returns c = same-made _ emptySet
-
 pub is-empty-spec : {M : Type 1} → statement M
-is-empty-spec = tie.close (tie.spec returns)
+is-empty-spec = tie.close (tie.spec (λ c. same-made _ emptySet))

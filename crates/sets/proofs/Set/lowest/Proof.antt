@@ -6,14 +6,8 @@ use Rattle.sets.proofs.Set.lowest.Tie as tie
 use Rattle.sets.specs.Code.{lowest-next}
 use Rattle.sets.specs.Walk.{next-eq}
 
-cast-zeros : tie.Need-cast-zeros
-cast-zeros c = omega (arith, trailing-le 64 (c .before .args .self .bits))
-
-add-result : tie.Need-add-result
-add-result c = omega (arith, trailing-le 64 (c .before .args .self .bits))
-
-returns : tie.Need-returns
-returns c = next-eq _ _ _ (lowest-next _ _ refl)
-
 pub lowest-spec : {M : Type 1} → statement M
-lowest-spec = tie.close (tie.spec cast-zeros add-result returns)
+lowest-spec =
+    tie.close
+    (tie.spec (λ c. omega (arith, trailing-le 64 (c .before .args .self .bits))) (λ c. omega (arith, trailing-le 64 (c .before .args .self .bits)))
+    (λ c. next-eq _ _ _ (lowest-next _ _ refl)))

@@ -2,8 +2,5 @@ use Rattle.sets.proofs.Set.stored.Statement.{statement}
 use Rattle.sets.proofs.Set.stored.Tie as tie
 use Rattle.sets.specs.Code.{stored-made}
 
-returns : tie.Need-returns
-returns c = stored-made _
-
 pub stored-spec : {M : Type 1} → statement M
-stored-spec = tie.close (tie.spec returns)
+stored-spec = tie.close (tie.spec (λ c. stored-made _))

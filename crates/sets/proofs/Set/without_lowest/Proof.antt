@@ -8,13 +8,10 @@ use Rattle.sets.specs.Members.{nextMember}
 use Rattle.sets.specs.Sets.{small-of-bits}
 use Rattle.sets.specs.Walk.{next-is}
 
-sub-t2 : tie.Need-sub-t2
-sub-t2 c = omega (arith, some-bits _ (c .before .pre))
-
 returns : tie.Need-returns
 returns c =
     let s = c .before .before .args .self in
     rest-made s (nextMember s 0) (next-is s 0) (lowest-low s (small-of-bits s (search needs)) (c .before .before .pre))
 
 pub without-lowest-spec : {M : Type 1} → statement M
-without-lowest-spec = tie.close (tie.spec sub-t2 returns)
+without-lowest-spec = tie.close (tie.spec (λ c. omega (arith, some-bits _ (c .before .pre))) returns)

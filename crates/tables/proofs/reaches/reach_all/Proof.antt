@@ -1,4 +1,4 @@
--- `reach_all` meets its contract: a walk over the members.
+-- A walk over the members.
 use Prim.Native.Nat.{_-_}
 use borrow.Author.Needs.{needs}
 use Rattle.language.specs.Format.{places}
@@ -13,9 +13,6 @@ Inv-loop own xs found₀ x₀ found x = Gathering (reachIn own) xs found x
 abbrev μ-loop : tie.MeasureT-loop
 μ-loop own xs found₀ x₀ found x = places - x
 
-loop-holds : tie.Need-loop-holds Inv-loop μ-loop
-loop-holds c = gather-first _ _ (c .after .ensures)
-
 loop-less : tie.Need-loop-less Inv-loop μ-loop
 loop-less c = next-falls _ (c .before .before .before .loop-test .taken) (c .after2 .ensures)
 
@@ -24,10 +21,8 @@ loop-again c =
     gather-more _ _ (c .before .before .before .before .loop .inv) (c .before .before .before .loop-test .taken) (c .before .before .reach .ensures) (c .before .union .ensures)
     (c .after2 .ensures)
 
-returns : tie.Need-returns Inv-loop μ-loop
-returns c = gather-last _ _ (c .before .loop .inv) (c .loop-test .left)
-
 pub reach-all-spec : {M : Type 1} → statement M
 reach-all-spec =
     tie.close
-    (tie.spec Inv-loop μ-loop (search needs) loop-holds (search needs) (search needs) (search needs) loop-less loop-again returns)
+    (tie.spec Inv-loop μ-loop (search needs) (λ c. gather-first _ _ (c .after .ensures)) (search needs) (search needs) (search needs) loop-less
+    loop-again (λ c. gather-last _ _ (c .before .loop .inv) (c .loop-test .left)))

@@ -1,4 +1,3 @@
--- `access_at` meets its contract.
 use Rattle.tables.specs.Rows.{accessIn}
 use borrow.Author.Needs.{needs}
 use Rattle.tables.proofs.rows.access_at.Statement.{statement}

@@ -1,4 +1,3 @@
--- `bears_at` meets its contract.
 use Rattle.tables.specs.Rows.{bearsIn}
 use borrow.Author.Needs.{needs}
 use Rattle.tables.proofs.rows.bears_at.Statement.{statement}

@@ -1,4 +1,3 @@
--- `bit_of` meets its contract.
 use mathlib.Core.Path.{refl}
 use Rattle.tables.specs.Rows.{bitOf}
 use Rattle.tables.proofs.rows.bit_of.Statement.{statement}

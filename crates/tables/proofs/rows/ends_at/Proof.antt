@@ -1,4 +1,3 @@
--- `ends_at` meets its contract.
 use Rattle.tables.specs.Rows.{endsIn}
 use borrow.Author.Needs.{needs}
 use Rattle.tables.proofs.rows.ends_at.Statement.{statement}

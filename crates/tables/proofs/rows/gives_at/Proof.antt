@@ -1,4 +1,3 @@
--- `gives_at` meets its contract.
 use Rattle.tables.specs.Rows.{givesIn}
 use borrow.Author.Needs.{needs}
 use Rattle.tables.proofs.rows.gives_at.Statement.{statement}

@@ -1,4 +1,3 @@
--- `needs_at` meets its contract.
 use Rattle.tables.specs.Rows.{needsIn}
 use borrow.Author.Needs.{needs}
 use Rattle.tables.proofs.rows.needs_at.Statement.{statement}

@@ -1,4 +1,3 @@
--- `put_access` meets its contract.
 use Rattle.tables.specs.Rows.{putAccess}
 use borrow.Author.Needs.{needs}
 use Rattle.tables.proofs.rows.put_access.Statement.{statement}

@@ -1,4 +1,3 @@
--- `put_effect` meets its contract.
 use Rattle.tables.specs.Rows.{putEffect}
 use borrow.Author.Needs.{needs}
 use Rattle.tables.proofs.rows.put_effect.Statement.{statement}

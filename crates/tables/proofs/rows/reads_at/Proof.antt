@@ -1,4 +1,3 @@
--- `reads_at` meets its contract.
 use Rattle.tables.specs.Rows.{readsIn}
 use borrow.Author.Needs.{needs}
 use Rattle.tables.proofs.rows.reads_at.Statement.{statement}

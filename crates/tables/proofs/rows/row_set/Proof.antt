@@ -1,5 +1,4 @@
--- `row_set` meets its contract.
-use Rattle.tables.specs.Rows.{row-some, row-past}
+use Rattle.tables.proofs.Finding.{row-some, row-past}
 use borrow.Author.Needs.{needs}
 use Rattle.tables.proofs.rows.row_set.Statement.{statement}
 use Rattle.tables.proofs.rows.row_set.Tie as tie
@@ -7,8 +6,7 @@ use Rattle.tables.proofs.rows.row_set.Tie as tie
 returns : tie.Need-returns
 returns c = row-some _ _ _ (c .before .before .if1 .taken) (c .loaded .ensures)
 
-returns-2 : tie.Need-returns-2
-returns-2 c = row-past _ _ _ (c .if1 .left)
-
 pub row-set-spec : {M : Type 1} → statement M
-row-set-spec = tie.close (tie.spec (search needs) (search needs) (search needs) (search needs) (search needs) returns returns-2)
+row-set-spec =
+    tie.close
+    (tie.spec (search needs) (search needs) (search needs) (search needs) (search needs) returns (λ c. row-past _ _ _ (c .if1 .left)))

@@ -1,4 +1,4 @@
--- `body_of` meets its contract: the table is lent from the window's start on (`window-lent`).
+-- The table is lent from the window's start on (`window-lent`).
 use mathlib.Core.Path.{ap, _∙_}
 use mathlib.Core.List.{List}
 use Prim.Native.Nat.{ℕ}

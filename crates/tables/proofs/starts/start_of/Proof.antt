@@ -1,7 +1,7 @@
--- `start_of` meets its contract.
 use mathlib.Core.Path.{sym}
 use native.Mathlib.Omega.{arith}
-use Rattle.tables.specs.Starts.{start-is, start-past, start-none}
+use Rattle.tables.specs.Starts.{start-is}
+use Rattle.tables.proofs.Finding.{start-past, start-none}
 use borrow.Author.Needs.{needs}
 use Rattle.tables.proofs.starts.start_of.Statement.{statement}
 use Rattle.tables.proofs.starts.start_of.Tie as tie

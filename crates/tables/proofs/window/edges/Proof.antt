@@ -1,12 +1,8 @@
--- `edges` meets its contract.
 use native.Mathlib.Omega.{arith}
 use Rattle.tables.specs.Window.{number-few, edges-past, edges-some, edges-none}
 use borrow.Author.Needs.{needs}
 use Rattle.tables.proofs.window.edges.Statement.{statement}
 use Rattle.tables.proofs.window.edges.Tie as tie
-
-returns : tie.Need-returns
-returns c = edges-past _ _ (c .before .word-at .ensures) (c .if1 .taken)
 
 mul-word-at : tie.Need-mul-word-at
 mul-word-at c = let l = number-few _ _ (c .before .is-number .ensures) (c .if2 .taken) in omega (arith, l, c .before .before .before .if1 .left)
@@ -26,4 +22,5 @@ returns-3 c = edges-none _ _ (c .before .before .before .before .word-at .ensure
 pub edges-spec : {M : Type 1} → statement M
 edges-spec =
     tie.close
-    (tie.spec (search needs) returns (search needs) (search needs) mul-word-at add-word-at add-word-at-2 (search needs) returns-2 returns-3)
+    (tie.spec (search needs) (λ c. edges-past _ _ (c .before .word-at .ensures) (c .if1 .taken)) (search needs) (search needs) mul-word-at add-word-at
+    add-word-at-2 (search needs) returns-2 returns-3)

@@ -1,4 +1,3 @@
--- `home` meets its contract.
 use native.Mathlib.Omega.{arith}
 use Rattle.tables.specs.Window.{number-few, home-some, home-none}
 use borrow.Author.Needs.{needs}

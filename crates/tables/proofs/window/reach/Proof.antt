@@ -1,4 +1,3 @@
--- `reach` meets its contract.
 use native.Mathlib.Omega.{arith}
 use Rattle.tables.specs.Window.{number-few, reach-some, reach-none}
 use borrow.Author.Needs.{needs}

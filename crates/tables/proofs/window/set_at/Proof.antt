@@ -1,4 +1,3 @@
--- `set_at` meets its contract.
 use mathlib.Core.Path.{sym, ap, _∙_}
 use lib.ListN.{List·getD-eq-default}
 use Rattle.sets.specs.Sets.{loaded, loaded-zero}

@@ -1,4 +1,4 @@
--- `match_arguments` meets its contract: what is left of the two chains decides as the whole does.
+-- What is left of the two chains decides as the whole does.
 use native.Mathlib.Omega.{arith}
 use mathlib.Core.Path.{_≡_, refl, _∙_}
 use borrow.Author.Tests.{not-true, not-false}
@@ -9,7 +9,7 @@ use Rattle.chains.specs.Formed.{Stands, variablesAt, argumentsAt, ahead, counte
 use Rattle.chains.specs.Is.{chain-next}
 use Rattle.declarations.specs.Parameters.{takenTypes}
 use Rattle.declarations.specs.Own.{declared}
-use Rattle.typing.specs.Calls.{match-start, match-short, match-wrong, match-next, match-end, parameter-at}
+use Rattle.typing.proofs.CallsLaws.{match-start, match-short, match-wrong, match-next, match-end, parameter-at}
 use Rattle.typing.proofs.calls.match_arguments.Statement.{statement}
 use Rattle.typing.proofs.calls.match_arguments.Tie as tie
 

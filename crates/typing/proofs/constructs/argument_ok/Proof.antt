@@ -1,27 +1,8 @@
--- `argument_ok` meets its contract.
 use native.Mathlib.Omega.{arith}
-use Rattle.typing.specs.Arguments.{argument-in, argument-past}
+use Rattle.typing.proofs.ArgumentsLaws.{argument-in, argument-past}
 use borrow.Author.Needs.{needs}
 use Rattle.typing.proofs.constructs.argument_ok.Statement.{statement}
 use Rattle.typing.proofs.constructs.argument_ok.Tie as tie
-
-add-word : tie.Need-add-word
-add-word c = search needs
-
-word-requires : tie.Need-word-requires
-word-requires c κs = search needs
-
-word-requires-2 : tie.Need-word-requires-2
-word-requires-2 c κs = search needs
-
-add-word-2 : tie.Need-add-word-2
-add-word-2 c = search needs
-
-word-requires-3 : tie.Need-word-requires-3
-word-requires-3 c κs = search needs
-
-has-type-requires : tie.Need-has-type-requires
-has-type-requires c κs = search needs
 
 returns : tie.Need-returns
 returns c = argument-in _ _ _ _ (c .before .before .before .before .word .ensures .0) (omega (arith, c .before .before .if1 .taken, c .before .before .before .word2 .ensures .0)) (c .before .word3 .ensures .0) (c .has-type .ensures)
@@ -30,4 +11,7 @@ returns-2 : tie.Need-returns-2
 returns-2 c = argument-past _ _ _ _ (c .before .before .word .ensures .0) (omega (arith, c .if1 .left, c .before .word2 .ensures .0))
 
 pub argument-ok-spec : {M : Type 1} → statement M
-argument-ok-spec = tie.close (tie.spec add-word word-requires word-requires-2 add-word-2 word-requires-3 has-type-requires returns returns-2)
+argument-ok-spec =
+    tie.close
+    (tie.spec (search needs) (λ c κs. search needs) (λ c κs. search needs) (search needs) (λ c κs. search needs) (λ c κs. search needs) returns
+    returns-2)

@@ -1,4 +1,4 @@
--- `arguments_ok` meets its contract: the slots that are not looked at yet decide.
+-- The slots that are not looked at yet decide.
 use Prim.Native.Nat.{_-_}
 use native.Mathlib.Omega.{arith}
 use mathlib.Core.Path.{_≡_, refl, _∙_}
@@ -16,20 +16,8 @@ Inv-loop file own g i k₀ k = slotsLeft file (declared file own) g i k ≡ slot
 abbrev μ-loop : tie.MeasureT-loop
 μ-loop file own g i k₀ k = maxArity - k
 
-loop-holds : tie.Need-loop-holds Inv-loop μ-loop
-loop-holds c = refl
-
-argument-ok-requires : tie.Need-argument-ok-requires Inv-loop μ-loop
-argument-ok-requires c κs = search needs
-
 returns : tie.Need-returns Inv-loop μ-loop
 returns c = slots-stop _ _ _ _ (c .before .before .loop-test .taken) (c .before .argument-ok .ensures) (not-true _ (c .if1 .taken)) ∙ c .before .before .before .loop .inv ∙ slots-whole _ _ _ _
-
-add-k : tie.Need-add-k Inv-loop μ-loop
-add-k c = search needs
-
-loop-less : tie.Need-loop-less Inv-loop μ-loop
-loop-less c = omega arith
 
 loop-again : tie.Need-loop-again Inv-loop μ-loop
 loop-again c = slots-on _ _ _ _ (c .before .before .loop-test .taken) (c .before .argument-ok .ensures) (not-false _ (c .if1 .left)) ∙ c .before .before .before .loop .inv
@@ -38,4 +26,6 @@ returns-2 : tie.Need-returns-2 Inv-loop μ-loop
 returns-2 c = slots-end _ _ _ _ (c .loop-test .left) ∙ c .before .loop .inv ∙ slots-whole _ _ _ _
 
 pub arguments-ok-spec : {M : Type 1} → statement M
-arguments-ok-spec = tie.close (tie.spec Inv-loop μ-loop loop-holds argument-ok-requires returns add-k loop-less loop-again returns-2)
+arguments-ok-spec =
+    tie.close
+    (tie.spec Inv-loop μ-loop (λ c. refl) (λ c κs. search needs) returns (search needs) (λ c. omega arith) loop-again returns-2)

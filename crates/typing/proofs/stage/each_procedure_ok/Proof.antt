@@ -1,4 +1,4 @@
--- `each_procedure_ok` meets its contract: the rest of the chain decides as the whole does.
+-- The rest of the chain decides as the whole does.
 use native.Mathlib.Omega.{arith}
 use mathlib.Core.Path.{_≡_, refl, _∙_}
 use borrow.Author.Tests.{not-true, not-false}
@@ -9,7 +9,7 @@ use Rattle.language.specs.Typing.{procedureOk}
 use Rattle.chains.specs.Formed.{Stands, proceduresAt, procedures-none, ahead}
 use Rattle.chains.specs.Is.{chain-next}
 use Rattle.laws.specs.Lists.{all-end}
-use Rattle.typing.specs.Procedures.{procedures-no, procedures-yes}
+use Rattle.typing.proofs.ProceduresLaws.{procedures-no, procedures-yes}
 use Rattle.typing.proofs.stage.each_procedure_ok.Statement.{statement}
 use Rattle.typing.proofs.stage.each_procedure_ok.Tie as tie
 
@@ -18,9 +18,6 @@ Inv-loop file table start i₀ i = Stands file procedures i × (all (procedureOk
 
 abbrev μ-loop : tie.MeasureT-loop
 μ-loop file table start i₀ i = ahead file i
-
-loop-holds : tie.Need-loop-holds Inv-loop μ-loop
-loop-holds c = (c .before .pre .1, refl)
 
 procedure-ok-requires : tie.Need-procedure-ok-requires Inv-loop μ-loop
 procedure-ok-requires c κs = (c .before .before .before .pre .0, (c .before .loop .inv .0, c .loop-test .taken))
@@ -41,4 +38,6 @@ returns-2 : tie.Need-returns-2 Inv-loop μ-loop
 returns-2 c = all-end _ (procedures-none _ (c .loop-test .left)) ∙ c .before .loop .inv .1
 
 pub each-procedure-ok-spec : {M : Type 1} → statement M
-each-procedure-ok-spec = tie.close (tie.spec Inv-loop μ-loop loop-holds procedure-ok-requires returns word-requires loop-less loop-again returns-2)
+each-procedure-ok-spec =
+    tie.close
+    (tie.spec Inv-loop μ-loop (λ c. (c .before .pre .1, refl)) procedure-ok-requires returns word-requires loop-less loop-again returns-2)

@@ -1,23 +1,16 @@
--- `procedure_ok` meets its contract.
 use native.Mathlib.Omega.{arith}
 use mathlib.Core.Path.{refl, sym, _∙_}
 use borrow.Author.Tests.{not-true, not-false}
 use Rattle.chains.specs.Is.{procedure-is}
 use Rattle.chains.specs.Declared.{procedure-at}
 use Rattle.declarations.specs.Functors.{stands-same}
-use Rattle.typing.specs.Procedures.{many-declared, wrong-signature, procedure-all}
+use Rattle.typing.proofs.ProceduresLaws.{many-declared, wrong-signature, procedure-all}
 use borrow.Author.Needs.{needs}
 use Rattle.typing.proofs.stage.procedure_ok.Statement.{statement}
 use Rattle.typing.proofs.stage.procedure_ok.Tie as tie
 
-counts-ok-requires : tie.Need-counts-ok-requires
-counts-ok-requires c κs = (c .before .pre .0 .formed, c .before .pre .1)
-
 returns : tie.Need-returns
 returns c = many-declared _ _ (c .before .counts-ok .ensures) (not-true _ (c .if1 .taken))
-
-blank-own-requires : tie.Need-blank-own-requires
-blank-own-requires c κs = search needs
 
 list-own-requires : tie.Need-list-own-requires
 list-own-requires c κs = (c .before .before .before .before .before .pre .0 .formed, (c .before .before .before .before .before .pre .1, (sym (c .before .before .before .counts-ok .ensures) ∙ not-false _ (c .before .before .if1 .left), c .before .blank-own .ensures)))
@@ -39,5 +32,6 @@ returns-3 c = procedure-all _ _ (c .before .before .before .before .before .befo
 
 pub procedure-ok-spec : {M : Type 1} → statement M
 procedure-ok-spec =
-    tie.close (tie.spec counts-ok-requires returns blank-own-requires list-own-requires signature-ok-requires returns-2 word-requires goals-requires
-    returns-3)
+    tie.close
+    (tie.spec (λ c κs. (c .before .pre .0 .formed, c .before .pre .1)) returns (search needs) list-own-requires signature-ok-requires returns-2
+    word-requires goals-requires returns-3)

@@ -1,8 +1,8 @@
--- `procedures_ok` meets its contract.
 use native.Mathlib.Omega.{arith}
 use Rattle.chains.specs.Formed.{procedures-stand, counted}
+use Rattle.chains.specs.Elements.{procedure-count}
 use Rattle.declarations.specs.Functors.{stands-same}
-use Rattle.typing.specs.Procedures.{procedure-count, no-procedure, many-procedures, procedures-all}
+use Rattle.typing.proofs.ProceduresLaws.{no-procedure, many-procedures, procedures-all}
 use borrow.Author.Needs.{needs}
 use Rattle.typing.proofs.stage.procedures_ok.Statement.{statement}
 use Rattle.typing.proofs.stage.procedures_ok.Tie as tie
@@ -19,11 +19,8 @@ returns c = no-procedure _ (c .before .before .before .before .pre .0) (c .befor
 returns-2 : tie.Need-returns-2
 returns-2 c = many-procedures _ (c .before .before .before .before .before .pre .0) (c .before .before .before .word .ensures .0) (c .before .before .chain-length .ensures) (c .before .if1 .left) (c .if2 .taken)
 
-blank-file-requires : tie.Need-blank-file-requires
-blank-file-requires c κs = search needs
-
 list-file-requires : tie.Need-list-file-requires
-list-file-requires c κs = (c .before .before .before .before .before .before .before .pre .0, ((c .before .before .before .before .before .before .before .pre .1, omega (arith, c .before .before .if2 .left, procedure-count _ (c .before .before .before .before .before .before .before .pre .0) (c .before .before .before .before .before .word .ensures .0) (c .before .before .before .before .chain-length .ensures))), c .before .blank-file .ensures))
+list-file-requires c κs = (c .before .before .before .before .before .before .before .pre .0, ((c .before .before .before .before .before .before .before .pre .1, omega (arith, c .before .before .if2 .left, procedure-count (c .before .before .before .before .before .before .before .pre .0) (c .before .before .before .before .before .word .ensures .0) (c .before .before .before .before .chain-length .ensures))), c .before .blank-file .ensures))
 
 each-procedure-ok-requires : tie.Need-each-procedure-ok-requires
 each-procedure-ok-requires c κs = (c .before .list-file .ensures, stands-same (c .before .before .before .before .before .before .before .word .ensures .0) (procedures-stand (c .before .before .before .before .before .before .before .before .before .pre .0)))
@@ -33,4 +30,5 @@ returns-3 c = procedures-all _ (c .before .before .before .before .before .befor
 
 pub procedures-ok-spec : {M : Type 1} → statement M
 procedures-ok-spec =
-    tie.close (tie.spec word-requires chain-length-requires returns returns-2 blank-file-requires list-file-requires each-procedure-ok-requires returns-3)
+    tie.close
+    (tie.spec word-requires chain-length-requires returns returns-2 (search needs) list-file-requires each-procedure-ok-requires returns-3)

@@ -1,13 +1,9 @@
--- `typing_ok` meets its contract.
 use mathlib.Core.Path.{sym, _∙_}
 use borrow.Author.Tests.{not-true, not-false}
-use Rattle.typing.specs.Procedures.{wrong-types, typing-all}
+use Rattle.typing.proofs.ProceduresLaws.{wrong-types, typing-all}
 use borrow.Author.Needs.{needs}
 use Rattle.typing.proofs.stage.typing_ok.Statement.{statement}
 use Rattle.typing.proofs.stage.typing_ok.Tie as tie
-
-types-ok-requires : tie.Need-types-ok-requires
-types-ok-requires c κs = search needs
 
 returns : tie.Need-returns
 returns c = wrong-types _ (c .before .types-ok .ensures) (not-true _ (c .if1 .taken))
@@ -19,4 +15,4 @@ returns-2 : tie.Need-returns-2
 returns-2 c = typing-all _ (c .before .before .types-ok .ensures) (not-false _ (c .before .if1 .left)) (c .procedures-ok .ensures)
 
 pub typing-ok-spec : {M : Type 1} → statement M
-typing-ok-spec = tie.close (tie.spec types-ok-requires returns procedures-ok-requires returns-2)
+typing-ok-spec = tie.close (tie.spec (λ c κs. search needs) returns procedures-ok-requires returns-2)

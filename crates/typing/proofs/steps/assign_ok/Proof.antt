@@ -1,17 +1,10 @@
--- `assign_ok` meets its contract.
 use native.Mathlib.Omega.{arith}
 use Rattle.declarations.specs.Functors.{stands-same}
 use Rattle.declarations.specs.Own.{variable-stands}
-use Rattle.typing.specs.Steps.{assign-none, assign-all}
+use Rattle.typing.proofs.StepsLaws.{assign-none, assign-all}
 use borrow.Author.Needs.{needs}
 use Rattle.typing.proofs.steps.assign_ok.Statement.{statement}
 use Rattle.typing.proofs.steps.assign_ok.Tie as tie
-
-word-requires : tie.Need-word-requires
-word-requires c κs = search needs
-
-variable-requires : tie.Need-variable-requires
-variable-requires c κs = search needs
 
 returns : tie.Need-returns
 returns c = assign-none (c .before .before .before .before .pre .0 .0) (c .before .before .before .before .pre .0 .1) _ (c .before .before .word .ensures .0) (c .before .variable .ensures) (c .before .before .before .before .pre .1 .0) (c .if1 .taken)
@@ -19,14 +12,10 @@ returns c = assign-none (c .before .before .before .before .pre .0 .0) (c .befor
 word-requires-2 : tie.Need-word-requires-2
 word-requires-2 c κs = (c .before .before .before .before .pre .0 .0, (omega arith, stands-same (c .before .variable .ensures) (variable-stands (c .before .before .before .before .pre .0 .0) (c .before .before .before .before .pre .0 .1) _) .below))
 
-word-requires-3 : tie.Need-word-requires-3
-word-requires-3 c κs = search needs
-
-has-type-requires : tie.Need-has-type-requires
-has-type-requires c κs = search needs
-
 returns-2 : tie.Need-returns-2
 returns-2 c = assign-all (c .before .before .before .before .before .before .before .pre .0 .0) (c .before .before .before .before .before .before .before .pre .0 .1) _ (c .before .before .before .before .before .word .ensures .0) (c .before .before .before .before .variable .ensures) (c .before .before .before .before .before .before .before .pre .1 .0) (c .before .before .before .if1 .left) (c .before .before .word2 .ensures .0) (c .before .word3 .ensures .0) (c .has-type .ensures)
 
 pub assign-ok-spec : {M : Type 1} → statement M
-assign-ok-spec = tie.close (tie.spec word-requires variable-requires returns word-requires-2 word-requires-3 has-type-requires returns-2)
+assign-ok-spec =
+    tie.close
+    (tie.spec (λ c κs. search needs) (search needs) returns word-requires-2 (λ c κs. search needs) (λ c κs. search needs) returns-2)

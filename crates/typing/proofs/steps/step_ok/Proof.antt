@@ -1,9 +1,8 @@
--- `step_ok` meets its contract.
 use native.Mathlib.Omega.{arith}
 use mathlib.Core.Path.{sym, _∙_}
 use mathlib.Core.Logic.{inl, inr}
 use Rattle.chains.specs.Shapes.{no-goal-left}
-use Rattle.typing.specs.Steps.{literal-is, print-is}
+use Rattle.typing.proofs.StepsLaws.{literal-is, print-is}
 use Rattle.typing.proofs.steps.step_ok.Statement.{statement}
 use Rattle.typing.proofs.steps.step_ok.Tie as tie
 
@@ -37,26 +36,8 @@ lifetime-ok-requires-2 c κs = ((c .before .before .before .pre .0 .0 .formed, c
 returns : tie.Need-returns
 returns c = literal-is (c .before .before .before .before .pre .0 .0 .formed) _ _ (sym (c .before .before .word .ensures .0) ∙ c .before .match .keys1) (c .is-number .ensures)
 
-returns-2 : tie.Need-returns-2
-returns-2 c = c .sum-ok .ensures
-
-returns-3 : tie.Need-returns-3
-returns-3 c = c .assign-ok .ensures
-
-returns-4 : tie.Need-returns-4
-returns-4 c = c .construct-ok .ensures
-
-returns-5 : tie.Need-returns-5
-returns-5 c = c .call-ok .ensures
-
 returns-6 : tie.Need-returns-6
 returns-6 c = print-is (c .before .before .before .before .pre .0 .0 .formed) _ _ (sym (c .before .before .word .ensures .0) ∙ c .before .match .keys6) (c .is-number2 .ensures)
-
-returns-7 : tie.Need-returns-7
-returns-7 c = c .lifetime-ok .ensures
-
-returns-8 : tie.Need-returns-8
-returns-8 c = c .lifetime-ok2 .ensures
 
 returns-9 : tie.Need-returns-9
 returns-9 c = let e = c .before .word .ensures .0 in
@@ -66,5 +47,7 @@ returns-9 c = let e = c .before .word .ensures .0 in
 
 pub step-ok-spec : {M : Type 1} → statement M
 step-ok-spec =
-    tie.close (tie.spec word-requires is-number-requires sum-ok-requires assign-ok-requires construct-ok-requires call-ok-requires is-number-requires-2
-    lifetime-ok-requires lifetime-ok-requires-2 returns returns-2 returns-3 returns-4 returns-5 returns-6 returns-7 returns-8 returns-9)
+    tie.close
+    (tie.spec word-requires is-number-requires sum-ok-requires assign-ok-requires construct-ok-requires call-ok-requires is-number-requires-2
+    lifetime-ok-requires lifetime-ok-requires-2 returns (λ c. c .sum-ok .ensures) (λ c. c .assign-ok .ensures) (λ c. c .construct-ok .ensures)
+    (λ c. c .call-ok .ensures) returns-6 (λ c. c .lifetime-ok .ensures) (λ c. c .lifetime-ok2 .ensures) returns-9)

@@ -1,11 +1,12 @@
--- The walk over goals meets its contracts: a chain of goals, a goal, an if, a switch, its arms. The records still ahead fall.
+-- The walk over goals: a chain of goals, a goal, an if, a switch, its arms. The records still ahead fall.
+-- The functions `past` lead from a point that several needs pass to the earlier points that these look at, so that a path stands once.
 use Prim.Native.Nat.{ℕ, _<_, _≤_, _+_, _*_}
 use native.Mathlib.Numerals.{add-one}
 use native.Mathlib.Omega.{arith}
 use mathlib.Core.Path.{_≡_, refl, sym, _∙_}
 use borrow.Author.Tests.{not-true, not-false}
 use borrow.Author.Needs.{needs}
-use borrow.Fn.Kinds.{In}
+use borrow.Fn.Kinds.{In, Out}
 use borrow.Fn.PlainCycle.{Measures, is, falls, and}
 use Rattle.language.specs.Format.{maxRecords}
 use Rattle.language.specs.File.{functors, goals, arms}
@@ -17,8 +18,8 @@ use Rattle.chains.specs.Shapes.{to-arms, to-then, to-else, arm-goals}
 use Rattle.declarations.specs.Functors.{stands-same}
 use Rattle.declarations.specs.Declares.{functor-stands}
 use Rattle.declarations.specs.Own.{declared, variable-stands}
-use Rattle.typing.specs.Arguments.{arm-some}
-use Rattle.typing.specs.Walk.{goals-no, goals-yes, goals-end, if-first, if-second, if-then, if-else, switch-none, switch-number, switch-arms, arms-unfit, arms-goals, arms-next, arms-end}
+use Rattle.typing.proofs.ArgumentsLaws.{arm-some}
+use Rattle.typing.proofs.WalkLaws.{goals-no, goals-yes, goals-end, if-first, if-second, if-then, if-else, switch-none, switch-number, switch-arms, arms-unfit, arms-goals, arms-next, arms-end}
 use Rattle.typing.proofs.walk.arms.Reads as the-arms
 use Rattle.typing.proofs.walk.arms.Kinds as arms-kinds
 use Rattle.typing.proofs.walk.+arms+branches+goal+goals+switch.Lts-arms as arms-lts
@@ -110,106 +111,155 @@ arms-Inv-loop file table own first start i₀ g₀ n₀ i g n = Stands file arms
 abbrev arms-μ-loop : arms-lts.MeasureT-loop
 arms-μ-loop file table own first start i₀ g₀ n₀ i g n = ahead file i
 
-arms-loop-holds : (t : ℕ) → arms-lts.Need-loop-holds (arms-calls t) (arms-at t) the-arms.Post arms-Inv-loop arms-μ-loop
-arms-loop-holds t c = (c .before .pre .1 .1 .0, c .before .pre .1 .1 .1, omega arith, omega (arith, ahead-below (c .before .pre .1 .0 .0 .formed) (c .before .args .first)), refl)
+module _ (t : ℕ) where
+  abbrev Arms : (arms-lts.Claims → In 3 arms-kinds.ps → Out 3 arms-kinds.ps arms-kinds.r → arms-lts.InvT-loop → arms-lts.MeasureT-loop → Type 0) → Type 0
+  Arms P = P (arms-calls t) (arms-at t) the-arms.Post arms-Inv-loop arms-μ-loop
 
-arms-arm-fits-requires : (t : ℕ) → arms-lts.Need-arm-fits-requires (arms-calls t) (arms-at t) the-arms.Post arms-Inv-loop arms-μ-loop
-arms-arm-fits-requires t c κs = ((c .before .before .before .pre .1 .0 .0 .formed, c .before .before .before .pre .1 .0 .1), (c .before .loop .inv .1 .below, c .before .loop .inv .0 .below))
+  abbrev arms-past-in-loop : Arms arms-lts.In-loop → Arms arms-lts.At-loop × Arms arms-lts.Start
+  arms-past-in-loop c = (c .before, c .before .before .before)
 
-arms-returns : (t : ℕ) → arms-lts.Need-returns (arms-calls t) (arms-at t) the-arms.Post arms-Inv-loop arms-μ-loop
-arms-returns t c = arms-unfit (c .before .before .before .before .before .pre .1 .0 .0 .formed) _ _ _ _ (c .before .before .before .loop .inv .0) (c .before .before .loop-test .taken) (c .before .before .before .loop .inv .1) (c .before .arm-fits .ensures) (not-true _ (c .if1 .taken)) ∙ c .before .before .before .loop .inv .4
+  abbrev arms-past-else1 : Arms arms-lts.Else1 → Arms arms-lts.After-arm-fits × Arms arms-lts.In-loop × Arms arms-lts.At-loop × Arms arms-lts.Start
+  arms-past-else1 c = let (al, s) = arms-past-in-loop (c .before .before) in (c .before, c .before .before, al, s)
 
-arms-word-requires : (t : ℕ) → arms-lts.Need-word-requires (arms-calls t) (arms-at t) the-arms.Post arms-Inv-loop arms-μ-loop
-arms-word-requires t c κs = (c .before .before .before .before .before .pre .1 .0 .0 .formed, (omega arith, c .before .before .before .loop .inv .0 .below))
+  abbrev arms-past-else2 : Arms arms-lts.Else2 → Arms arms-lts.After-goals × Arms arms-lts.After-word × Arms arms-lts.Else1 ×
+      Arms arms-lts.After-arm-fits × Arms arms-lts.In-loop × Arms arms-lts.At-loop × Arms arms-lts.Start
+  arms-past-else2 c = let (af, il, al, s) = arms-past-else1 (c .before .before .before) in (c .before, c .before .before, c .before .before .before, af, il, al, s)
 
-arms-goals-requires : (t : ℕ) → arms-lts.Need-goals-requires (arms-calls t) (arms-at t) the-arms.Post arms-Inv-loop arms-μ-loop
-arms-goals-requires t c κs = let o = arm-goals (c .before .before .before .before .before .before .pre .1 .0 .0 .formed) (c .before .before .before .loop-test .taken) (c .before .before .before .before .loop .inv .0) (c .word .ensures .0) in
-    (omega (arith, o .falls, c .before .before .before .before .loop .inv .2, c .before .before .before .before .before .before .pre .0), (c .before .before .before .before .before .before .pre .1 .0, o .stands))
+  arms-loop-holds : Arms arms-lts.Need-loop-holds
+  arms-loop-holds c = (c .before .pre .1 .1 .0, c .before .pre .1 .1 .1, omega arith, omega (arith, ahead-below (c .before .pre .1 .0 .0 .formed) (c .before .args .first)), refl)
 
-arms-returns-2 : (t : ℕ) → arms-lts.Need-returns-2 (arms-calls t) (arms-at t) the-arms.Post arms-Inv-loop arms-μ-loop
-arms-returns-2 t c = arms-goals (c .before .before .before .before .before .before .before .before .pre .1 .0 .0 .formed) _ _ _ _ (c .before .before .before .before .before .before .loop .inv .0) (c .before .before .before .before .before .loop-test .taken) (c .before .before .before .before .before .before .loop .inv .1) (c .before .before .before .before .arm-fits .ensures) (not-false _ (c .before .before .before .if1 .left)) (c .before .before .word .ensures .0) (c .before .goals .ensures) (not-true _ (c .if2 .taken)) ∙ c .before .before .before .before .before .before .loop .inv .4
+  arms-arm-fits-requires : Arms arms-lts.Need-arm-fits-requires
+  arms-arm-fits-requires c κs = let (al, s) = arms-past-in-loop c in
+      ((s .pre .1 .0 .0 .formed, s .pre .1 .0 .1), (al .loop .inv .1 .below, al .loop .inv .0 .below))
 
-arms-add-n : (t : ℕ) → arms-lts.Need-add-n (arms-calls t) (arms-at t) the-arms.Post arms-Inv-loop arms-μ-loop
-arms-add-n t c = omega (arith, c .before .before .before .before .before .before .loop .inv .3)
+  arms-returns : Arms arms-lts.Need-returns
+  arms-returns c = let il = c .before .before in let (al, s) = arms-past-in-loop il in
+      arms-unfit (s .pre .1 .0 .0 .formed) _ _ _ _ (al .loop .inv .0) (il .loop-test .taken) (al .loop .inv .1) (c .before .arm-fits .ensures) (not-true _ (c .if1 .taken)) ∙ al .loop .inv .4
 
-arms-word-requires-2 : (t : ℕ) → arms-lts.Need-word-requires-2 (arms-calls t) (arms-at t) the-arms.Post arms-Inv-loop arms-μ-loop
-arms-word-requires-2 t c κs = (c .before .before .before .before .before .before .before .before .pre .1 .0 .0 .formed, (omega arith, c .before .before .before .before .before .before .loop .inv .1 .below))
+  arms-word-requires : Arms arms-lts.Need-word-requires
+  arms-word-requires c κs = let (af, il, al, s) = arms-past-else1 c in (s .pre .1 .0 .0 .formed, (omega arith, al .loop .inv .0 .below))
 
-arms-word-requires-3 : (t : ℕ) → arms-lts.Need-word-requires-3 (arms-calls t) (arms-at t) the-arms.Post arms-Inv-loop arms-μ-loop
-arms-word-requires-3 t c κs = (c .before .before .before .before .before .before .before .before .before .pre .1 .0 .0 .formed, (omega arith, c .before .before .before .before .before .before .before .loop .inv .0 .below))
+  arms-goals-requires : Arms arms-lts.Need-goals-requires
+  arms-goals-requires c κs = let (af, il, al, s) = arms-past-else1 (c .before) in
+      let o = arm-goals (s .pre .1 .0 .0 .formed) (il .loop-test .taken) (al .loop .inv .0) (c .word .ensures .0) in
+      (omega (arith, o .falls, al .loop .inv .2, s .pre .0), (s .pre .1 .0, o .stands))
 
-arms-loop-less : (t : ℕ) → arms-lts.Need-loop-less (arms-calls t) (arms-at t) the-arms.Post arms-Inv-loop arms-μ-loop
-arms-loop-less t c = chain-next (c .before .before .before .before .before .before .before .before .before .before .pre .1 .0 .0 .formed) (c .before .before .before .before .before .before .before .before .loop .inv .0) (c .before .before .before .before .before .before .before .loop-test .taken) (c .word3 .ensures .0) .falls
+  arms-returns-2 : Arms arms-lts.Need-returns-2
+  arms-returns-2 c = let e1 = c .before .before .before in let (af, il, al, s) = arms-past-else1 e1 in
+      arms-goals (s .pre .1 .0 .0 .formed) _ _ _ _ (al .loop .inv .0) (il .loop-test .taken) (al .loop .inv .1) (af .arm-fits .ensures) (not-false _ (e1 .if1 .left)) (c .before .before .word .ensures .0) (c .before .goals .ensures) (not-true _ (c .if2 .taken)) ∙ al .loop .inv .4
 
-arms-loop-again : (t : ℕ) → arms-lts.Need-loop-again (arms-calls t) (arms-at t) the-arms.Post arms-Inv-loop arms-μ-loop
-arms-loop-again t c = let F = c .before .before .before .before .before .before .before .before .before .before .pre .1 .0 .0 .formed in
-    let l = c .before .before .before .before .before .before .before .before .loop .inv in
-    let z = c .before .before .before .before .before .before .before .loop-test .taken in
-    let o = chain-next F (l .0) z (c .word3 .ensures .0) in
-    let p = not-false _ (c .before .before .before .before .before .if1 .left) in (
-      o .stands,
-      chain-next F (l .1) (arm-some _ _ _ _ _ (c .before .before .before .before .before .before .arm-fits .ensures) p) (c .before .word2 .ensures .0) .stands,
-      omega (arith, o .falls, l .2),
-      omega (arith, o .falls, l .3),
-      arms-next F _ _ _ _ (l .0) z (l .1) (c .before .before .before .before .before .before .arm-fits .ensures) p (c .before .before .before .before .word .ensures .0) (c .before .before .before .goals .ensures) (not-false _ (c .before .before .if2 .left)) (c .word3 .ensures .0) (c .before .word2 .ensures .0) (add-one (c .before .before .before .before .before .before .before .before .loop .n)) ∙ l .4,
-    )
+  arms-add-n : Arms arms-lts.Need-add-n
+  arms-add-n c = let (go, w, e1, af, il, al, s) = arms-past-else2 c in omega (arith, al .loop .inv .3)
 
-arms-returns-3 : (t : ℕ) → arms-lts.Need-returns-3 (arms-calls t) (arms-at t) the-arms.Post arms-Inv-loop arms-μ-loop
-arms-returns-3 t c = arms-end (c .before .before .before .pre .1 .0 .0 .formed) _ _ _ _ (c .before .loop .inv .1) (c .loop-test .left) ∙ c .before .loop .inv .4
+  arms-word-requires-2 : Arms arms-lts.Need-word-requires-2
+  arms-word-requires-2 c κs = let (go, w, e1, af, il, al, s) = arms-past-else2 c in (s .pre .1 .0 .0 .formed, (omega arith, al .loop .inv .1 .below))
 
-branches-is-number-requires : (t : ℕ) → branches-lts.Need-is-number-requires (branches-calls t) (branches-at t) the-branches.Post
-branches-is-number-requires t c κs = ((c .before .pre .1 .0 .0 .formed, c .before .pre .1 .0 .1), (omega arith, c .before .pre .1 .1 .1))
+  arms-word-requires-3 : Arms arms-lts.Need-word-requires-3
+  arms-word-requires-3 c κs = let (go, w, e1, af, il, al, s) = arms-past-else2 (c .before) in
+      (s .pre .1 .0 .0 .formed, (omega arith, al .loop .inv .0 .below))
 
-branches-returns : (t : ℕ) → branches-lts.Need-returns (branches-calls t) (branches-at t) the-branches.Post
-branches-returns t c = if-first (c .before .before .before .pre .1 .0 .0 .formed) _ _ (c .before .before .before .pre .1 .1 .0) (c .before .is-number .ensures) (not-true _ (c .if1 .taken))
+  arms-loop-less : Arms arms-lts.Need-loop-less
+  arms-loop-less c = let (go, w, e1, af, il, al, s) = arms-past-else2 (c .before .before) in
+      chain-next (s .pre .1 .0 .0 .formed) (al .loop .inv .0) (il .loop-test .taken) (c .word3 .ensures .0) .falls
 
-branches-is-number-requires-2 : (t : ℕ) → branches-lts.Need-is-number-requires-2 (branches-calls t) (branches-at t) the-branches.Post
-branches-is-number-requires-2 t c κs = ((c .before .before .before .pre .1 .0 .0 .formed, c .before .before .before .pre .1 .0 .1), (omega arith, c .before .before .before .pre .1 .1 .1))
+  arms-loop-again : Arms arms-lts.Need-loop-again
+  arms-loop-again c = let e2 = c .before .before in let (go, w, e1, af, il, al, s) = arms-past-else2 e2 in
+      let F = s .pre .1 .0 .0 .formed in
+      let l = al .loop .inv in
+      let z = il .loop-test .taken in
+      let o = chain-next F (l .0) z (c .word3 .ensures .0) in
+      let p = not-false _ (e1 .if1 .left) in (
+        o .stands,
+        chain-next F (l .1) (arm-some _ _ _ _ _ (af .arm-fits .ensures) p) (c .before .word2 .ensures .0) .stands,
+        omega (arith, o .falls, l .2),
+        omega (arith, o .falls, l .3),
+        arms-next F _ _ _ _ (l .0) z (l .1) (af .arm-fits .ensures) p (w .word .ensures .0) (go .goals .ensures) (not-false _ (e2 .if2 .left)) (c .word3 .ensures .0) (c .before .word2 .ensures .0) (add-one (al .loop .n)) ∙ l .4,
+      )
 
-branches-returns-2 : (t : ℕ) → branches-lts.Need-returns-2 (branches-calls t) (branches-at t) the-branches.Post
-branches-returns-2 t c = if-second (c .before .before .before .before .before .pre .1 .0 .0 .formed) _ _ (c .before .before .before .before .before .pre .1 .1 .0) (c .before .before .before .is-number .ensures) (not-false _ (c .before .before .if1 .left)) (c .before .is-number2 .ensures) (not-true _ (c .if2 .taken))
+  arms-returns-3 : Arms arms-lts.Need-returns-3
+  arms-returns-3 c = arms-end (c .before .before .before .pre .1 .0 .0 .formed) _ _ _ _ (c .before .loop .inv .1) (c .loop-test .left) ∙ c .before .loop .inv .4
 
-branches-word-requires : (t : ℕ) → branches-lts.Need-word-requires (branches-calls t) (branches-at t) the-branches.Post
-branches-word-requires t c κs = (c .before .before .before .before .before .pre .1 .0 .0 .formed, (omega arith, c .before .before .before .before .before .pre .1 .1 .1))
+module _ (t : ℕ) where
+  abbrev Branches : (branches-lts.Claims → In 3 branches-kinds.ps → Out 3 branches-kinds.ps branches-kinds.r → Type 0) → Type 0
+  Branches P = P (branches-calls t) (branches-at t) the-branches.Post
 
-branches-goals-requires : (t : ℕ) → branches-lts.Need-goals-requires (branches-calls t) (branches-at t) the-branches.Post
-branches-goals-requires t c κs = let o = to-then (c .before .before .before .before .before .before .pre .1 .0 .0 .formed) (c .before .before .before .before .before .before .pre .1 .1 .0) (c .word .ensures .0) in (omega (arith, o .falls, c .before .before .before .before .before .before .pre .0), (c .before .before .before .before .before .before .pre .1 .0, o .stands))
+  abbrev branches-past-else1 : Branches branches-lts.Else1 → Branches branches-lts.After-is-number × Branches branches-lts.Start
+  branches-past-else1 c = (c .before, c .before .before .before)
 
-branches-returns-3 : (t : ℕ) → branches-lts.Need-returns-3 (branches-calls t) (branches-at t) the-branches.Post
-branches-returns-3 t c = if-then (c .before .before .before .before .before .before .before .before .pre .1 .0 .0 .formed) _ _ (c .before .before .before .before .before .before .before .before .pre .1 .1 .0) (c .before .before .before .before .before .before .is-number .ensures) (not-false _ (c .before .before .before .before .before .if1 .left)) (c .before .before .before .before .is-number2 .ensures) (not-false _ (c .before .before .before .if2 .left)) (c .before .before .word .ensures .0) (c .before .goals .ensures) (not-true _ (c .if3 .taken))
+  abbrev branches-past-else2 : Branches branches-lts.Else2 → Branches branches-lts.After-is-number2 × Branches branches-lts.Else1 ×
+      Branches branches-lts.After-is-number × Branches branches-lts.Start
+  branches-past-else2 c = let (isnu, s) = branches-past-else1 (c .before .before) in (c .before, c .before .before, isnu, s)
 
-branches-word-requires-2 : (t : ℕ) → branches-lts.Need-word-requires-2 (branches-calls t) (branches-at t) the-branches.Post
-branches-word-requires-2 t c κs = (c .before .before .before .before .before .before .before .before .pre .1 .0 .0 .formed, (omega arith, c .before .before .before .before .before .before .before .before .pre .1 .1 .1))
+  abbrev branches-past-else3 : Branches branches-lts.Else3 → Branches branches-lts.After-goals × Branches branches-lts.After-word ×
+      Branches branches-lts.Else2 × Branches branches-lts.After-is-number2 × Branches branches-lts.Else1 × Branches branches-lts.After-is-number ×
+      Branches branches-lts.Start
+  branches-past-else3 c = let (in2, e1, isnu, s) = branches-past-else2 (c .before .before .before) in (c .before, c .before .before, c .before .before .before, in2, e1, isnu, s)
 
-branches-returns-4 : (t : ℕ) → branches-lts.Need-returns-4 (branches-calls t) (branches-at t) the-branches.Post
-branches-returns-4 t c = if-else (c .before .before .before .before .before .before .before .before .before .before .pre .1 .0 .0 .formed) _ _ (c .before .before .before .before .before .before .before .before .before .before .pre .1 .1 .0) (c .before .before .before .before .before .before .before .before .is-number .ensures) (not-false _ (c .before .before .before .before .before .before .before .if1 .left)) (c .before .before .before .before .before .before .is-number2 .ensures) (not-false _ (c .before .before .before .before .before .if2 .left)) (c .before .before .before .before .word .ensures .0) (c .before .before .before .goals .ensures) (not-false _ (c .before .before .if3 .left)) (c .before .word2 .ensures .0) (goals-end _ _ (c .if4 .taken))
+  abbrev branches-past-else4 : Branches branches-lts.Else4 → Branches branches-lts.After-word2 × Branches branches-lts.Else3 ×
+      Branches branches-lts.After-goals × Branches branches-lts.After-word × Branches branches-lts.Else2 × Branches branches-lts.After-is-number2 ×
+      Branches branches-lts.Else1 × Branches branches-lts.After-is-number × Branches branches-lts.Start
+  branches-past-else4 c = let (go, w, e2, in2, e1, isnu, s) = branches-past-else3 (c .before .before) in (c .before, c .before .before, go, w, e2, in2, e1, isnu, s)
 
-branches-goals-requires-2 : (t : ℕ) → branches-lts.Need-goals-requires-2 (branches-calls t) (branches-at t) the-branches.Post
-branches-goals-requires-2 t c κs = let o = to-else (c .before .before .before .before .before .before .before .before .before .before .pre .1 .0 .0 .formed) (c .before .before .before .before .before .before .before .before .before .before .pre .1 .1 .0) (c .before .word2 .ensures .0) in (omega (arith, o .falls, c .before .before .before .before .before .before .before .before .before .before .pre .0), (c .before .before .before .before .before .before .before .before .before .before .pre .1 .0, o .stands))
+  branches-is-number-requires : Branches branches-lts.Need-is-number-requires
+  branches-is-number-requires c κs = ((c .before .pre .1 .0 .0 .formed, c .before .pre .1 .0 .1), (omega arith, c .before .pre .1 .1 .1))
 
-branches-returns-5 : (t : ℕ) → branches-lts.Need-returns-5 (branches-calls t) (branches-at t) the-branches.Post
-branches-returns-5 t c = if-else (c .before .before .before .before .before .before .before .before .before .before .before .pre .1 .0 .0 .formed) _ _ (c .before .before .before .before .before .before .before .before .before .before .before .pre .1 .1 .0) (c .before .before .before .before .before .before .before .before .before .is-number .ensures) (not-false _ (c .before .before .before .before .before .before .before .before .if1 .left)) (c .before .before .before .before .before .before .before .is-number2 .ensures) (not-false _ (c .before .before .before .before .before .before .if2 .left)) (c .before .before .before .before .before .word .ensures .0) (c .before .before .before .before .goals .ensures) (not-false _ (c .before .before .before .if3 .left)) (c .before .before .word2 .ensures .0) (c .goals2 .ensures)
+  branches-returns : Branches branches-lts.Need-returns
+  branches-returns c = let s = c .before .before .before in
+      if-first (s .pre .1 .0 .0 .formed) _ _ (s .pre .1 .1 .0) (c .before .is-number .ensures) (not-true _ (c .if1 .taken))
 
-goal-word-requires : (t : ℕ) → goal-lts.Need-word-requires (goal-calls t) (goal-at t) the-goal.Post
-goal-word-requires t c κs = (c .before .pre .1 .0 .0 .formed, (omega arith, c .before .pre .1 .1 .0 .below))
+  branches-is-number-requires-2 : Branches branches-lts.Need-is-number-requires-2
+  branches-is-number-requires-2 c κs = let (isnu, s) = branches-past-else1 c in
+      ((s .pre .1 .0 .0 .formed, s .pre .1 .0 .1), (omega arith, s .pre .1 .1 .1))
 
-goal-switch-requires : (t : ℕ) → goal-lts.Need-switch-requires (goal-calls t) (goal-at t) the-goal.Post
-goal-switch-requires t c κs = (omega (arith, c .before .before .before .pre .0), (c .before .before .before .pre .1 .0, (sym (c .before .word .ensures .0) ∙ c .match .keys1, c .before .before .before .pre .1 .1 .0 .below)))
+  branches-returns-2 : Branches branches-lts.Need-returns-2
+  branches-returns-2 c = let e1 = c .before .before in let (isnu, s) = branches-past-else1 e1 in
+      if-second (s .pre .1 .0 .0 .formed) _ _ (s .pre .1 .1 .0) (isnu .is-number .ensures) (not-false _ (e1 .if1 .left)) (c .before .is-number2 .ensures) (not-true _ (c .if2 .taken))
 
-goal-branches-requires : (t : ℕ) → goal-lts.Need-branches-requires (goal-calls t) (goal-at t) the-goal.Post
-goal-branches-requires t c κs = (omega (arith, c .before .before .before .pre .0), (c .before .before .before .pre .1 .0, (sym (c .before .word .ensures .0) ∙ c .match .keys2, c .before .before .before .pre .1 .1 .0 .below)))
+  branches-word-requires : Branches branches-lts.Need-word-requires
+  branches-word-requires c κs = let (in2, e1, isnu, s) = branches-past-else2 c in (s .pre .1 .0 .0 .formed, (omega arith, s .pre .1 .1 .1))
 
-goal-step-ok-requires : (t : ℕ) → goal-lts.Need-step-ok-requires (goal-calls t) (goal-at t) the-goal.Post
-goal-step-ok-requires t c κs = let e = c .before .word .ensures .0 in (c .before .before .before .pre .1 .0, (c .before .before .before .pre .1 .1, ((λ k. c .match .rest .0 .1 (e ∙ k)), (λ k. c .match .rest .1 (e ∙ k)))))
+  branches-goals-requires : Branches branches-lts.Need-goals-requires
+  branches-goals-requires c κs = let (in2, e1, isnu, s) = branches-past-else2 (c .before) in
+      let o = to-then (s .pre .1 .0 .0 .formed) (s .pre .1 .1 .0) (c .word .ensures .0) in (omega (arith, o .falls, s .pre .0), (s .pre .1 .0, o .stands))
 
-goal-returns : (t : ℕ) → goal-lts.Need-returns (goal-calls t) (goal-at t) the-goal.Post
-goal-returns t c = c .switch .ensures
+  branches-returns-3 : Branches branches-lts.Need-returns-3
+  branches-returns-3 c = let e2 = c .before .before .before in let (in2, e1, isnu, s) = branches-past-else2 e2 in
+      if-then (s .pre .1 .0 .0 .formed) _ _ (s .pre .1 .1 .0) (isnu .is-number .ensures) (not-false _ (e1 .if1 .left)) (in2 .is-number2 .ensures) (not-false _ (e2 .if2 .left)) (c .before .before .word .ensures .0) (c .before .goals .ensures) (not-true _ (c .if3 .taken))
 
-goal-returns-2 : (t : ℕ) → goal-lts.Need-returns-2 (goal-calls t) (goal-at t) the-goal.Post
-goal-returns-2 t c = c .branches .ensures
+  branches-word-requires-2 : Branches branches-lts.Need-word-requires-2
+  branches-word-requires-2 c κs = let (go, w, e2, in2, e1, isnu, s) = branches-past-else3 c in
+      (s .pre .1 .0 .0 .formed, (omega arith, s .pre .1 .1 .1))
 
-goal-returns-3 : (t : ℕ) → goal-lts.Need-returns-3 (goal-calls t) (goal-at t) the-goal.Post
-goal-returns-3 t c = c .step-ok .ensures
+  branches-returns-4 : Branches branches-lts.Need-returns-4
+  branches-returns-4 c = let e3 = c .before .before in let (go, w, e2, in2, e1, isnu, s) = branches-past-else3 e3 in
+      if-else (s .pre .1 .0 .0 .formed) _ _ (s .pre .1 .1 .0) (isnu .is-number .ensures) (not-false _ (e1 .if1 .left)) (in2 .is-number2 .ensures) (not-false _ (e2 .if2 .left)) (w .word .ensures .0) (go .goals .ensures) (not-false _ (e3 .if3 .left)) (c .before .word2 .ensures .0) (goals-end _ _ (c .if4 .taken))
+
+  branches-goals-requires-2 : Branches branches-lts.Need-goals-requires-2
+  branches-goals-requires-2 c κs = let (w2, e3, go, w, e2, in2, e1, isnu, s) = branches-past-else4 c in
+      let o = to-else (s .pre .1 .0 .0 .formed) (s .pre .1 .1 .0) (w2 .word2 .ensures .0) in (omega (arith, o .falls, s .pre .0), (s .pre .1 .0, o .stands))
+
+  branches-returns-5 : Branches branches-lts.Need-returns-5
+  branches-returns-5 c = let (w2, e3, go, w, e2, in2, e1, isnu, s) = branches-past-else4 (c .before) in
+      if-else (s .pre .1 .0 .0 .formed) _ _ (s .pre .1 .1 .0) (isnu .is-number .ensures) (not-false _ (e1 .if1 .left)) (in2 .is-number2 .ensures) (not-false _ (e2 .if2 .left)) (w .word .ensures .0) (go .goals .ensures) (not-false _ (e3 .if3 .left)) (w2 .word2 .ensures .0) (c .goals2 .ensures)
+
+module _ (t : ℕ) where
+  abbrev Goal : (goal-lts.Claims → In 3 goal-kinds.ps → Out 3 goal-kinds.ps goal-kinds.r → Type 0) → Type 0
+  Goal P = P (goal-calls t) (goal-at t) the-goal.Post
+
+  goal-word-requires : Goal goal-lts.Need-word-requires
+  goal-word-requires c κs = (c .before .pre .1 .0 .0 .formed, (omega arith, c .before .pre .1 .1 .0 .below))
+
+  goal-switch-requires : Goal goal-lts.Need-switch-requires
+  goal-switch-requires c κs = let s = c .before .before .before in
+      (omega (arith, s .pre .0), (s .pre .1 .0, (sym (c .before .word .ensures .0) ∙ c .match .keys1, s .pre .1 .1 .0 .below)))
+
+  goal-branches-requires : Goal goal-lts.Need-branches-requires
+  goal-branches-requires c κs = let s = c .before .before .before in
+      (omega (arith, s .pre .0), (s .pre .1 .0, (sym (c .before .word .ensures .0) ∙ c .match .keys2, s .pre .1 .1 .0 .below)))
+
+  goal-step-ok-requires : Goal goal-lts.Need-step-ok-requires
+  goal-step-ok-requires c κs = let s = c .before .before .before in
+      let e = c .before .word .ensures .0 in (s .pre .1 .0, (s .pre .1 .1, ((λ k. c .match .rest .0 .1 (e ∙ k)), (λ k. c .match .rest .1 (e ∙ k)))))
 
 abbrev goals-Inv-loop : goals-lts.InvT-loop
 goals-Inv-loop file table own start i₀ i = Stands file goals i × (ahead file i ≤ ahead file start) × (goalsOk (program file) (declared file own) (goalsAt file i) ≡ goalsOk (program file) (declared file own) (goalsAt file start))
@@ -217,62 +267,89 @@ goals-Inv-loop file table own start i₀ i = Stands file goals i × (ahead file 
 abbrev goals-μ-loop : goals-lts.MeasureT-loop
 goals-μ-loop file table own start i₀ i = ahead file i
 
-goals-loop-holds : (t : ℕ) → goals-lts.Need-loop-holds (goals-calls t) (goals-at t) the-goals.Post goals-Inv-loop goals-μ-loop
-goals-loop-holds t c = (c .before .pre .1 .1, omega arith, refl)
+module _ (t : ℕ) where
+  abbrev Goals : (goals-lts.Claims → In 3 goals-kinds.ps → Out 3 goals-kinds.ps goals-kinds.r → goals-lts.InvT-loop → goals-lts.MeasureT-loop → Type 0) → Type 0
+  Goals P = P (goals-calls t) (goals-at t) the-goals.Post goals-Inv-loop goals-μ-loop
 
-goals-goal-requires : (t : ℕ) → goals-lts.Need-goal-requires (goals-calls t) (goals-at t) the-goals.Post goals-Inv-loop goals-μ-loop
-goals-goal-requires t c κs = (omega (arith, c .before .loop .inv .1, c .before .before .before .pre .0), (c .before .before .before .pre .1 .0, (c .before .loop .inv .0, c .loop-test .taken)))
+  abbrev goals-past-in-loop : Goals goals-lts.In-loop → Goals goals-lts.At-loop × Goals goals-lts.Start
+  goals-past-in-loop c = (c .before, c .before .before .before)
 
-goals-returns : (t : ℕ) → goals-lts.Need-returns (goals-calls t) (goals-at t) the-goals.Post goals-Inv-loop goals-μ-loop
-goals-returns t c = goals-no _ _ _ (c .before .before .before .before .before .pre .1 .0 .0 .formed) (c .before .before .before .loop .inv .0) (c .before .before .loop-test .taken) (c .before .goal .ensures) (not-true _ (c .if1 .taken)) ∙ c .before .before .before .loop .inv .2
+  abbrev goals-past-else1 : Goals goals-lts.Else1 → Goals goals-lts.After-goal × Goals goals-lts.In-loop × Goals goals-lts.At-loop ×
+      Goals goals-lts.Start
+  goals-past-else1 c = let (al, s) = goals-past-in-loop (c .before .before) in (c .before, c .before .before, al, s)
 
-goals-word-requires : (t : ℕ) → goals-lts.Need-word-requires (goals-calls t) (goals-at t) the-goals.Post goals-Inv-loop goals-μ-loop
-goals-word-requires t c κs = (c .before .before .before .before .before .pre .1 .0 .0 .formed, (omega arith, c .before .before .before .loop .inv .0 .below))
+  goals-goal-requires : Goals goals-lts.Need-goal-requires
+  goals-goal-requires c κs = let (al, s) = goals-past-in-loop c in
+      (omega (arith, al .loop .inv .1, s .pre .0), (s .pre .1 .0, (al .loop .inv .0, c .loop-test .taken)))
 
-goals-loop-less : (t : ℕ) → goals-lts.Need-loop-less (goals-calls t) (goals-at t) the-goals.Post goals-Inv-loop goals-μ-loop
-goals-loop-less t c = chain-next (c .before .before .before .before .before .before .pre .1 .0 .0 .formed) (c .before .before .before .before .loop .inv .0) (c .before .before .before .loop-test .taken) (c .word .ensures .0) .falls
+  goals-returns : Goals goals-lts.Need-returns
+  goals-returns c = let il = c .before .before in let (al, s) = goals-past-in-loop il in
+      goals-no _ _ _ (s .pre .1 .0 .0 .formed) (al .loop .inv .0) (il .loop-test .taken) (c .before .goal .ensures) (not-true _ (c .if1 .taken)) ∙ al .loop .inv .2
 
-goals-loop-again : (t : ℕ) → goals-lts.Need-loop-again (goals-calls t) (goals-at t) the-goals.Post goals-Inv-loop goals-μ-loop
-goals-loop-again t c = let l = c .before .before .before .before .loop .inv in
-    let o = chain-next (c .before .before .before .before .before .before .pre .1 .0 .0 .formed) (l .0) (c .before .before .before .loop-test .taken) (c .word .ensures .0) in
-    (o .stands, omega (arith, o .falls, l .1), goals-yes _ _ _ (c .before .before .before .before .before .before .pre .1 .0 .0 .formed) (l .0) (c .before .before .before .loop-test .taken) (c .before .before .goal .ensures) (not-false _ (c .before .if1 .left)) (c .word .ensures .0) ∙ l .2)
+  goals-word-requires : Goals goals-lts.Need-word-requires
+  goals-word-requires c κs = let (go, il, al, s) = goals-past-else1 c in (s .pre .1 .0 .0 .formed, (omega arith, al .loop .inv .0 .below))
 
-goals-returns-2 : (t : ℕ) → goals-lts.Need-returns-2 (goals-calls t) (goals-at t) the-goals.Post goals-Inv-loop goals-μ-loop
-goals-returns-2 t c = goals-end _ _ (c .loop-test .left) ∙ c .before .loop .inv .2
+  goals-loop-less : Goals goals-lts.Need-loop-less
+  goals-loop-less c = let (go, il, al, s) = goals-past-else1 (c .before) in
+      chain-next (s .pre .1 .0 .0 .formed) (al .loop .inv .0) (il .loop-test .taken) (c .word .ensures .0) .falls
 
-switch-word-requires : (t : ℕ) → switch-lts.Need-word-requires (switch-calls t) (switch-at t) the-switch.Post
-switch-word-requires t c κs = (c .before .pre .1 .0 .0 .formed, (omega arith, c .before .pre .1 .1 .1))
+  goals-loop-again : Goals goals-lts.Need-loop-again
+  goals-loop-again c = let (go, il, al, s) = goals-past-else1 (c .before) in
+      let l = al .loop .inv in
+      let o = chain-next (s .pre .1 .0 .0 .formed) (l .0) (il .loop-test .taken) (c .word .ensures .0) in
+      (o .stands, omega (arith, o .falls, l .1), goals-yes _ _ _ (s .pre .1 .0 .0 .formed) (l .0) (il .loop-test .taken) (go .goal .ensures) (not-false _ (c .before .if1 .left)) (c .word .ensures .0) ∙ l .2)
 
-switch-variable-requires : (t : ℕ) → switch-lts.Need-variable-requires (switch-calls t) (switch-at t) the-switch.Post
-switch-variable-requires t c κs = search needs
+module _ (t : ℕ) where
+  abbrev Switch : (switch-lts.Claims → In 3 switch-kinds.ps → Out 3 switch-kinds.ps switch-kinds.r → Type 0) → Type 0
+  Switch P = P (switch-calls t) (switch-at t) the-switch.Post
 
-switch-returns : (t : ℕ) → switch-lts.Need-returns (switch-calls t) (switch-at t) the-switch.Post
-switch-returns t c = switch-none (c .before .before .before .before .pre .1 .0 .0) (c .before .before .before .before .pre .1 .0 .1) _ (c .before .before .before .before .pre .1 .1 .0) (c .before .before .word .ensures .0) (c .before .variable .ensures) (c .if1 .taken)
+  abbrev switch-past-else1 : Switch switch-lts.Else1 → Switch switch-lts.After-variable × Switch switch-lts.After-word × Switch switch-lts.Start
+  switch-past-else1 c = (c .before, c .before .before, c .before .before .before .before)
 
-switch-word-requires-2 : (t : ℕ) → switch-lts.Need-word-requires-2 (switch-calls t) (switch-at t) the-switch.Post
-switch-word-requires-2 t c κs = (c .before .before .before .before .pre .1 .0 .0 .formed, (omega arith, stands-same (c .before .variable .ensures) (variable-stands (c .before .before .before .before .pre .1 .0 .0 .formed) (c .before .before .before .before .pre .1 .0 .1) _) .below))
+  abbrev switch-past-else2 : Switch switch-lts.Else2 → Switch switch-lts.After-word2 × Switch switch-lts.Else1 × Switch switch-lts.After-variable ×
+      Switch switch-lts.After-word × Switch switch-lts.Start
+  switch-past-else2 c = let (v, w, s) = switch-past-else1 (c .before .before) in (c .before, c .before .before, v, w, s)
 
-switch-returns-2 : (t : ℕ) → switch-lts.Need-returns-2 (switch-calls t) (switch-at t) the-switch.Post
-switch-returns-2 t c = switch-number (c .before .before .before .before .before .before .pre .1 .0 .0) (c .before .before .before .before .before .before .pre .1 .0 .1) _ (c .before .before .before .before .before .before .pre .1 .1 .0) (c .before .before .before .before .word .ensures .0) (c .before .before .before .variable .ensures) (c .before .before .if1 .left) (c .before .word2 .ensures .0) (c .if2 .taken)
+  switch-word-requires : Switch switch-lts.Need-word-requires
+  switch-word-requires c κs = (c .before .pre .1 .0 .0 .formed, (omega arith, c .before .pre .1 .1 .1))
 
-switch-word-requires-3 : (t : ℕ) → switch-lts.Need-word-requires-3 (switch-calls t) (switch-at t) the-switch.Post
-switch-word-requires-3 t c κs = (c .before .before .before .before .before .before .pre .1 .0 .0 .formed, (omega arith, c .before .before .before .before .before .before .pre .1 .1 .1))
+  switch-returns : Switch switch-lts.Need-returns
+  switch-returns c = let s = c .before .before .before .before in
+      switch-none (s .pre .1 .0 .0) (s .pre .1 .0 .1) _ (s .pre .1 .1 .0) (c .before .before .word .ensures .0) (c .before .variable .ensures) (c .if1 .taken)
 
-switch-functor-requires : (t : ℕ) → switch-lts.Need-functor-requires (switch-calls t) (switch-at t) the-switch.Post
-switch-functor-requires t c κs = search needs
+  switch-word-requires-2 : Switch switch-lts.Need-word-requires-2
+  switch-word-requires-2 c κs = let (v, w, s) = switch-past-else1 c in
+      (s .pre .1 .0 .0 .formed, (omega arith, stands-same (v .variable .ensures) (variable-stands (s .pre .1 .0 .0 .formed) (s .pre .1 .0 .1) _) .below))
 
-switch-arms-requires : (t : ℕ) → switch-lts.Need-arms-requires (switch-calls t) (switch-at t) the-switch.Post
-switch-arms-requires t c κs = let o = to-arms (c .before .before .before .before .before .before .before .before .pre .1 .0 .0 .formed) (c .before .before .before .before .before .before .before .before .pre .1 .1 .0) (c .before .word3 .ensures .0) in
-    (omega (arith, o .falls, c .before .before .before .before .before .before .before .before .pre .0), (c .before .before .before .before .before .before .before .before .pre .1 .0, (o .stands, stands-same (c .functor .ensures) (functor-stands (c .before .before .before .before .before .before .before .before .pre .1 .0 .0) _ _))))
+  switch-returns-2 : Switch switch-lts.Need-returns-2
+  switch-returns-2 c = let e1 = c .before .before in let (v, w, s) = switch-past-else1 e1 in
+      switch-number (s .pre .1 .0 .0) (s .pre .1 .0 .1) _ (s .pre .1 .1 .0) (w .word .ensures .0) (v .variable .ensures) (e1 .if1 .left) (c .before .word2 .ensures .0) (c .if2 .taken)
 
-switch-returns-3 : (t : ℕ) → switch-lts.Need-returns-3 (switch-calls t) (switch-at t) the-switch.Post
-switch-returns-3 t c = switch-arms (c .before .before .before .before .before .before .before .before .before .pre .1 .0 .0) (c .before .before .before .before .before .before .before .before .before .pre .1 .0 .1) _ (c .before .before .before .before .before .before .before .before .before .pre .1 .1 .0) (c .before .before .before .before .before .before .before .word .ensures .0) (c .before .before .before .before .before .before .variable .ensures) (c .before .before .before .before .before .if1 .left) (c .before .before .before .before .word2 .ensures .0) (c .before .before .before .if2 .left) (c .before .functor .ensures) (c .before .before .word3 .ensures .0) (c .arms .ensures)
+  switch-word-requires-3 : Switch switch-lts.Need-word-requires-3
+  switch-word-requires-3 c κs = let (w2, e1, v, w, s) = switch-past-else2 c in (s .pre .1 .0 .0 .formed, (omega arith, s .pre .1 .1 .1))
+
+  switch-arms-requires : Switch switch-lts.Need-arms-requires
+  switch-arms-requires c κs = let (w2, e1, v, w, s) = switch-past-else2 (c .before .before) in
+      let o = to-arms (s .pre .1 .0 .0 .formed) (s .pre .1 .1 .0) (c .before .word3 .ensures .0) in
+      (omega (arith, o .falls, s .pre .0), (s .pre .1 .0, (o .stands, stands-same (c .functor .ensures) (functor-stands (s .pre .1 .0 .0) _ _))))
+
+  switch-returns-3 : Switch switch-lts.Need-returns-3
+  switch-returns-3 c = let e2 = c .before .before .before in let (w2, e1, v, w, s) = switch-past-else2 e2 in
+      switch-arms (s .pre .1 .0 .0) (s .pre .1 .0 .1) _ (s .pre .1 .1 .0) (w .word .ensures .0) (v .variable .ensures) (e1 .if1 .left) (w2 .word2 .ensures .0) (e2 .if2 .left) (c .before .functor .ensures) (c .before .before .word3 .ensures .0) (c .arms .ensures)
 
 pub +arms+branches+goal+goals+switch-spec : {M : Type 1} → statement M
 +arms+branches+goal+goals+switch-spec =
     close μ-arms μ-branches μ-goal μ-goals μ-switch
-    (λ t. arms-lts.spec (arms-calls t) (arms-at t) the-arms.Post arms-Inv-loop arms-μ-loop (arms-loop-holds t) (arms-arm-fits-requires t) (arms-returns t) (arms-word-requires t) (arms-goals-requires t) (arms-returns-2 t) (arms-add-n t) (arms-word-requires-2 t) (arms-word-requires-3 t) (arms-loop-less t) (arms-loop-again t) (arms-returns-3 t))
-    (λ t. branches-lts.spec (branches-calls t) (branches-at t) the-branches.Post (branches-is-number-requires t) (branches-returns t) (branches-is-number-requires-2 t) (branches-returns-2 t) (branches-word-requires t) (branches-goals-requires t) (branches-returns-3 t) (branches-word-requires-2 t) (branches-returns-4 t) (branches-goals-requires-2 t) (branches-returns-5 t))
-    (λ t. goal-lts.spec (goal-calls t) (goal-at t) the-goal.Post (goal-word-requires t) (goal-switch-requires t) (goal-branches-requires t) (goal-step-ok-requires t) (goal-returns t) (goal-returns-2 t) (goal-returns-3 t))
-    (λ t. goals-lts.spec (goals-calls t) (goals-at t) the-goals.Post goals-Inv-loop goals-μ-loop (goals-loop-holds t) (goals-goal-requires t) (goals-returns t) (goals-word-requires t) (goals-loop-less t) (goals-loop-again t) (goals-returns-2 t))
-    λ t. switch-lts.spec (switch-calls t) (switch-at t) the-switch.Post (switch-word-requires t) (switch-variable-requires t) (switch-returns t) (switch-word-requires-2 t) (switch-returns-2 t) (switch-word-requires-3 t) (switch-functor-requires t) (switch-arms-requires t) (switch-returns-3 t)
+    (λ t. arms-lts.spec (arms-calls t) (arms-at t) the-arms.Post arms-Inv-loop arms-μ-loop (arms-loop-holds t) (arms-arm-fits-requires t)
+    (arms-returns t) (arms-word-requires t) (arms-goals-requires t) (arms-returns-2 t) (arms-add-n t) (arms-word-requires-2 t)
+    (arms-word-requires-3 t) (arms-loop-less t) (arms-loop-again t) (arms-returns-3 t))
+    (λ t. branches-lts.spec (branches-calls t) (branches-at t) the-branches.Post (branches-is-number-requires t) (branches-returns t)
+    (branches-is-number-requires-2 t) (branches-returns-2 t) (branches-word-requires t) (branches-goals-requires t) (branches-returns-3 t)
+    (branches-word-requires-2 t) (branches-returns-4 t) (branches-goals-requires-2 t) (branches-returns-5 t))
+    (λ t. goal-lts.spec (goal-calls t) (goal-at t) the-goal.Post (goal-word-requires t) (goal-switch-requires t) (goal-branches-requires t)
+    (goal-step-ok-requires t) (λ c. c .switch .ensures) (λ c. c .branches .ensures) (λ c. c .step-ok .ensures))
+    (λ t. goals-lts.spec (goals-calls t) (goals-at t) the-goals.Post goals-Inv-loop goals-μ-loop (λ c. (c .before .pre .1 .1, omega arith, refl))
+    (goals-goal-requires t) (goals-returns t) (goals-word-requires t) (goals-loop-less t) (goals-loop-again t)
+    (λ c. goals-end _ _ (c .loop-test .left) ∙ c .before .loop .inv .2))
+    λ t. switch-lts.spec (switch-calls t) (switch-at t) the-switch.Post (switch-word-requires t) (λ c κs. search needs) (switch-returns t)
+    (switch-word-requires-2 t) (switch-returns-2 t) (switch-word-requires-3 t) (λ c κs. search needs) (switch-arms-requires t) (switch-returns-3 t)

@@ -1,8 +1,7 @@
--- `apply` meets its contract.
 use mathlib.Core.Path.{sym, ap₂, _∙_}
 use borrow.Author.Tests.{not-true, not-false}
 use Rattle.sets.specs.Sets.{_∪_, _∩_, subset}
-use Rattle.values.specs.Valuing.{giving-unread, giving-twice, giving-again, giving-goes}
+use Rattle.values.proofs.ValuingLaws.{giving-unread, giving-twice, giving-again, giving-goes}
 use borrow.Author.Needs.{needs}
 use Rattle.values.proofs.carried.apply.Statement.{statement}
 use Rattle.values.proofs.carried.apply.Tie as tie

@@ -1,5 +1,4 @@
--- `carry` meets its contract.
-use Rattle.values.specs.Carrying.{carried-both}
+use Rattle.values.proofs.CarryingLaws.{carried-both}
 use borrow.Author.Needs.{needs}
 use Rattle.values.proofs.carried.carry.Statement.{statement}
 use Rattle.values.proofs.carried.carry.Tie as tie

@@ -1,4 +1,3 @@
--- `every_in` meets its contract.
 use Rattle.values.specs.Valuing.{everyIn}
 use borrow.Author.Needs.{needs}
 use Rattle.values.proofs.carried.every_in.Statement.{statement}

@@ -1,4 +1,3 @@
--- `join` meets its contract.
 use mathlib.Core.Path.{ap, ap₂, _∙_}
 use Rattle.sets.specs.Sets.{_∪_, _∩_}
 use Rattle.values.specs.Valuing.{both}

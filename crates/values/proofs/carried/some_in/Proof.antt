@@ -1,4 +1,3 @@
--- `some_in` meets its contract.
 use Rattle.values.specs.Valuing.{someIn}
 use borrow.Author.Needs.{needs}
 use Rattle.values.proofs.carried.some_in.Statement.{statement}

@@ -1,5 +1,4 @@
--- `all_local` meets its contract.
-use Rattle.values.specs.Modes.{Local, local-first, local-next, local-stop, local-last}
+use Rattle.values.proofs.Entry.{Local, local-first, local-next, local-stop, local-last}
 use Rattle.chains.specs.Is.{chain-next}
 use Rattle.chains.specs.Shapes.{variable-here}
 use Rattle.chains.specs.Formed.{Stands, ahead, variablesAt, variables-none}
@@ -14,9 +13,6 @@ Inv-loop file start i₀ i = Stands file variables i × Local (variablesAt file 
 
 abbrev μ-loop : tie.MeasureT-loop
 μ-loop file start i₀ i = ahead file i
-
-loop-holds : tie.Need-loop-holds Inv-loop μ-loop
-loop-holds c = (c .before .pre .1, local-first _)
 
 returns : tie.Need-returns Inv-loop μ-loop
 returns c =
@@ -43,4 +39,7 @@ returns-2 : tie.Need-returns-2 Inv-loop μ-loop
 returns-2 c = local-last (c .before .loop .inv .1) (variables-none _ (c .loop-test .left))
 
 pub all-local-spec : {M : Type 1} → statement M
-all-local-spec = tie.close (tie.spec Inv-loop μ-loop loop-holds (λ c κs. search needs) returns (λ c κs. search needs) loop-less loop-again returns-2)
+all-local-spec =
+    tie.close
+    (tie.spec Inv-loop μ-loop (λ c. (c .before .pre .1, local-first _)) (λ c κs. search needs) returns (λ c κs. search needs) loop-less loop-again
+    returns-2)

@@ -1,8 +1,7 @@
--- `procedure_ok` meets its contract.
 use native.Mathlib.Omega.{arith}
 use borrow.Author.Tests.{not-true, not-false}
-use Rattle.values.specs.Fitting.{window-fits}
-use Rattle.values.specs.Windows.{body-stands, valued-stop, valued-end}
+use Rattle.rows.specs.Fitting.{window-fits}
+use Rattle.values.proofs.Windows.{body-stands, valued-stop, valued-end}
 use borrow.Author.Needs.{needs}
 use Rattle.values.proofs.stage.procedure_ok.Statement.{statement}
 use Rattle.values.proofs.stage.procedure_ok.Tie as tie

@@ -1,12 +1,12 @@
--- `procedures_ok` meets its contract: the procedures passed in turn.
+-- The procedures passed in turn.
 use Prim.Native.Nat.{_-_}
 use borrow.Author.Needs.{needs}
 use borrow.Author.Tests.{not-true, not-false}
 use Rattle.language.specs.Values.{procedureValues}
 use Rattle.language.specs.Answers.{program}
 use Rattle.chains.specs.Formed.{procedures-stand}
-use Rattle.values.specs.Listing.{procedure-count}
-use Rattle.values.specs.Turns.{TestTurn, turn-first, turn-stop, turn-next, turn-last}
+use Rattle.chains.specs.Elements.{procedure-count}
+use Rattle.values.proofs.Turns.{TestTurn, turn-first, turn-stop, turn-next, turn-last}
 use Rattle.values.proofs.stage.procedures_ok.Statement.{statement}
 use Rattle.values.proofs.stage.procedures_ok.Tie as tie
 
@@ -18,9 +18,6 @@ abbrev μ-loop : tie.MeasureT-loop
 
 chain-length-requires : tie.Need-chain-length-requires Inv-loop μ-loop
 chain-length-requires c κs = ((c .before .before .pre .0), rw (c .word .ensures .0) (procedures-stand (c .before .before .pre .0) .below))
-
-loop-holds : tie.Need-loop-holds Inv-loop μ-loop
-loop-holds c = turn-first _ _
 
 procedure-ok-requires : tie.Need-procedure-ok-requires Inv-loop μ-loop
 procedure-ok-requires c κs = ((c .before .before .before .before .before .pre .0), ((c .before .before .before .before .before .pre .1 .0), ((c .before .before .before .before .before .pre .1 .1 .0), (c .before .before .before .before .before .pre .1 .1 .1, (rw (procedure-count (c .before .before .before .before .before .pre .0) (c .before .before .before .word .ensures .0) (c .before .before .chain-length .ensures)) at (c .loop-test .taken))))))
@@ -37,5 +34,5 @@ returns-2 c = turn-last _ _ (c .before .loop .inv) (rw (procedure-count (c .befo
 pub procedures-ok-spec : {M : Type 1} → statement M
 procedures-ok-spec =
     tie.close
-    (tie.spec Inv-loop μ-loop (search needs) chain-length-requires loop-holds procedure-ok-requires returns (search needs) (search needs) loop-again
-    returns-2)
+    (tie.spec Inv-loop μ-loop (search needs) chain-length-requires (λ c. turn-first _ _) procedure-ok-requires returns (search needs) (search needs)
+    loop-again returns-2)

@@ -1,7 +1,6 @@
--- `values_ok` meets its contract.
 use borrow.Author.Tests.{not-true, not-false}
-use Rattle.values.specs.Callees.{entry-declares}
-use Rattle.values.specs.Turns.{entry-stop, entry-goes}
+use Rattle.values.proofs.Entry.{entry-declares}
+use Rattle.values.proofs.Turns.{entry-stop, entry-goes}
 use borrow.Author.Needs.{needs}
 use Rattle.values.proofs.stage.values_ok.Statement.{statement}
 use Rattle.values.proofs.stage.values_ok.Tie as tie

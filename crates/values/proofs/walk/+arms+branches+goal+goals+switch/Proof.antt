@@ -1,4 +1,5 @@
--- The walk over goals meets its contract: one law of Along for each way through it. The records ahead fall.
+-- The walk over goals: one law of Along for each way through it. The records ahead fall.
+-- The functions `past` lead from a point that several needs pass to the earlier points that these look at, so that a path stands once.
 use Prim.Native.Nat.{ℕ, _<_, _+_, _*_}
 use native.Mathlib.Omega.{arith}
 use mathlib.Core.Path.{refl, sym, ap₂, _∙_}
@@ -8,11 +9,11 @@ use Rattle.language.specs.Answers.{program}
 use Rattle.chains.specs.Formed.{ahead}
 use Rattle.chains.specs.Is.{chain-next}
 use Rattle.chains.specs.Shapes.{switch-here, if-here, to-arms, to-then, to-else, arm-goals, arm-next}
-use Rattle.values.specs.Along.{WalkedAlong, along-first, none-walked, along-last, along-stop, along-next, switch-stops, switch-walked, if-unread, if-unread-2, if-then-stops, if-else-stops, if-walked, arms-none-walked, arm-refused, arm-stops, arm-last, arm-rest-stops, arms-walked}
+use Rattle.walks.specs.Along.{WalkedAlong, along-first, none-walked, along-last, along-stop, along-next, switch-stops, switch-walked, if-unread, if-unread-2, if-then-stops, if-else-stops, if-walked, arms-none-walked, arm-refused, arm-stops, arm-last, arm-rest-stops, arms-walked}
 use Rattle.values.specs.Valuing.{both, valuation, valuer}
-use Rattle.values.specs.Closed.{goal-closed, arm-closed}
-use Rattle.values.specs.Carrying.{goal-step, row-arm, readable-is, joined}
-use borrow.Fn.Kinds.{In}
+use Rattle.walks.specs.Closed.{goal-closed, arm-closed}
+use Rattle.values.proofs.CarryingLaws.{goal-step, row-arm, readable-is, joined}
+use borrow.Fn.Kinds.{In, Out}
 use borrow.Fn.PlainCycle.{Measures, is, falls, and}
 use Rattle.values.proofs.walk.arms.Reads as arms
 use Rattle.values.proofs.walk.arms.Kinds as arms-kinds
@@ -36,7 +37,7 @@ use Rattle.values.proofs.carried.carry.Reads as carry-reads
 use Rattle.values.proofs.carried.every_in.Reads as every-in-reads
 use Rattle.values.proofs.carried.join.Reads as join-reads
 use Rattle.values.proofs.carried.some_in.Reads as some-in-reads
-use Rattle.values.proofs.rows.is_step.Reads as is-step-reads
+use Rattle.walks.proofs.is_step.Reads as is-step-reads
 use Rattle.values.proofs.walk.+arms+branches+goal+goals+switch.{statement}
 use Rattle.values.proofs.walk.+arms+branches+goal+goals+switch.Tie.{close}
 
@@ -107,95 +108,171 @@ abbrev switch-calls : ℕ → switch-lts.Claims
 switch-calls t =
     (every-in-reads.Asked, every-in-reads.Learnt, word-reads.Asked, word-reads.Learnt, has-reads.Asked, has-reads.Learnt, arms-below t, arms.Post)
 
-arms-returns : (t : ℕ) → arms-lts.Need-returns (arms-calls t) (arms-at t) arms.Post
-arms-returns t c = arms-none-walked _ _ _ (c .if1 .taken)
+module _ (t : ℕ) where
+  abbrev Arms : (arms-lts.Claims → In 3 arms-kinds.ps → Out 3 arms-kinds.ps arms-kinds.r → Type 0) → Type 0
+  Arms P = P (arms-calls t) (arms-at t) arms.Post
 
-arms-word-requires : (t : ℕ) → arms-lts.Need-word-requires (arms-calls t) (arms-at t) arms.Post
-arms-word-requires t c κs = let p = c .before .before .pre .1 in (p .0, (omega arith, p .1 .1 .below))
+  abbrev arms-past-else1 : Arms arms-lts.Else1 → Arms arms-lts.Start
+  arms-past-else1 c = c .before .before
 
-arms-returns-2 : (t : ℕ) → arms-lts.Need-returns-2 (arms-calls t) (arms-at t) arms.Post
-arms-returns-2 t c = arm-closed (c .before .before .before .before .pre .1 .1 .1) (c .before .before .if1 .left) (c .before .word .ensures .0) (c .if2 .taken)
+  abbrev arms-past-else2 : Arms arms-lts.Else2 → Arms arms-lts.Else1 × Arms arms-lts.Start
+  arms-past-else2 c = let s = arms-past-else1 (c .before .before) in (c .before .before, s)
 
-arms-returns-3 : (t : ℕ) → arms-lts.Need-returns-3 (arms-calls t) (arms-at t) arms.Post
-arms-returns-3 t c = arm-refused _ _ (c .before .before .before .before .before .before .before .before .before .before .before .pre .1 .0) (c .before .before .before .before .before .before .before .before .before .before .before .pre .1 .1 .1) (c .before .before .before .before .before .before .before .before .before .if1 .left) _ _ (row-arm _ (c .before .before .before .before .before .before .before .before .before .before .before .pre .1 .1 .0) _ (c .before .before .before .before .before .before .before .before .before .before .before .pre .1 .1 .1) (c .before .before .before .before .before .before .before .before .before .if1 .left) _ _ _ (c .before .apply .ensures)) _ (not-true _ (c .if3 .taken))
+  abbrev arms-past-else3 : Arms arms-lts.Else3 → Arms arms-lts.After-apply × Arms arms-lts.After-some-in × Arms arms-lts.After-every-in ×
+      Arms arms-lts.Else1 × Arms arms-lts.Start
+  arms-past-else3 c = let (e1, s) = arms-past-else2 (c .before .before .before .before .before .before .before) in (c .before, c .before .before .before, c .before .before .before .before .before, e1, s)
 
-arms-word-requires-2 : (t : ℕ) → arms-lts.Need-word-requires-2 (arms-calls t) (arms-at t) arms.Post
-arms-word-requires-2 t c κs = let p = c .before .before .before .before .before .before .before .before .before .before .before .pre .1 in (p .0, (omega arith, p .1 .1 .below))
+  abbrev arms-past-else4 : Arms arms-lts.Else4 → Arms arms-lts.After-goals × Arms arms-lts.After-word2 × Arms arms-lts.Else3 ×
+      Arms arms-lts.After-apply × Arms arms-lts.After-some-in × Arms arms-lts.After-every-in × Arms arms-lts.Else1 × Arms arms-lts.Start
+  arms-past-else4 c = let (ap, si, ei, e1, s) = arms-past-else3 (c .before .before .before .before) in (c .before, c .before .before .before, c .before .before .before .before, ap, si, ei, e1, s)
 
-arms-goals-requires : (t : ℕ) → arms-lts.Need-goals-requires (arms-calls t) (arms-at t) arms.Post
-arms-goals-requires t c κs = let o = arm-goals (c .before .before .before .before .before .before .before .before .before .before .before .before .before .pre .1 .0) (c .before .before .before .before .before .before .before .before .before .before .before .if1 .left) (c .before .before .before .before .before .before .before .before .before .before .before .before .before .pre .1 .1 .1) (c .before .word2 .ensures .0) in (omega (arith, o .falls, c .before .before .before .before .before .before .before .before .before .before .before .before .before .pre .0), (c .before .before .before .before .before .before .before .before .before .before .before .before .before .pre .1 .0, (c .before .before .before .before .before .before .before .before .before .before .before .before .before .pre .1 .1 .0, o .stands)))
+  abbrev arms-past-else5 : Arms arms-lts.Else5 → Arms arms-lts.After-word3 × Arms arms-lts.Else4 × Arms arms-lts.After-goals ×
+      Arms arms-lts.After-word2 × Arms arms-lts.Else3 × Arms arms-lts.After-apply × Arms arms-lts.After-some-in × Arms arms-lts.After-every-in ×
+      Arms arms-lts.Else1 × Arms arms-lts.Start
+  arms-past-else5 c = let (g, w2, e3, ap, si, ei, e1, s) = arms-past-else4 (c .before .before) in (c .before, c .before .before, g, w2, e3, ap, si, ei, e1, s)
 
-arms-returns-4 : (t : ℕ) → arms-lts.Need-returns-4 (arms-calls t) (arms-at t) arms.Post
-arms-returns-4 t c = arm-stops _ _ (c .before .before .before .before .before .before .before .before .before .before .before .before .before .before .before .pre .1 .0) (c .before .before .before .before .before .before .before .before .before .before .before .before .before .before .before .pre .1 .1 .1) (c .before .before .before .before .before .before .before .before .before .before .before .before .before .if1 .left) _ _ (row-arm _ (c .before .before .before .before .before .before .before .before .before .before .before .before .before .before .before .pre .1 .1 .0) _ (c .before .before .before .before .before .before .before .before .before .before .before .before .before .before .before .pre .1 .1 .1) (c .before .before .before .before .before .before .before .before .before .before .before .before .before .if1 .left) _ _ _ (c .before .before .before .before .before .apply .ensures)) (not-false _ (c .before .before .before .before .if3 .left)) _ _ (c .before .before .before .word2 .ensures .0) (c .before .goals .ensures) _ (not-true _ (c .if4 .taken))
+  arms-word-requires : Arms arms-lts.Need-word-requires
+  arms-word-requires c κs = let s = arms-past-else1 c in let p = s .pre .1 in (p .0, (omega arith, p .1 .1 .below))
 
-arms-word-requires-3 : (t : ℕ) → arms-lts.Need-word-requires-3 (arms-calls t) (arms-at t) arms.Post
-arms-word-requires-3 t c κs = let p = c .before .before .before .before .before .before .before .before .before .before .before .before .before .before .before .pre .1 in (p .0, (omega arith, p .1 .1 .below))
+  arms-returns-2 : Arms arms-lts.Need-returns-2
+  arms-returns-2 c = let e1 = c .before .before in let s = arms-past-else1 e1 in
+      arm-closed (s .pre .1 .1 .1) (e1 .if1 .left) (c .before .word .ensures .0) (c .if2 .taken)
 
-arms-returns-5 : (t : ℕ) → arms-lts.Need-returns-5 (arms-calls t) (arms-at t) arms.Post
-arms-returns-5 t c = arm-last _ _ (c .before .before .before .before .before .before .before .before .before .before .before .before .before .before .before .before .before .pre .1 .0) (c .before .before .before .before .before .before .before .before .before .before .before .before .before .before .before .before .before .pre .1 .1 .1) (c .before .before .before .before .before .before .before .before .before .before .before .before .before .before .before .if1 .left) _ _ (row-arm _ (c .before .before .before .before .before .before .before .before .before .before .before .before .before .before .before .before .before .pre .1 .1 .0) _ (c .before .before .before .before .before .before .before .before .before .before .before .before .before .before .before .before .before .pre .1 .1 .1) (c .before .before .before .before .before .before .before .before .before .before .before .before .before .before .before .if1 .left) _ _ _ (c .before .before .before .before .before .before .before .apply .ensures)) (not-false _ (c .before .before .before .before .before .before .if3 .left)) _ _ (c .before .before .before .before .before .word2 .ensures .0) (c .before .before .before .goals .ensures) (not-false _ (c .before .before .if4 .left)) (c .before .word3 .ensures .0) (c .if5 .taken)
+  arms-returns-3 : Arms arms-lts.Need-returns-3
+  arms-returns-3 c = let (e1, s) = arms-past-else2 (c .before .before .before .before .before .before .before) in
+      arm-refused _ _ (s .pre .1 .0) (s .pre .1 .1 .1) (e1 .if1 .left) _ _ (row-arm _ (s .pre .1 .1 .0) _ (s .pre .1 .1 .1) (e1 .if1 .left) _ _ _ (c .before .apply .ensures)) _ (not-true _ (c .if3 .taken))
 
-arms-arms-requires : (t : ℕ) → arms-lts.Need-arms-requires (arms-calls t) (arms-at t) arms.Post
-arms-arms-requires t c κs = let o = arm-next (c .before .before .before .before .before .before .before .before .before .before .before .before .before .before .before .before .before .before .before .before .before .before .before .before .pre .1 .0) (c .before .before .before .before .before .before .before .before .before .before .before .before .before .before .before .before .before .before .before .before .before .before .if1 .left) (c .before .before .before .before .before .before .before .before .before .before .before .before .before .before .before .before .before .before .before .before .before .before .before .before .pre .1 .1 .1) (c .before .before .before .before .before .before .before .before .word3 .ensures .0) in (omega (arith, o .falls, c .before .before .before .before .before .before .before .before .before .before .before .before .before .before .before .before .before .before .before .before .before .before .before .before .pre .0), (c .before .before .before .before .before .before .before .before .before .before .before .before .before .before .before .before .before .before .before .before .before .before .before .before .pre .1 .0, (c .before .before .before .before .before .before .before .before .before .before .before .before .before .before .before .before .before .before .before .before .before .before .before .before .pre .1 .1 .0, o .stands)))
+  arms-word-requires-2 : Arms arms-lts.Need-word-requires-2
+  arms-word-requires-2 c κs = let (ap, si, ei, e1, s) = arms-past-else3 c in let p = s .pre .1 in (p .0, (omega arith, p .1 .1 .below))
 
-arms-returns-6 : (t : ℕ) → arms-lts.Need-returns-6 (arms-calls t) (arms-at t) arms.Post
-arms-returns-6 t c = arm-rest-stops _ _ (c .before .before .before .before .before .before .before .before .before .before .before .before .before .before .before .before .before .before .before .before .before .before .before .before .before .before .pre .1 .0) (c .before .before .before .before .before .before .before .before .before .before .before .before .before .before .before .before .before .before .before .before .before .before .before .before .before .before .pre .1 .1 .1) (c .before .before .before .before .before .before .before .before .before .before .before .before .before .before .before .before .before .before .before .before .before .before .before .before .if1 .left) _ _ (row-arm _ (c .before .before .before .before .before .before .before .before .before .before .before .before .before .before .before .before .before .before .before .before .before .before .before .before .before .before .pre .1 .1 .0) _ (c .before .before .before .before .before .before .before .before .before .before .before .before .before .before .before .before .before .before .before .before .before .before .before .before .before .before .pre .1 .1 .1) (c .before .before .before .before .before .before .before .before .before .before .before .before .before .before .before .before .before .before .before .before .before .before .before .before .if1 .left) _ _ _ (c .before .before .before .before .before .before .before .before .before .before .before .before .before .before .before .before .apply .ensures)) (not-false _ (c .before .before .before .before .before .before .before .before .before .before .before .before .before .before .before .if3 .left)) _ _ (c .before .before .before .before .before .before .before .before .before .before .before .before .before .before .word2 .ensures .0) (c .before .before .before .before .before .before .before .before .before .before .before .before .goals .ensures) (not-false _ (c .before .before .before .before .before .before .before .before .before .before .before .if4 .left)) (c .before .before .before .before .before .before .before .before .before .before .word3 .ensures .0) (c .before .before .before .before .before .before .before .before .before .if5 .left) _ (c .before .before .before .carry .ensures ∙ ap₂ both (c .before .before .before .before .before .before .before .before .before .before .before .before .before .before .before .before .before .before .before .before .every-in .ensures) (c .before .before .before .before .before .before .before .before .before .before .before .before .before .before .before .before .before .before .some-in .ensures)) _ _ (c .before .arms .ensures) _ (not-true _ (c .if6 .taken))
+  arms-goals-requires : Arms arms-lts.Need-goals-requires
+  arms-goals-requires c κs = let (ap, si, ei, e1, s) = arms-past-else3 (c .before .before) in
+      let o = arm-goals (s .pre .1 .0) (e1 .if1 .left) (s .pre .1 .1 .1) (c .before .word2 .ensures .0) in (omega (arith, o .falls, s .pre .0), (s .pre .1 .0, (s .pre .1 .1 .0, o .stands)))
 
-arms-returns-7 : (t : ℕ) → arms-lts.Need-returns-7 (arms-calls t) (arms-at t) arms.Post
-arms-returns-7 t c = arms-walked _ _ (c .before .before .before .before .before .before .before .before .before .before .before .before .before .before .before .before .before .before .before .before .before .before .before .before .before .before .before .before .pre .1 .0) (c .before .before .before .before .before .before .before .before .before .before .before .before .before .before .before .before .before .before .before .before .before .before .before .before .before .before .before .before .pre .1 .1 .1) (c .before .before .before .before .before .before .before .before .before .before .before .before .before .before .before .before .before .before .before .before .before .before .before .before .before .before .if1 .left) _ _ (row-arm _ (c .before .before .before .before .before .before .before .before .before .before .before .before .before .before .before .before .before .before .before .before .before .before .before .before .before .before .before .before .pre .1 .1 .0) _ (c .before .before .before .before .before .before .before .before .before .before .before .before .before .before .before .before .before .before .before .before .before .before .before .before .before .before .before .before .pre .1 .1 .1) (c .before .before .before .before .before .before .before .before .before .before .before .before .before .before .before .before .before .before .before .before .before .before .before .before .before .before .if1 .left) _ _ _ (c .before .before .before .before .before .before .before .before .before .before .before .before .before .before .before .before .before .before .apply .ensures)) (not-false _ (c .before .before .before .before .before .before .before .before .before .before .before .before .before .before .before .before .before .if3 .left)) _ _ (c .before .before .before .before .before .before .before .before .before .before .before .before .before .before .before .before .word2 .ensures .0) (c .before .before .before .before .before .before .before .before .before .before .before .before .before .before .goals .ensures) (not-false _ (c .before .before .before .before .before .before .before .before .before .before .before .before .before .if4 .left)) (c .before .before .before .before .before .before .before .before .before .before .before .before .word3 .ensures .0) (c .before .before .before .before .before .before .before .before .before .before .before .if5 .left) _ (c .before .before .before .before .before .carry .ensures ∙ ap₂ both (c .before .before .before .before .before .before .before .before .before .before .before .before .before .before .before .before .before .before .before .before .before .before .every-in .ensures) (c .before .before .before .before .before .before .before .before .before .before .before .before .before .before .before .before .before .before .before .before .some-in .ensures)) _ _ (c .before .before .before .arms .ensures) _ _ _ (ap₂ both (c .before .before .before .before .before .before .before .before .before .every-in2 .ensures) (c .before .before .before .before .before .before .before .some-in2 .ensures)) (not-false _ (c .before .before .if6 .left)) (joined _ _ _ _ (c .join .ensures))
+  arms-returns-4 : Arms arms-lts.Need-returns-4
+  arms-returns-4 c = let e3 = c .before .before .before .before in let (ap, si, ei, e1, s) = arms-past-else3 e3 in
+      arm-stops _ _ (s .pre .1 .0) (s .pre .1 .1 .1) (e1 .if1 .left) _ _ (row-arm _ (s .pre .1 .1 .0) _ (s .pre .1 .1 .1) (e1 .if1 .left) _ _ _ (ap .apply .ensures)) (not-false _ (e3 .if3 .left)) _ _ (c .before .before .before .word2 .ensures .0) (c .before .goals .ensures) _ (not-true _ (c .if4 .taken))
 
-branches-word-requires : (t : ℕ) → branches-lts.Need-word-requires (branches-calls t) (branches-at t) branches.Post
-branches-word-requires t c κs = let p = c .before .before .before .before .before .pre .1 in (p .0, (omega arith, if-here (p .0) refl (p .1 .1) .below))
+  arms-word-requires-3 : Arms arms-lts.Need-word-requires-3
+  arms-word-requires-3 c κs = let (g, w2, e3, ap, si, ei, e1, s) = arms-past-else4 c in let p = s .pre .1 in (p .0, (omega arith, p .1 .1 .below))
 
-branches-returns : (t : ℕ) → branches-lts.Need-returns (branches-calls t) (branches-at t) branches.Post
-branches-returns t c = if-unread _ _ (c .before .before .before .before .before .before .before .before .pre .1 .0) _ (c .before .before .before .before .before .before .before .before .pre .1 .1 .1) _ (c .before .before .word .ensures .0) (readable-is _ _ _ (c .before .has .ensures) (c .before .before .before .before .before .every-in .ensures)) _ (not-true _ (c .if1 .taken))
+  arms-returns-5 : Arms arms-lts.Need-returns-5
+  arms-returns-5 c = let e4 = c .before .before in let (g, w2, e3, ap, si, ei, e1, s) = arms-past-else4 e4 in
+      arm-last _ _ (s .pre .1 .0) (s .pre .1 .1 .1) (e1 .if1 .left) _ _ (row-arm _ (s .pre .1 .1 .0) _ (s .pre .1 .1 .1) (e1 .if1 .left) _ _ _ (ap .apply .ensures)) (not-false _ (e3 .if3 .left)) _ _ (w2 .word2 .ensures .0) (g .goals .ensures) (not-false _ (e4 .if4 .left)) (c .before .word3 .ensures .0) (c .if5 .taken)
 
-branches-word-requires-2 : (t : ℕ) → branches-lts.Need-word-requires-2 (branches-calls t) (branches-at t) branches.Post
-branches-word-requires-2 t c κs = let p = c .before .before .before .before .before .before .before .before .pre .1 in (p .0, (omega arith, if-here (p .0) refl (p .1 .1) .below))
+  arms-arms-requires : Arms arms-lts.Need-arms-requires
+  arms-arms-requires c κs = let (w3, e4, g, w2, e3, ap, si, ei, e1, s) = arms-past-else5 (c .before .before .before .before .before .before .before) in
+      let o = arm-next (s .pre .1 .0) (e1 .if1 .left) (s .pre .1 .1 .1) (w3 .word3 .ensures .0) in (omega (arith, o .falls, s .pre .0), (s .pre .1 .0, (s .pre .1 .1 .0, o .stands)))
 
-branches-returns-2 : (t : ℕ) → branches-lts.Need-returns-2 (branches-calls t) (branches-at t) branches.Post
-branches-returns-2 t c = if-unread-2 _ _ (c .before .before .before .before .before .before .before .before .before .before .before .pre .1 .0) _ (c .before .before .before .before .before .before .before .before .before .before .before .pre .1 .1 .1) _ (c .before .before .before .before .before .word .ensures .0) (readable-is _ _ _ (c .before .before .before .before .has .ensures) (c .before .before .before .before .before .before .before .before .every-in .ensures)) (not-false _ (c .before .before .before .if1 .left)) (c .before .before .word2 .ensures .0) (readable-is _ _ _ (c .before .has2 .ensures) (c .before .before .before .before .before .before .before .before .every-in .ensures)) _ (not-true _ (c .if2 .taken))
+  arms-returns-6 : Arms arms-lts.Need-returns-6
+  arms-returns-6 c =
+      let e5 = c .before .before .before .before .before .before .before .before .before in
+      let (w3, e4, g, w2, e3, ap, si, ei, e1, s) = arms-past-else5 e5 in
+      arm-rest-stops _ _ (s .pre .1 .0) (s .pre .1 .1 .1) (e1 .if1 .left) _ _ (row-arm _ (s .pre .1 .1 .0) _ (s .pre .1 .1 .1) (e1 .if1 .left) _ _ _ (ap .apply .ensures)) (not-false _ (e3 .if3 .left)) _ _ (w2 .word2 .ensures .0) (g .goals .ensures) (not-false _ (e4 .if4 .left)) (w3 .word3 .ensures .0) (e5 .if5 .left) _ (c .before .before .before .carry .ensures ∙ ap₂ both (ei .every-in .ensures) (si .some-in .ensures)) _ _ (c .before .arms .ensures) _ (not-true _ (c .if6 .taken))
 
-branches-word-requires-3 : (t : ℕ) → branches-lts.Need-word-requires-3 (branches-calls t) (branches-at t) branches.Post
-branches-word-requires-3 t c κs = let p = c .before .before .before .before .before .before .before .before .before .before .before .pre .1 in (p .0, (omega arith, if-here (p .0) refl (p .1 .1) .below))
+  arms-returns-7 : Arms arms-lts.Need-returns-7
+  arms-returns-7 c =
+      let e5 = c .before .before .before .before .before .before .before .before .before .before .before in
+      let (w3, e4, g, w2, e3, ap, si, ei, e1, s) = arms-past-else5 e5 in
+      arms-walked _ _ (s .pre .1 .0) (s .pre .1 .1 .1) (e1 .if1 .left) _ _ (row-arm _ (s .pre .1 .1 .0) _ (s .pre .1 .1 .1) (e1 .if1 .left) _ _ _ (ap .apply .ensures)) (not-false _ (e3 .if3 .left)) _ _ (w2 .word2 .ensures .0) (g .goals .ensures) (not-false _ (e4 .if4 .left)) (w3 .word3 .ensures .0) (e5 .if5 .left) _ (c .before .before .before .before .before .carry .ensures ∙ ap₂ both (ei .every-in .ensures) (si .some-in .ensures)) _ _ (c .before .before .before .arms .ensures) _ _ _ (ap₂ both (c .before .before .before .before .before .before .before .before .before .every-in2 .ensures) (c .before .before .before .before .before .before .before .some-in2 .ensures)) (not-false _ (c .before .before .if6 .left)) (joined _ _ _ _ (c .join .ensures))
 
-branches-goals-requires : (t : ℕ) → branches-lts.Need-goals-requires (branches-calls t) (branches-at t) branches.Post
-branches-goals-requires t c κs = let o = to-then (c .before .before .before .before .before .before .before .before .before .before .before .before .before .pre .1 .0) (c .before .before .before .before .before .before .before .before .before .before .before .before .before .pre .1 .1 .1) (c .before .word3 .ensures .0) in (omega (arith, o .falls, c .before .before .before .before .before .before .before .before .before .before .before .before .before .pre .0), (c .before .before .before .before .before .before .before .before .before .before .before .before .before .pre .1 .0, (c .before .before .before .before .before .before .before .before .before .before .before .before .before .pre .1 .1 .0, o .stands)))
+module _ (t : ℕ) where
+  abbrev Branches : (branches-lts.Claims → In 3 branches-kinds.ps → Out 3 branches-kinds.ps branches-kinds.r → Type 0) → Type 0
+  Branches P = P (branches-calls t) (branches-at t) branches.Post
 
-branches-returns-3 : (t : ℕ) → branches-lts.Need-returns-3 (branches-calls t) (branches-at t) branches.Post
-branches-returns-3 t c = if-then-stops _ _ (c .before .before .before .before .before .before .before .before .before .before .before .before .before .before .before .pre .1 .0) _ (c .before .before .before .before .before .before .before .before .before .before .before .before .before .before .before .pre .1 .1 .1) _ (c .before .before .before .before .before .before .before .before .before .word .ensures .0) (readable-is _ _ _ (c .before .before .before .before .before .before .before .before .has .ensures) (c .before .before .before .before .before .before .before .before .before .before .before .before .every-in .ensures)) (not-false _ (c .before .before .before .before .before .before .before .if1 .left)) (c .before .before .before .before .before .before .word2 .ensures .0) (readable-is _ _ _ (c .before .before .before .before .before .has2 .ensures) (c .before .before .before .before .before .before .before .before .before .before .before .before .every-in .ensures)) (not-false _ (c .before .before .before .before .if2 .left)) _ _ (c .before .before .before .word3 .ensures .0) (c .before .goals .ensures) _ (not-true _ (c .if3 .taken))
+  abbrev branches-past-else1 : Branches branches-lts.Else1 → Branches branches-lts.After-has × Branches branches-lts.After-word ×
+      Branches branches-lts.After-some-in × Branches branches-lts.After-every-in × Branches branches-lts.Start
+  branches-past-else1 c = (c .before, c .before .before, c .before .before .before, c .before .before .before .before .before, c .before .before .before .before .before .before .before .before)
 
-branches-word-requires-4 : (t : ℕ) → branches-lts.Need-word-requires-4 (branches-calls t) (branches-at t) branches.Post
-branches-word-requires-4 t c κs = let p = c .before .before .before .before .before .before .before .before .before .before .before .before .before .before .before .before .before .before .before .before .before .pre .1 in (p .0, (omega arith, if-here (p .0) refl (p .1 .1) .below))
+  abbrev branches-past-else2 : Branches branches-lts.Else2 → Branches branches-lts.After-has2 × Branches branches-lts.After-word2 ×
+      Branches branches-lts.Else1 × Branches branches-lts.After-has × Branches branches-lts.After-word × Branches branches-lts.After-some-in ×
+      Branches branches-lts.After-every-in × Branches branches-lts.Start
+  branches-past-else2 c = let (h, w, si, ei, s) = branches-past-else1 (c .before .before .before) in (c .before, c .before .before, c .before .before .before, h, w, si, ei, s)
 
-branches-returns-4 : (t : ℕ) → branches-lts.Need-returns-4 (branches-calls t) (branches-at t) branches.Post
-branches-returns-4 t c = if-walked _ _ (c .before .before .before .before .before .before .before .before .before .before .before .before .before .before .before .before .before .before .before .before .before .before .before .before .before .pre .1 .0) _ (c .before .before .before .before .before .before .before .before .before .before .before .before .before .before .before .before .before .before .before .before .before .before .before .before .before .pre .1 .1 .1) _ (c .before .before .before .before .before .before .before .before .before .before .before .before .before .before .before .before .before .before .before .word .ensures .0) (readable-is _ _ _ (c .before .before .before .before .before .before .before .before .before .before .before .before .before .before .before .before .before .before .has .ensures) (c .before .before .before .before .before .before .before .before .before .before .before .before .before .before .before .before .before .before .before .before .before .before .every-in .ensures)) (not-false _ (c .before .before .before .before .before .before .before .before .before .before .before .before .before .before .before .before .before .if1 .left)) (c .before .before .before .before .before .before .before .before .before .before .before .before .before .before .before .before .word2 .ensures .0) (readable-is _ _ _ (c .before .before .before .before .before .before .before .before .before .before .before .before .before .before .before .has2 .ensures) (c .before .before .before .before .before .before .before .before .before .before .before .before .before .before .before .before .before .before .before .before .before .before .every-in .ensures)) (not-false _ (c .before .before .before .before .before .before .before .before .before .before .before .before .before .before .if2 .left)) _ _ (c .before .before .before .before .before .before .before .before .before .before .before .before .before .word3 .ensures .0) (c .before .before .before .before .before .before .before .before .before .before .before .goals .ensures) (not-false _ (c .before .before .before .before .before .before .before .before .before .before .if3 .left)) _ (c .before .before .before .before .carry .ensures ∙ ap₂ both (c .before .before .before .before .before .before .before .before .before .before .before .before .before .before .before .before .before .before .before .before .before .before .every-in .ensures) (c .before .before .before .before .before .before .before .before .before .before .before .before .before .before .before .before .before .before .before .before .some-in .ensures)) _ _ (c .before .before .before .word4 .ensures .0) (none-walked _ _ _ (c .before .before .if4 .taken)) _ _ _ (ap₂ both (c .before .before .before .before .before .before .before .before .every-in2 .ensures) (c .before .before .before .before .before .before .some-in2 .ensures)) refl (joined _ _ _ _ (c .join .ensures))
+  abbrev branches-past-else3 : Branches branches-lts.Else3 → Branches branches-lts.After-goals × Branches branches-lts.After-word3 ×
+      Branches branches-lts.Else2 × Branches branches-lts.After-has2 × Branches branches-lts.After-word2 × Branches branches-lts.Else1 ×
+      Branches branches-lts.After-has × Branches branches-lts.After-word × Branches branches-lts.After-some-in × Branches branches-lts.After-every-in ×
+      Branches branches-lts.Start
+  branches-past-else3 c = let (h2, w2, e1, h, w, si, ei, s) = branches-past-else2 (c .before .before .before .before) in (c .before, c .before .before .before, c .before .before .before .before, h2, w2, e1, h, w, si, ei, s)
 
-branches-goals-requires-2 : (t : ℕ) → branches-lts.Need-goals-requires-2 (branches-calls t) (branches-at t) branches.Post
-branches-goals-requires-2 t c κs = let o = to-else (c .before .before .before .before .before .before .before .before .before .before .before .before .before .before .before .before .before .before .before .before .before .before .before .before .pre .1 .0) (c .before .before .before .before .before .before .before .before .before .before .before .before .before .before .before .before .before .before .before .before .before .before .before .before .pre .1 .1 .1) (c .before .before .word4 .ensures .0) in (omega (arith, o .falls, c .before .before .before .before .before .before .before .before .before .before .before .before .before .before .before .before .before .before .before .before .before .before .before .before .pre .0), (c .before .before .before .before .before .before .before .before .before .before .before .before .before .before .before .before .before .before .before .before .before .before .before .before .pre .1 .0, (c .before .before .before .before .before .before .before .before .before .before .before .before .before .before .before .before .before .before .before .before .before .before .before .before .pre .1 .1 .0, o .stands)))
+  abbrev branches-past-else4 : Branches branches-lts.Else4 → Branches branches-lts.After-word4 × Branches branches-lts.After-carry ×
+      Branches branches-lts.After-some-in2 × Branches branches-lts.After-every-in2 × Branches branches-lts.Else3 × Branches branches-lts.After-goals ×
+      Branches branches-lts.After-word3 × Branches branches-lts.Else2 × Branches branches-lts.After-has2 × Branches branches-lts.After-word2 ×
+      Branches branches-lts.Else1 × Branches branches-lts.After-has × Branches branches-lts.After-word × Branches branches-lts.After-some-in ×
+      Branches branches-lts.After-every-in × Branches branches-lts.Start
+  branches-past-else4 c = let (g, w3, e2, h2, w2, e1, h, w, si, ei, s) = branches-past-else3 (c .before .before .before .before .before .before .before .before) in (c .before, c .before .before, c .before .before .before .before, c .before .before .before .before .before .before, c .before .before .before .before .before .before .before .before, g, w3, e2, h2, w2, e1, h, w, si, ei, s)
 
-branches-returns-5 : (t : ℕ) → branches-lts.Need-returns-5 (branches-calls t) (branches-at t) branches.Post
-branches-returns-5 t c = if-else-stops _ _ (c .before .before .before .before .before .before .before .before .before .before .before .before .before .before .before .before .before .before .before .before .before .before .before .before .before .before .pre .1 .0) _ (c .before .before .before .before .before .before .before .before .before .before .before .before .before .before .before .before .before .before .before .before .before .before .before .before .before .before .pre .1 .1 .1) _ (c .before .before .before .before .before .before .before .before .before .before .before .before .before .before .before .before .before .before .before .before .word .ensures .0) (readable-is _ _ _ (c .before .before .before .before .before .before .before .before .before .before .before .before .before .before .before .before .before .before .before .has .ensures) (c .before .before .before .before .before .before .before .before .before .before .before .before .before .before .before .before .before .before .before .before .before .before .before .every-in .ensures)) (not-false _ (c .before .before .before .before .before .before .before .before .before .before .before .before .before .before .before .before .before .before .if1 .left)) (c .before .before .before .before .before .before .before .before .before .before .before .before .before .before .before .before .before .word2 .ensures .0) (readable-is _ _ _ (c .before .before .before .before .before .before .before .before .before .before .before .before .before .before .before .before .has2 .ensures) (c .before .before .before .before .before .before .before .before .before .before .before .before .before .before .before .before .before .before .before .before .before .before .before .every-in .ensures)) (not-false _ (c .before .before .before .before .before .before .before .before .before .before .before .before .before .before .before .if2 .left)) _ _ (c .before .before .before .before .before .before .before .before .before .before .before .before .before .before .word3 .ensures .0) (c .before .before .before .before .before .before .before .before .before .before .before .before .goals .ensures) (not-false _ (c .before .before .before .before .before .before .before .before .before .before .before .if3 .left)) _ (c .before .before .before .before .before .carry .ensures ∙ ap₂ both (c .before .before .before .before .before .before .before .before .before .before .before .before .before .before .before .before .before .before .before .before .before .before .before .every-in .ensures) (c .before .before .before .before .before .before .before .before .before .before .before .before .before .before .before .before .before .before .before .before .before .some-in .ensures)) _ _ (c .before .before .before .before .word4 .ensures .0) (c .before .goals2 .ensures) _ (not-true _ (c .if5 .taken))
+  branches-word-requires : Branches branches-lts.Need-word-requires
+  branches-word-requires c κs = let p = c .before .before .before .before .before .pre .1 in (p .0, (omega arith, if-here (p .0) refl (p .1 .1) .below))
 
-branches-returns-6 : (t : ℕ) → branches-lts.Need-returns-6 (branches-calls t) (branches-at t) branches.Post
-branches-returns-6 t c = if-walked _ _ (c .before .before .before .before .before .before .before .before .before .before .before .before .before .before .before .before .before .before .before .before .before .before .before .before .before .before .before .before .pre .1 .0) _ (c .before .before .before .before .before .before .before .before .before .before .before .before .before .before .before .before .before .before .before .before .before .before .before .before .before .before .before .before .pre .1 .1 .1) _ (c .before .before .before .before .before .before .before .before .before .before .before .before .before .before .before .before .before .before .before .before .before .before .word .ensures .0) (readable-is _ _ _ (c .before .before .before .before .before .before .before .before .before .before .before .before .before .before .before .before .before .before .before .before .before .has .ensures) (c .before .before .before .before .before .before .before .before .before .before .before .before .before .before .before .before .before .before .before .before .before .before .before .before .before .every-in .ensures)) (not-false _ (c .before .before .before .before .before .before .before .before .before .before .before .before .before .before .before .before .before .before .before .before .if1 .left)) (c .before .before .before .before .before .before .before .before .before .before .before .before .before .before .before .before .before .before .before .word2 .ensures .0) (readable-is _ _ _ (c .before .before .before .before .before .before .before .before .before .before .before .before .before .before .before .before .before .before .has2 .ensures) (c .before .before .before .before .before .before .before .before .before .before .before .before .before .before .before .before .before .before .before .before .before .before .before .before .before .every-in .ensures)) (not-false _ (c .before .before .before .before .before .before .before .before .before .before .before .before .before .before .before .before .before .if2 .left)) _ _ (c .before .before .before .before .before .before .before .before .before .before .before .before .before .before .before .before .word3 .ensures .0) (c .before .before .before .before .before .before .before .before .before .before .before .before .before .before .goals .ensures) (not-false _ (c .before .before .before .before .before .before .before .before .before .before .before .before .before .if3 .left)) _ (c .before .before .before .before .before .before .before .carry .ensures ∙ ap₂ both (c .before .before .before .before .before .before .before .before .before .before .before .before .before .before .before .before .before .before .before .before .before .before .before .before .before .every-in .ensures) (c .before .before .before .before .before .before .before .before .before .before .before .before .before .before .before .before .before .before .before .before .before .before .before .some-in .ensures)) _ _ (c .before .before .before .before .before .before .word4 .ensures .0) (c .before .before .before .goals2 .ensures) _ _ _ (ap₂ both (c .before .before .before .before .before .before .before .before .before .before .before .every-in2 .ensures) (c .before .before .before .before .before .before .before .before .before .some-in2 .ensures)) (not-false _ (c .before .before .if5 .left)) (joined _ _ _ _ (c .join2 .ensures))
+  branches-returns : Branches branches-lts.Need-returns
+  branches-returns c = let s = c .before .before .before .before .before .before .before .before in
+      if-unread _ _ (s .pre .1 .0) _ (s .pre .1 .1 .1) _ (c .before .before .word .ensures .0) (readable-is _ _ _ (c .before .has .ensures) (c .before .before .before .before .before .every-in .ensures)) _ (not-true _ (c .if1 .taken))
 
-goal-switch-requires : (t : ℕ) → goal-lts.Need-switch-requires (goal-calls t) (goal-at t) goal.Post
-goal-switch-requires t c κs = (omega (arith, c .before .before .before .before .pre .0), (c .before .before .before .before .pre .1 .0, (c .before .before .before .before .pre .1 .1 .0, sym (c .before .before .word .ensures .0) ∙ c .before .match .keys1)))
+  branches-word-requires-2 : Branches branches-lts.Need-word-requires-2
+  branches-word-requires-2 c κs = let (h, w, si, ei, s) = branches-past-else1 c in
+      let p = s .pre .1 in (p .0, (omega arith, if-here (p .0) refl (p .1 .1) .below))
 
-goal-branches-requires : (t : ℕ) → goal-lts.Need-branches-requires (goal-calls t) (goal-at t) goal.Post
-goal-branches-requires t c κs = (omega (arith, c .before .before .before .before .pre .0), (c .before .before .before .before .pre .1 .0, (c .before .before .before .before .pre .1 .1 .0, sym (c .before .before .word .ensures .0) ∙ c .before .match .keys2)))
+  branches-returns-2 : Branches branches-lts.Need-returns-2
+  branches-returns-2 c = let e1 = c .before .before .before in let (h, w, si, ei, s) = branches-past-else1 e1 in
+      if-unread-2 _ _ (s .pre .1 .0) _ (s .pre .1 .1 .1) _ (w .word .ensures .0) (readable-is _ _ _ (h .has .ensures) (ei .every-in .ensures)) (not-false _ (e1 .if1 .left)) (c .before .before .word2 .ensures .0) (readable-is _ _ _ (c .before .has2 .ensures) (ei .every-in .ensures)) _ (not-true _ (c .if2 .taken))
 
-goal-returns : (t : ℕ) → goal-lts.Need-returns (goal-calls t) (goal-at t) goal.Post
-goal-returns t c = goal-closed (c .before .before .before .before .before .pre .1 .0) _ (c .before .before .before .before .before .pre .1 .1 .1 .0) (c .before .before .before .before .before .pre .1 .1 .1 .1) (c .before .before .before .word .ensures .0) (c .before .before .match .rest .0 .1) (c .before .before .match .rest .1) (c .before .is-step .ensures) (not-true _ (c .if1 .taken))
+  branches-word-requires-3 : Branches branches-lts.Need-word-requires-3
+  branches-word-requires-3 c κs = let (h2, w2, e1, h, w, si, ei, s) = branches-past-else2 c in
+      let p = s .pre .1 in (p .0, (omega arith, if-here (p .0) refl (p .1 .1) .below))
 
-goal-returns-2 : (t : ℕ) → goal-lts.Need-returns-2 (goal-calls t) (goal-at t) goal.Post
-goal-returns-2 t c = c .switch .ensures
+  branches-goals-requires : Branches branches-lts.Need-goals-requires
+  branches-goals-requires c κs = let (h2, w2, e1, h, w, si, ei, s) = branches-past-else2 (c .before .before) in
+      let o = to-then (s .pre .1 .0) (s .pre .1 .1 .1) (c .before .word3 .ensures .0) in (omega (arith, o .falls, s .pre .0), (s .pre .1 .0, (s .pre .1 .1 .0, o .stands)))
 
-goal-returns-3 : (t : ℕ) → goal-lts.Need-returns-3 (goal-calls t) (goal-at t) goal.Post
-goal-returns-3 t c = c .branches .ensures
+  branches-returns-3 : Branches branches-lts.Need-returns-3
+  branches-returns-3 c = let e2 = c .before .before .before .before in let (h2, w2, e1, h, w, si, ei, s) = branches-past-else2 e2 in
+      if-then-stops _ _ (s .pre .1 .0) _ (s .pre .1 .1 .1) _ (w .word .ensures .0) (readable-is _ _ _ (h .has .ensures) (ei .every-in .ensures)) (not-false _ (e1 .if1 .left)) (w2 .word2 .ensures .0) (readable-is _ _ _ (h2 .has2 .ensures) (ei .every-in .ensures)) (not-false _ (e2 .if2 .left)) _ _ (c .before .before .before .word3 .ensures .0) (c .before .goals .ensures) _ (not-true _ (c .if3 .taken))
 
-goal-returns-4 : (t : ℕ) → goal-lts.Need-returns-4 (goal-calls t) (goal-at t) goal.Post
-goal-returns-4 t c = goal-step _ (c .before .before .before .before .before .before .before .pre .1 .1 .0) (c .before .before .before .before .before .before .before .pre .1 .0) _ (c .before .before .before .before .before .before .before .pre .1 .1 .1 .0) (c .before .before .before .before .before .before .before .pre .1 .1 .1 .1) (c .before .before .before .before .before .word .ensures .0) (c .before .before .before .before .match .rest .0 .1) (c .before .before .before .before .match .rest .1) _ _ _ (c .apply .ensures)
+  branches-word-requires-4 : Branches branches-lts.Need-word-requires-4
+  branches-word-requires-4 c κs = let (g, w3, e2, h2, w2, e1, h, w, si, ei, s) = branches-past-else3 (c .before .before .before .before .before .before) in
+      let p = s .pre .1 in (p .0, (omega arith, if-here (p .0) refl (p .1 .1) .below))
+
+  branches-returns-4 : Branches branches-lts.Need-returns-4
+  branches-returns-4 c =
+      let e3 = c .before .before .before .before .before .before .before .before .before .before in
+      let (g, w3, e2, h2, w2, e1, h, w, si, ei, s) = branches-past-else3 e3 in
+      if-walked _ _ (s .pre .1 .0) _ (s .pre .1 .1 .1) _ (w .word .ensures .0) (readable-is _ _ _ (h .has .ensures) (ei .every-in .ensures)) (not-false _ (e1 .if1 .left)) (w2 .word2 .ensures .0) (readable-is _ _ _ (h2 .has2 .ensures) (ei .every-in .ensures)) (not-false _ (e2 .if2 .left)) _ _ (w3 .word3 .ensures .0) (g .goals .ensures) (not-false _ (e3 .if3 .left)) _ (c .before .before .before .before .carry .ensures ∙ ap₂ both (ei .every-in .ensures) (si .some-in .ensures)) _ _ (c .before .before .before .word4 .ensures .0) (none-walked _ _ _ (c .before .before .if4 .taken)) _ _ _ (ap₂ both (c .before .before .before .before .before .before .before .before .every-in2 .ensures) (c .before .before .before .before .before .before .some-in2 .ensures)) refl (joined _ _ _ _ (c .join .ensures))
+
+  branches-goals-requires-2 : Branches branches-lts.Need-goals-requires-2
+  branches-goals-requires-2 c κs = let (w4, ca, si2, ei2, e3, g, w3, e2, h2, w2, e1, h, w, si, ei, s) = branches-past-else4 (c .before) in
+      let o = to-else (s .pre .1 .0) (s .pre .1 .1 .1) (w4 .word4 .ensures .0) in (omega (arith, o .falls, s .pre .0), (s .pre .1 .0, (s .pre .1 .1 .0, o .stands)))
+
+  branches-returns-5 : Branches branches-lts.Need-returns-5
+  branches-returns-5 c = let (w4, ca, si2, ei2, e3, g, w3, e2, h2, w2, e1, h, w, si, ei, s) = branches-past-else4 (c .before .before .before) in
+      if-else-stops _ _ (s .pre .1 .0) _ (s .pre .1 .1 .1) _ (w .word .ensures .0) (readable-is _ _ _ (h .has .ensures) (ei .every-in .ensures)) (not-false _ (e1 .if1 .left)) (w2 .word2 .ensures .0) (readable-is _ _ _ (h2 .has2 .ensures) (ei .every-in .ensures)) (not-false _ (e2 .if2 .left)) _ _ (w3 .word3 .ensures .0) (g .goals .ensures) (not-false _ (e3 .if3 .left)) _ (ca .carry .ensures ∙ ap₂ both (ei .every-in .ensures) (si .some-in .ensures)) _ _ (w4 .word4 .ensures .0) (c .before .goals2 .ensures) _ (not-true _ (c .if5 .taken))
+
+  branches-returns-6 : Branches branches-lts.Need-returns-6
+  branches-returns-6 c = let (w4, ca, si2, ei2, e3, g, w3, e2, h2, w2, e1, h, w, si, ei, s) = branches-past-else4 (c .before .before .before .before .before) in
+      if-walked _ _ (s .pre .1 .0) _ (s .pre .1 .1 .1) _ (w .word .ensures .0) (readable-is _ _ _ (h .has .ensures) (ei .every-in .ensures)) (not-false _ (e1 .if1 .left)) (w2 .word2 .ensures .0) (readable-is _ _ _ (h2 .has2 .ensures) (ei .every-in .ensures)) (not-false _ (e2 .if2 .left)) _ _ (w3 .word3 .ensures .0) (g .goals .ensures) (not-false _ (e3 .if3 .left)) _ (ca .carry .ensures ∙ ap₂ both (ei .every-in .ensures) (si .some-in .ensures)) _ _ (w4 .word4 .ensures .0) (c .before .before .before .goals2 .ensures) _ _ _ (ap₂ both (ei2 .every-in2 .ensures) (si2 .some-in2 .ensures)) (not-false _ (c .before .before .if5 .left)) (joined _ _ _ _ (c .join2 .ensures))
+
+module _ (t : ℕ) where
+  abbrev Goal : (goal-lts.Claims → In 3 goal-kinds.ps → Out 3 goal-kinds.ps goal-kinds.r → Type 0) → Type 0
+  Goal P = P (goal-calls t) (goal-at t) goal.Post
+
+  abbrev goal-past-at-match-rest : Goal goal-lts.At-match-rest → Goal goal-lts.After-word × Goal goal-lts.Start
+  goal-past-at-match-rest c = (c .before, c .before .before .before)
+
+  goal-switch-requires : Goal goal-lts.Need-switch-requires
+  goal-switch-requires c κs = let s = c .before .before .before .before in
+      (omega (arith, s .pre .0), (s .pre .1 .0, (s .pre .1 .1 .0, sym (c .before .before .word .ensures .0) ∙ c .before .match .keys1)))
+
+  goal-branches-requires : Goal goal-lts.Need-branches-requires
+  goal-branches-requires c κs = let s = c .before .before .before .before in
+      (omega (arith, s .pre .0), (s .pre .1 .0, (s .pre .1 .1 .0, sym (c .before .before .word .ensures .0) ∙ c .before .match .keys2)))
+
+  goal-returns : Goal goal-lts.Need-returns
+  goal-returns c = let mr = c .before .before in let (w, s) = goal-past-at-match-rest mr in
+      goal-closed (s .pre .1 .0) _ (s .pre .1 .1 .1 .0) (s .pre .1 .1 .1 .1) (w .word .ensures .0) (mr .match .rest .0 .1) (mr .match .rest .1) (c .before .is-step .ensures) (not-true _ (c .if1 .taken))
+
+  goal-returns-4 : Goal goal-lts.Need-returns-4
+  goal-returns-4 c = let mr = c .before .before .before .before in let (w, s) = goal-past-at-match-rest mr in
+      goal-step _ (s .pre .1 .1 .0) (s .pre .1 .0) _ (s .pre .1 .1 .1 .0) (s .pre .1 .1 .1 .1) (w .word .ensures .0) (mr .match .rest .0 .1) (mr .match .rest .1) _ _ _ (c .apply .ensures)
 
 abbrev goals-Inv-loop : goals-lts.InvT-loop
 goals-Inv-loop file rows carried₀ start i₀ carried i = WalkedAlong (valuer (program file)) file start (valuation carried₀) i (valuation carried)
@@ -203,55 +280,79 @@ goals-Inv-loop file rows carried₀ start i₀ carried i = WalkedAlong (valuer (
 abbrev goals-μ-loop : goals-lts.MeasureT-loop
 goals-μ-loop file rows carried₀ start i₀ carried i = ahead file i
 
-goals-loop-holds : (t : ℕ) → goals-lts.Need-loop-holds (goals-calls t) (goals-at t) goals.Post goals-Inv-loop goals-μ-loop
-goals-loop-holds t c = along-first _ _ _ (c .before .pre .1 .1 .1)
+module _ (t : ℕ) where
+  abbrev Goals : (goals-lts.Claims → In 3 goals-kinds.ps → Out 3 goals-kinds.ps goals-kinds.r → goals-lts.InvT-loop → goals-lts.MeasureT-loop → Type 0) → Type 0
+  Goals P = P (goals-calls t) (goals-at t) goals.Post goals-Inv-loop goals-μ-loop
 
-goals-goal-requires : (t : ℕ) → goals-lts.Need-goal-requires (goals-calls t) (goals-at t) goals.Post goals-Inv-loop goals-μ-loop
-goals-goal-requires t c κs = (omega (arith, c .before .before .loop .inv .near, c .before .before .before .before .pre .0), (c .before .before .before .before .pre .1 .0, (c .before .before .before .before .pre .1 .1 .0, (c .before .before .loop .inv .stands, c .before .loop-test .taken))))
+  abbrev goals-past-in-loop : Goals goals-lts.In-loop → Goals goals-lts.At-loop × Goals goals-lts.Start
+  goals-past-in-loop c = (c .before, c .before .before .before)
 
-goals-returns : (t : ℕ) → goals-lts.Need-returns (goals-calls t) (goals-at t) goals.Post goals-Inv-loop goals-μ-loop
-goals-returns t c = along-stop _ _ (c .before .before .before .before .before .before .pre .1 .0) (c .before .before .before .before .loop .inv) (c .before .before .before .loop-test .taken) _ (c .before .goal .ensures) _ (not-true _ (c .if1 .taken))
+  abbrev goals-past-else1 : Goals goals-lts.Else1 → Goals goals-lts.After-goal × Goals goals-lts.In-loop × Goals goals-lts.At-loop ×
+      Goals goals-lts.Start
+  goals-past-else1 c = let (al, s) = goals-past-in-loop (c .before .before .before) in (c .before, c .before .before .before, al, s)
 
-goals-loop-less : (t : ℕ) → goals-lts.Need-loop-less (goals-calls t) (goals-at t) goals.Post goals-Inv-loop goals-μ-loop
-goals-loop-less t c = chain-next (c .before .before .before .before .before .before .before .pre .1 .0) (c .before .before .before .before .before .loop .inv .stands) (c .before .before .before .before .loop-test .taken) (c .word .ensures .0) .falls
+  goals-goal-requires : Goals goals-lts.Need-goal-requires
+  goals-goal-requires c κs = let (al, s) = goals-past-in-loop (c .before) in
+      (omega (arith, al .loop .inv .near, s .pre .0), (s .pre .1 .0, (s .pre .1 .1 .0, (al .loop .inv .stands, c .before .loop-test .taken))))
 
-goals-loop-again : (t : ℕ) → goals-lts.Need-loop-again (goals-calls t) (goals-at t) goals.Post goals-Inv-loop goals-μ-loop
-goals-loop-again t c = along-next _ _ (c .before .before .before .before .before .before .before .pre .1 .0) (c .before .before .before .before .before .loop .inv) (c .before .before .before .before .loop-test .taken) _ (c .before .before .goal .ensures) (not-false _ (c .before .if1 .left)) (c .word .ensures .0)
+  goals-returns : Goals goals-lts.Need-returns
+  goals-returns c = let il = c .before .before .before in let (al, s) = goals-past-in-loop il in
+      along-stop _ _ (s .pre .1 .0) (al .loop .inv) (il .loop-test .taken) _ (c .before .goal .ensures) _ (not-true _ (c .if1 .taken))
 
-goals-returns-2 : (t : ℕ) → goals-lts.Need-returns-2 (goals-calls t) (goals-at t) goals.Post goals-Inv-loop goals-μ-loop
-goals-returns-2 t c = along-last _ _ (c .before .before .before .pre .1 .0) (c .before .loop .inv) (c .loop-test .left)
+  goals-loop-less : Goals goals-lts.Need-loop-less
+  goals-loop-less c = let (g, il, al, s) = goals-past-else1 (c .before) in
+      chain-next (s .pre .1 .0) (al .loop .inv .stands) (il .loop-test .taken) (c .word .ensures .0) .falls
 
-switch-word-requires : (t : ℕ) → switch-lts.Need-word-requires (switch-calls t) (switch-at t) switch.Post
-switch-word-requires t c κs = let p = c .before .before .before .pre .1 in (p .0, (omega arith, switch-here (p .0) refl (p .1 .1) .below))
+  goals-loop-again : Goals goals-lts.Need-loop-again
+  goals-loop-again c = let (g, il, al, s) = goals-past-else1 (c .before) in
+      along-next _ _ (s .pre .1 .0) (al .loop .inv) (il .loop-test .taken) _ (g .goal .ensures) (not-false _ (c .before .if1 .left)) (c .word .ensures .0)
 
-switch-returns : (t : ℕ) → switch-lts.Need-returns (switch-calls t) (switch-at t) switch.Post
-switch-returns t c = switch-stops _ _ (c .before .before .before .before .before .before .pre .1 .0) _ (c .before .before .before .before .before .before .pre .1 .1 .1) _ (c .before .before .word .ensures .0) (readable-is _ _ _ (c .before .has .ensures) (c .before .before .before .every-in .ensures)) _ (not-true _ (c .if1 .taken))
+  goals-returns-2 : Goals goals-lts.Need-returns-2
+  goals-returns-2 c = along-last _ _ (c .before .before .before .pre .1 .0) (c .before .loop .inv) (c .loop-test .left)
 
-switch-word-requires-2 : (t : ℕ) → switch-lts.Need-word-requires-2 (switch-calls t) (switch-at t) switch.Post
-switch-word-requires-2 t c κs = let p = c .before .before .before .before .before .before .pre .1 in (p .0, (omega arith, switch-here (p .0) refl (p .1 .1) .below))
+module _ (t : ℕ) where
+  abbrev Switch : (switch-lts.Claims → In 3 switch-kinds.ps → Out 3 switch-kinds.ps switch-kinds.r → Type 0) → Type 0
+  Switch P = P (switch-calls t) (switch-at t) switch.Post
 
-switch-arms-requires : (t : ℕ) → switch-lts.Need-arms-requires (switch-calls t) (switch-at t) switch.Post
-switch-arms-requires t c κs = let o = to-arms (c .before .before .before .before .before .before .before .before .pre .1 .0) (c .before .before .before .before .before .before .before .before .pre .1 .1 .1) (c .before .word2 .ensures .0) in (omega (arith, o .falls, c .before .before .before .before .before .before .before .before .pre .0), (c .before .before .before .before .before .before .before .before .pre .1 .0, (c .before .before .before .before .before .before .before .before .pre .1 .1 .0, o .stands)))
+  abbrev switch-past-else1 : Switch switch-lts.Else1 → Switch switch-lts.After-has × Switch switch-lts.After-word × Switch switch-lts.After-every-in ×
+      Switch switch-lts.Start
+  switch-past-else1 c = (c .before, c .before .before, c .before .before .before, c .before .before .before .before .before .before)
 
-switch-returns-2 : (t : ℕ) → switch-lts.Need-returns-2 (switch-calls t) (switch-at t) switch.Post
-switch-returns-2 t c = switch-walked _ _ (c .before .before .before .before .before .before .before .before .before .pre .1 .0) _ (c .before .before .before .before .before .before .before .before .before .pre .1 .1 .1) _ (c .before .before .before .before .before .word .ensures .0) (readable-is _ _ _ (c .before .before .before .before .has .ensures) (c .before .before .before .before .before .before .every-in .ensures)) (not-false _ (c .before .before .before .if1 .left)) _ _ (c .before .before .word2 .ensures .0) (c .arms .ensures)
+  switch-word-requires : Switch switch-lts.Need-word-requires
+  switch-word-requires c κs = let p = c .before .before .before .pre .1 in (p .0, (omega arith, switch-here (p .0) refl (p .1 .1) .below))
+
+  switch-returns : Switch switch-lts.Need-returns
+  switch-returns c = let s = c .before .before .before .before .before .before in
+      switch-stops _ _ (s .pre .1 .0) _ (s .pre .1 .1 .1) _ (c .before .before .word .ensures .0) (readable-is _ _ _ (c .before .has .ensures) (c .before .before .before .every-in .ensures)) _ (not-true _ (c .if1 .taken))
+
+  switch-word-requires-2 : Switch switch-lts.Need-word-requires-2
+  switch-word-requires-2 c κs = let (h, w, ei, s) = switch-past-else1 c in
+      let p = s .pre .1 in (p .0, (omega arith, switch-here (p .0) refl (p .1 .1) .below))
+
+  switch-arms-requires : Switch switch-lts.Need-arms-requires
+  switch-arms-requires c κs = let (h, w, ei, s) = switch-past-else1 (c .before .before) in
+      let o = to-arms (s .pre .1 .0) (s .pre .1 .1 .1) (c .before .word2 .ensures .0) in (omega (arith, o .falls, s .pre .0), (s .pre .1 .0, (s .pre .1 .1 .0, o .stands)))
+
+  switch-returns-2 : Switch switch-lts.Need-returns-2
+  switch-returns-2 c = let e1 = c .before .before .before in let (h, w, ei, s) = switch-past-else1 e1 in
+      switch-walked _ _ (s .pre .1 .0) _ (s .pre .1 .1 .1) _ (w .word .ensures .0) (readable-is _ _ _ (h .has .ensures) (ei .every-in .ensures)) (not-false _ (e1 .if1 .left)) _ _ (c .before .before .word2 .ensures .0) (c .arms .ensures)
 
 pub +arms+branches+goal+goals+switch-spec : {M : Type 1} → statement M
 +arms+branches+goal+goals+switch-spec =
     close μ-arms μ-branches μ-goal μ-goals μ-switch
-    (λ t. arms-lts.spec (arms-calls t) (arms-at t) arms.Post (arms-returns t) (arms-word-requires t) (arms-returns-2 t) (λ c κs. search needs)
-    (λ c κs. search needs) (λ c κs. search needs) (arms-returns-3 t) (arms-word-requires-2 t) (arms-goals-requires t) (arms-returns-4 t)
-    (arms-word-requires-3 t) (arms-returns-5 t) (λ c κs. search needs) (λ c κs. search needs) (λ c κs. search needs) (arms-arms-requires t)
-    (arms-returns-6 t) (λ c κs. search needs) (arms-returns-7 t))
+    (λ t. arms-lts.spec (arms-calls t) (arms-at t) arms.Post (λ c. arms-none-walked _ _ _ (c .if1 .taken)) (arms-word-requires t) (arms-returns-2 t)
+    (λ c κs. search needs) (λ c κs. search needs) (λ c κs. search needs) (arms-returns-3 t) (arms-word-requires-2 t) (arms-goals-requires t)
+    (arms-returns-4 t) (arms-word-requires-3 t) (arms-returns-5 t) (λ c κs. search needs) (λ c κs. search needs) (λ c κs. search needs)
+    (arms-arms-requires t) (arms-returns-6 t) (λ c κs. search needs) (arms-returns-7 t))
     (λ t. branches-lts.spec (branches-calls t) (branches-at t) branches.Post (λ c κs. search needs) (λ c κs. search needs) (branches-word-requires t)
     (λ c κs. search needs) (branches-returns t) (branches-word-requires-2 t) (λ c κs. search needs) (branches-returns-2 t)
     (branches-word-requires-3 t) (branches-goals-requires t) (branches-returns-3 t) (λ c κs. search needs) (λ c κs. search needs)
     (λ c κs. search needs) (branches-word-requires-4 t) (λ c κs. search needs) (branches-returns-4 t) (branches-goals-requires-2 t)
     (branches-returns-5 t) (λ c κs. search needs) (branches-returns-6 t))
     (λ t. goal-lts.spec (goal-calls t) (goal-at t) goal.Post (λ c κs. search needs) (goal-switch-requires t) (goal-branches-requires t)
-    (λ c κs. search needs) (goal-returns t) (λ c κs. search needs) (goal-returns-2 t) (goal-returns-3 t) (goal-returns-4 t))
+    (λ c κs. search needs) (goal-returns t) (λ c κs. search needs) (λ c. c .switch .ensures) (λ c. c .branches .ensures) (goal-returns-4 t))
     (λ t. goals-lts.spec (goal-below t, goal.Post, word-reads.Asked, word-reads.Learnt) (goals-at t) goals.Post goals-Inv-loop goals-μ-loop
-    (goals-loop-holds t) (goals-goal-requires t) (goals-returns t) (λ c κs. search needs) (goals-loop-less t) (goals-loop-again t)
-    (goals-returns-2 t))
+    (λ c. along-first _ _ _ (c .before .pre .1 .1 .1)) (goals-goal-requires t) (goals-returns t) (λ c κs. search needs) (goals-loop-less t)
+    (goals-loop-again t) (goals-returns-2 t))
     λ t. switch-lts.spec (switch-calls t) (switch-at t) switch.Post (λ c κs. search needs) (switch-word-requires t) (λ c κs. search needs)
     (switch-returns t) (switch-word-requires-2 t) (switch-arms-requires t) (switch-returns-2 t)

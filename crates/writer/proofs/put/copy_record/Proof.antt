@@ -1,29 +1,8 @@
--- `copy_record` meets its contract: what was read is what is put.
+-- What was read is what is put.
 use borrow.Author.Needs.{needs}
-use Rattle.writer.specs.Laid.{laid-next}
+use Rattle.writer.proofs.LaidLaws.{laid-next}
 use Rattle.writer.proofs.put.copy_record.Statement.{statement}
 use Rattle.writer.proofs.put.copy_record.Tie as tie
-
-word-requires : tie.Need-word-requires
-word-requires c κs = search needs
-
-word-requires-2 : tie.Need-word-requires-2
-word-requires-2 c κs = search needs
-
-word-requires-3 : tie.Need-word-requires-3
-word-requires-3 c κs = search needs
-
-word-requires-4 : tie.Need-word-requires-4
-word-requires-4 c κs = search needs
-
-word-requires-5 : tie.Need-word-requires-5
-word-requires-5 c κs = search needs
-
-word-requires-6 : tie.Need-word-requires-6
-word-requires-6 c κs = search needs
-
-word-requires-7 : tie.Need-word-requires-7
-word-requires-7 c κs = search needs
 
 put-record-requires : tie.Need-put-record-requires
 put-record-requires c κs =
@@ -51,4 +30,7 @@ returns c =
     laid-next _ _ (on-word .word .ensures .0) (on-word2 .word2 .ensures .0) (on-word3 .word3 .ensures .0) (on-word4 .word4 .ensures .0) (on-word5 .word5 .ensures .0) (on-word6 .word6 .ensures .0) (on-word7 .word7 .ensures .0) (c .before .before .put-record .ensures)
 
 pub copy-record-spec : {M : Type 1} → statement M
-copy-record-spec = tie.close (tie.spec word-requires word-requires-2 word-requires-3 word-requires-4 word-requires-5 word-requires-6 word-requires-7 put-record-requires same-length returns)
+copy-record-spec =
+    tie.close
+    (tie.spec (search needs) (search needs) (search needs) (search needs) (search needs) (search needs) (search needs) put-record-requires same-length
+    returns)

@@ -1,25 +1,10 @@
--- `put_record` meets its contract: eight words, joined from the last to the first (`row-more`).
+-- Eight words, joined from the last to the first (`row-more`).
 use native.Mathlib.Omega.{arith}
 use mathlib.Core.Path.{refl, _∙_}
 use borrow.Author.Needs.{needs}
-use Rattle.writer.specs.Laid.{row-none, row-more, laid-row}
+use Rattle.writer.proofs.LaidLaws.{row-none, row-more, laid-row}
 use Rattle.writer.proofs.put.put_record.Statement.{statement}
 use Rattle.writer.proofs.put.put_record.Tie as tie
-
-put-word-requires : tie.Need-put-word-requires
-put-word-requires c κs = search needs
-
-put-word-requires-2 : tie.Need-put-word-requires-2
-put-word-requires-2 c κs = search needs
-
-put-word-requires-3 : tie.Need-put-word-requires-3
-put-word-requires-3 c κs = search needs
-
-put-word-requires-4 : tie.Need-put-word-requires-4
-put-word-requires-4 c κs = search needs
-
-put-word-requires-5 : tie.Need-put-word-requires-5
-put-word-requires-5 c κs = search needs
 
 put-word-requires-6 : tie.Need-put-word-requires-6
 put-word-requires-6 c κs =
@@ -80,4 +65,6 @@ returns c =
 
 pub put-record-spec : {M : Type 1} → statement M
 put-record-spec =
-    tie.close (tie.spec put-word-requires put-word-requires-2 put-word-requires-3 put-word-requires-4 put-word-requires-5 put-word-requires-6 put-word-requires-7 put-word-requires-8 same-length returns)
+    tie.close
+    (tie.spec (search needs) (search needs) (search needs) (search needs) (search needs) put-word-requires-6 put-word-requires-7 put-word-requires-8
+    same-length returns)

@@ -1,11 +1,8 @@
--- `write_in_order` meets its contract: the header with the types, then the procedures, are the whole (`whole-written`).
+-- The header with the types, then the procedures, are the whole (`whole-written`).
 use borrow.Author.Needs.{needs}
-use Rattle.writer.specs.Whole.{header-ready, procedures-ready, whole-written}
+use Rattle.writer.proofs.WholeLaws.{header-ready, procedures-ready, whole-written}
 use Rattle.writer.proofs.stage.write_in_order.Statement.{statement}
 use Rattle.writer.proofs.stage.write_in_order.Tie as tie
-
-word-requires : tie.Need-word-requires
-word-requires c κs = search needs
 
 write-record-requires : tie.Need-write-record-requires
 write-record-requires c κs =
@@ -15,14 +12,9 @@ write-chain-requires : tie.Need-write-chain-requires
 write-chain-requires c κs =
     procedures-ready _ (c .before .before .before .before .before .before .before .before .pre .0) (c .before .before .before .before .before .before .before .before .pre .1) (c .before .before .before .before .before .word .ensures .0) (c .before .before .before .write-record .ensures)
 
-same-length : tie.Need-same-length
-same-length c = search needs
-
 returns : tie.Need-returns
 returns c =
     whole-written _ (c .before .before .before .before .before .before .before .before .before .before .before .pre .0) (c .before .before .before .before .before .before .before .before .before .before .before .pre .1) (c .before .before .before .before .before .before .before .before .word .ensures .0) (c .before .before .before .before .before .before .write-record .ensures) (λ j. c .slice-known3 .given j .fits) (c .before .before .write-chain .ensures)
 
 pub write-in-order-spec : {M : Type 1} → statement M
-write-in-order-spec =
-    tie.close
-    (tie.spec word-requires write-record-requires write-chain-requires same-length returns)
+write-in-order-spec = tie.close (tie.spec (search needs) write-record-requires write-chain-requires (search needs) returns)

@@ -1,16 +1,17 @@
--- The walk in written order meets its contracts: the invariants are `Writing` along a chain and `Spelling` along the words of a record.
+-- The walk in written order: the invariants are `Writing` along a chain and `Spelling` along the words of a record.
+-- The functions `past` lead from a point that several needs pass to the earlier points that these look at, so that a path stands once.
 use borrow.Author.Needs.{needs}
 use mathlib.Core.Path.{_∙_}
 use native.Mathlib.Omega.{arith}
 use Rattle.language.specs.File.{recordCount}
 use Rattle.records.specs.Sizes.{recordWords}
 use Rattle.chains.specs.Formed.{ahead}
-use Rattle.writer.specs.Laid.{linked-small}
-use Rattle.writer.specs.Leads.{told}
-use Rattle.writer.specs.Ready.{Writing, writing-first, writing-record, writing-less, writing-falls, writing-next, writing-last}
-use Rattle.writer.specs.Spelling.{Spelling, spelling-first, spelling-room, spelling-falls, spelling-chain, spelling-leads, spelling-plain, done-room, spelling-done}
+use Rattle.writer.proofs.LaidLaws.{linked-small}
+use Rattle.writer.proofs.LeadsLaws.{told}
+use Rattle.writer.proofs.ReadyLaws.{Writing, writing-first, writing-record, writing-less, writing-falls, writing-next, writing-last}
+use Rattle.writer.proofs.Spelling.{Spelling, spelling-first, spelling-room, spelling-falls, spelling-chain, spelling-leads, spelling-plain, done-room, spelling-done}
 use Prim.Native.Nat.{_+_, _-_, _*_, ℕ, _<_}
-use borrow.Fn.Kinds.{In}
+use borrow.Fn.Kinds.{In, Out}
 use borrow.Fn.PlainCycle.{Measures, is, falls, and}
 use Rattle.writer.proofs.walk.write_chain.Reads as write-chain
 use Rattle.writer.proofs.walk.write_chain.Kinds as write-chain-kinds
@@ -70,35 +71,35 @@ abbrev write-record-calls : ℕ → write-record-lts.Claims
 write-record-calls t =
     (word-reads.Asked, word-reads.Learnt, leads-reads.Asked, leads-reads.Learnt, link-reads.Asked, link-reads.Learnt, put-word-reads.Asked, put-word-reads.Learnt, write-chain-below t, write-chain.Post)
 
-write-chain-loop-holds : (t : ℕ) → write-chain-lts.Need-loop-holds (write-chain-calls t) (write-chain-at t) write-chain.Post write-chain-Inv-loop write-chain-μ-loop
-write-chain-loop-holds t c =
-    writing-first _ (c .before .before .pre .1)
+module _ (t : ℕ) where
+  abbrev WriteChain : (write-chain-lts.Claims → In 2 write-chain-kinds.ps → Out 2 write-chain-kinds.ps write-chain-kinds.r → write-chain-lts.InvT-loop → write-chain-lts.MeasureT-loop → Type 0) → Type 0
+  WriteChain P = P (write-chain-calls t) (write-chain-at t) write-chain.Post write-chain-Inv-loop write-chain-μ-loop
 
-write-chain-word-requires : (t : ℕ) → write-chain-lts.Need-word-requires (write-chain-calls t) (write-chain-at t) write-chain.Post write-chain-Inv-loop write-chain-μ-loop
-write-chain-word-requires t c κs =
-    search needs
+  abbrev write-chain-past-in-loop : WriteChain write-chain-lts.In-loop → WriteChain write-chain-lts.At-loop × WriteChain write-chain-lts.Start
+  write-chain-past-in-loop c = (c .before, c .before .before .before .before)
 
-write-chain-write-record-requires : (t : ℕ) → write-chain-lts.Need-write-record-requires (write-chain-calls t) (write-chain-at t) write-chain.Post write-chain-Inv-loop write-chain-μ-loop
-write-chain-write-record-requires t c κs =
-    let v = c .before .before .before .loop .inv in
-    let z = c .before .before .loop-test .taken in
-    (omega (arith, writing-less v z, c .before .before .before .before .before .before .pre .0), writing-record v z)
+  abbrev write-chain-past-after-loop : WriteChain write-chain-lts.After-loop → WriteChain write-chain-lts.At-loop
+  write-chain-past-after-loop c = c .before
 
-write-chain-loop-less : (t : ℕ) → write-chain-lts.Need-loop-less (write-chain-calls t) (write-chain-at t) write-chain.Post write-chain-Inv-loop write-chain-μ-loop
-write-chain-loop-less t c =
-    writing-falls (c .before .before .before .before .before .before .loop .inv) (c .before .before .before .before .before .loop-test .taken) (c .before .before .before .before .word .ensures .0)
+  write-chain-write-record-requires : WriteChain write-chain-lts.Need-write-record-requires
+  write-chain-write-record-requires c κs = let il = c .before .before in let (al, s) = write-chain-past-in-loop il in
+      let v = al .loop .inv in
+      let z = il .loop-test .taken in
+      (omega (arith, writing-less v z, s .pre .0), writing-record v z)
 
-write-chain-loop-again : (t : ℕ) → write-chain-lts.Need-loop-again (write-chain-calls t) (write-chain-at t) write-chain.Post write-chain-Inv-loop write-chain-μ-loop
-write-chain-loop-again t c =
-    writing-next (c .before .before .before .before .before .before .loop .inv) (c .before .before .before .before .before .loop-test .taken) (c .before .before .before .before .word .ensures .0) (c .before .before .write-record .ensures)
+  write-chain-loop-less : WriteChain write-chain-lts.Need-loop-less
+  write-chain-loop-less c = let il = c .before .before .before .before .before in let (al, s) = write-chain-past-in-loop il in
+      writing-falls (al .loop .inv) (il .loop-test .taken) (c .before .before .before .before .word .ensures .0)
 
-write-chain-same-length : (t : ℕ) → write-chain-lts.Need-same-length (write-chain-calls t) (write-chain-at t) write-chain.Post write-chain-Inv-loop write-chain-μ-loop
-write-chain-same-length t c =
-    c .before .loop .inv .laid .same
+  write-chain-loop-again : WriteChain write-chain-lts.Need-loop-again
+  write-chain-loop-again c = let il = c .before .before .before .before .before in let (al, s) = write-chain-past-in-loop il in
+      writing-next (al .loop .inv) (il .loop-test .taken) (c .before .before .before .before .word .ensures .0) (c .before .before .write-record .ensures)
 
-write-chain-returns : (t : ℕ) → write-chain-lts.Need-returns (write-chain-calls t) (write-chain-at t) write-chain.Post write-chain-Inv-loop write-chain-μ-loop
-write-chain-returns t c =
-    writing-last (c .before .loop .inv) (c .loop-test .left)
+  write-chain-same-length : WriteChain write-chain-lts.Need-same-length
+  write-chain-same-length c = let al = write-chain-past-after-loop c in al .loop .inv .laid .same
+
+  write-chain-returns : WriteChain write-chain-lts.Need-returns
+  write-chain-returns c = let al = write-chain-past-after-loop c in writing-last (al .loop .inv) (c .loop-test .left)
 
 abbrev write-record-Inv-loop : write-record-lts.InvT-loop
 write-record-Inv-loop file out₀ i on at kind end₀ k₀ out end k =
@@ -108,135 +109,99 @@ abbrev write-record-μ-loop : write-record-lts.MeasureT-loop
 write-record-μ-loop file out₀ i on at kind end₀ k₀ out end k =
     recordWords - k
 
-write-record-word-requires : (t : ℕ) → write-record-lts.Need-word-requires (write-record-calls t) (write-record-at t) write-record.Post write-record-Inv-loop write-record-μ-loop
-write-record-word-requires t c κs =
-    search needs
+module _ (t : ℕ) where
+  abbrev WriteRecord : (write-record-lts.Claims → In 2 write-record-kinds.ps → Out 2 write-record-kinds.ps write-record-kinds.r → write-record-lts.InvT-loop → write-record-lts.MeasureT-loop → Type 0) → Type 0
+  WriteRecord P = P (write-record-calls t) (write-record-at t) write-record.Post write-record-Inv-loop write-record-μ-loop
 
-write-record-add-end : (t : ℕ) → write-record-lts.Need-add-end (write-record-calls t) (write-record-at t) write-record.Post write-record-Inv-loop write-record-μ-loop
-write-record-add-end t c =
-    omega (arith, c .before .before .before .pre .1 .few)
+  abbrev write-record-past-in-loop : WriteRecord write-record-lts.In-loop → WriteRecord write-record-lts.At-loop ×
+      WriteRecord write-record-lts.After-word × WriteRecord write-record-lts.Start
+  write-record-past-in-loop c = (c .before, c .before .before, c .before .before .before .before .before)
 
-write-record-loop-holds : (t : ℕ) → write-record-lts.Need-loop-holds (write-record-calls t) (write-record-at t) write-record.Post write-record-Inv-loop write-record-μ-loop
-write-record-loop-holds t c =
-    spelling-first _ (c .before .before .before .pre .1)
+  abbrev write-record-past-then1 : WriteRecord write-record-lts.Then1 → WriteRecord write-record-lts.After-leads ×
+      WriteRecord write-record-lts.After-word2 × WriteRecord write-record-lts.In-loop × WriteRecord write-record-lts.At-loop ×
+      WriteRecord write-record-lts.After-word × WriteRecord write-record-lts.Start
+  write-record-past-then1 c = let (al, w, s) = write-record-past-in-loop (c .before .before .before) in (c .before, c .before .before, c .before .before .before, al, w, s)
 
-write-record-word-requires-2 : (t : ℕ) → write-record-lts.Need-word-requires-2 (write-record-calls t) (write-record-at t) write-record.Post write-record-Inv-loop write-record-μ-loop
-write-record-word-requires-2 t c κs =
-    search needs
+  abbrev write-record-past-else1 : WriteRecord write-record-lts.Else1 → WriteRecord write-record-lts.After-leads ×
+      WriteRecord write-record-lts.After-word2 × WriteRecord write-record-lts.In-loop × WriteRecord write-record-lts.At-loop ×
+      WriteRecord write-record-lts.After-word × WriteRecord write-record-lts.Start
+  write-record-past-else1 c = let (al, w, s) = write-record-past-in-loop (c .before .before .before) in (c .before, c .before .before, c .before .before .before, al, w, s)
 
-write-record-leads-requires : (t : ℕ) → write-record-lts.Need-leads-requires (write-record-calls t) (write-record-at t) write-record.Post write-record-Inv-loop write-record-μ-loop
-write-record-leads-requires t c κs =
-    (omega (arith, c .before .before .loop .inv .begun .many), c .before .loop-test .taken)
+  abbrev write-record-past-after-loop : WriteRecord write-record-lts.After-loop → WriteRecord write-record-lts.At-loop ×
+      WriteRecord write-record-lts.After-word × WriteRecord write-record-lts.Start
+  write-record-past-after-loop c = (c .before, c .before .before, c .before .before .before .before .before)
 
-write-record-link-requires : (t : ℕ) → write-record-lts.Need-link-requires (write-record-calls t) (write-record-at t) write-record.Post write-record-Inv-loop write-record-μ-loop
-write-record-link-requires t c κs =
-    search needs
+  write-record-leads-requires : WriteRecord write-record-lts.Need-leads-requires
+  write-record-leads-requires c κs = let (al, w, s) = write-record-past-in-loop (c .before) in
+      (omega (arith, al .loop .inv .begun .many), c .before .loop-test .taken)
 
-write-record-put-word-requires : (t : ℕ) → write-record-lts.Need-put-word-requires (write-record-calls t) (write-record-at t) write-record.Post write-record-Inv-loop write-record-μ-loop
-write-record-put-word-requires t c κs =
-    let m = c .before .before .before .before .before .loop-test .taken in
-    let o = spelling-room (c .before .before .before .before .before .before .before .before .before .before .pre .1) (c .before .before .before .before .before .before .loop .inv) m in
-    (o .0, (m, linked-small _ _ (c .link .ensures) (o .1)))
+  write-record-put-word-requires : WriteRecord write-record-lts.Need-put-word-requires
+  write-record-put-word-requires c κs = let (l, w2, il, al, w, s) = write-record-past-then1 (c .before .before) in
+      let m = il .loop-test .taken in
+      let o = spelling-room (s .pre .1) (al .loop .inv) m in
+      (o .0, (m, linked-small _ _ (c .link .ensures) (o .1)))
 
-write-record-write-chain-requires : (t : ℕ) → write-record-lts.Need-write-chain-requires (write-record-calls t) (write-record-at t) write-record.Post write-record-Inv-loop write-record-μ-loop
-write-record-write-chain-requires t c κs =
-    let R = c .before .before .before .before .before .before .before .before .before .before .before .before .before .before .pre .1 in
-    let G = c .before .before .before .before .before .before .before .before .before .before .loop .inv in
-    let m = c .before .before .before .before .before .before .before .before .before .loop-test .taken in
-    let e = told _ _ _ (c .before .before .before .before .before .before .before .leads .ensures) (c .before .before .before .before .before .before .before .before .before .before .before .word .ensures .0) (c .before .before .before .before .before .before .if1 .taken) in
-    let g = c .before .before .before .before .before .before .before .before .word2 .ensures .0 in
-    (omega (arith, spelling-falls R G m e g, c .before .before .before .before .before .before .before .before .before .before .before .before .before .before .pre .0), spelling-chain R G m e g (c .before .before .before .put-word .ensures))
+  write-record-write-chain-requires : WriteRecord write-record-lts.Need-write-chain-requires
+  write-record-write-chain-requires c κs =
+      let t1 = c .before .before .before .before .before .before in
+      let (l, w2, il, al, w, s) = write-record-past-then1 t1 in
+      let R = s .pre .1 in
+      let G = al .loop .inv in
+      let m = il .loop-test .taken in
+      let e = told _ _ _ (l .leads .ensures) (w .word .ensures .0) (t1 .if1 .taken) in
+      let g = w2 .word2 .ensures .0 in
+      (omega (arith, spelling-falls R G m e g, s .pre .0), spelling-chain R G m e g (c .before .before .before .put-word .ensures))
 
-write-record-add-k : (t : ℕ) → write-record-lts.Need-add-k (write-record-calls t) (write-record-at t) write-record.Post write-record-Inv-loop write-record-μ-loop
-write-record-add-k t c =
-    search needs
+  write-record-loop-again : WriteRecord write-record-lts.Need-loop-again
+  write-record-loop-again c =
+      let t1 = c .before .before .before .before .before .before .before .before .before in
+      let (l, w2, il, al, w, s) = write-record-past-then1 t1 in
+      let R = s .pre .1 in
+      let G = al .loop .inv in
+      let m = il .loop-test .taken in
+      let e = told _ _ _ (l .leads .ensures) (w .word .ensures .0) (t1 .if1 .taken) in
+      spelling-leads R G m e (w2 .word2 .ensures .0) (c .before .before .before .before .before .before .before .link .ensures) (c .before .before .before .before .before .before .put-word .ensures) (c .before .before .write-chain .ensures)
 
-write-record-loop-less : (t : ℕ) → write-record-lts.Need-loop-less (write-record-calls t) (write-record-at t) write-record.Post write-record-Inv-loop write-record-μ-loop
-write-record-loop-less t c =
-    search needs
+  write-record-put-word-requires-2 : WriteRecord write-record-lts.Need-put-word-requires-2
+  write-record-put-word-requires-2 c κs = let (l, w2, il, al, w, s) = write-record-past-else1 (c .before) in
+      let m = il .loop-test .taken in
+      (spelling-room (s .pre .1) (al .loop .inv) m .0, (m, w2 .word2 .ensures .1))
 
-write-record-loop-again : (t : ℕ) → write-record-lts.Need-loop-again (write-record-calls t) (write-record-at t) write-record.Post write-record-Inv-loop write-record-μ-loop
-write-record-loop-again t c =
-    let R = c .before .before .before .before .before .before .before .before .before .before .before .before .before .before .before .before .before .pre .1 in
-    let G = c .before .before .before .before .before .before .before .before .before .before .before .before .before .loop .inv in
-    let m = c .before .before .before .before .before .before .before .before .before .before .before .before .loop-test .taken in
-    let e = told _ _ _ (c .before .before .before .before .before .before .before .before .before .before .leads .ensures) (c .before .before .before .before .before .before .before .before .before .before .before .before .before .before .word .ensures .0) (c .before .before .before .before .before .before .before .before .before .if1 .taken) in
-    spelling-leads R G m e (c .before .before .before .before .before .before .before .before .before .before .before .word2 .ensures .0) (c .before .before .before .before .before .before .before .link .ensures) (c .before .before .before .before .before .before .put-word .ensures) (c .before .before .write-chain .ensures)
+  write-record-loop-again-2 : WriteRecord write-record-lts.Need-loop-again-2
+  write-record-loop-again-2 c = let e1 = c .before .before .before .before in let (l, w2, il, al, w, s) = write-record-past-else1 e1 in
+      let e = told _ _ _ (l .leads .ensures) (w .word .ensures .0) (e1 .if1 .left) in
+      spelling-plain (s .pre .1) (al .loop .inv) (il .loop-test .taken) e (w2 .word2 .ensures .0) (c .before .before .put-word2 .ensures)
 
-write-record-put-word-requires-2 : (t : ℕ) → write-record-lts.Need-put-word-requires-2 (write-record-calls t) (write-record-at t) write-record.Post write-record-Inv-loop write-record-μ-loop
-write-record-put-word-requires-2 t c κs =
-    let m = c .before .before .before .before .loop-test .taken in
-    (spelling-room (c .before .before .before .before .before .before .before .before .before .pre .1) (c .before .before .before .before .before .loop .inv) m .0, (m, c .before .before .before .word2 .ensures .1))
+  write-record-put-word-requires-3 : WriteRecord write-record-lts.Need-put-word-requires-3
+  write-record-put-word-requires-3 c κs = let af = c .before .before in let (al, w, s) = write-record-past-after-loop af in
+      (done-room (s .pre .1) (al .loop .inv) (af .loop-test .left) .0, (omega arith, w .word .ensures .1))
 
-write-record-add-k-2 : (t : ℕ) → write-record-lts.Need-add-k-2 (write-record-calls t) (write-record-at t) write-record.Post write-record-Inv-loop write-record-μ-loop
-write-record-add-k-2 t c =
-    search needs
+  write-record-put-word-requires-4 : WriteRecord write-record-lts.Need-put-word-requires-4
+  write-record-put-word-requires-4 c κs =
+      let af = c .before .before .before .before .before .before in
+      let (al, w, s) = write-record-past-after-loop af in
+      let o = done-room (s .pre .1) (al .loop .inv) (af .loop-test .left) in
+      (omega (arith, o .0, c .before .before .before .put-word3 .ensures .same), (omega arith, linked-small _ _ (c .before .before .before .before .before .link2 .ensures) (o .1)))
 
-write-record-loop-less-2 : (t : ℕ) → write-record-lts.Need-loop-less-2 (write-record-calls t) (write-record-at t) write-record.Post write-record-Inv-loop write-record-μ-loop
-write-record-loop-less-2 t c =
-    search needs
+  write-record-same-length : WriteRecord write-record-lts.Need-same-length
+  write-record-same-length c = let (al, w, s) = write-record-past-after-loop (c .before .before .before .before .before .before .before .before .before) in
+      c .before .before .put-word4 .ensures .same ∙ c .before .before .before .before .before .before .put-word3 .ensures .same ∙ al .loop .inv .begun .same
 
-write-record-loop-again-2 : (t : ℕ) → write-record-lts.Need-loop-again-2 (write-record-calls t) (write-record-at t) write-record.Post write-record-Inv-loop write-record-μ-loop
-write-record-loop-again-2 t c =
-    let e = told _ _ _ (c .before .before .before .before .before .leads .ensures) (c .before .before .before .before .before .before .before .before .before .word .ensures .0) (c .before .before .before .before .if1 .left) in
-    spelling-plain (c .before .before .before .before .before .before .before .before .before .before .before .before .pre .1) (c .before .before .before .before .before .before .before .before .loop .inv) (c .before .before .before .before .before .before .before .loop-test .taken) e (c .before .before .before .before .before .before .word2 .ensures .0) (c .before .before .put-word2 .ensures)
-
-write-record-link-requires-2 : (t : ℕ) → write-record-lts.Need-link-requires-2 (write-record-calls t) (write-record-at t) write-record.Post write-record-Inv-loop write-record-μ-loop
-write-record-link-requires-2 t c κs =
-    search needs
-
-write-record-put-word-requires-3 : (t : ℕ) → write-record-lts.Need-put-word-requires-3 (write-record-calls t) (write-record-at t) write-record.Post write-record-Inv-loop write-record-μ-loop
-write-record-put-word-requires-3 t c κs =
-    (done-room (c .before .before .before .before .before .before .before .pre .1) (c .before .before .before .loop .inv) (c .before .before .loop-test .left) .0, (omega arith, c .before .before .before .before .word .ensures .1))
-
-write-record-put-word-requires-4 : (t : ℕ) → write-record-lts.Need-put-word-requires-4 (write-record-calls t) (write-record-at t) write-record.Post write-record-Inv-loop write-record-μ-loop
-write-record-put-word-requires-4 t c κs =
-    let o = done-room (c .before .before .before .before .before .before .before .before .before .before .before .pre .1) (c .before .before .before .before .before .before .before .loop .inv) (c .before .before .before .before .before .before .loop-test .left) in
-    (omega (arith, o .0, c .before .before .before .put-word3 .ensures .same), (omega arith, linked-small _ _ (c .before .before .before .before .before .link2 .ensures) (o .1)))
-
-write-record-same-length : (t : ℕ) → write-record-lts.Need-same-length (write-record-calls t) (write-record-at t) write-record.Post write-record-Inv-loop write-record-μ-loop
-write-record-same-length t c =
-    c .before .before .put-word4 .ensures .same ∙ c .before .before .before .before .before .before .put-word3 .ensures .same ∙ c .before .before .before .before .before .before .before .before .before .before .loop .inv .begun .same
-
-write-record-returns : (t : ℕ) → write-record-lts.Need-returns (write-record-calls t) (write-record-at t) write-record.Post write-record-Inv-loop write-record-μ-loop
-write-record-returns t c =
-    spelling-done (c .before .before .before .before .before .before .before .before .before .before .before .before .before .before .pre .1) (c .before .before .before .before .before .before .before .before .before .before .loop .inv) (c .before .before .before .before .before .before .before .before .before .loop-test .left) _ (c .before .before .before .before .before .before .before .before .before .before .before .word .ensures .0) (c .before .before .before .before .before .before .before .before .link2 .ensures) (c .before .before .before .before .before .before .put-word3 .ensures) (c .before .before .put-word4 .ensures)
+  write-record-returns : WriteRecord write-record-lts.Need-returns
+  write-record-returns c =
+      let af = c .before .before .before .before .before .before .before .before .before in
+      let (al, w, s) = write-record-past-after-loop af in
+      spelling-done (s .pre .1) (al .loop .inv) (af .loop-test .left) _ (w .word .ensures .0) (c .before .before .before .before .before .before .before .before .link2 .ensures) (c .before .before .before .before .before .before .put-word3 .ensures) (c .before .before .put-word4 .ensures)
 
 pub +write-chain+write-record-spec : {M : Type 1} → statement M
-+write-chain+write-record-spec = close μ-write-chain μ-write-record (λ t. write-chain-lts.spec (write-chain-calls t)
-    (write-chain-at t)
-    write-chain.Post
-    write-chain-Inv-loop
-    write-chain-μ-loop
-    (write-chain-loop-holds t)
-    (write-chain-word-requires t)
-    (write-chain-write-record-requires t)
-    (write-chain-loop-less t)
-    (write-chain-loop-again t)
-    (write-chain-same-length t)
-    (write-chain-returns t))
-    λ t. write-record-lts.spec (write-record-calls t)
-    (write-record-at t)
-    write-record.Post
-    write-record-Inv-loop
-    write-record-μ-loop
-    (write-record-word-requires t)
-    (write-record-add-end t)
-    (write-record-loop-holds t)
-    (write-record-word-requires-2 t)
-    (write-record-leads-requires t)
-    (write-record-link-requires t)
-    (write-record-put-word-requires t)
-    (write-record-write-chain-requires t)
-    (write-record-add-k t)
-    (write-record-loop-less t)
-    (write-record-loop-again t)
-    (write-record-put-word-requires-2 t)
-    (write-record-add-k-2 t)
-    (write-record-loop-less-2 t)
-    (write-record-loop-again-2 t)
-    (write-record-link-requires-2 t)
-    (write-record-put-word-requires-3 t)
-    (write-record-put-word-requires-4 t)
-    (write-record-same-length t)
-    (write-record-returns t)
++write-chain+write-record-spec =
+    close μ-write-chain μ-write-record
+    (λ t. write-chain-lts.spec (write-chain-calls t) (write-chain-at t) write-chain.Post write-chain-Inv-loop write-chain-μ-loop
+    (λ c. writing-first _ (c .before .before .pre .1)) (λ c κs. search needs) (write-chain-write-record-requires t) (write-chain-loop-less t)
+    (write-chain-loop-again t) (write-chain-same-length t) (write-chain-returns t))
+    λ t. write-record-lts.spec (write-record-calls t) (write-record-at t) write-record.Post write-record-Inv-loop write-record-μ-loop
+    (λ c κs. search needs) (λ c. omega (arith, c .before .before .before .pre .1 .few)) (λ c. spelling-first _ (c .before .before .before .pre .1))
+    (λ c κs. search needs) (write-record-leads-requires t) (λ c κs. search needs) (write-record-put-word-requires t)
+    (write-record-write-chain-requires t) (λ c. search needs) (λ c. search needs) (write-record-loop-again t) (write-record-put-word-requires-2 t)
+    (λ c. search needs) (λ c. search needs) (write-record-loop-again-2 t) (λ c κs. search needs) (write-record-put-word-requires-3 t)
+    (write-record-put-word-requires-4 t) (write-record-same-length t) (write-record-returns t)

@@ -1,5 +1,5 @@
--- `leads` meets its contract: each arm says what the row of its kind says.
-use Rattle.writer.specs.Leads.{header-leads, type-leads, procedure-leads, region-leads, switch-leads, arm-leads, then-leads, else-leads, call-leads, none-leads}
+-- Each arm says what the row of its kind says.
+use Rattle.writer.proofs.LeadsLaws.{header-leads, type-leads, procedure-leads, region-leads, switch-leads, arm-leads, then-leads, else-leads, call-leads, none-leads}
 use Rattle.writer.proofs.walk.leads.Statement.{statement}
 use Rattle.writer.proofs.walk.leads.Tie as tie
 

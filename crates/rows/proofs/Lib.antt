@@ -1,0 +1,4 @@
+mod GatheringLaws
+mod Turning
+mod FittingLaws
+mod NotingLaws

@@ -1,0 +1,5 @@
+mod ArgumentsLaws
+mod CallsLaws
+mod StepsLaws
+mod WalkLaws
+mod ProceduresLaws

@@ -1,0 +1,6 @@
+mod LaidLaws
+mod ReadyLaws
+mod LeadsLaws
+mod Spelling
+mod SkipsLaws
+mod WholeLaws
