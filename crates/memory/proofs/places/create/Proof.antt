@@ -1,4 +1,4 @@
-use Rattle.memory.specs.Laws.{create-full, create-made}
+use Rattle.memory.proofs.Ways.{create-full, create-made}
 use borrow.Author.Needs.{needs}
 use Rattle.memory.proofs.places.create.Statement.{statement}
 use Rattle.memory.proofs.places.create.Tie as tie

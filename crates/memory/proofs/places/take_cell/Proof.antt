@@ -1,4 +1,4 @@
-use Rattle.memory.specs.Laws.{cell-full, cell-made}
+use Rattle.memory.proofs.Ways.{cell-full, cell-made}
 use borrow.Author.Needs.{needs}
 use Rattle.memory.proofs.places.take_cell.Statement.{statement}
 use Rattle.memory.proofs.places.take_cell.Tie as tie

@@ -1,4 +1,4 @@
-use Rattle.memory.specs.Laws.{room-none, room-all, room-most}
+use Rattle.memory.proofs.Ways.{room-none, room-all, room-most}
 use borrow.Author.Needs.{needs}
 use Rattle.memory.proofs.pools.room.Statement.{statement}
 use Rattle.memory.proofs.pools.room.Tie as tie
