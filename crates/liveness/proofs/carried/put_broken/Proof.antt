@@ -1,5 +1,5 @@
 -- `put_broken` meets its contract.
-use Rattle.liveness.specs.Carried.{broken-put}
+use Rattle.liveness.proofs.CarriedLaws.{broken-put}
 use borrow.Author.Needs.{needs}
 use Rattle.liveness.proofs.carried.put_broken.Statement.{statement}
 use Rattle.liveness.proofs.carried.put_broken.Tie as tie

@@ -1,5 +1,5 @@
 -- `put_live` meets its contract.
-use Rattle.liveness.specs.Carried.{live-put}
+use Rattle.liveness.proofs.CarriedLaws.{live-put}
 use borrow.Author.Needs.{needs}
 use Rattle.liveness.proofs.carried.put_live.Statement.{statement}
 use Rattle.liveness.proofs.carried.put_live.Tie as tie

@@ -1,5 +1,5 @@
 -- `put_place` meets its contract.
-use Rattle.liveness.specs.Carried.{place-put}
+use Rattle.liveness.proofs.CarriedLaws.{place-put}
 use borrow.Author.Needs.{needs}
 use Rattle.liveness.proofs.carried.put_place.Statement.{statement}
 use Rattle.liveness.proofs.carried.put_place.Tie as tie

@@ -1,5 +1,5 @@
 -- `put_point` meets its contract.
-use Rattle.liveness.specs.Noted.{noted}
+use Rattle.liveness.proofs.CarriedLaws.{noted}
 use borrow.Author.Needs.{needs}
 use Rattle.liveness.proofs.carried.put_point.Statement.{statement}
 use Rattle.liveness.proofs.carried.put_point.Tie as tie

@@ -8,7 +8,8 @@ use Rattle.chains.specs.Declared.{procedure-at}
 use Rattle.chains.specs.Is.{procedure-is}
 use Rattle.chains.specs.Turns.{Tests, tests-first, tests-last, tests-stop, tests-next, turn-below}
 use Rattle.liveness.specs.Points.{pointWords}
-use Rattle.liveness.specs.Classes.{procedureClasses, classes-all}
+use Rattle.liveness.specs.Classes.{procedureClasses}
+use Rattle.liveness.proofs.ClassesLaws.{classes-all}
 use borrow.Author.Needs.{needs}
 use Rattle.liveness.proofs.classes.call_classes_ok.Statement.{statement}
 use Rattle.liveness.proofs.classes.call_classes_ok.Tie as tie

@@ -1,6 +1,6 @@
 -- `procedure_ok` meets its contract.
 use Rattle.tables.specs.Starts.{body-stands}
-use Rattle.liveness.specs.Classes.{procedure-classes}
+use Rattle.liveness.proofs.ClassesLaws.{procedure-classes}
 use borrow.Author.Needs.{needs}
 use Rattle.liveness.proofs.classes.procedure_ok.Statement.{statement}
 use Rattle.liveness.proofs.classes.procedure_ok.Tie as tie

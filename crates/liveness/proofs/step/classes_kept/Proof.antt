@@ -1,6 +1,6 @@
 -- `classes_kept` meets its contract.
 use borrow.Author.Tests.{not-true, not-false}
-use Rattle.liveness.specs.Step.{ends-wanted, bears-wanted, none-shared}
+use Rattle.liveness.proofs.StepLaws.{ends-wanted, bears-wanted, none-shared}
 use borrow.Author.Needs.{needs}
 use Rattle.liveness.proofs.step.classes_kept.Statement.{statement}
 use Rattle.liveness.proofs.step.classes_kept.Tie as tie

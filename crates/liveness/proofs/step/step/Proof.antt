@@ -1,5 +1,5 @@
 -- `step` meets its contract.
-use Rattle.liveness.specs.Step.{step-keeps, step-breaks}
+use Rattle.liveness.proofs.StepLaws.{step-keeps, step-breaks}
 use borrow.Author.Needs.{needs}
 use Rattle.liveness.proofs.step.step.Statement.{statement}
 use Rattle.liveness.proofs.step.step.Tie as tie

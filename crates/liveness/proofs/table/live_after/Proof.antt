@@ -1,6 +1,7 @@
 -- `live_after` meets its contract.
 use native.Mathlib.Omega.{arith}
-use Rattle.liveness.specs.Table.{afterAt, before-past}
+use Rattle.liveness.specs.Table.{afterAt}
+use Rattle.liveness.proofs.TableLaws.{before-past}
 use borrow.Author.Needs.{needs}
 use Rattle.liveness.proofs.table.live_after.Statement.{statement}
 use Rattle.liveness.proofs.table.live_after.Tie as tie

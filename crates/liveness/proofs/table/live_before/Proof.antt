@@ -1,6 +1,7 @@
 -- `live_before` meets its contract.
 use native.Mathlib.Omega.{arith}
-use Rattle.liveness.specs.Table.{beforeAt, before-past}
+use Rattle.liveness.specs.Table.{beforeAt}
+use Rattle.liveness.proofs.TableLaws.{before-past}
 use borrow.Author.Needs.{needs}
 use Rattle.liveness.proofs.table.live_before.Statement.{statement}
 use Rattle.liveness.proofs.table.live_before.Tie as tie

@@ -1,7 +1,7 @@
 -- `note` meets its contract.
 use native.Mathlib.Omega.{arith}
 use lib.ListN.{length-set}
-use Rattle.liveness.specs.Table.{fills-point, fills-full}
+use Rattle.liveness.proofs.TableLaws.{fills-point, fills-full}
 use borrow.Author.Needs.{needs}
 use Rattle.liveness.proofs.table.note.Statement.{statement}
 use Rattle.liveness.proofs.table.note.Tie as tie

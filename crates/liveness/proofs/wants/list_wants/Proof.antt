@@ -3,7 +3,7 @@ use Prim.Native.Nat.{_-_}
 use native.Mathlib.Omega.{arith}
 use lib.ListN.{length-set}
 use Rattle.language.specs.Format.{places}
-use Rattle.liveness.specs.Wants.{Copying, copying-first, copying-next, copying-last}
+use Rattle.liveness.proofs.WantsLaws.{Copying, copying-first, copying-next, copying-last}
 use borrow.Author.Needs.{needs}
 use Rattle.liveness.proofs.wants.list_wants.Statement.{statement}
 use Rattle.liveness.proofs.wants.list_wants.Tie as tie

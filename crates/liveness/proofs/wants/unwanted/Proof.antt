@@ -1,5 +1,5 @@
 -- `unwanted` meets its contract.
-use Rattle.liveness.specs.Wants.{none-wanted, some-wanted}
+use Rattle.liveness.proofs.WantsLaws.{none-wanted, some-wanted}
 use borrow.Author.Needs.{needs}
 use Rattle.liveness.proofs.wants.unwanted.Statement.{statement}
 use Rattle.liveness.proofs.wants.unwanted.Tie as tie

@@ -4,7 +4,8 @@ use mathlib.Core.Path.{sym, ap, ap₂, _∙_}
 use Rattle.language.specs.Format.{places}
 use Rattle.sets.specs.Sets.{_∪_, loaded}
 use Rattle.tables.specs.Walks.{Gathering, gather-first, gather-more, gather-last, next-falls}
-use Rattle.liveness.specs.Wants.{wantsKept, reachedIn, wantedIn, reached-some, wants-at}
+use Rattle.liveness.specs.Wants.{wantsKept, reachedIn, wantedIn}
+use Rattle.liveness.proofs.WantsLaws.{reached-some, wants-at}
 use Rattle.liveness.specs.Carried.{wantsOf}
 use borrow.Author.Needs.{needs}
 use Rattle.liveness.proofs.wants.wanted.Statement.{statement}

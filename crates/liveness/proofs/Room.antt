@@ -19,7 +19,8 @@ use Rattle.chains.specs.Layout.{hits, hits-suc, hits-zero, chain-end, Leads, Us
 use Rattle.chains.specs.Layout.Steps
 use Rattle.chains.specs.Formed.{Formed, counted, goalsAt}
 use Rattle.liveness.specs.Points.{pointWords, points}
-use Rattle.liveness.specs.Counts.{points-count, tree-count}
+use Rattle.liveness.specs.Counts.{points-count}
+use Rattle.liveness.proofs.CountsLaws.{tree-count}
 
 module _ (W : ℕ → ℕ → ℕ) (n : ℕ) where
   -- ---- a reference leads upward, to a part of the record's tree
