@@ -9,8 +9,10 @@ use lib.ListN.{length}
 use Rattle.language.specs.File
 use Rattle.chains.specs.Formed.{Stands, ahead, variablesAt, variables-none, argumentsAt, arguments-none}
 use Rattle.chains.specs.Is.{chain-next}
-use Rattle.regions.specs.Pairs.{Grown, grown-refl, grown-trans, RestMapped, rest-first, rest-next, rest-stops, rest-ends}
-use Rattle.regions.specs.CallMap.{regionsOfParameters, parameters-none, parameter-passed, parameter-here, argument-here, homesIn, homes-none, rest-skips, call-mapped}
+use Rattle.regions.specs.Pairs.{Grown}
+use Rattle.regions.proofs.PairsLaws.{grown-refl, grown-trans, RestMapped, rest-first, rest-next, rest-stops, rest-ends}
+use Rattle.regions.specs.CallMap.{homesIn}
+use Rattle.regions.proofs.CallMapLaws.{regionsOfParameters, parameters-none, parameter-passed, parameter-here, argument-here, homes-none, rest-skips, call-mapped}
 use Rattle.regions.proofs.calls.map_call.Statement.{statement}
 use Rattle.regions.proofs.calls.map_call.Tie as tie
 

@@ -12,7 +12,8 @@ use Rattle.language.specs.Regions.{targetsIn}
 use Rattle.chains.specs.Formed.{Stands, ahead, edgesAt}
 use Rattle.chains.specs.Is.{chain-next}
 use Rattle.chains.specs.Edges.{targets-end, targets-here}
-use Rattle.regions.specs.Pairs.{edges-stand, PairMapped, pair-mapped, pair-known, zeros, zeros-grown, zeros-set, Grown, grown-refl, grown-trans, grown-set, RestMapped, rest-first, rest-next, rest-stops, rest-ends, region-none, region-again, region-new}
+use Rattle.regions.specs.Pairs.{Grown}
+use Rattle.regions.proofs.PairsLaws.{edges-stand, PairMapped, pair-mapped, pair-known, zeros, zeros-grown, zeros-set, grown-refl, grown-trans, grown-set, RestMapped, rest-first, rest-next, rest-stops, rest-ends, region-none, region-again, region-new}
 use borrow.Fn.Kinds.{In}
 use borrow.Fn.PlainCycle.{Measures, is, falls, and}
 use Rattle.regions.proofs.pairs.map_edges.Reads as map-edges

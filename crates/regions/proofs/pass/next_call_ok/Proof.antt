@@ -7,8 +7,8 @@ use Rattle.chains.specs.Formed.{counted}
 use Rattle.tables.specs.Starts.{windowIn, window-lent}
 use Rattle.regions.specs.Here.{here}
 use Rattle.regions.specs.CallEffect.{call-window}
-use Rattle.regions.specs.Repeats.{repeated-agrees, repeated-made}
-use Rattle.regions.specs.Rowed.{rowed-put}
+use Rattle.regions.proofs.RepeatsLaws.{repeated-agrees, repeated-made}
+use Rattle.regions.proofs.RowedLaws.{rowed-put}
 use borrow.Author.Needs.{needs}
 use Rattle.regions.proofs.pass.next_call_ok.Statement.{statement}
 use Rattle.regions.proofs.pass.next_call_ok.Tie as tie

@@ -5,9 +5,9 @@ use mathlib.Core.Logic.{inr}
 use mathlib.Core.Path.{refl, sym, _∙_}
 use Rattle.language.specs.Format.{maxRecords}
 use Rattle.chains.specs.Formed.{counted}
-use Rattle.regions.specs.Here.{other-agrees}
-use Rattle.regions.specs.Effects.{literal-made, sum-made, print-made, assign-step, construct-step, create-step, remove-step, switch-none, no-step-left}
-use Rattle.regions.specs.Rowed.{rowed-put, rowed-not}
+use Rattle.regions.proofs.HereLaws.{other-agrees}
+use Rattle.regions.proofs.EffectsLaws.{literal-made, sum-made, print-made, assign-step, construct-step, create-step, remove-step, switch-none, no-step-left}
+use Rattle.regions.proofs.RowedLaws.{rowed-put, rowed-not}
 use borrow.Author.Needs.{needs}
 use Rattle.regions.proofs.pass.next_ok.Statement.{statement}
 use Rattle.regions.proofs.pass.next_ok.Tie as tie

@@ -7,8 +7,9 @@ use borrow.Author.Tests.{eqb-true}
 use Rattle.language.specs.File
 use Rattle.chains.specs.Formed.{Stands, ahead, argumentsAt, arguments-none}
 use Rattle.chains.specs.Is.{chain-next}
-use Rattle.regions.specs.CallMap.{homesIn, homes-none, argument-here}
-use Rattle.regions.specs.Repeats.{same-next}
+use Rattle.regions.specs.CallMap.{homesIn}
+use Rattle.regions.proofs.CallMapLaws.{homes-none, argument-here}
+use Rattle.regions.proofs.RepeatsLaws.{same-next}
 use borrow.Author.Needs.{needs}
 use Rattle.regions.proofs.repeats.same_homes.Statement.{statement}
 use Rattle.regions.proofs.repeats.same_homes.Tie as tie

@@ -4,7 +4,8 @@ use borrow.Author.Tests.{not-true, not-false}
 use Rattle.language.specs.File
 use Rattle.chains.specs.Formed.{Stands, ahead, edgesAt, armsAt}
 use Rattle.chains.specs.Is.{chain-next}
-use Rattle.regions.specs.Here.{armsIn, arms-stop, arms-on, arms-last}
+use Rattle.regions.specs.Here.{armsIn}
+use Rattle.regions.proofs.HereLaws.{arms-stop, arms-on, arms-last}
 use borrow.Author.Needs.{needs}
 use Rattle.regions.specs.Firsts.{Firsts}
 use Rattle.regions.proofs.single.arms_ok.Statement.{statement}

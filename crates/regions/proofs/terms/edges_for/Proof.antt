@@ -6,7 +6,7 @@ use Rattle.language.specs.File.{edges}
 use Rattle.language.specs.Regions.{targetFor}
 use Rattle.chains.specs.Formed.{Stands, ahead, edgesAt}
 use Rattle.chains.specs.Is.{chain-next}
-use Rattle.regions.specs.Terms.{functor-passed}
+use Rattle.regions.proofs.TermsLaws.{functor-passed}
 use Rattle.regions.proofs.terms.edges_for.Statement.{statement}
 use Rattle.regions.proofs.terms.edges_for.Tie as tie
 

@@ -4,7 +4,7 @@ use Rattle.language.specs.File.{edges}
 use Rattle.language.specs.Regions.{targetFor}
 use Rattle.chains.specs.Formed.{Stands, ahead, edgesAt, edges-none}
 use Rattle.chains.specs.Is.{chain-next}
-use Rattle.regions.specs.Terms.{target-none, functor-passed, position-passed, edge-found}
+use Rattle.regions.proofs.TermsLaws.{target-none, functor-passed, position-passed, edge-found}
 use borrow.Author.Needs.{needs}
 use Rattle.regions.proofs.terms.target_for.Statement.{statement}
 use Rattle.regions.proofs.terms.target_for.Tie as tie
