@@ -3,8 +3,8 @@ use native.Mathlib.Omega.{arith}
 use mathlib.Core.Logic.{inl, inr}
 use Rattle.laws.specs.Typed.{procedures-count}
 use Rattle.chains.specs.Formed.{counted}
-use Rattle.reachable.specs.Found.{room}
-use Rattle.reachable.specs.Worklist.{Looking, looking-first, call-fits, link-falls, looking-old, looking-new, looking-last}
+use Rattle.reachable.proofs.FoundLaws.{room}
+use Rattle.reachable.proofs.WorklistLaws.{Looking, looking-first, call-fits, link-falls, looking-old, looking-new, looking-last}
 use borrow.Author.Needs.{needs}
 use Rattle.reachable.proofs.finding.look_at.Statement.{statement}
 use Rattle.reachable.proofs.finding.look_at.Tie as tie

@@ -5,8 +5,8 @@ use lib.ListN.{length}
 use Rattle.language.specs.Answers.{program}
 use Rattle.laws.specs.Typed.{procedures-count}
 use Rattle.chains.specs.Formed.{counted}
-use Rattle.reachable.specs.Found.{found-entry}
-use Rattle.reachable.specs.Worklist.{Worklist, worklist-first, worklist-next, worklist-last, chain-there, chain-total}
+use Rattle.reachable.proofs.FoundLaws.{found-entry}
+use Rattle.reachable.proofs.WorklistLaws.{Worklist, worklist-first, worklist-next, worklist-last, chain-there, chain-total}
 use borrow.Author.Needs.{needs}
 use Rattle.reachable.proofs.finding.reaches_all.Statement.{statement}
 use Rattle.reachable.proofs.finding.reaches_all.Tie as tie

@@ -5,7 +5,8 @@ use mathlib.Core.Logic.{inl, inr}
 use mathlib.Core.Path.{_≡_, sym, _∙_}
 use Rattle.language.specs.File.{recordCount}
 use Rattle.chains.specs.Formed.{counted}
-use Rattle.reachable.specs.Linked.{LinkedUpTo, KeptFrom, linked-first, linked-skip, linked-call, call-asks, linked-last}
+use Rattle.reachable.specs.Linked.{LinkedUpTo, KeptFrom}
+use Rattle.reachable.proofs.LinkedLaws.{linked-first, linked-skip, linked-call, call-asks, linked-last}
 use borrow.Author.Needs.{needs}
 use Rattle.reachable.proofs.linking.link_calls.Statement.{statement}
 use Rattle.reachable.proofs.linking.link_calls.Tie as tie
