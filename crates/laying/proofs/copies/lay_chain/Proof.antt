@@ -1,6 +1,6 @@
 -- `lay_chain` meets its contract.
 use borrow.Author.Needs.{needs}
-use Rattle.laying.specs.Copies.{chain-ready, chain-laid, chain-not}
+use Rattle.laying.proofs.CopiesLaws.{chain-ready, chain-laid, chain-not}
 use Rattle.laying.proofs.copies.lay_chain.Statement.{statement}
 use Rattle.laying.proofs.copies.lay_chain.Tie as tie
 

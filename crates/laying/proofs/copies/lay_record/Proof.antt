@@ -1,6 +1,6 @@
 -- `lay_record` meets its contract.
 use borrow.Author.Needs.{needs}
-use Rattle.laying.specs.Copies.{record-ready, record-laid, record-not}
+use Rattle.laying.proofs.CopiesLaws.{record-ready, record-laid, record-not}
 use Rattle.laying.proofs.copies.lay_record.Statement.{statement}
 use Rattle.laying.proofs.copies.lay_record.Tie as tie
 

@@ -1,6 +1,6 @@
 -- `store_arm` meets its contract.
 use native.Mathlib.Omega.{arith}
-use Rattle.laying.specs.Heads.{arm-stored}
+use Rattle.laying.proofs.HeadsLaws.{arm-stored}
 use borrow.Author.Needs.{needs}
 use Rattle.laying.proofs.heads.store_arm.Statement.{statement}
 use Rattle.laying.proofs.heads.store_arm.Tie as tie

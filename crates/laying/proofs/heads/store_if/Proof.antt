@@ -1,6 +1,6 @@
 -- `store_if` meets its contract.
 use native.Mathlib.Omega.{arith}
-use Rattle.laying.specs.Heads.{if-stored}
+use Rattle.laying.proofs.HeadsLaws.{if-stored}
 use borrow.Author.Needs.{needs}
 use Rattle.laying.proofs.heads.store_if.Statement.{statement}
 use Rattle.laying.proofs.heads.store_if.Tie as tie

@@ -1,6 +1,6 @@
 -- `store_procedure` meets its contract.
 use native.Mathlib.Omega.{arith}
-use Rattle.laying.specs.Heads.{procedure-stored}
+use Rattle.laying.proofs.HeadsLaws.{procedure-stored}
 use borrow.Author.Needs.{needs}
 use Rattle.laying.proofs.heads.store_procedure.Statement.{statement}
 use Rattle.laying.proofs.heads.store_procedure.Tie as tie

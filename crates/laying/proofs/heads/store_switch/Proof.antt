@@ -1,6 +1,6 @@
 -- `store_switch` meets its contract.
 use native.Mathlib.Omega.{arith}
-use Rattle.laying.specs.Heads.{switch-stored}
+use Rattle.laying.proofs.HeadsLaws.{switch-stored}
 use borrow.Author.Needs.{needs}
 use Rattle.laying.proofs.heads.store_switch.Statement.{statement}
 use Rattle.laying.proofs.heads.store_switch.Tie as tie

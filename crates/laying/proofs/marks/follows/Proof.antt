@@ -1,5 +1,5 @@
 -- `follows` meets its contract.
-use Rattle.laying.specs.Marks.{follows-is}
+use Rattle.laying.proofs.MarksLaws.{follows-is}
 use borrow.Author.Needs.{needs}
 use Rattle.laying.proofs.marks.follows.Statement.{statement}
 use Rattle.laying.proofs.marks.follows.Tie as tie

@@ -4,7 +4,7 @@ use native.Mathlib.Omega.{arith}
 use Prim.Native.Nat.{_-_}
 use Rattle.language.specs.Format.{places}
 use Rattle.tables.specs.Walks.{next-falls}
-use Rattle.laying.specs.Marks.{Marking, marking-first, marking-last, marking-next}
+use Rattle.laying.proofs.MarksLaws.{Marking, marking-first, marking-last, marking-next}
 use Rattle.laying.proofs.marks.lay_marks.Statement.{statement}
 use Rattle.laying.proofs.marks.lay_marks.Tie as tie
 
