@@ -1,5 +1,5 @@
 -- `fill_points` meets its contract.
-use Rattle.insertion.specs.Bodies.{points-start, points-filled}
+use Rattle.insertion.proofs.BodiesLaws.{points-start, points-filled}
 use borrow.Author.Needs.{needs}
 use Rattle.insertion.proofs.bodies.fill_points.Statement.{statement}
 use Rattle.insertion.proofs.bodies.fill_points.Tie as tie

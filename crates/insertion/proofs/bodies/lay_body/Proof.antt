@@ -1,7 +1,7 @@
 -- `lay_body` meets its contract.
 use mathlib.Core.Path.{sym}
-use Rattle.insertion.specs.Along.{along-rest}
-use Rattle.insertion.specs.Bodies.{body-laid}
+use Rattle.insertion.proofs.AlongLaws.{along-rest}
+use Rattle.insertion.proofs.BodiesLaws.{body-laid}
 use borrow.Author.Needs.{needs}
 use Rattle.insertion.proofs.bodies.lay_body.Statement.{statement}
 use Rattle.insertion.proofs.bodies.lay_body.Tie as tie

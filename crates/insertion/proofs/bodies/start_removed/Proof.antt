@@ -1,5 +1,5 @@
 -- `start_removed` meets its contract.
-use Rattle.insertion.specs.Bodies.{start-removed}
+use Rattle.insertion.proofs.BodiesLaws.{start-removed}
 use borrow.Author.Needs.{needs}
 use Rattle.insertion.proofs.bodies.start_removed.Statement.{statement}
 use Rattle.insertion.proofs.bodies.start_removed.Tie as tie

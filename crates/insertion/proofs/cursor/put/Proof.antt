@@ -1,5 +1,5 @@
 -- `put` meets its contract.
-use Rattle.insertion.specs.Cursor.{at-put}
+use Rattle.insertion.proofs.StepsLaws.{at-put}
 use borrow.Author.Needs.{needs}
 use Rattle.insertion.proofs.cursor.put.Statement.{statement}
 use Rattle.insertion.proofs.cursor.put.Tie as tie

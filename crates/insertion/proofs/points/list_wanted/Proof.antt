@@ -3,7 +3,8 @@ use borrow.Author.Needs.{needs}
 use native.Mathlib.Omega.{arith}
 use Prim.Native.Nat.{_-_, _≤_}
 use Rattle.liveness.specs.Points.{pointWords}
-use Rattle.insertion.specs.Wants.{Turned, turned-none, turned-more, turned-whole}
+use Rattle.insertion.specs.Wants.{Turned}
+use Rattle.insertion.proofs.WantsLaws.{turned-none, turned-more, turned-whole}
 use Rattle.insertion.proofs.points.list_wanted.Statement.{statement}
 use Rattle.insertion.proofs.points.list_wanted.Tie as tie
 

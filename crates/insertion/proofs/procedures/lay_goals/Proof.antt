@@ -1,7 +1,7 @@
 -- `lay_goals` meets its contract.
 use borrow.Author.Needs.{needs}
 use Rattle.tables.specs.Starts.{body-stands}
-use Rattle.insertion.specs.Procedures.{goals-laid}
+use Rattle.insertion.proofs.ProceduresLaws.{goals-laid}
 use Rattle.insertion.proofs.procedures.lay_goals.Statement.{statement}
 use Rattle.insertion.proofs.procedures.lay_goals.Tie as tie
 

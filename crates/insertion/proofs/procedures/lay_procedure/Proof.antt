@@ -1,6 +1,6 @@
 -- `lay_procedure` meets its contract.
 use borrow.Author.Needs.{needs}
-use Rattle.insertion.specs.Procedures.{here, here-below, procedure-laid}
+use Rattle.insertion.proofs.ProceduresLaws.{here, here-below, procedure-laid}
 use Rattle.insertion.proofs.procedures.lay_procedure.Statement.{statement}
 use Rattle.insertion.proofs.procedures.lay_procedure.Tie as tie
 

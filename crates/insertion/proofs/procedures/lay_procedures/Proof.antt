@@ -5,7 +5,7 @@ use mathlib.Core.Path.{_≡_}
 use lib.ListN.{length}
 use Rattle.chains.specs.Formed.{ahead}
 use Rattle.liveness.specs.Points.{pointWords}
-use Rattle.insertion.specs.Procedures.{Laying, laying-first, laying-last, laying-next, laying-falls, here-below}
+use Rattle.insertion.proofs.ProceduresLaws.{Laying, laying-first, laying-last, laying-next, laying-falls, here-below}
 use Rattle.insertion.proofs.procedures.lay_procedures.Statement.{statement}
 use Rattle.insertion.proofs.procedures.lay_procedures.Tie as tie
 

@@ -1,5 +1,5 @@
 -- `created_at` meets its contract.
-use Rattle.insertion.specs.Steps.{created-is}
+use Rattle.insertion.proofs.StepsLaws.{created-is}
 use borrow.Author.Needs.{needs}
 use Rattle.insertion.proofs.step.created_at.Statement.{statement}
 use Rattle.insertion.proofs.step.created_at.Tie as tie

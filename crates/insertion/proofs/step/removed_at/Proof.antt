@@ -1,5 +1,5 @@
 -- `removed_at` meets its contract.
-use Rattle.insertion.specs.Steps.{removed-is}
+use Rattle.insertion.proofs.StepsLaws.{removed-is}
 use borrow.Author.Needs.{needs}
 use Rattle.insertion.proofs.step.removed_at.Statement.{statement}
 use Rattle.insertion.proofs.step.removed_at.Tie as tie

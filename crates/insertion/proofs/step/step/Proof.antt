@@ -1,7 +1,7 @@
 -- `step` meets its contract.
 use native.Mathlib.Omega.{arith}
 use mathlib.Core.Path.{sym}
-use Rattle.insertion.specs.Steps.{step-laid}
+use Rattle.insertion.proofs.StepsLaws.{step-laid}
 use borrow.Author.Needs.{needs}
 use Rattle.insertion.proofs.step.step.Statement.{statement}
 use Rattle.insertion.proofs.step.step.Tie as tie

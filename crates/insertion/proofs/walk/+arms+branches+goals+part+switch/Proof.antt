@@ -7,7 +7,8 @@ use Prim.Native.Nat.{_+_, _*_, ℕ, _<_}
 use Rattle.chains.specs.Formed.{ahead}
 use Rattle.chains.specs.Shapes.{switch-here, if-here, to-arms, to-then, to-else, arm-goals, arm-next}
 use Rattle.insertion.specs.Cursor.{recordIn, pointIn}
-use Rattle.insertion.specs.Along.{LaidAlong, HasParts, along-first, along-last, along-onward, along-rest}
+use Rattle.insertion.specs.Along.{LaidAlong, HasParts}
+use Rattle.insertion.proofs.AlongLaws.{along-first, along-last, along-onward, along-rest}
 use Rattle.insertion.proofs.Walking.{along-turn, goal-moved, part-laid, switch-laid, if-laid, no-arms, arms-laid}
 use borrow.Fn.Kinds.{In}
 use borrow.Fn.PlainCycle.{Measures, is, falls, and}

@@ -1,6 +1,6 @@
 -- `lay_file` meets its contract.
 use borrow.Author.Needs.{needs}
-use Rattle.insertion.specs.Whole.{file-laid, types-below}
+use Rattle.insertion.proofs.WholeLaws.{file-laid, types-below}
 use Rattle.insertion.proofs.whole.lay_file.Statement.{statement}
 use Rattle.insertion.proofs.whole.lay_file.Tie as tie
 

@@ -1,7 +1,7 @@
 -- `measure` meets its contract.
 use borrow.Author.Needs.{needs}
 use mathlib.Core.Path.{sym, _∙_}
-use Rattle.insertion.specs.Whole.{measured-fits, measured-over, file-front}
+use Rattle.insertion.proofs.WholeLaws.{measured-fits, measured-over, file-front}
 use Rattle.insertion.proofs.whole.measure.Statement.{statement}
 use Rattle.insertion.proofs.whole.measure.Tie as tie
 
