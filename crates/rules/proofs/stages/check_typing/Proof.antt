@@ -3,7 +3,8 @@ use borrow.Author.Tests.{not-true, not-false}
 use mathlib.Core.Path.{sym, _∙_}
 use Rattle.language.specs.declared.Refusal.the-variants.{Typing}
 use Rattle.chains.specs.Formed.{formed}
-use Rattle.rules.specs.Stages.{form-lowest, passed-up, refused-here, passed-here}
+use Rattle.rules.specs.Stages.{passed-up, refused-here, passed-here}
+use Rattle.rules.proofs.StagesLaws.{form-lowest}
 use borrow.Author.Needs.{needs}
 use Rattle.rules.proofs.stages.check_typing.Statement.{statement}
 use Rattle.rules.proofs.stages.check_typing.Tie as tie
