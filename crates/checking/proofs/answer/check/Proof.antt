@@ -1,6 +1,6 @@
 -- `check` meets its contract.
 use Rattle.rules.specs.Stages.{typing-found}
-use Rattle.checking.specs.Answer.{checker-refuses, checker-goes}
+use Rattle.checking.proofs.AnswerLaws.{checker-refuses, checker-goes}
 use borrow.Author.Needs.{needs}
 use Rattle.checking.proofs.answer.check.Statement.{statement}
 use Rattle.checking.proofs.answer.check.Tie as tie

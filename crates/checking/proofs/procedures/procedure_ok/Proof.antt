@@ -1,5 +1,5 @@
 -- `procedure_ok` meets its contract.
-use Rattle.checking.specs.Procedures.{start-low, body-stands, procedure-checked}
+use Rattle.checking.proofs.ProceduresLaws.{start-low, body-stands, procedure-checked}
 use borrow.Author.Needs.{needs}
 use Rattle.checking.proofs.procedures.procedure_ok.Statement.{statement}
 use Rattle.checking.proofs.procedures.procedure_ok.Tie as tie

@@ -8,7 +8,7 @@ use Rattle.chains.specs.Formed.{counted, ahead}
 use Rattle.chains.specs.Declared.{procedure-at}
 use Rattle.chains.specs.Is.{procedure-is}
 use Rattle.chains.specs.Turns.{Tests, tests-first, tests-last, tests-stop, tests-next, turn-below}
-use Rattle.checking.specs.Procedures.{rules-all}
+use Rattle.checking.proofs.ProceduresLaws.{rules-all}
 use borrow.Author.Needs.{needs}
 use Rattle.checking.proofs.procedures.rules_ok.Statement.{statement}
 use Rattle.checking.proofs.procedures.rules_ok.Tie as tie

@@ -1,6 +1,6 @@
 -- `window_ok` meets its contract.
 use borrow.Author.Tests.{not-true, not-false}
-use Rattle.checking.specs.Procedures.{window-broken, window-differs, window-ends}
+use Rattle.checking.proofs.ProceduresLaws.{window-broken, window-differs, window-ends}
 use borrow.Author.Needs.{needs}
 use Rattle.checking.proofs.procedures.window_ok.Statement.{statement}
 use Rattle.checking.proofs.procedures.window_ok.Tie as tie

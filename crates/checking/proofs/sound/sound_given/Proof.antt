@@ -2,7 +2,7 @@
 use Prim.Native.Nat.{_-_}
 use mathlib.Core.Logic.{⊎-elim}
 use mathlib.Core.Path.{sym, _∙_}
-use Rattle.checking.specs.Sound.{Keeping, keep-first, keep-one, keep-none, keep-last, reachHeld, held-here, given-is}
+use Rattle.checking.proofs.SoundLaws.{Keeping, keep-first, keep-one, keep-none, keep-last, reachHeld, held-here, given-is}
 use borrow.Author.Needs.{needs}
 use Rattle.language.specs.Format.{places}
 use Rattle.tables.specs.Walks.{next-falls}

@@ -1,6 +1,6 @@
 -- `allowed` meets its contract.
 use borrow.Author.Tests.{not-true, not-false}
-use Rattle.checking.specs.Rules.{rules-unread, rules-needs, rules-kept, rules-born, rules-last}
+use Rattle.checking.proofs.RulesLaws.{rules-unread, rules-needs, rules-kept, rules-born, rules-last}
 use borrow.Author.Needs.{needs}
 use Rattle.checking.proofs.step.allowed.Statement.{statement}
 use Rattle.checking.proofs.step.allowed.Tie as tie

@@ -1,6 +1,6 @@
 -- `step` meets its contract.
 use borrow.Author.Tests.{not-true, not-false}
-use Rattle.checking.specs.Rules.{step-stops, step-goes}
+use Rattle.checking.proofs.RulesLaws.{step-stops, step-goes}
 use borrow.Author.Needs.{needs}
 use Rattle.checking.proofs.step.step.Statement.{statement}
 use Rattle.checking.proofs.step.step.Tie as tie
