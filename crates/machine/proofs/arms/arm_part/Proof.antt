@@ -5,7 +5,7 @@ use mathlib.Core.Path.{_≡_, refl, ap, _∙_}
 use lib.ListN.{length, length-set}
 use Rattle.language.specs.Format.{maxArity, termArguments}
 use Rattle.language.specs.File.{word}
-use Rattle.machine.specs.Terms.{any-yet, givenFrom, give-first, give-end, give-stop, give-on}
+use Rattle.machine.proofs.Terms.{any-yet, givenFrom, give-first, give-end, give-stop, give-on}
 use borrow.Author.Needs.{needs}
 use Rattle.machine.proofs.arms.arm_part.Statement.{statement}
 use Rattle.machine.proofs.arms.arm_part.Tie as tie

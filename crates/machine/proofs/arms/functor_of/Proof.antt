@@ -1,4 +1,4 @@
-use Rattle.machine.specs.Cells.{functor-cell, functor-constant}
+use Rattle.machine.proofs.CellsLaws.{functor-cell, functor-constant}
 use borrow.Author.Needs.{needs}
 use Rattle.machine.proofs.arms.functor_of.Statement.{statement}
 use Rattle.machine.proofs.arms.functor_of.Tie as tie

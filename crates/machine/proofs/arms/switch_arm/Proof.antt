@@ -2,8 +2,8 @@ use native.Mathlib.Omega.{arith}
 use mathlib.Core.Path.{refl}
 use Rattle.chains.specs.Shapes.{to-arms}
 use Rattle.frames.specs.Strays.{whole}
-use Rattle.machine.specs.Cells.{whole-is, functor-cell, arm-as, values-cell, values-constant}
-use Rattle.machine.specs.Numbers.{arm-stands}
+use Rattle.machine.proofs.CellsLaws.{whole-is, functor-cell, arm-as, values-cell, values-constant}
+use Rattle.machine.proofs.Numbers.{arm-stands}
 use borrow.Author.Needs.{needs}
 use Rattle.machine.proofs.arms.switch_arm.Statement.{statement}
 use Rattle.machine.proofs.arms.switch_arm.Tie as tie

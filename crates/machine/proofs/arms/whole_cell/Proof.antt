@@ -1,4 +1,4 @@
-use Rattle.machine.specs.Cells.{whole-short, whole-long}
+use Rattle.machine.proofs.CellsLaws.{whole-short, whole-long}
 use borrow.Author.Needs.{needs}
 use Rattle.machine.proofs.arms.whole_cell.Statement.{statement}
 use Rattle.machine.proofs.arms.whole_cell.Tie as tie

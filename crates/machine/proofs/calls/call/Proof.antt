@@ -1,6 +1,6 @@
 use native.Mathlib.Omega.{arith}
 use mathlib.Core.Path.{refl}
-use Rattle.machine.specs.Calls.{call-as, pictured}
+use Rattle.machine.proofs.CallsLaws.{call-as, pictured}
 use borrow.Author.Needs.{needs}
 use Rattle.machine.proofs.calls.call.Statement.{statement}
 use Rattle.machine.proofs.calls.call.Tie as tie

@@ -1,7 +1,7 @@
 use native.Mathlib.Omega.{arith}
 use mathlib.Core.Path.{refl}
 use Rattle.frames.specs.Strays.{whole, in-length, past-length}
-use Rattle.machine.specs.Calls.{return-none, return-as, pictured}
+use Rattle.machine.proofs.CallsLaws.{return-none, return-as, pictured}
 use borrow.Author.Needs.{needs}
 use Rattle.machine.proofs.calls.give_back.Statement.{statement}
 use Rattle.machine.proofs.calls.give_back.Tie as tie

@@ -1,4 +1,4 @@
-use Rattle.machine.specs.Calls.{marked-as}
+use Rattle.machine.proofs.CallsLaws.{marked-as}
 use borrow.Author.Needs.{needs}
 use Rattle.machine.proofs.calls.mark.Statement.{statement}
 use Rattle.machine.proofs.calls.mark.Tie as tie

@@ -1,4 +1,4 @@
-use Rattle.machine.specs.Cells.{construct-none, construct-made}
+use Rattle.machine.proofs.CellsLaws.{construct-none, construct-made}
 use borrow.Author.Needs.{needs}
 use Rattle.machine.proofs.cells.construct.Statement.{statement}
 use Rattle.machine.proofs.cells.construct.Tie as tie

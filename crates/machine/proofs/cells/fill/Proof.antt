@@ -4,7 +4,7 @@ use native.Mathlib.Omega.{arith}
 use mathlib.Core.Path.{_≡_, refl, ap, _∙_}
 use lib.ListN.{length, length-set}
 use Rattle.language.specs.Format.{maxArity}
-use Rattle.machine.specs.Terms.{pouredFrom, pour-first, pour-end, pour-stop, pour-on}
+use Rattle.machine.proofs.Terms.{pouredFrom, pour-first, pour-end, pour-stop, pour-on}
 use borrow.Author.Needs.{needs}
 use Rattle.machine.proofs.cells.fill.Statement.{statement}
 use Rattle.machine.proofs.cells.fill.Tie as tie

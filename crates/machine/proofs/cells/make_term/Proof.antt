@@ -1,5 +1,6 @@
 use mathlib.Core.Path.{refl}
-use Rattle.machine.specs.Cells.{home-as, make-constant, make-none, make-cell}
+use Rattle.machine.specs.Cells.{make-none, make-cell}
+use Rattle.machine.proofs.CellsLaws.{home-as, make-constant}
 use borrow.Author.Needs.{needs}
 use Rattle.machine.proofs.cells.make_term.Statement.{statement}
 use Rattle.machine.proofs.cells.make_term.Tie as tie

@@ -1,4 +1,4 @@
-use Rattle.machine.specs.Goals.{gives, value-as}
+use Rattle.machine.proofs.GoalsLaws.{gives, value-as}
 use borrow.Author.Needs.{needs}
 use Rattle.machine.proofs.goals.assign.Statement.{statement}
 use Rattle.machine.proofs.goals.assign.Tie as tie

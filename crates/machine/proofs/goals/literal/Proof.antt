@@ -1,6 +1,6 @@
 use mathlib.Core.Path.{ap, _∙_}
 use Rattle.word_machine.specs.Machine.{literalWord}
-use Rattle.machine.specs.Goals.{gives}
+use Rattle.machine.proofs.GoalsLaws.{gives}
 use borrow.Author.Needs.{needs}
 use Rattle.machine.proofs.goals.literal.Statement.{statement}
 use Rattle.machine.proofs.goals.literal.Tie as tie

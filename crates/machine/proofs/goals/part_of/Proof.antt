@@ -1,4 +1,4 @@
-use Rattle.machine.specs.Goals.{part-then, part-else, value-as}
+use Rattle.machine.proofs.GoalsLaws.{part-then, part-else, value-as}
 use borrow.Author.Needs.{needs}
 use Rattle.machine.proofs.goals.part_of.Statement.{statement}
 use Rattle.machine.proofs.goals.part_of.Tie as tie

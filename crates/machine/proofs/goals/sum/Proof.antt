@@ -1,6 +1,6 @@
 use mathlib.Core.Path.{_∙_}
 use mir.Facts.{toZ-ofZ}
-use Rattle.machine.specs.Goals.{value-as, sum-as}
+use Rattle.machine.proofs.GoalsLaws.{value-as, sum-as}
 use borrow.Author.Needs.{needs}
 use Rattle.machine.proofs.goals.sum.Statement.{statement}
 use Rattle.machine.proofs.goals.sum.Tie as tie

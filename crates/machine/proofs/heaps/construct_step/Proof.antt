@@ -1,6 +1,6 @@
-use Rattle.machine.specs.Numbers.{construct-low}
+use Rattle.machine.proofs.Numbers.{construct-low}
 use mathlib.Core.Path.{refl}
-use Rattle.machine.specs.Heaps.{construct-keeps, construct-lacks}
+use Rattle.machine.proofs.HeapsLaws.{construct-keeps, construct-lacks}
 use Rattle.frames.specs.Strays.{whole}
 use borrow.Author.Needs.{needs}
 use Rattle.machine.proofs.heaps.construct_step.Statement.{statement}

@@ -1,6 +1,6 @@
-use Rattle.machine.specs.Numbers.{create-low}
+use Rattle.machine.proofs.Numbers.{create-low}
 use mathlib.Core.Path.{refl}
-use Rattle.machine.specs.Heaps.{create-keeps, create-lacks}
+use Rattle.machine.proofs.HeapsLaws.{create-keeps, create-lacks}
 use Rattle.frames.specs.Strays.{whole}
 use borrow.Author.Needs.{needs}
 use Rattle.machine.proofs.heaps.create_step.Statement.{statement}

@@ -1,8 +1,8 @@
 use mathlib.Core.Path.{refl}
-use Rattle.machine.specs.Numbers.{remove-low}
+use Rattle.machine.proofs.Numbers.{remove-low}
 use mathlib.Core.Path.{_∙_, sym}
 use Rattle.frames.specs.Strays.{whole}
-use Rattle.machine.specs.Heaps.{remaining, remove-keeps}
+use Rattle.machine.proofs.HeapsLaws.{remaining, remove-keeps}
 use borrow.Author.Needs.{needs}
 use Rattle.machine.proofs.heaps.keep.Statement.{statement}
 use Rattle.machine.proofs.heaps.keep.Tie as tie

@@ -1,4 +1,4 @@
-use Rattle.machine.specs.Goals.{region-as, remove-as}
+use Rattle.machine.proofs.GoalsLaws.{region-as, remove-as}
 use borrow.Author.Needs.{needs}
 use Rattle.machine.proofs.places.drop_region.Statement.{statement}
 use Rattle.machine.proofs.places.drop_region.Tie as tie

@@ -1,4 +1,4 @@
-use Rattle.machine.specs.Goals.{create-none, create-made}
+use Rattle.machine.proofs.GoalsLaws.{create-none, create-made}
 use borrow.Author.Needs.{needs}
 use Rattle.machine.proofs.places.make_region.Statement.{statement}
 use Rattle.machine.proofs.places.make_region.Tie as tie

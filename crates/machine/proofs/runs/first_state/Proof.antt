@@ -1,4 +1,4 @@
-use Rattle.machine.specs.Runs.{first-state}
+use Rattle.machine.proofs.RunsLaws.{first-state}
 use borrow.Author.Needs.{needs}
 use Rattle.machine.proofs.runs.first_state.Statement.{statement}
 use Rattle.machine.proofs.runs.first_state.Tie as tie

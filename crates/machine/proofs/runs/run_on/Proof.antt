@@ -5,7 +5,8 @@ use mathlib.Core.Path.{_∙_}
 use Rattle.plans.specs.Plan.{tablesIn}
 use Rattle.frames.specs.Strays.{whole, in-length, past-length}
 use Rattle.machine.specs.Calls.{successor-as}
-use Rattle.machine.specs.Runs.{Going, runFirst, first, first-as, arrives, past-on, kept-on, went-on, run-finished, run-spent, kept-stopped, went-stopped}
+use Rattle.machine.specs.Runs.{runFirst}
+use Rattle.machine.proofs.RunsLaws.{Going, first, first-as, arrives, past-on, kept-on, went-on, run-finished, run-spent, kept-stopped, went-stopped}
 use Rattle.machine.specs.Heaps.{changed, unchanged}
 use native.Mathlib.Omega.{arith}
 use Rattle.machine.proofs.runs.run_on.Statement.{statement}

@@ -1,6 +1,6 @@
 use mathlib.Core.Path.{refl}
-use Rattle.machine.specs.Calls.{body-as, size-as}
-use Rattle.machine.specs.Runs.{from-start, frameless}
+use Rattle.machine.proofs.CallsLaws.{body-as, size-as}
+use Rattle.machine.proofs.RunsLaws.{from-start, frameless}
 use native.Mathlib.Omega.{arith}
 use borrow.Author.Needs.{needs}
 use Rattle.machine.proofs.runs.run_words.Statement.{statement}

@@ -1,8 +1,8 @@
 use Rattle.frames.specs.Strays.{whole}
 use native.Mathlib.Omega.{arith}
 use mathlib.Core.Path.{refl}
-use Rattle.machine.specs.Calls.{body-as}
-use Rattle.machine.specs.Steps.{call-goes, call-stops, step-fits}
+use Rattle.machine.proofs.CallsLaws.{body-as}
+use Rattle.machine.proofs.StepsLaws.{call-goes, call-stops, step-fits}
 use native.Mathlib.Omega.{arith}
 use borrow.Author.Needs.{needs}
 use Rattle.machine.proofs.steps.call_step.Statement.{statement}

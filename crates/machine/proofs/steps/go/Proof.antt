@@ -1,9 +1,9 @@
 use native.Mathlib.Omega.{arith}
-use Rattle.machine.specs.Numbers.{literal-low, assign-low}
+use Rattle.machine.proofs.Numbers.{literal-low, assign-low}
 use mathlib.Core.Path.{sym, _∙_}
 use Rattle.frames.specs.Strays.{whole}
 use Rattle.machine.specs.Calls.{successor-as}
-use Rattle.machine.specs.Steps.{goes-same, literal-goes, assign-goes, else-goes}
+use Rattle.machine.proofs.StepsLaws.{goes-same, literal-goes, assign-goes, else-goes}
 use borrow.Author.Needs.{needs}
 use Rattle.machine.proofs.steps.go.Statement.{statement}
 use Rattle.machine.proofs.steps.go.Tie as tie

@@ -1,7 +1,7 @@
-use Rattle.machine.specs.Numbers.{if-low}
+use Rattle.machine.proofs.Numbers.{if-low}
 use mathlib.Core.Path.{refl}
 use Rattle.machine.specs.Calls.{successor-as}
-use Rattle.machine.specs.Steps.{goes-same, if-goes}
+use Rattle.machine.proofs.StepsLaws.{goes-same, if-goes}
 use Rattle.frames.specs.Strays.{whole}
 use borrow.Author.Needs.{needs}
 use Rattle.machine.proofs.steps.if_step.Statement.{statement}

@@ -1,10 +1,10 @@
 use native.Mathlib.Omega.{arith}
-use Rattle.machine.specs.Numbers.{print-low}
+use Rattle.machine.proofs.Numbers.{print-low}
 use mathlib.Core.Path.{refl}
 use Rattle.frames.specs.Strays.{whole}
 use Rattle.machine.specs.Calls.{successor-as}
-use Rattle.machine.specs.Goals.{value-as}
-use Rattle.machine.specs.Steps.{print-goes, print-stops}
+use Rattle.machine.proofs.GoalsLaws.{value-as}
+use Rattle.machine.proofs.StepsLaws.{print-goes, print-stops}
 use borrow.Author.Needs.{needs}
 use Rattle.machine.proofs.steps.print_step.Statement.{statement}
 use Rattle.machine.proofs.steps.print_step.Tie as tie

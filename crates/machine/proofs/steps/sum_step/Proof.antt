@@ -5,9 +5,9 @@ use mir.Facts.{toZ-ofZ}
 use Rattle.language.specs.Numbers.{residue}
 use Rattle.frames.specs.Strays.{whole}
 use Rattle.machine.specs.Calls.{successor-as}
-use Rattle.machine.specs.Goals.{gives, range-as}
-use Rattle.machine.specs.Numbers.{sum-low}
-use Rattle.machine.specs.Steps.{goes-same, sum-goes, sum-stops}
+use Rattle.machine.proofs.GoalsLaws.{gives, range-as}
+use Rattle.machine.proofs.Numbers.{sum-low}
+use Rattle.machine.proofs.StepsLaws.{goes-same, sum-goes, sum-stops}
 use borrow.Author.Needs.{needs}
 use Rattle.machine.proofs.steps.sum_step.Statement.{statement}
 use Rattle.machine.proofs.steps.sum_step.Tie as tie

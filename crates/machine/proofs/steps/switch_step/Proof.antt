@@ -1,7 +1,7 @@
-use Rattle.machine.specs.Numbers.{switch-low, arm-low}
+use Rattle.machine.proofs.Numbers.{switch-low, arm-low}
 use mathlib.Core.Path.{refl}
-use Rattle.machine.specs.Calls.{entry-as}
-use Rattle.machine.specs.Steps.{goes-same, switch-goes}
+use Rattle.machine.proofs.CallsLaws.{entry-as}
+use Rattle.machine.proofs.StepsLaws.{goes-same, switch-goes}
 use Rattle.frames.specs.Strays.{whole}
 use borrow.Author.Needs.{needs}
 use Rattle.machine.proofs.steps.switch_step.Statement.{statement}

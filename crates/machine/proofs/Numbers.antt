@@ -15,7 +15,8 @@ use Rattle.chains.specs.Records.{chainRecords, climb, records-none, records-ste
 use Rattle.plans.specs.Plan.{Numbered, sidesFrom}
 use Rattle.word_machine.specs.Machine.{armOf}
 use Rattle.machine.specs.Places.{Low, LowIfAny}
-use Rattle.machine.specs.Steps.{literal-record, sum-record, assign-record, construct-record, switch-record, if-record, print-record, create-record, remove-record}
+use Rattle.machine.specs.Steps.{construct-record, create-record, remove-record}
+use Rattle.machine.proofs.StepsLaws.{literal-record, sum-record, assign-record, switch-record, if-record, print-record}
 
 each : (f : List ℕ) (i : ℕ) → word f i termArguments ≤ maxVariables → word f i (termArguments + 1) ≤ maxVariables → word f i (termArguments + 2) ≤ maxVariables
     → word f i (termArguments + 3) ≤ maxVariables → Low f i
