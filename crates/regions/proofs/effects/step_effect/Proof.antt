@@ -1,4 +1,3 @@
--- `step_effect` meets its contract.
 use Rattle.regions.proofs.EffectsLaws.{construct-made, create-made, remove-made, none-made}
 use borrow.Author.Needs.{needs}
 use Rattle.regions.proofs.effects.step_effect.Statement.{statement}

@@ -1,4 +1,3 @@
--- `image_effect` meets its contract.
 use Rattle.regions.proofs.ImagesLaws.{imaged-effect}
 use borrow.Author.Needs.{needs}
 use Rattle.regions.proofs.images.image_effect.Statement.{statement}

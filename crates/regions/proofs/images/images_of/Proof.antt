@@ -1,4 +1,3 @@
--- `images_of` meets its contract.
 use Prim.Native.Nat.{_-_}
 use borrow.Author.Needs.{needs}
 use Rattle.regions.specs.Pairs.{imagesIn}

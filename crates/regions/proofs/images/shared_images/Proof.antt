@@ -1,4 +1,3 @@
--- `shared_images` meets its contract.
 use Prim.Native.Nat.{_-_}
 use borrow.Author.Needs.{needs}
 use Rattle.language.specs.Format.{places}

@@ -1,4 +1,3 @@
--- `call_ok` meets its contract.
 use Prim.Native.Nat.{_<_}
 use native.Mathlib.Omega.{arith}
 use mathlib.Core.Logic.{inl}

@@ -1,4 +1,4 @@
--- `regions_agree` meets its contract: the records below are done, and the rest decides.
+-- The records below are done, and the rest decides.
 use borrow.Author.Needs.{needs}
 use Prim.Native.Nat.{_-_, _<_}
 use native.Mathlib.Omega.{arith}

@@ -1,4 +1,3 @@
--- `row_ok` meets its contract.
 use Prim.Native.Nat.{_<_}
 use native.Mathlib.Omega.{arith}
 use Rattle.language.specs.Format.{maxRecords}

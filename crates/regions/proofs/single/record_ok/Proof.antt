@@ -1,4 +1,3 @@
--- `record_ok` meets its contract.
 use mathlib.Core.Path.{refl, sym, _∙_}
 use Rattle.language.specs.File.{kConstruct, kSwitch}
 use Rattle.chains.specs.Shapes.{to-arms}

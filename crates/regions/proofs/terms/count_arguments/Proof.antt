@@ -1,4 +1,3 @@
--- `count_arguments` meets its contract.
 use native.Mathlib.Omega.{arith}
 use Rattle.regions.proofs.TermsLaws.{count-four, count-three, count-two, count-one, count-none}
 use borrow.Author.Needs.{needs}

@@ -1,4 +1,4 @@
--- `first_edge` meets its contract: what is kept for the functor is of this chain, or it is searched for and kept.
+-- What is kept for the functor is of this chain, or it is searched for and kept.
 use borrow.Author.Needs.{needs}
 use native.Mathlib.Omega.{arith}
 use Rattle.regions.proofs.TermsLaws.{firsts-put, first-kept}

@@ -1,4 +1,4 @@
--- `in_targets` meets its contract: the arguments that are not looked at yet decide.
+-- The arguments that are not looked at yet decide.
 use Prim.Native.Nat.{ℕ, _-_, _≤_}
 use native.Mathlib.Omega.{arith}
 use mathlib.Core.List.{List}

@@ -1,4 +1,4 @@
--- `target_for` meets its contract: what the rest of the chain has is what the whole has.
+-- What the rest of the chain has is what the whole has.
 use mathlib.Core.Path.{_≡_, refl, _∙_}
 use Rattle.language.specs.File.{edges}
 use Rattle.language.specs.Regions.{targetFor}
