@@ -1,4 +1,3 @@
--- `check_classes` meets its contract.
 use mathlib.Core.Path.{sym, _∙_}
 use borrow.Author.Tests.{not-true, not-false}
 use Rattle.rules.specs.Stages.{not-accepted}

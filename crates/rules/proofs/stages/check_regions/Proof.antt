@@ -1,4 +1,3 @@
--- `check_regions` meets its contract.
 use borrow.Author.Tests.{not-true, not-false}
 use Rattle.owners.specs.Owners.{owners-fit}
 use Rattle.rules.proofs.StagesLaws.{regions-refused, unreached-refused, regions-passed}
