@@ -68,11 +68,11 @@ module _ {f : List ℕ} (F : Formed f) where
 
 -- how many records it has
 module _ {a b : List ℕ} {r : ℕ} (t : Tree) (L : Lays a b 0 r (lay t 0)) where
-  pub measured-fits : size t ≤ maxRecords → r ≡ size t
-  measured-fits h = omega (arith, L .place .fits (omega (arith, lay-length t 0)), lay-length t 0)
+  pub laid-fits : size t ≤ maxRecords → r ≡ size t
+  laid-fits h = omega (arith, L .place .fits (omega (arith, lay-length t 0)), lay-length t 0)
 
-  pub measured-over : maxRecords < size t → maxRecords < r
-  measured-over h = L .place .over (omega (arith, lay-length t 0))
+  pub laid-over : maxRecords < size t → maxRecords < r
+  laid-over h = L .place .over (omega (arith, lay-length t 0))
 
 -- its bytes
 file-length : (f : List ℕ) → length (fileOf (annotate (program f))) ≡ recordBytes * size (programTree (annotate (program f)))
@@ -99,8 +99,8 @@ pub file-front : (f : List ℕ) {a b : List ℕ} {r : ℕ} → ((j : ℕ) → ge
 unfolding frontWritten
 file-front f {a} {b} {r} B n L h =
     let P = annotate (program f) in
-    let l : size (programTree P) ≤ maxRecords = elim (decLt maxRecords (size (programTree P))) [ yes k ↦ absurd (omega (arith, measured-over (programTree P) L k)) | no k ↦ omega arith ] in
-    let e : r ≡ size (programTree P) = measured-fits (programTree P) L l in
+    let l : size (programTree P) ≤ maxRecords = elim (decLt maxRecords (size (programTree P))) [ yes k ↦ absurd (omega (arith, laid-over (programTree P) L k)) | no k ↦ omega arith ] in
+    let e : r ≡ size (programTree P) = laid-fits (programTree P) L l in
     let m : recordBytes * r ≡ length (fileOf P) = omega (arith, e, file-length f) in
     ap (take (recordBytes * r)) (file-written f B l (omega arith) L) ∙ take-front (fileOf P) (drop (length (fileOf P)) a) m
 

@@ -1,4 +1,4 @@
--- `lay_procedures` meets its contract: the procedures in turn.
+-- The procedures in turn.
 use borrow.Author.Needs.{needs}
 use native.Mathlib.Omega.{arith}
 use mathlib.Core.Path.{_≡_}
@@ -17,10 +17,6 @@ abbrev μ-loop : tie.MeasureT-loop
 μ-loop file table rows points₀ out₀ first i₀ q₀ record₀ points out i q «record» =
     ahead file i
 
-word-requires : tie.Need-word-requires Inv-loop μ-loop
-word-requires c κs =
-    search needs
-
 loop-holds : tie.Need-loop-holds Inv-loop μ-loop
 loop-holds c =
     (laying-first _ _ (c .before .before .pre .0 .formed) (c .word .ensures .0), c .before .before .pre .1)
@@ -35,10 +31,6 @@ add-q c =
     let v = c .before .before .before .before .before .loop .inv in
     let l = here-below (c .before .before .before .before .before .before .before .before .pre .0 .formed) (v .0 .turn) (c .before .before .before .before .loop-test .taken) in
     omega (arith, l, c .before .before .before .before .before .before .before .before .pre .0 .prepared .few)
-
-word-requires-2 : tie.Need-word-requires-2 Inv-loop μ-loop
-word-requires-2 c κs =
-    search needs
 
 loop-less : tie.Need-loop-less Inv-loop μ-loop
 loop-less c =
@@ -55,14 +47,4 @@ returns c =
 pub lay-procedures-spec : {M : Type 1} → statement M
 lay-procedures-spec =
     tie.close
-    (tie.spec
-    Inv-loop
-    μ-loop
-    word-requires
-    loop-holds
-    lay-procedure-requires
-    add-q
-    word-requires-2
-    loop-less
-    loop-again
-    returns)
+    (tie.spec Inv-loop μ-loop (search needs) loop-holds lay-procedure-requires add-q (search needs) loop-less loop-again returns)

@@ -1,4 +1,3 @@
--- `steps` meets its contract.
 use native.Mathlib.Omega.{arith}
 use mathlib.Core.Path.{sym, _∙_}
 use Rattle.chains.specs.Formed.{ahead}

@@ -1,7 +1,6 @@
--- `removed_after` meets its contract.
 use borrow.Author.Needs.{needs}
-use Rattle.lifetimes.proofs.placed.removed_after.Statement.{statement}
-use Rattle.lifetimes.proofs.placed.removed_after.Tie as tie
+use Rattle.insertion.proofs.placed.removed_after.Statement.{statement}
+use Rattle.insertion.proofs.placed.removed_after.Tie as tie
 
 returns : tie.Need-returns
 returns c =

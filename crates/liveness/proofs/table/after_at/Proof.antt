@@ -2,8 +2,8 @@ use native.Mathlib.Omega.{arith}
 use Rattle.liveness.specs.Table.{afterAt}
 use Rattle.liveness.proofs.TableLaws.{before-past}
 use borrow.Author.Needs.{needs}
-use Rattle.liveness.proofs.table.live_after.Statement.{statement}
-use Rattle.liveness.proofs.table.live_after.Tie as tie
+use Rattle.liveness.proofs.table.after_at.Statement.{statement}
+use Rattle.liveness.proofs.table.after_at.Tie as tie
 
 returns : tie.Need-returns
 unfolding afterAt
@@ -13,5 +13,5 @@ returns-2 : tie.Need-returns-2
 unfolding afterAt
 returns-2 c = before-past (c .before .before .args .table .now) _ (omega arith)
 
-pub live-after-spec : {M : Type 1} → statement M
-live-after-spec = tie.close (tie.spec (search needs) (search needs) returns returns-2)
+pub after-at-spec : {M : Type 1} → statement M
+after-at-spec = tie.close (tie.spec (search needs) (search needs) returns returns-2)

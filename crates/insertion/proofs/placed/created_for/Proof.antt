@@ -1,7 +1,6 @@
--- `created_for` meets its contract.
 use borrow.Author.Needs.{needs}
-use Rattle.lifetimes.proofs.placed.created_for.Statement.{statement}
-use Rattle.lifetimes.proofs.placed.created_for.Tie as tie
+use Rattle.insertion.proofs.placed.created_for.Statement.{statement}
+use Rattle.insertion.proofs.placed.created_for.Tie as tie
 
 returns : tie.Need-returns
 returns c =
