@@ -1,4 +1,3 @@
--- `carry` meets its contract.
 use native.Mathlib.Omega.{arith}
 use lib.ListN.{length-set}
 use Rattle.checking.proofs.CarriedLaws.{carried-put}

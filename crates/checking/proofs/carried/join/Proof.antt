@@ -1,4 +1,3 @@
--- `join` meets its contract.
 use borrow.Author.Tests.{not-true, not-false}
 use Rattle.checking.proofs.CarriedLaws.{join-differs, join-same}
 use borrow.Author.Needs.{needs}

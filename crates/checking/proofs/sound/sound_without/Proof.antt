@@ -1,4 +1,3 @@
--- `sound_without` meets its contract.
 use Rattle.sets.specs.Sets.{small-of-bits}
 use Rattle.checking.proofs.SoundLaws.{without-none}
 use borrow.Author.Needs.{needs}

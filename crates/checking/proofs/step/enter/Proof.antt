@@ -1,4 +1,3 @@
--- `enter` meets its contract.
 use mathlib.Core.Path.{_∙_}
 use Rattle.checking.proofs.RulesLaws.{entered}
 use borrow.Author.Needs.{needs}
