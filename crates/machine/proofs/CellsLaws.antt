@@ -18,7 +18,7 @@ use Rattle.memory.specs.declared.Made.the-variants.{At, NoRoom}
 use Rattle.memory.specs.Memory.{cellWords, constantsFrom}
 use Rattle.plans.specs.Plan.{sidesFrom}
 use Rattle.word_machine.specs.Machine.{regionsFrom, armOf}
-use Rattle.machine.specs.Places.{homeFor, termMade, cellsMade, regionsMade, placed, functorIn, armFor, armValues, termValues}
+use Rattle.machine.specs.GoalWords.{homeFor, termMade, cellsMade, regionsMade, placed, functorIn, armFor, armValues, termValues}
 use Rattle.machine.specs.Cells.{Constructs, Makes, wholeCell}
 
 -- ---- a construct

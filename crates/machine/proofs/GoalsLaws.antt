@@ -17,7 +17,7 @@ use Rattle.memory.specs.declared.Made.{Made}
 use Rattle.memory.specs.declared.Made.the-variants.{At, NoRoom}
 use Rattle.memory.specs.Memory.{created, createdRegions, removed, removedCells, removedRegions}
 use Rattle.word_machine.specs.Machine.{regionsFrom, sumOfWords}
-use Rattle.machine.specs.Places.{regionFor, placed}
+use Rattle.machine.specs.GoalWords.{regionFor, placed}
 
 -- ---- values
 pub value-as : (P a b v : ℕ) (fw : List ℕ) → v ≡ getD fw (P + a) 0 → a ≡ b → v ≡ getD fw (P + b) 0

@@ -23,15 +23,15 @@ use Rattle.plans.specs.Plan.{tablesIn}
 use Rattle.word_machine.specs.Tables.{Tables}
 use Rattle.word_machine.specs.Machine.{Went, went, stops, frameWords, regionsFrom, given, withFrames, termOf, contentsOf, valueOf, regionFor, constructs, constructed, constructedBy, makesRegion, createdBy, dropsRegion, steps}
 use Rattle.machine.specs.declared.State.{State}
-use Rattle.machine.specs.declared.Kept.{Kept}
-use Rattle.machine.specs.declared.Kept.the-variants.{Left, Lacks}
-use Rattle.machine.specs.Words.{wordsOf, onwardTo, keptTo, Keeps, Changes}
-use Rattle.machine.specs.Places.{valueIn, termIn, homeFor, termMade, cellsMade, regionsMade, regionFor as regionNamed, placed}
+use Rattle.machine.specs.declared.HeapStep.{HeapStep}
+use Rattle.machine.specs.declared.HeapStep.the-variants.{Left, Lacks}
+use Rattle.machine.specs.Words.{wordsOf, onwardTo, heapCameTo, HeapGoes, Changes}
+use Rattle.machine.specs.GoalWords.{valueIn, termIn, homeFor, termMade, cellsMade, regionsMade, regionFor as regionNamed, placed}
 use Rattle.machine.specs.Cells.{Constructs}
 use Rattle.machine.specs.Steps.{construct-record, create-record, remove-record}
 
 -- ---- answers told apart
-unfoldable lacking : Kept → ℕ
+unfoldable lacking : HeapStep → ℕ
 lacking (Left h) = 0
 lacking (Lacks c) = 1
 
@@ -90,9 +90,9 @@ module _ (f plan images callees : List ℕ) (s : State) (h : Heap) (m rs fw : Li
     unfolding steps termIn
     construct-left y l q k ps next en = rw (construct-record f (s .goal) w ew z, ← en) (left-as y l q ps next _ _ _ _ (C .0 .0) (C .0 .1) (C .0 .2))
 
-    pub construct-keeps : (y : ℕ) (l : Heap) → md ≡ At y l → Keeps f T s h m rs fw (Left l) m₁ rs₁ fx
-    unfolding keptTo
-    construct-keeps y l q = record { comes = construct-left y l q; kept = λ c e. absurd (left-not l c e) }
+    pub construct-changes : (y : ℕ) (l : Heap) → md ≡ At y l → HeapGoes f T s h m rs fw (Left l) m₁ rs₁ fx
+    unfolding heapCameTo
+    construct-changes y l q = record { comes = construct-left y l q; kept = λ c e. absurd (left-not l c e) }
 
     stop-as : md ≡ NoRoom → (ps : List ℕ) (next a b c d : ℕ) → md ≡ termMade t a h m → stops Cells ≡ Comes ps next a b c d
     unfolding constructs constructed constructedBy wordsOf termMade
@@ -112,8 +112,8 @@ module _ (f plan images callees : List ℕ) (s : State) (h : Heap) (m rs fw : Li
     unfolding placed
     construct-same q = let b = same-as q _ _ (C .0 .0) (C .0 .1) (C .0 .2) in (b .0, b .1, rw (C .1, q))
 
-    pub construct-lacks : md ≡ NoRoom → Keeps f T s h m rs fw (Lacks Cells) m₁ rs₁ fx
-    unfolding keptTo
+    pub construct-lacks : md ≡ NoRoom → HeapGoes f T s h m rs fw (Lacks Cells) m₁ rs₁ fx
+    unfolding heapCameTo
     construct-lacks q = record { comes = λ k ps next en. construct-stop q k ps; kept = λ c e. construct-same q }
 
   module _ (md : Made) (rs₁ fx : List ℕ) (z : w ≡ createKind) (e : md ≡ created h rs) (er : rs₁ ≡ createdRegions h rs)
@@ -123,9 +123,9 @@ module _ (f plan images callees : List ℕ) (s : State) (h : Heap) (m rs fw : Li
     unfolding steps makesRegion createdBy wordsOf placed
     create-left y l d k ps next en = rw (create-record f (s .goal) w ew z, en, er, ex, D, ← e, d)
 
-    pub create-keeps : (y : ℕ) (l : Heap) → md ≡ At y l → Keeps f T s h m rs fw (Left l) m rs₁ fx
-    unfolding keptTo
-    create-keeps y l d = record { comes = create-left y l d; kept = λ c q. absurd (left-not l c q) }
+    pub create-changes : (y : ℕ) (l : Heap) → md ≡ At y l → HeapGoes f T s h m rs fw (Left l) m rs₁ fx
+    unfolding heapCameTo
+    create-changes y l d = record { comes = create-left y l d; kept = λ c q. absurd (left-not l c q) }
 
     create-stop : md ≡ NoRoom → (k : Room) (ps : List ℕ) → stops Places ≡ Steps k ps
     unfolding steps makesRegion createdBy wordsOf
@@ -135,8 +135,8 @@ module _ (f plan images callees : List ℕ) (s : State) (h : Heap) (m rs fw : Li
     unfolding placed
     create-same d = (refl, er ∙ created-none h rs (sym d ∙ e), rw (ex, d))
 
-    pub create-lacks : md ≡ NoRoom → Keeps f T s h m rs fw (Lacks Places) m rs₁ fx
-    unfolding keptTo
+    pub create-lacks : md ≡ NoRoom → HeapGoes f T s h m rs fw (Lacks Places) m rs₁ fx
+    unfolding heapCameTo
     create-lacks d = record { comes = λ k ps next en. create-stop d k ps; kept = λ c q. create-same d }
 
   module _ (l : Heap) (m₁ rs₁ : List ℕ) (z : w ≡ removeKind)
@@ -146,6 +146,6 @@ module _ (f plan images callees : List ℕ) (s : State) (h : Heap) (m rs fw : Li
     unfolding steps dropsRegion regionFor wordsOf regionNamed
     remove-left k ps next en = rw (remove-record f (s .goal) w ew z, en, e .0, e .1, e .2, D)
 
-    pub remove-keeps : Keeps f T s h m rs fw (Left l) m₁ rs₁ fw
-    unfolding keptTo
-    remove-keeps = record { comes = remove-left; kept = λ c q. absurd (left-not l c q) }
+    pub remove-changes : HeapGoes f T s h m rs fw (Left l) m₁ rs₁ fw
+    unfolding heapCameTo
+    remove-changes = record { comes = remove-left; kept = λ c q. absurd (left-not l c q) }

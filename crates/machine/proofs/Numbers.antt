@@ -14,7 +14,7 @@ use Rattle.chains.specs.Is.{arm-is, chain-next}
 use Rattle.chains.specs.Records.{chainRecords, climb, records-none, records-step}
 use Rattle.plans.specs.Plan.{Numbered, sidesFrom}
 use Rattle.word_machine.specs.Machine.{armOf}
-use Rattle.machine.specs.Places.{Low, LowIfAny}
+use Rattle.machine.specs.GoalWords.{Low, LowIfAny}
 use Rattle.machine.specs.Steps.{construct-record, create-record, remove-record}
 use Rattle.machine.proofs.StepsLaws.{literal-record, sum-record, assign-record, switch-record, if-record, print-record}
 

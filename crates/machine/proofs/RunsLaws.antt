@@ -21,12 +21,12 @@ use Rattle.plans.specs.Plan.{calleeWord, calleeBody}
 use Rattle.word_machine.specs.Tables.{Tables}
 use Rattle.word_machine.specs.Machine.{printWords, MachineWords, went, stops, frameWords, Outcome, endedWith, afterStep, cleared, blocks, steps, settledFrom, settled, settledIf, stepped, runOn, runFrom, startWords, noFrame, lentWords, wordRun}
 use Rattle.machine.specs.declared.State.{State}
-use Rattle.machine.specs.declared.Kept.{Kept}
-use Rattle.machine.specs.declared.Kept.the-variants.{Left, Lacks}
+use Rattle.machine.specs.declared.HeapStep.{HeapStep}
+use Rattle.machine.specs.declared.HeapStep.the-variants.{Left, Lacks}
 use Rattle.machine.specs.declared.Step.{Step}
 use Rattle.machine.specs.declared.Step.the-variants.{Went as WentTo, Stops}
 use Rattle.machine.specs.declared.Outcome.{Outcome as Answer}
-use Rattle.machine.specs.Words.{FramePlaced, wordsOf, onwardTo, onward-placed, cameTo, keptTo, Goes, Keeps}
+use Rattle.machine.specs.Words.{FramePlaced, wordsOf, onwardTo, onward-placed, cameTo, heapCameTo, Goes, HeapGoes}
 use Rattle.machine.specs.Runs.{Ran, endedAt, entryState, firstState, runFirst}
 
 ended-ran : (e : Ending) (n : ℕ) (h : Heap) (m rs fw ps : List ℕ) (s : State) → Ran (endedWith e n (wordsOf h m rs fw ps s)) (endedAt e n s) m rs fw ps
@@ -200,13 +200,13 @@ module _ (f : List ℕ) (T : Tables) (l : ℕ) (m₀ rs₀ fw₀ ps₀ : List �
     }
 
     -- a goal that changes it
-    pub kept-on : (h₁ : Heap) (m₁ rs₁ fx : List ℕ) (next : ℕ) (v : State) (r : Kept) → (s .goal ≡ 0 → ⊥) → 0 < n → Keeps f T s h m rs fw r m₁ rs₁ fx → r ≡ Left h₁
+    pub changed-on : (h₁ : Heap) (m₁ rs₁ fx : List ℕ) (next : ℕ) (v : State) (r : HeapStep) → (s .goal ≡ 0 → ⊥) → 0 < n → HeapGoes f T s h m rs fw r m₁ rs₁ fx → r ≡ Left h₁
         → next ≡ T .successor (s .goal) → v ≡ onwardTo s next → length m₁ ≡ length m → length rs₁ ≡ length rs → length fx ≡ length fw
         → Going f T l m₀ rs₀ fw₀ ps₀ o (n - 1) h₁ m₁ rs₁ fx ps v
-    unfolding keptTo
-    kept-on h₁ m₁ rs₁ fx next v r z q g er en ev lm lr lf = record {
+    unfolding heapCameTo
+    changed-on h₁ m₁ rs₁ fx next v r z q g er en ev lm lr lf = record {
       rest = on (wordsOf h₁ m₁ rs₁ fx ps v) z q
-          (sym (g .comes K ps next en) ∙ ap (λ t. keptTo t m₁ rs₁ fx ps (onwardTo s next)) er ∙ ap (λ t. went (wordsOf h₁ m₁ rs₁ fx ps t)) (sym ev));
+          (sym (g .comes K ps next en) ∙ ap (λ t. heapCameTo t m₁ rs₁ fx ps (onwardTo s next)) er ∙ ap (λ t. went (wordsOf h₁ m₁ rs₁ fx ps t)) (sym ev));
       most = omega (arith, G .most);
       cells = lm ∙ G .cells;
       regions = lr ∙ G .regions;
@@ -241,9 +241,9 @@ module _ (f : List ℕ) (T : Tables) (l : ℕ) (m₀ rs₀ fw₀ ps₀ : List �
         let e = g .kept c ea in
         rw (e .0, e .1) (stopped c r z q (sym (g .comes K h rs room-frames room-prints) ∙ ap (λ t. cameTo t h m rs fx px) ea) er)
 
-    pub kept-stopped : (m₁ rs₁ fx : List ℕ) (c : Stop) (a : Kept) (r : Answer) → (s .goal ≡ 0 → ⊥) → 0 < n → Keeps f T s h m rs fw a m₁ rs₁ fx → a ≡ Lacks c
+    pub change-stopped : (m₁ rs₁ fx : List ℕ) (c : Stop) (a : HeapStep) (r : Answer) → (s .goal ≡ 0 → ⊥) → 0 < n → HeapGoes f T s h m rs fw a m₁ rs₁ fx → a ≡ Lacks c
         → r ≡ endedAt (Stopped c) (l - n) s → Ran o r m₁ rs₁ fx ps
-    unfolding keptTo
-    kept-stopped m₁ rs₁ fx c a r z q g ea er =
+    unfolding heapCameTo
+    change-stopped m₁ rs₁ fx c a r z q g ea er =
         let e = g .kept c ea in
-        rw (e .0, e .1, e .2) (stopped c r z q (sym (g .comes K ps (T .successor (s .goal)) refl) ∙ ap (λ t. keptTo t m₁ rs₁ fx ps (onwardTo s (T .successor (s .goal)))) ea) er)
+        rw (e .0, e .1, e .2) (stopped c r z q (sym (g .comes K ps (T .successor (s .goal)) refl) ∙ ap (λ t. heapCameTo t m₁ rs₁ fx ps (onwardTo s (T .successor (s .goal)))) ea) er)

@@ -28,7 +28,7 @@ use Rattle.machine.specs.declared.State.{State}
 use Rattle.machine.specs.declared.Step.{Step}
 use Rattle.machine.specs.declared.Step.the-variants.{Went as WentTo, Stops}
 use Rattle.machine.specs.Words.{FramePlaced, wordsOf, cameTo, onwardTo, onward-placed, Goes}
-use Rattle.machine.specs.Places.{valueIn, sumAt, argumentsFrom, wordsFrom, functorIn, armFor, armValues, termValues}
+use Rattle.machine.specs.GoalWords.{valueIn, sumAt, argumentsFrom, wordsFrom, functorIn, armFor, armValues, termValues}
 use Rattle.machine.specs.Steps.{of-kind}
 
 -- ---- the record by the number of its kind, w

@@ -8,7 +8,7 @@ use Rattle.language.specs.File.{word}
 use Rattle.language.specs.Format.{maxArity, termFunctor, termArguments}
 use Rattle.memory.specs.Memory.{cellArguments, cellWords, cellWord, withWord}
 use Rattle.word_machine.specs.Machine.{givesEach}
-use Rattle.machine.specs.Places.{valueIn, poursEach, argumentsFrom, wordsFrom, poured, armValues}
+use Rattle.machine.specs.GoalWords.{valueIn, poursEach, argumentsFrom, wordsFrom, poured, armValues}
 
 -- some are left, or none
 left : (n : ℕ) → n < maxArity → maxArity - n ≡ suc (maxArity - suc n)

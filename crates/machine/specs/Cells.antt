@@ -18,7 +18,7 @@ use Rattle.memory.specs.declared.Made.the-variants.{At, NoRoom}
 use Rattle.memory.specs.Memory.{cellWords, constantsFrom, cellWord, withWord, withLink, first, filled, hung, built, builtCells, builtRegions}
 use Rattle.memory.specs.Building.{built-none, built-made, built-place, still}
 use Rattle.word_machine.specs.Machine.{termOf}
-use Rattle.machine.specs.Places.{valueIn, termIn, poursEach, argumentsFrom, poured, homeFor, termMade, cellsMade, regionsMade, placed}
+use Rattle.machine.specs.GoalWords.{valueIn, termIn, poursEach, argumentsFrom, poured, homeFor, termMade, cellsMade, regionsMade, placed}
 
 -- ---- words put up to the first 0, and the link, are the whole cell: the others are filled with what stands there
 module _ (value : ℕ → ℕ) (m : List ℕ) (x : ℕ) where

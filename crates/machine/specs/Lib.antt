@@ -1,5 +1,5 @@
 pub mod Words
-pub mod Places
+pub mod GoalWords
 pub mod Cells
 pub mod Calls
 pub mod Steps
