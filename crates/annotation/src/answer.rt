@@ -2,7 +2,7 @@
 use crate::Annotated;
 use crate::stages::check_annotatable;
 use insertion::blank_laid;
-use insertion::measure;
+use insertion::lay_annotated;
 use insertion::write;
 use language::Refusal;
 use language::Verdict;
@@ -42,7 +42,7 @@ fn write_annotated(
     ensures { λ r. ⌜ Annotates (roomAnswer (now (file .entry)) (length (now (out .entry)))) (now (out .entry)) (now (out .exit)) r ⌝ }
 {
     let mut laid = blank_laid();
-    let records = measure(file, table, rows, points, &mut laid);
+    let records = lay_annotated(file, table, rows, points, &mut laid);
     if records > MAX_RECORDS {
         return Annotated::Refused(Refusal::Room);
     }

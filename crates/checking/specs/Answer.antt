@@ -1,33 +1,11 @@
 -- The checker's stages: those before the tables are made, and those after.
 use Prim.Native.Nat.{ℕ}
 use mathlib.Core.List.{List, [], _∷_, _++_}
-use mathlib.Core.Path.{_≡_, refl, sym, ap, _∙_}
-use Rattle.language.specs.declared.Refusal.{Refusal}
 use Rattle.language.specs.declared.Refusal.the-variants.{Rules}
-use Rattle.language.specs.declared.Verdict.{Verdict}
-use Rattle.language.specs.declared.Verdict.the-variants.{Refused, Accepted}
 use Rattle.language.specs.Checking.{rulesOk}
-use Rattle.language.specs.Answers.{Stage, stage, lowest, program, fileStages, reachedStages, checkerStages, checked}
-use Rattle.records.specs.Verdicts.{formStages, after, lowest-append}
-use Rattle.rules.specs.Stages.{typingStages, tableStages}
+use Rattle.language.specs.Answers.{Stage, stage, program}
+use Rattle.rules.specs.Stages.{tableStages}
 
 -- numbers 4, 5, 17, 7 and 8
 abbrev pub ruleStages : List ℕ → List Stage
 ruleStages f = tableStages f ++ (stage Rules (rulesOk (program f)) ∷ [])
-
-all-stages : (f : List ℕ) → typingStages f ++ ruleStages f ≡ checkerStages f
-unfolding checkerStages reachedStages fileStages formStages
-all-stages f = refl
-
-checked-by : (f : List ℕ) → checked f ≡ after (lowest (typingStages f)) (lowest (ruleStages f))
-unfolding checked
-checked-by f = ap lowest (sym (all-stages f)) ∙ lowest-append (typingStages f) (ruleStages f)
-
-module _ (f : List ℕ) {v : Verdict} (e : v ≡ lowest (typingStages f)) where
-  pub checker-refuses : {r : Refusal} → v ≡ Refused r → v ≡ checked f
-  unfolding after
-  checker-refuses g = g ∙ sym (checked-by f ∙ ap (λ (w : Verdict). after w (lowest (ruleStages f))) (sym e ∙ g))
-
-  pub checker-goes : {w : Verdict} → v ≡ Accepted → w ≡ lowest (ruleStages f) → w ≡ checked f
-  unfolding after
-  checker-goes g h = h ∙ sym (checked-by f ∙ ap (λ (u : Verdict). after u (lowest (ruleStages f))) (sym e ∙ g))

@@ -27,11 +27,14 @@ use Rattle.writer.specs.Laid.{linked}
 use Rattle.writer.specs.Skips.{Behind}
 use Rattle.laying.specs.Lays.{Lays, GoesOn, lays-end}
 use Rattle.laying.specs.Marks.{marks}
-use Rattle.insertion.specs.Chains.{Fronts, fronts-head, chain-goes, lays-part}
-use Rattle.insertion.specs.Wants.{WantedFrom, goal-wants, start-wants, switch-wants, branches-want, arms-want}
+use Rattle.insertion.specs.Chains.{Fronts}
+use Rattle.insertion.proofs.ChainsLaws.{fronts-head, chain-goes, lays-part}
+use Rattle.insertion.specs.Wants.{WantedFrom}
+use Rattle.insertion.proofs.WantsLaws.{goal-wants, start-wants, switch-wants, branches-want, arms-want}
 use Rattle.laying.specs.Heads.{SwitchStored, IfStored, ArmStored, switch-head, if-head, arm-front}
 use Rattle.insertion.specs.Cursor.{recordIn, pointIn}
-use Rattle.insertion.specs.Along.{LaidAlong, along-next, along-on}
+use Rattle.insertion.specs.Along.{LaidAlong}
+use Rattle.insertion.proofs.AlongLaws.{along-next, along-on}
 use Rattle.insertion.specs.Done.{partOf, GoalsLaid, GoalLaid, PartLaid, ArmsLaid}
 
 -- ---- a turn along a chain: a goal with parts, then the steps behind it

@@ -1,8 +1,8 @@
 // The points of a procedure's goals, each with what is wanted before its goal and after it.
-use lifetimes::wanted_in;
+use crate::wanted::wanted_in;
 use liveness::POINTS;
-use liveness::live_after;
-use liveness::live_before;
+use liveness::after_at;
+use liveness::before_at;
 use sets::Set;
 ghost use mathlib.Core.Path.{_≡_};
 ghost use Prim.Native.Nat.{_+_, _≤_, _<_};
@@ -42,11 +42,11 @@ pub fn left_over(points: &[u64; POINTS], whole: usize, start: usize, at: usize) 
     ensures { λ r. ⌜ (start ≡ 0 → r ≡ beforeAt (now (points .entry)) whole ∖ afterAt (now (points .entry)) whole) ⌝ }
     ensures { λ r. ⌜ ((start ≡ 0 → ⊥) → r ≡ beforeAt (now (points .entry)) whole ∖ beforeAt (now (points .entry)) at) ⌝ }
 {
-    let held = live_before(points, whole);
+    let held = before_at(points, whole);
     if start == 0 {
-        let after = live_after(points, whole);
+        let after = after_at(points, whole);
         return held.difference(after);
     }
-    let before = live_before(points, at);
+    let before = before_at(points, at);
     held.difference(before)
 }

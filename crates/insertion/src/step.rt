@@ -3,6 +3,8 @@ use crate::CURSOR;
 use crate::cursor::point_in;
 use crate::cursor::put;
 use crate::cursor::record_in;
+use crate::placed::created_for;
+use crate::placed::removed_after;
 use crate::points::past;
 use chains::word;
 use language::format::CREATE;
@@ -15,11 +17,9 @@ use language::format::SWITCH;
 use laying::follows;
 use laying::lay_marks;
 use laying::lay_record;
-use lifetimes::created_for;
-use lifetimes::removed_after;
 use liveness::POINTS;
-use liveness::live_after;
-use liveness::live_before;
+use liveness::after_at;
+use liveness::before_at;
 use sets::Set;
 use tables::ROWS;
 use tables::bears_at;
@@ -37,8 +37,8 @@ ghost use Rattle.insertion.specs.Steps.{createdIn, removedIn};
 fn created_at(rows: &[u64; ROWS], points: &[u64; POINTS], i: usize, point: usize) -> Set
     ensures { λ r. ⌜ r ≡ createdIn (now (rows .entry)) (now (points .entry)) i point ⌝ }
 {
-    let before = live_before(points, point);
-    let after = live_after(points, point);
+    let before = before_at(points, point);
+    let after = after_at(points, point);
     created_for(needs_at(rows, i), bears_at(rows, i), before, after)
 }
 
@@ -52,8 +52,8 @@ fn removed_at(
 ) -> Set
     ensures { λ r. ⌜ r ≡ removedIn (now (rows .entry)) (now (points .entry)) i point created ⌝ }
 {
-    let held = live_before(points, point).union(created);
-    let after = live_after(points, point);
+    let held = before_at(points, point).union(created);
+    let after = after_at(points, point);
     removed_after(held, ends_at(rows, i), bears_at(rows, i), after)
 }
 

@@ -73,7 +73,7 @@ pub fn blank_laid() -> [u8; MAX_BYTES]
 }
 
 // Lays the annotated file as the front part of `laid` and answers how many records it has; some number above 4,096 where it has more than that.
-pub fn measure(
+pub fn lay_annotated(
     file: &[u8],
     table: &[u64; TABLE],
     rows: &[u64; ROWS],

@@ -3,7 +3,7 @@ use Prim.Native.Nat.{ℕ, zero, suc, _+_, _≤_, _<_}
 use native.Mathlib.Omega.{arith}
 use native.Mathlib.Decide.{decLt}
 use mathlib.Core.List.{List, [], _∷_}
-use mathlib.Core.Path.{_≡_, ap₂, sym}
+use mathlib.Core.Path.{ap₂, sym}
 use lib.ListN.{length}
 use Rattle.language.specs.Format.{maxRecords, switchKind, ifKind, armKind, procedureKind, nextWord, goalX, ifY, ifZ, termFunctor, termArguments}
 use Rattle.language.specs.File.{kSwitch, kIf, kProcedure, kArm, kGoal, word}
@@ -70,29 +70,6 @@ module _ (f : List ℕ) (i : ℕ) (a b : List ℕ) (c : ℕ) where
     pub second-spans : Spans m n second-link
     pub third-spans : Spans n e third-link
     pub stored : Stored a b c (procedureKind ∷ next ∷ first-link ∷ second-link ∷ third-link ∷ 0 ∷ 0 ∷ 0 ∷ [])
-
--- ---- as the code stores them
-module _ (f : List ℕ) (i : ℕ) {e w x : ℕ} (ew : w ≡ word f i nextWord) (R : RefersTo w e x) where
-  refers-next : RefersTo (word f i nextWord) e x
-  refers-next = rw ew at R
-
-  pub switch-stored : {a b : List ℕ} {c s y l : ℕ} → y ≡ word f i goalX → Spans s e l → Stored a b c (switchKind ∷ x ∷ y ∷ l ∷ 0 ∷ 0 ∷ 0 ∷ 0 ∷ [])
-      → SwitchStored f i a b c s e
-  switch-stored p q o = record { next = _; link = _; refers = refers-next; spans = q; stored = rw p at o }
-
-  pub if-stored : {a b : List ℕ} {c s m y z k l : ℕ} → y ≡ word f i ifY → z ≡ word f i ifZ → Spans s m k → Spans m e l
-      → Stored a b c (ifKind ∷ x ∷ y ∷ z ∷ k ∷ l ∷ 0 ∷ 0 ∷ []) → IfStored f i a b c s m e
-  if-stored p q u v o = record { next = _; yes-link = _; no-link = _; refers = refers-next; yes-spans = u; no-spans = v; stored = rw (p, q) at o }
-
-  pub arm-stored : {a b : List ℕ} {c s l functor a1 a2 a3 a4 : ℕ} → Spans s e l → functor ≡ word f i termFunctor → a1 ≡ word f i termArguments
-      → a2 ≡ word f i (termArguments + 1) → a3 ≡ word f i (termArguments + 2) → a4 ≡ word f i (termArguments + 3)
-      → Stored a b c (armKind ∷ x ∷ l ∷ functor ∷ a1 ∷ a2 ∷ a3 ∷ a4 ∷ []) → ArmStored f i a b c s e
-  arm-stored q ef e1 e2 e3 e4 o = record { next = _; link = _; refers = refers-next; spans = q; stored = rw (ef, e1, e2, e3, e4) at o }
-
-  pub procedure-stored : {a b : List ℕ} {c s m n j k l : ℕ} → Spans s m j → Spans m n k → Spans n e l → Stored a b c (procedureKind ∷ x ∷ j ∷ k ∷ l ∷ 0 ∷ 0 ∷ 0 ∷ [])
-      → ProcedureStored f i a b c s m n e
-  procedure-stored p q u o =
-      record { next = _; first-link = _; second-link = _; third-link = _; refers = refers-next; first-spans = p; second-spans = q; third-spans = u; stored = o }
 
 -- ---- laid
 module _ {f : List ℕ} {i : ℕ} {a b d : List ℕ} {c s e : ℕ} (B : Behind c 1 s) where

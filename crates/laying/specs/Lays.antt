@@ -58,17 +58,6 @@ pub record Stored (a b : List ℕ) (c : ℕ) (w : List ℕ) : Type 0 where
   pub same : length b ≡ length a
   pub there : recordBytes * c + recordBytes ≤ length a → Laid a b c (w ∷ [])
 
--- the record alone
-pub lays-one : {a b : List ℕ} {c m : ℕ} {v : List ℕ} (w : List ℕ) → Behind c 1 m → Stored a b c v → (m ≤ maxRecords → m ≡ suc c → v ≡ w) → Lays a b c m (w ∷ [])
-lays-one {c = c} {m = m} w B S e =
-    record {
-      same = S .same;
-      place = B;
-      room = λ p q.
-          let n : m ≡ suc c = omega (arith, B .fits p) in
-          rw (sym (e (omega arith) n)) (S .there (omega arith));
-    }
-
 -- first what its words lead to, then the record in front of that
 pub lays-before : {a b d : List ℕ} {c m r : ℕ} {v : List ℕ} (w : List ℕ) (ys : ℕ → List (List ℕ)) → Behind c 1 m → Lays a b m r (ys m) → Stored b d c v
     → (suc c + length (ys (suc c)) ≤ maxRecords → m ≡ suc c → r ≡ suc c + length (ys (suc c)) → v ≡ w) → Lays a d c r (w ∷ ys (suc c))

@@ -19,12 +19,15 @@ use Rattle.chains.specs.Is.{chain-next, goals-step}
 use Rattle.chains.specs.Shapes.{IsSwitch, IsIf, StepAt, step-here, switch-here, if-here, arm-here}
 use Rattle.tables.specs.Filled.{GoalIsStep, Accessed}
 use Rattle.liveness.specs.Points.{Point, point, points, partPoints, goalPoints, armsPoints, pointWords}
-use Rattle.liveness.specs.Table.{Fills, fills-none, fills-more}
+use Rattle.liveness.specs.Table.{Fills}
+use Rattle.liveness.proofs.TableLaws.{fills-none, fills-more}
 use Rattle.liveness.specs.Carried.{liveIn, placeIn, classesIn, wantsOf, Carries}
 use Rattle.liveness.specs.Noted.{Noted}
-use Rattle.liveness.specs.Room.{points-room}
-use Rattle.liveness.specs.Wants.{Listed, wants-are}
-use Rattle.liveness.specs.Step.{StepNoted, and-right, live-is, classes-are}
+use Rattle.liveness.proofs.Room.{points-room}
+use Rattle.liveness.specs.Wants.{Listed}
+use Rattle.liveness.proofs.WantsLaws.{wants-are}
+use Rattle.liveness.specs.Step.{StepNoted}
+use Rattle.liveness.proofs.StepLaws.{and-right, live-is, classes-are}
 use Rattle.liveness.specs.Done.{GoalsFrom, GoalFrom, ArmsFrom, GoalsDone, GoalDone, AtEnd, ListDone, ListClasses}
 
 -- what is walked later stands in front

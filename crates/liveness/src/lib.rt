@@ -11,9 +11,9 @@ pub use classes::call_classes_ok;
 use language::format::MAX_RECORDS;
 use language::format::PLACES;
 use sets::Set;
+pub use table::after_at;
+pub use table::before_at;
 pub use table::blank_points;
-pub use table::live_after;
-pub use table::live_before;
 pub use whole::list_live;
 
 // Two words a point, one for each goal.

@@ -1,4 +1,4 @@
-// The table of points: two words each, what is live before the goal and what is live after it.
+// The table of points: two words each, what is live before the goal and what is live after it, till a later pass puts other sets there.
 use crate::POINTS;
 use sets::Set;
 ghost use mathlib.Core.Path.{_≡_};
@@ -29,8 +29,8 @@ pub fn note(before: Set, after: Set, end: usize, table: &mut [u64]) -> usize
     start
 }
 
-// What is live before the goal whose point stands at that place; nothing past the end.
-pub fn live_before(table: &[u64], at: usize) -> Set
+// The set before the goal whose point stands at that place; nothing past the end.
+pub fn before_at(table: &[u64], at: usize) -> Set
     ensures { λ r. ⌜ r ≡ beforeAt (now (table .entry)) at ⌝ }
 {
     if at < table.len() {
@@ -39,12 +39,12 @@ pub fn live_before(table: &[u64], at: usize) -> Set
     Set::EMPTY
 }
 
-// What is live after it.
-pub fn live_after(table: &[u64], at: usize) -> Set
+// The set after it.
+pub fn after_at(table: &[u64], at: usize) -> Set
     ensures { λ r. ⌜ r ≡ afterAt (now (table .entry)) at ⌝ }
 {
     if at < table.len() {
-        return live_before(table, at + 1);
+        return before_at(table, at + 1);
     }
     Set::EMPTY
 }

@@ -1,28 +1,24 @@
 -- A construct, as the code puts it together: a cell is taken, its words are put into it up to the first argument that is numbered 0, and it is hung into
 -- its region. A switch, likewise.
-use Prim.Native.Nat.{ℕ, zero, suc, _+_, _-_, _*_, _≤_, _<_}
+use Prim.Native.Nat.{ℕ, zero, suc, _+_, _*_, _<_}
 use native.Mathlib.Omega.{arith}
 use mathlib.Core.Path.{_≡_, refl, sym, ap, _∙_}
-use mathlib.Core.Bool.{Bool, true, false}
+use mathlib.Core.Bool.{Bool}
 use mathlib.Core.List.{List, [], _∷_}
 use lib.Dec.{leb, ltb}
-use lib.ListN.{length, getD, set}
+use lib.ListN.{length, getD}
 use lib.Seq.{getD-set-other}
-use borrow.Author.Tests.{ltb-true, leb-true, lt-ltb, le-ltb, le-leb, lt-leb}
-use Rattle.sets.specs.Tests.{_&_, and-true}
-use Rattle.language.specs.Lists.{choose}
+use Rattle.sets.specs.Tests.{_&_}
 use Rattle.language.specs.File.{word}
-use Rattle.language.specs.Format.{goalX, switchArms, termFunctor, termArguments}
-use Rattle.chains.specs.Records.{chainRecords}
+use Rattle.language.specs.Format.{goalX, termFunctor, termArguments}
 use Rattle.memory.specs.declared.Contents.{Contents}
 use Rattle.memory.specs.declared.Heap.{Heap}
 use Rattle.memory.specs.declared.Made.{Made}
 use Rattle.memory.specs.declared.Made.the-variants.{At, NoRoom}
 use Rattle.memory.specs.Memory.{cellWords, constantsFrom, cellWord, withWord, withLink, first, filled, hung, built, builtCells, builtRegions}
 use Rattle.memory.specs.Building.{built-none, built-made, built-place, still}
-use Rattle.plans.specs.Plan.{sidesFrom}
-use Rattle.word_machine.specs.Machine.{regionsFrom, termOf, armOf}
-use Rattle.machine.specs.Places.{valueIn, termIn, poursEach, argumentsFrom, poured, homeFor, termMade, cellsMade, regionsMade, placed, functorIn, armFor, armValues, termValues}
+use Rattle.word_machine.specs.Machine.{termOf}
+use Rattle.machine.specs.GoalWords.{valueIn, termIn, poursEach, argumentsFrom, poured, homeFor, termMade, cellsMade, regionsMade, placed}
 
 -- ---- words put up to the first 0, and the link, are the whole cell: the others are filled with what stands there
 module _ (value : ℕ → ℕ) (m : List ℕ) (x : ℕ) where
@@ -62,10 +58,6 @@ unfolding poured termIn argumentsFrom
 poured-filled f i k fw x n m = pour-filled (valueIn k fw) m x (word f i termFunctor) _ _ _ _ n
 
 -- ---- a construct
-pub home-as : (plan : List ℕ) (i k p a : ℕ) (fw : List ℕ) → p ≡ getD fw (k + regionsFrom + a) 0 → a ≡ getD plan (sidesFrom + i) 0 → p ≡ homeFor plan i k fw
-unfolding homeFor
-home-as plan i k p a fw e z = rw (e, z)
-
 module _ (f plan : List ℕ) (i k : ℕ) (h : Heap) (m rs fw : List ℕ) where
   abbrev home : ℕ
   home = homeFor plan i k fw
@@ -80,10 +72,6 @@ module _ (f plan : List ℕ) (i k : ℕ) (h : Heap) (m rs fw : List ℕ) where
   abbrev pub Makes : Made → List ℕ → List ℕ → Type 0
   Makes r m₁ rs₁ =
       (r ≡ termMade (word f i termFunctor) argument h m) × (m₁ ≡ cellsMade argument h m rs home term) × (rs₁ ≡ regionsMade argument h m rs home)
-
-  pub make-constant : (a t : ℕ) → a ≡ word f i termArguments → a ≡ 0 → t ≡ word f i termFunctor → Makes (At (constantsFrom + t) h) m rs
-  unfolding termMade cellsMade regionsMade
-  make-constant a t e z et = rw (← e, z, et) (refl, refl, refl)
 
   -- a construct with arguments makes a cell
   some-made : (b : ℕ) → (b ≡ 0 → ⊥) → (r : Made) (m₁ rs₁ : List ℕ) → r ≡ built h m → m₁ ≡ builtCells h m rs home term → rs₁ ≡ builtRegions h m rs home
@@ -109,50 +97,7 @@ module _ (f plan : List ℕ) (i k : ℕ) (h : Heap) (m rs fw : List ℕ) where
   abbrev pub Constructs : Made → List ℕ → List ℕ → List ℕ → Type 0
   Constructs r m₁ rs₁ fx = Makes r m₁ rs₁ × (fx ≡ placed (k + word f i goalX) r fw)
 
-  module _ (md : Made) (m₁ rs₁ : List ℕ) (M : Makes md m₁ rs₁) where
-    pub construct-none : md ≡ NoRoom → Constructs NoRoom m₁ rs₁ fw
-    unfolding placed
-    construct-none z = (rw z at M, refl)
-
-    pub construct-made : (y : ℕ) (l : Heap) → md ≡ At y l → (x : ℕ) (fx : List ℕ) → x ≡ word f i goalX → fx ≡ set fw (k + x) y → Constructs (At y l) m₁ rs₁ fx
-    unfolding placed
-    construct-made y l z x fx ex ef = (rw z at M, rw (ef, ex))
-
 -- ---- a switch
 -- v is the place of a cell that is there whole
 unfoldable pub wholeCell : List ℕ → ℕ → Bool
 wholeCell m v = leb (cellWords * v + cellWords) (length m) & ltb v constantsFrom
-
-pub whole-short : (m : List ℕ) (v : ℕ) → length m < cellWords * v + cellWords → false ≡ wholeCell m v
-unfolding wholeCell _&_
-whole-short m v l = rw (lt-leb _ _ l)
-
-pub whole-long : (m : List ℕ) (v : ℕ) → cellWords * v + cellWords ≤ length m → ltb v constantsFrom ≡ wholeCell m v
-unfolding wholeCell _&_
-whole-long m v l = rw (le-leb _ _ l)
-
-pub whole-is : (m : List ℕ) (v : ℕ) (b : Bool) → b ≡ wholeCell m v → b ≡ true → (v < constantsFrom) × (cellWords * v + cellWords ≤ length m)
-unfolding wholeCell
-whole-is m v b e z = let a = and-true (sym e ∙ z) in (ltb-true _ _ (a .1), leb-true _ _ (a .0))
-
--- the functor of a cell, of a constant
-pub functor-cell : (m : List ℕ) (v n : ℕ) → v < constantsFrom → n ≡ getD m (cellWords * v) 0 → n ≡ functorIn m v
-unfolding functorIn choose
-functor-cell m v n l e = let z : cellWords * v ≡ cellWords * v + 0 = omega arith in rw (lt-ltb _ _ l) (e ∙ ap (λ q. getD m q 0) z)
-
-pub functor-constant : (m : List ℕ) (v : ℕ) → constantsFrom ≤ v → v - constantsFrom ≡ functorIn m v
-unfolding functorIn choose
-functor-constant m v l = rw (le-ltb _ _ l)
-
-module _ (f : List ℕ) (i k x v : ℕ) (m fw : List ℕ) (ev : v ≡ getD fw (k + x) 0) (ex : x ≡ word f i goalX) where
-  pub arm-as : (n start j : ℕ) → start ≡ word f i switchArms → n ≡ functorIn m v → j ≡ armOf f n (chainRecords f start) → j ≡ armFor f i k m fw
-  unfolding armFor
-  arm-as n start j es en ej = rw (ej, en, ev, ex, es)
-
-  pub values-cell : (j : ℕ) (fx : List ℕ) → v < constantsFrom → fx ≡ armValues f j v k m fw → fx ≡ termValues f j (getD fw (k + word f i goalX) 0) k m fw
-  unfolding termValues choose
-  values-cell j fx l e = rw (← ex, ← ev, lt-ltb _ _ l) e
-
-  pub values-constant : (j : ℕ) → constantsFrom ≤ v → fw ≡ termValues f j (getD fw (k + word f i goalX) 0) k m fw
-  unfolding termValues choose
-  values-constant j l = rw (← ex, ← ev, le-ltb _ _ l)

@@ -1,9 +1,6 @@
 pub mod Words
-pub mod Places
-pub mod Goals
-pub mod Terms
+pub mod GoalWords
 pub mod Cells
-pub mod Numbers
 pub mod Calls
 pub mod Steps
 pub mod Heaps

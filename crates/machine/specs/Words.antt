@@ -13,8 +13,8 @@ use Rattle.records.specs.Records.{recordAt}
 use Rattle.word_machine.specs.Tables.{Tables}
 use Rattle.word_machine.specs.Machine.{printWords, MachineWords, Went, went, stops, frameWords, steps}
 use Rattle.machine.specs.declared.State.{State}
-use Rattle.machine.specs.declared.Kept.{Kept}
-use Rattle.machine.specs.declared.Kept.the-variants.{Left, Lacks}
+use Rattle.machine.specs.declared.HeapStep.{HeapStep}
+use Rattle.machine.specs.declared.HeapStep.the-variants.{Left, Lacks}
 use Rattle.machine.specs.declared.Step.{Step}
 use Rattle.machine.specs.declared.Step.the-variants.{Went as WentTo, Stops}
 
@@ -46,9 +46,9 @@ Changes w true = (w ≡ constructKind) ⊎ ((w ≡ createKind) ⊎ (w ≡ remove
 Changes w false = (w ≡ constructKind → ⊥) × (w ≡ createKind → ⊥) × (w ≡ removeKind → ⊥)
 
 -- what their answer stands for, v being the state afterwards
-unfoldable pub keptTo : Kept → List ℕ → List ℕ → List ℕ → List ℕ → State → Went
-keptTo (Left h) m rs fw ps v = went (wordsOf h m rs fw ps v)
-keptTo (Lacks c) m rs fw ps v = stops c
+unfoldable pub heapCameTo : HeapStep → List ℕ → List ℕ → List ℕ → List ℕ → State → Went
+heapCameTo (Left h) m rs fw ps v = went (wordsOf h m rs fw ps v)
+heapCameTo (Lacks c) m rs fw ps v = stops c
 
 -- the state after a goal that changes neither the newest frame nor what is printed
 abbrev pub onwardTo : State → ℕ → State
@@ -56,9 +56,9 @@ onwardTo s i = record { top = s .top; at = s .at; goal = i; printed = s .printed
 
 -- Such a goal is carried out, whatever is printed: m, rs and fw are the words of cells, regions and frames before, those with ₁ afterwards; where it
 -- stops, nothing has changed.
-pub record Keeps (f : List ℕ) (T : Tables) (s : State) (h : Heap) (m rs fw : List ℕ) (r : Kept) (m₁ rs₁ fw₁ : List ℕ) : Type 0 where
+pub record HeapGoes (f : List ℕ) (T : Tables) (s : State) (h : Heap) (m rs fw : List ℕ) (r : HeapStep) (m₁ rs₁ fw₁ : List ℕ) : Type 0 where
   pub comes : (k : Room) (ps : List ℕ) (next : ℕ) → next ≡ T .successor (s .goal)
-      → keptTo r m₁ rs₁ fw₁ ps (onwardTo s next) ≡ steps f T k (s .goal) (recordAt f (s .goal)) (wordsOf h m rs fw ps s)
+      → heapCameTo r m₁ rs₁ fw₁ ps (onwardTo s next) ≡ steps f T k (s .goal) (recordAt f (s .goal)) (wordsOf h m rs fw ps s)
   pub kept : (c : Stop) → r ≡ Lacks c → (m₁ ≡ m) × (rs₁ ≡ rs) × (fw₁ ≡ fw)
 
 pub onward-placed : {s : State} {n : ℕ} (i : ℕ) → FramePlaced s n → FramePlaced (onwardTo s i) n

@@ -20,7 +20,7 @@ ghost use Rattle.memory.specs.Memory.{cellWords};
 ghost use Rattle.chains.specs.Formed.{Formed, Stands};
 ghost use Rattle.chains.specs.Shapes.{IsSwitch};
 ghost use Rattle.word_machine.specs.Machine.{frameWords};
-ghost use Rattle.machine.specs.Places.{LowIfAny, functorIn, armFor, armValues, termValues};
+ghost use Rattle.machine.specs.GoalWords.{LowIfAny, functorIn, armFor, armValues, termValues};
 ghost use Rattle.machine.specs.Cells.{wholeCell};
 
 // ".. and the arm's arguments get the cell's values", up to the first that is numbered 0: the arm at record j, a cell that is there whole.

@@ -26,7 +26,7 @@ ghost use Rattle.language.specs.Format.{recordBytes, maxRecords, maxVariables, 
 ghost use Rattle.memory.specs.Memory.{cellWords};
 ghost use Rattle.plans.specs.Plan.{sidesFrom};
 ghost use Rattle.word_machine.specs.Machine.{frameWords};
-ghost use Rattle.machine.specs.Places.{Low, poured};
+ghost use Rattle.machine.specs.GoalWords.{Low, poured};
 ghost use Rattle.machine.specs.Cells.{Makes, Constructs};
 
 // A cell that is there whole gets the functor of the construct at record i and the values of its arguments, up to the first that is numbered 0.

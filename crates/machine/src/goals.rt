@@ -26,7 +26,7 @@ ghost use Rattle.language.specs.Numbers.{less};
 ghost use Rattle.language.specs.File.{word};
 ghost use Rattle.language.specs.Format.{recordBytes, maxRecords, maxVariables, goalX, literalValue, sumY, sumZ, assignY, ifY, ifZ, ifThen, ifElse};
 ghost use Rattle.word_machine.specs.Machine.{frameWords, literalWord};
-ghost use Rattle.machine.specs.Places.{sumAt};
+ghost use Rattle.machine.specs.GoalWords.{sumAt};
 
 // "After a goal chain ends, the next goal is the enclosing goal's next": the goal after the one at record i.
 pub fn successor(plan: &[usize; PLAN], i: usize) -> usize

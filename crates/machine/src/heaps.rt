@@ -1,5 +1,5 @@
 // One step: the goals that change the heap.
-use crate::Kept;
+use crate::HeapStep;
 use crate::State;
 use crate::cells::construct;
 use crate::places::drop_region;
@@ -22,7 +22,7 @@ ghost use Rattle.language.specs.Format.{kindWord};
 ghost use Rattle.chains.specs.Formed.{Formed};
 ghost use Rattle.chains.specs.Shapes.{IsConstruct, IsCreate};
 ghost use Rattle.plans.specs.Plan.{Numbered, tablesIn};
-ghost use Rattle.machine.specs.Words.{FramePlaced, Changes, Keeps};
+ghost use Rattle.machine.specs.Words.{FramePlaced, Changes, HeapGoes};
 
 // Whether goals of a kind change the heap; of constructs, those with arguments.
 pub fn changes_heap(kind: usize) -> bool
@@ -45,10 +45,10 @@ fn construct_step(
     cells: &mut [u32],
     regions: &mut [u32],
     frames: &mut [u32],
-) -> Kept
+) -> HeapStep
     requires { ⌜ Formed (now file) × Numbered (now file) (now plan) ⌝ }
     requires { ⌜ (state .goal < recordCount (now file)) × IsConstruct (now file) (state .goal) × FramePlaced state (length (now frames)) ⌝ }
-    ensures { λ r. ⌜ ((images callees : List ℕ) → Keeps (now (file .entry)) (tablesIn (now (plan .entry)) images callees) state heap
+    ensures { λ r. ⌜ ((images callees : List ℕ) → HeapGoes (now (file .entry)) (tablesIn (now (plan .entry)) images callees) state heap
         (now (cells .entry)) (now (regions .entry)) (now (frames .entry)) r (now (cells .exit)) (now (regions .exit)) (now (frames .exit))) ⌝ }
 {
     let i = state.goal;
@@ -64,9 +64,9 @@ fn construct_step(
         &mut frames[..],
     );
     let Made::At(cell, left) = made else {
-        return Kept::Lacks(Stop::Cells);
+        return HeapStep::Lacks(Stop::Cells);
     };
-    Kept::Left(left)
+    HeapStep::Left(left)
 }
 
 // A create, "12 no free region".
@@ -77,23 +77,23 @@ fn create_step(
     heap: Heap,
     regions: &mut [u32],
     frames: &mut [u32],
-) -> Kept
+) -> HeapStep
     requires { ⌜ Formed (now file) × Numbered (now file) (now plan) ⌝ }
     requires { ⌜ (state .goal < recordCount (now file)) × IsCreate (now file) (state .goal) × FramePlaced state (length (now frames)) ⌝ }
-    ensures { λ r. ⌜ ((images callees m : List ℕ) → Keeps (now (file .entry)) (tablesIn (now (plan .entry)) images callees) state heap
+    ensures { λ r. ⌜ ((images callees m : List ℕ) → HeapGoes (now (file .entry)) (tablesIn (now (plan .entry)) images callees) state heap
         m (now (regions .entry)) (now (frames .entry)) r m (now (regions .exit)) (now (frames .exit))) ⌝ }
 {
     let i = state.goal;
     let at = state.at;
     let made = make_region(file, i, at, heap, &mut regions[..], &mut frames[..]);
     let Made::At(place, left) = made else {
-        return Kept::Lacks(Stop::Places);
+        return HeapStep::Lacks(Stop::Places);
     };
-    Kept::Left(left)
+    HeapStep::Left(left)
 }
 
 // A construct, a create or a remove.
-pub fn keep(
+pub fn change_heap(
     file: &[u8],
     plan: &[usize; PLAN],
     state: State,
@@ -101,11 +101,11 @@ pub fn keep(
     cells: &mut [u32],
     regions: &mut [u32],
     frames: &mut [u32],
-) -> Kept
+) -> HeapStep
     requires { ⌜ Formed (now file) × Numbered (now file) (now plan) ⌝ }
     requires { ⌜ (state .goal < recordCount (now file)) × FramePlaced state (length (now frames)) ⌝ }
     requires { ⌜ Changes (word (now file) (state .goal) kindWord) true ⌝ }
-    ensures { λ r. ⌜ ((images callees : List ℕ) → Keeps (now (file .entry)) (tablesIn (now (plan .entry)) images callees) state heap
+    ensures { λ r. ⌜ ((images callees : List ℕ) → HeapGoes (now (file .entry)) (tablesIn (now (plan .entry)) images callees) state heap
         (now (cells .entry)) (now (regions .entry)) (now (frames .entry)) r (now (cells .exit)) (now (regions .exit)) (now (frames .exit))) ⌝ }
 {
     let i = state.goal;
@@ -121,7 +121,7 @@ pub fn keep(
             &mut frames[..],
         ),
         CREATE => create_step(file, plan, state, heap, &mut regions[..], &mut frames[..]),
-        _ => Kept::Left(drop_region(
+        _ => HeapStep::Left(drop_region(
             file,
             i,
             at,

@@ -11,8 +11,8 @@ mod steps;
 pub use calls::settle;
 pub use calls::size_of;
 pub use goals::successor;
+pub use heaps::change_heap;
 pub use heaps::changes_heap;
-pub use heaps::keep;
 use language::Ending;
 use language::Stop;
 use memory::Heap;
@@ -37,7 +37,7 @@ pub enum Step {
 }
 
 // What a construct, a create or a remove comes to.
-pub enum Kept {
+pub enum HeapStep {
     Left(Heap),
     Lacks(Stop),
 }

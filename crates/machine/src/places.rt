@@ -14,7 +14,7 @@ ghost use Rattle.language.specs.File.{word};
 ghost use Rattle.language.specs.Format.{recordBytes, maxRegions, lifetimeRegion};
 ghost use Rattle.memory.specs.Memory.{created, createdRegions, removed, removedCells, removedRegions};
 ghost use Rattle.word_machine.specs.Machine.{frameWords, regionsFrom};
-ghost use Rattle.machine.specs.Places.{regionFor, placed};
+ghost use Rattle.machine.specs.GoalWords.{regionFor, placed};
 
 // "Create makes a new region".
 pub fn make_region(

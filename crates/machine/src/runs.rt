@@ -1,5 +1,5 @@
 // A whole run.
-use crate::Kept;
+use crate::HeapStep;
 use crate::Outcome;
 use crate::State;
 use crate::Step;
@@ -7,8 +7,8 @@ use crate::calls::body_of;
 use crate::calls::settle;
 use crate::calls::size_of;
 use crate::goals::successor;
+use crate::heaps::change_heap;
 use crate::heaps::changes_heap;
-use crate::heaps::keep;
 use crate::steps::go;
 use crate::steps::onward;
 use frames::FRAME_WORDS;
@@ -91,15 +91,15 @@ fn run_on(
             continue;
         }
         if changes_heap(word_in(file, i, KIND)) {
-            let kept = keep(file, plan, here, heap, cells, regions, frames);
-            match kept {
-                Kept::Left(h) => {
+            let stepped = change_heap(file, plan, here, heap, cells, regions, frames);
+            match stepped {
+                HeapStep::Left(h) => {
                     heap = h;
                     state = onward(here, successor(plan, i));
                     left -= 1;
                     continue;
                 }
-                Kept::Lacks(stop) => return ended(Ending::Stopped(stop), steps - left, here),
+                HeapStep::Lacks(stop) => return ended(Ending::Stopped(stop), steps - left, here),
             }
         }
         let went = go(file, plan, images, callees, here, &*cells, frames, prints);

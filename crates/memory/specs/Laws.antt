@@ -1,19 +1,14 @@
 -- What each function comes to on each way through it.
-use Prim.Native.Nat.{ℕ, _+_, _*_, _/_, _≤_, _<_}
-use native.Mathlib.Nat.{div-zero}
-use native.Mathlib.Omega.{arith}
+use Prim.Native.Nat.{ℕ, _+_, _*_, _≤_, _<_}
 use mathlib.Core.Path.{_≡_, refl}
 use mathlib.Core.List.{List}
 use lib.ListN.{set}
 use borrow.Author.Tests.{le-leb, lt-leb, eq-eqb, ne-eqb}
 use Rattle.language.specs.Lists.{choose}
-use Rattle.language.specs.Machine.{holds}
 use Rattle.memory.specs.declared.Pool.{Pool}
-use Rattle.memory.specs.declared.Taken.{Taken}
 use Rattle.memory.specs.declared.Taken.the-variants.{Place, Full}
 use Rattle.memory.specs.declared.Heap.{Heap}
-use Rattle.memory.specs.declared.Made.the-variants.{At, NoRoom}
-use Rattle.memory.specs.Memory.{cellWords, regionWords, cellNext, regionLast, most, link, first, last, headed, raised, taken, created, createdOf, createdRegions, createdRegionsOf, hung, built, builtOf, removed, removedCells, removedRegions}
+use Rattle.memory.specs.Memory.{cellWords, regionWords, cellNext, regionLast, first, last, headed, raised, taken, hung, removed, removedCells, removedRegions}
 
 module _ (p : Pool) (l : ℕ) where
   pub take-full : p .limit ≤ p .head → taken p l ≡ Full
@@ -27,25 +22,6 @@ module _ (p : Pool) (l : ℕ) where
   pub take-link : p .head < p .limit → (p .head ≡ p .top → ⊥) → taken p l ≡ Place (p .head) (headed p l)
   unfolding taken choose
   take-link h e = rw (lt-leb _ _ h, ne-eqb _ _ e)
-
-module _ (h : Heap) (rs : List ℕ) (l : ℕ) (e : l ≡ first rs (h .regions .head)) (t : Taken) (d : t ≡ taken (h .regions) l) where
-  pub create-full : t ≡ Full → (NoRoom ≡ created h rs) × (rs ≡ createdRegions h rs)
-  unfolding created createdRegions createdOf createdRegionsOf
-  create-full f = rw (← e, ← d, f) (refl, refl)
-
-  pub create-made : (r : ℕ) (p : Pool) → t ≡ Place r p → (rs₁ : List ℕ) → rs₁ ≡ set rs (regionWords * r + regionLast) (h .cells .limit)
-      → (At r (record { cells = h .cells; regions = p }) ≡ created h rs) × (rs₁ ≡ createdRegions h rs)
-  unfolding created createdRegions createdOf createdRegionsOf
-  create-made r p f rs₁ g = rw (g, ← e, ← d, f) (refl, refl)
-
-module _ (h : Heap) (m : List ℕ) (l : ℕ) (e : l ≡ link m (h .cells .head)) (t : Taken) (dt : t ≡ taken (h .cells) l) where
-  pub cell-full : t ≡ Full → NoRoom ≡ built h m
-  unfolding built builtOf
-  cell-full g = rw (← e, ← dt, g)
-
-  pub cell-made : (x : ℕ) (p : Pool) → t ≡ Place x p → At x (record { cells = p; regions = h .regions }) ≡ built h m
-  unfolding built builtOf
-  cell-made x p g = rw (← e, ← dt, g)
 
 module _ (rs : List ℕ) (r x n l : ℕ) (e : l ≡ last rs r) (rs₁ : List ℕ) (e₁ : rs₁ ≡ set rs (regionWords * r) x) where
   pub hang-first : n ≤ l → (rs₂ : List ℕ) → rs₂ ≡ set rs₁ (regionWords * r + regionLast) x → rs₂ ≡ hung rs r x n
@@ -66,16 +42,3 @@ module _ (h : Heap) (m rs : List ℕ) (r x l : ℕ) (ex : x ≡ first rs r) (e :
       → (record { cells = headed (h .cells) x; regions = headed (h .regions) r } ≡ removed h rs r) × (m₁ ≡ removedCells h m rs r) × (rs₁ ≡ removedRegions h rs r)
   unfolding removed removedCells removedRegions choose
   remove-some g m₁ em = rw (e₁, em, ex, ← e, lt-leb _ _ g) (refl, refl, refl)
-
--- ---- room
-pub room-none : (n k : ℕ) → k ≡ 0 → 0 ≡ holds n k
-unfolding holds
-room-none n k e = rw e (omega (arith, div-zero n))
-
-pub room-all : (n k : ℕ) → n / k < most → n / k ≡ holds n k
-unfolding holds
-room-all n k l = omega arith
-
-pub room-most : (n k : ℕ) → most ≤ n / k → most ≡ holds n k
-unfolding holds
-room-most n k l = omega arith

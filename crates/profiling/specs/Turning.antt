@@ -10,11 +10,11 @@ use Rattle.memory.specs.declared.Heap.{Heap}
 use Rattle.word_machine.specs.Tables.{Tables}
 use Rattle.word_machine.specs.Machine.{printWords, frameWords, Went, went, stops, settled, settledIf, stepped}
 use Rattle.machine.specs.declared.State.{State}
-use Rattle.machine.specs.declared.Kept.{Kept}
-use Rattle.machine.specs.declared.Kept.the-variants.{Left, Lacks as KeptLacks}
+use Rattle.machine.specs.declared.HeapStep.{HeapStep}
+use Rattle.machine.specs.declared.HeapStep.the-variants.{Left, Lacks as HeapLacks}
 use Rattle.machine.specs.declared.Step.{Step}
 use Rattle.machine.specs.declared.Step.the-variants.{Went as WentTo, Stops}
-use Rattle.machine.specs.Words.{FramePlaced, wordsOf, onwardTo, onward-placed, cameTo, keptTo, Goes, Keeps}
+use Rattle.machine.specs.Words.{FramePlaced, wordsOf, onwardTo, onward-placed, cameTo, heapCameTo, Goes, HeapGoes}
 use Rattle.profiling.specs.declared.Turn.{Turn}
 use Rattle.profiling.specs.declared.Turn.the-variants.{On, Lacks}
 
@@ -48,21 +48,21 @@ Settles f T s fw u fy = (h : Heap) (m rs ps : List ℕ) → wordsOf h m rs fy ps
 
 module _ (f : List ℕ) (T : Tables) (s : State) (h : Heap) (m rs fw ps : List ℕ) where
   -- ---- a goal that changes the heap
-  module _ (r : Kept) (m₁ rs₁ fx : List ℕ) (g : Keeps f T s h m rs fw r m₁ rs₁ fx) where
-    pub kept-turns : (h₁ : Heap) (next : ℕ) (v u : State) (fy : List ℕ) → r ≡ Left h₁ → next ≡ T .successor (s .goal) → v ≡ onwardTo s next → Settles f T v fx u fy
+  module _ (r : HeapStep) (m₁ rs₁ fx : List ℕ) (g : HeapGoes f T s h m rs fw r m₁ rs₁ fx) where
+    pub changed-turns : (h₁ : Heap) (next : ℕ) (v u : State) (fy : List ℕ) → r ≡ Left h₁ → next ≡ T .successor (s .goal) → v ≡ onwardTo s next → Settles f T v fx u fy
         → FramePlaced u (length fy) → Turns f T s h m rs fw ps (On u h₁) m₁ rs₁ fy ps
-    unfolding turnedTo stepped settledIf keptTo
-    kept-turns h₁ next v u fy er en ev z pl = record {
+    unfolding turnedTo stepped settledIf heapCameTo
+    changed-turns h₁ next v u fy er en ev z pl = record {
       comes = λ k a b.
           ap went (z h₁ m₁ rs₁ ps ∙ ap (λ t. settled f T (wordsOf h₁ m₁ rs₁ fx ps t)) ev)
-          ∙ ap (settledIf f T) (ap (λ t. keptTo t m₁ rs₁ fx ps (onwardTo s next)) (sym er) ∙ g .comes k ps next en);
+          ∙ ap (settledIf f T) (ap (λ t. heapCameTo t m₁ rs₁ fx ps (onwardTo s next)) (sym er) ∙ g .comes k ps next en);
       stays = on-placed pl;
     }
 
-    pub kept-lacks : (c : Stop) → r ≡ KeptLacks c → Turns f T s h m rs fw ps (Lacks c) m₁ rs₁ fx ps
-    unfolding turnedTo stepped settledIf keptTo
-    kept-lacks c er = record {
-      comes = λ k a b. ap (settledIf f T) (ap (λ t. keptTo t m₁ rs₁ fx ps (onwardTo s (T .successor (s .goal)))) (sym er) ∙ g .comes k ps (T .successor (s .goal)) refl);
+    pub change-lacks : (c : Stop) → r ≡ HeapLacks c → Turns f T s h m rs fw ps (Lacks c) m₁ rs₁ fx ps
+    unfolding turnedTo stepped settledIf heapCameTo
+    change-lacks c er = record {
+      comes = λ k a b. ap (settledIf f T) (ap (λ t. heapCameTo t m₁ rs₁ fx ps (onwardTo s (T .successor (s .goal)))) (sym er) ∙ g .comes k ps (T .successor (s .goal)) refl);
       stays = lacks-placed;
     }
 

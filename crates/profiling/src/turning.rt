@@ -1,12 +1,12 @@
 // One step of the run, by the runner's own functions.
 use crate::Turn;
 use language::format::KIND;
-use machine::Kept;
+use machine::HeapStep;
 use machine::State;
 use machine::Step;
+use machine::change_heap;
 use machine::changes_heap;
 use machine::go;
-use machine::keep;
 use machine::onward;
 use machine::settle;
 use machine::successor;
@@ -44,13 +44,13 @@ pub fn step(
 {
     let i = state.goal;
     if changes_heap(word_in(file, i, KIND)) {
-        let kept = keep(file, plan, state, heap, cells, regions, frames);
-        match kept {
-            Kept::Left(left) => {
+        let stepped = change_heap(file, plan, state, heap, cells, regions, frames);
+        match stepped {
+            HeapStep::Left(left) => {
                 let next = onward(state, successor(plan, i));
                 return Turn::On(settle(file, plan, images, callees, next, frames), left);
             }
-            Kept::Lacks(stop) => return Turn::Lacks(stop),
+            HeapStep::Lacks(stop) => return Turn::Lacks(stop),
         }
     }
     let went = go(

@@ -2,7 +2,7 @@
 use Prim.Native.Nat.{ℕ, _≤_}
 use native.Mathlib.Omega.{arith}
 use native.Mathlib.Decide.{ℕ-discrete}
-use mathlib.Core.Bool.{Bool, true, false}
+use mathlib.Core.Bool.{Bool, true}
 use mathlib.Core.List.{List, map}
 use mathlib.Core.Logic.{_⊎_, inl, inr, ⊎-elim}
 use mathlib.Core.Path.{_≡_, refl, sym, ap, _∙_, fun-ext}
@@ -10,13 +10,13 @@ use borrow.Author.Tests.{ltb-true}
 use lib.ListN.{replicate, length-replicate}
 use Rattle.sets.specs.Tests.{and-true}
 use Rattle.sets.specs.Sets.{_∪_}
-use Rattle.sets.specs.Members.{inList, image, cons-here, cons-later}
+use Rattle.sets.specs.Members.{inList, cons-here, cons-later}
 use Rattle.language.specs.File.{kCall, word, arguments}
 use Rattle.language.specs.Format.{callProcedure, callArguments, maxRegions, places}
 use Rattle.language.specs.Program.{Functor, call, Signature, regionOf, signatureOf, parametersOf, parameterVariables}
 use Rattle.language.specs.Typing.{signatureOk, stepOk, haveTypes, parameterTypes}
-use Rattle.language.specs.Regions.{targets, Mapping, images, imageIn, oneWay, mapping, regionsOf, stepRegions}
-use Rattle.language.specs.Lifetimes.{inputs, outputs, born, dead, kept, callEffect, effect}
+use Rattle.language.specs.Regions.{targets, Mapping, images, imageIn, oneWay, mapping, regionsOf}
+use Rattle.language.specs.Lifetimes.{inputs, outputs, callEffect, effect}
 use Rattle.language.specs.Answers.{program}
 use Rattle.region_graph.specs.Laws.{shared}
 use Rattle.region_graph.specs.Typed.{regions-few, signature-typed}
@@ -28,15 +28,13 @@ use Rattle.region_graph.specs.Calls.{listed-image, regions-map, arguments-paire
 use Rattle.records.specs.Blank.{blank-zero}
 use Rattle.chains.specs.Formed.{Stands, argumentsAt}
 use Rattle.chains.specs.Shapes.{IsCall, call-here, to-arguments}
-use Rattle.owners.specs.Everywhere.{recordTest}
 use Rattle.tables.specs.Window.{Window, FileTable}
 use Rattle.tables.specs.Starts.{windowIn, window-here}
 use Rattle.tables.specs.declared.Effect.{Effect}
 use Rattle.regions.specs.Pairs.{imagesIn, answer, Standing, window-stands}
 use Rattle.regions.specs.CallMap.{Blank, CallMapped}
 use Rattle.regions.specs.Images.{Imaged, ImageEffect}
-use Rattle.regions.specs.Single.{agreesHere, agrees}
-use Rattle.regions.specs.Here.{signatureAt, Here, call-kind, goal-test, step-typed}
+use Rattle.regions.specs.Here.{signatureAt, Here, call-kind, step-typed}
 use Rattle.regions.specs.Effects.{EffectAt, effect-made}
 
 -- ---- only the callee's input and output regions have images
@@ -74,11 +72,6 @@ module _ (T : List (List Functor)) (C Q : Signature) (okC : signatureOk T C ≡ 
       (λ i. ⊎-elim (λ z. absurd (region-some Q r (i .matched .callee) z)) (λ s. s) (i .way)) (x .0 .good r)
 
 -- ---- the images of a call
-one-way : (b : Bool) (t : List ℕ) → oneWay (answer b t) ≡ b
-unfolding oneWay answer
-one-way true t = refl
-one-way false t = refl
-
 images-answer : (b : Bool) (t : List ℕ) → b ≡ true → answer b t ≡ images (imagesIn t)
 unfolding answer
 images-answer b t e = rw e refl
@@ -140,12 +133,6 @@ module _ {f own theirs : List ℕ} {i : ℕ} (K : CallHere f own theirs i) where
         (rw e at M) C Q
         (record { types = program f .types; okC = okC; okQ = okQ; atC = K .here .window kCall (call-kind f i (K .kind)); atQ = K .callee })
         matches B
-
-    pub call-agrees : b ≡ recordTest (agrees f) f i
-    unfolding agreesHere stepRegions
-    call-agrees =
-        goal-test i (K .here .formed) kCall (call-kind f i (K .kind)) (call-here (K .here .formed) refl (K .kind) .goal)
-        (sym (ap oneWay mapped ∙ one-way b t′))
 
     module _ (y : b ≡ true) where
       found : mapping C Q ys ≡ images (imagesIn t′)

@@ -1,8 +1,8 @@
 -- A call that repeats another: of the same procedure, from the same procedure, with arguments in the same regions. The mapping goes by these alone.
 use Prim.Native.Nat.{ℕ}
 use mathlib.Core.Bool.{true}
-use mathlib.Core.List.{List, _∷_}
-use mathlib.Core.Path.{_≡_, refl, sym, ap, ap₂, _∙_}
+use mathlib.Core.List.{List}
+use mathlib.Core.Path.{_≡_, refl, sym, ap, _∙_}
 use lib.ListN.{getD}
 use Rattle.language.specs.File.{kCall, kGoal, word}
 use Rattle.language.specs.Format.{callProcedure, callArguments}
@@ -16,13 +16,11 @@ use Rattle.chains.specs.Shapes.{IsCall, call-here}
 use Rattle.owners.specs.Owner.{ownerOf}
 use Rattle.owners.specs.Everywhere.{recordTest, ifGoal}
 use Rattle.owners.specs.TreeLaw.{record-kind}
-use Rattle.tables.specs.Rows.{effectIn}
 use Rattle.tables.specs.declared.Effect.{Effect}
 use Rattle.regions.specs.CallMap.{homesIn, homes-regions}
 use Rattle.regions.specs.Single.{agreesHere, agrees}
-use Rattle.regions.specs.Here.{signatureAt, Given, Here, call-kind, goal-test}
+use Rattle.regions.specs.Here.{signatureAt, Here, call-kind, goal-test}
 use Rattle.regions.specs.Effects.{EffectAt, step-at, effect-made}
-use Rattle.regions.specs.Rowed.{Before}
 
 -- the call at record i repeats that at record j, by the window of its procedure
 pub record Repeats (f own owners : List ℕ) (j i : ℕ) : Type 0 where
@@ -73,19 +71,3 @@ module _ {f own owners : List ℕ} {i j : ℕ} (H : Here f own i) (R : Repeats f
         ends = h .ends ∙ ap (λ (x : Lifetimes.Effect). x .ends) d;
         unshared = h .unshared ∙ ap (λ (x : Lifetimes.Effect). x .unshared) d;
       })
-
--- what the pass knows of the record j is true of a call at record i that repeats it
-module _ {f table owners own : List ℕ} (G : Given f table owners) {i j : ℕ} (H : Here f own i) {t : List ℕ} (B : Before f t j) (R : Repeats f own owners j i) where
-  same-owner : ownerOf f i ≡ ownerOf f j
-  same-owner = sym (G .owned i (H .below)) ∙ R .owner ∙ G .owned j (B .below)
-
-  pub repeated-agrees : true ≡ recordTest (agrees f) f i
-  repeated-agrees = repeat-agrees H R same-owner (B .agrees (R .kind))
-
-  pub repeated-made : {e : Effect} → e ≡ effectIn t j → EffectAt f i e
-  repeated-made d = repeat-made H R same-owner (rw d (B .made (R .kind)))
-
--- ---- along two chains of arguments: where the rest is in the same regions, so is the whole
-pub same-next : (t xs ys xs′ ys′ : List ℕ) {u v : ℕ} → homesIn t xs ≡ u ∷ homesIn t xs′ → homesIn t ys ≡ v ∷ homesIn t ys′ → u ≡ v
-    → homesIn t xs′ ≡ homesIn t ys′ → homesIn t xs ≡ homesIn t ys
-same-next t xs ys xs′ ys′ e g z h = e ∙ ap₂ _∷_ z h ∙ sym g

@@ -8,31 +8,31 @@ use Rattle.annotation.proofs.answer.write_annotated.Tie as tie
 blank-laid-requires : tie.Need-blank-laid-requires
 blank-laid-requires c κs = search needs
 
-measure-requires : tie.Need-measure-requires
-measure-requires c κs =
+lay-annotated-requires : tie.Need-lay-annotated-requires
+lay-annotated-requires c κs =
     (c .before .before .before .before .before .pre .0, (c .before .before .before .before .before .pre .1 .0, c .before .before .blank-laid .ensures))
 
 returns : tie.Need-returns
 returns c =
-    refusal-told _ (too-large _ _ _ (c .before .measure .ensures .1 .1 .0) (c .before .measure .ensures .1 .1 .1 .0) (c .if1 .taken))
+    refusal-told _ (too-large _ _ _ (c .before .lay-annotated .ensures .1 .1 .0) (c .before .lay-annotated .ensures .1 .1 .1 .0) (c .if1 .taken))
 
 mul-bytes : tie.Need-mul-bytes
 mul-bytes c = search needs
 
 returns-2 : tie.Need-returns-2
 returns-2 c =
-    refusal-told _ (too-long _ _ _ (c .before .before .measure .ensures .1 .1 .0) (c .before .before .measure .ensures .1 .1 .1 .0) (c .before .if1 .left) (c .before .before .before .before .before .before .before .before .pre .1 .1) (c .if2 .taken))
+    refusal-told _ (too-long _ _ _ (c .before .before .lay-annotated .ensures .1 .1 .0) (c .before .before .lay-annotated .ensures .1 .1 .1 .0) (c .before .if1 .left) (c .before .before .before .before .before .before .before .before .pre .1 .1) (c .if2 .taken))
 
 write-requires : tie.Need-write-requires
 write-requires c κs =
-    (omega (arith, c .before .before .before .if1 .left), (c .before .before .before .before .measure .ensures .1 .0, omega (arith, c .before .before .if2 .left, c .before .before .before .before .before .before .before .before .before .before .pre .1 .1 .0)))
+    (omega (arith, c .before .before .before .if1 .left), (c .before .before .before .before .lay-annotated .ensures .1 .0, omega (arith, c .before .before .if2 .left, c .before .before .before .before .before .before .before .before .before .before .pre .1 .1 .0)))
 
 same-length : tie.Need-same-length
 same-length c = search needs
 
 returns-3 : tie.Need-returns-3
 returns-3 c =
-    let e = c .before .before .before .before .before .before .before .measure .ensures .1 .1 in
+    let e = c .before .before .before .before .before .before .before .lay-annotated .ensures .1 .1 in
     file-told _ _ _ (e .0) (e .1 .0) (c .before .before .before .before .before .before .if1 .left) _ (omega (arith, c .before .before .before .before .before .if2 .left, c .before .before .before .before .before .before .before .before .before .before .before .before .before .pre .1 .1 .0)) (e .1 .1 (c .before .before .before .before .before .before .if1 .left)) (c .before .before .write .ensures)
 
 pub write-annotated-spec : {M : Type 1} → statement M
@@ -40,7 +40,7 @@ write-annotated-spec =
     tie.close
     (tie.spec
     blank-laid-requires
-    measure-requires
+    lay-annotated-requires
     returns
     mul-bytes
     returns-2

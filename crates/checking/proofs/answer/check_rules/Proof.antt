@@ -1,4 +1,3 @@
--- `check_rules` meets its contract.
 use borrow.Author.Tests.{not-true, not-false}
 use mathlib.Core.Path.{sym, _∙_}
 use Rattle.language.specs.declared.Refusal.the-variants.{Rules}
@@ -10,13 +9,10 @@ use Rattle.checking.proofs.answer.check_rules.Statement.{statement}
 use Rattle.checking.proofs.answer.check_rules.Tie as tie
 
 check-classes-requires : tie.Need-check-classes-requires
-check-classes-requires c κs = let p = c .before .before .before .before .before .pre in (p .0, (p .1, (blank-fits fileWords (c .before .before .before .blank-file-table .ensures), blank-fits rowWords (c .before .before .blank-rows .ensures))))
-
-enum-told : tie.Need-enum-told
-enum-told c = search needs
+check-classes-requires c κs = search (fileWords, rowWords, blank-fits, needs)
 
 returns : tie.Need-returns
-returns c = passed-up _ Rules _ (c .before .before .check-classes .ensures .0) (c .enum-told2 .given .1)
+returns c = search (passed-up, needs)
 
 rules-ok-requires : tie.Need-rules-ok-requires
 rules-ok-requires c κs = let p = c .before .before .before .before .before .before .before .before .before .before .pre in (p .0, c .before .before .before .before .check-classes .ensures .1 .0 (c .before .before .enum-told .given .1))
@@ -30,4 +26,4 @@ returns-3 c = passed-here _ Rules (c .before .before .before .before .before .be
 pub check-rules-spec : {M : Type 1} → statement M
 check-rules-spec =
     tie.close
-    (tie.spec (search needs) (search needs) check-classes-requires enum-told (search needs) returns rules-ok-requires returns-2 returns-3)
+    (tie.spec (search needs) (search needs) check-classes-requires (search needs) (search needs) returns rules-ok-requires returns-2 returns-3)

@@ -1,7 +1,6 @@
--- `carry` meets its contract.
 use native.Mathlib.Omega.{arith}
 use lib.ListN.{length-set}
-use Rattle.checking.specs.Carried.{carried-put}
+use Rattle.checking.proofs.CarriedLaws.{carried-put}
 use borrow.Author.Needs.{needs}
 use Rattle.checking.proofs.carried.carry.Statement.{statement}
 use Rattle.checking.proofs.carried.carry.Tie as tie

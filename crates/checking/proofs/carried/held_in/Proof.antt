@@ -1,4 +1,3 @@
--- `held_in` meets its contract.
 use Rattle.checking.specs.Carried.{heldIn}
 use borrow.Author.Needs.{needs}
 use Rattle.checking.proofs.carried.held_in.Statement.{statement}

@@ -1,6 +1,5 @@
--- `join` meets its contract.
 use borrow.Author.Tests.{not-true, not-false}
-use Rattle.checking.specs.Carried.{join-differs, join-same}
+use Rattle.checking.proofs.CarriedLaws.{join-differs, join-same}
 use borrow.Author.Needs.{needs}
 use Rattle.checking.proofs.carried.join.Statement.{statement}
 use Rattle.checking.proofs.carried.join.Tie as tie

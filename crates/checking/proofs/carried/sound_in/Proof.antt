@@ -1,4 +1,3 @@
--- `sound_in` meets its contract.
 use Rattle.checking.specs.Carried.{soundIn}
 use borrow.Author.Needs.{needs}
 use Rattle.checking.proofs.carried.sound_in.Statement.{statement}

@@ -1,4 +1,3 @@
--- `rules_ok` meets its contract.
 use borrow.Author.Tests.{not-true, not-false}
 use mathlib.Core.Path.{refl, _∙_}
 use native.Mathlib.Omega.{arith}
@@ -8,7 +7,7 @@ use Rattle.chains.specs.Formed.{counted, ahead}
 use Rattle.chains.specs.Declared.{procedure-at}
 use Rattle.chains.specs.Is.{procedure-is}
 use Rattle.chains.specs.Turns.{Tests, tests-first, tests-last, tests-stop, tests-next, turn-below}
-use Rattle.checking.specs.Procedures.{rules-all}
+use Rattle.checking.proofs.ProceduresLaws.{rules-all}
 use borrow.Author.Needs.{needs}
 use Rattle.checking.proofs.procedures.rules_ok.Statement.{statement}
 use Rattle.checking.proofs.procedures.rules_ok.Tie as tie
@@ -23,7 +22,7 @@ word-requires : tie.Need-word-requires Inv-loop μ-loop
 word-requires c κs = let F = c .before .pre .0 in (F, (omega arith, counted F .some))
 
 loop-holds : tie.Need-loop-holds Inv-loop μ-loop
-loop-holds c = tests-first _ (c .before .before .pre .0) (c .word .ensures .0)
+loop-holds c = search (tests-first, needs)
 
 procedure-ok-requires : tie.Need-procedure-ok-requires Inv-loop μ-loop
 procedure-ok-requires c κs = let p = c .before .before .before .before .before .pre in let h = c .before .before .loop .inv in let a = procedure-at (p .0) refl (procedure-is (h .turn .stands) (c .before .loop-test .taken)) in (p .0, (p .1, turn-below (h .turn) a))

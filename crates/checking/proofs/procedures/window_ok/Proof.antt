@@ -1,6 +1,5 @@
--- `window_ok` meets its contract.
 use borrow.Author.Tests.{not-true, not-false}
-use Rattle.checking.specs.Procedures.{window-broken, window-differs, window-ends}
+use Rattle.checking.proofs.ProceduresLaws.{window-broken, window-differs, window-ends}
 use borrow.Author.Needs.{needs}
 use Rattle.checking.proofs.procedures.window_ok.Statement.{statement}
 use Rattle.checking.proofs.procedures.window_ok.Tie as tie
@@ -9,7 +8,7 @@ goals-requires : tie.Need-goals-requires
 goals-requires c κs = let p = c .before .before .before .before .before .before .before .before .before .before .before .before .pre in (p .0, rw (c .word-at .ensures) (p .1))
 
 returns : tie.Need-returns
-returns c = window-broken _ _ _ (c .before .before .before .before .before .before .before .before .before .before .before .set-at .ensures) (c .before .before .before .before .before .before .before .before .set-at2 .ensures) (c .before .before .before .before .before .before .before .union .ensures) (c .before .before .before .before .before .before .set-at3 .ensures) _ (c .before .before .before .before .before .carry .ensures .0) (c .before .before .before .before .before .carry .ensures .1) (c .before .before .word-at .ensures) _ _ (c .before .goals .ensures) (not-true _ (c .if1 .taken))
+returns c = search (not-true, window-broken, needs)
 
 returns-2 : tie.Need-returns-2
 returns-2 c = window-differs _ _ _ (c .before .before .before .before .before .before .before .before .before .before .before .before .before .before .before .before .before .set-at .ensures) (c .before .before .before .before .before .before .before .before .before .before .before .before .before .before .set-at2 .ensures) (c .before .before .before .before .before .before .before .before .before .before .before .before .before .union .ensures) (c .before .before .before .before .before .before .before .before .before .before .before .before .set-at3 .ensures) _ (c .before .before .before .before .before .before .before .before .before .before .before .carry .ensures .0) (c .before .before .before .before .before .before .before .before .before .before .before .carry .ensures .1) (c .before .before .before .before .before .before .before .before .word-at .ensures) _ _ (c .before .before .before .before .before .before .before .goals .ensures) (not-false _ (c .before .before .before .before .before .before .if1 .left)) (c .before .before .before .set-at4 .ensures) (c .before .before .union2 .ensures) (c .before .before .before .before .held-in .ensures) (c .before .same .ensures) (not-true _ (c .if2 .taken))

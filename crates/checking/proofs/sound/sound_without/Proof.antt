@@ -1,6 +1,5 @@
--- `sound_without` meets its contract.
 use Rattle.sets.specs.Sets.{small-of-bits}
-use Rattle.checking.specs.Sound.{without-none}
+use Rattle.checking.proofs.SoundLaws.{without-none}
 use borrow.Author.Needs.{needs}
 use Rattle.checking.proofs.sound.sound_without.Statement.{statement}
 use Rattle.checking.proofs.sound.sound_without.Tie as tie

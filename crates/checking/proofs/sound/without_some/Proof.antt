@@ -1,8 +1,8 @@
--- `without_some` meets its contract: a walk over the sound variables.
+-- A walk over the sound variables.
 use Prim.Native.Nat.{_-_}
 use mathlib.Core.Logic.{⊎-elim}
 use mathlib.Core.Path.{sym, _∙_}
-use Rattle.checking.specs.Sound.{Keeping, keep-first, keep-one, keep-none, keep-last, reachApart, apart-here, without-is}
+use Rattle.checking.proofs.SoundLaws.{Keeping, keep-first, keep-one, keep-none, keep-last, reachApart, apart-here, without-is}
 use borrow.Author.Needs.{needs}
 use Rattle.language.specs.Format.{places}
 use Rattle.tables.specs.Walks.{next-falls}
@@ -19,7 +19,7 @@ loop-holds : tie.Need-loop-holds Inv-loop μ-loop
 loop-holds c = keep-first _ _ (c .after .ensures)
 
 loop-less : tie.Need-loop-less Inv-loop μ-loop
-loop-less c = next-falls _ (c .before .before .before .before .before .loop-test .taken) (c .after2 .ensures)
+loop-less c = search (next-falls, needs)
 
 loop-again : tie.Need-loop-again Inv-loop μ-loop
 loop-again c =
@@ -32,9 +32,7 @@ loop-again c =
     (λ t. rw (t .1) (keep-none _ _ (l .before .loop .inv) (l .loop-test .taken) (sym e ∙ t .0 .left) (c .after2 .ensures))) (c .before .if1 .came)
 
 returns : tie.Need-returns Inv-loop μ-loop
-returns c =
-    let a = c .before .before .before .before .args in
-    λ S t. without-is (a .own .now) S t _ _ (keep-last _ _ (c .before .loop .inv) (c .loop-test .left))
+returns c = search (keep-last, without-is, needs)
 
 pub without-some-spec : {M : Type 1} → statement M
 without-some-spec =

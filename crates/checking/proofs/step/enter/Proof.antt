@@ -1,6 +1,5 @@
--- `enter` meets its contract.
 use mathlib.Core.Path.{_∙_}
-use Rattle.checking.specs.Rules.{entered}
+use Rattle.checking.proofs.RulesLaws.{entered}
 use borrow.Author.Needs.{needs}
 use Rattle.checking.proofs.step.enter.Statement.{statement}
 use Rattle.checking.proofs.step.enter.Tie as tie

@@ -1,7 +1,7 @@
--- The walk over goals meets its contract: one law of Walking for each way through it. The records ahead fall.
+-- The walk over goals: one law of Walking for each way through it. The records ahead fall.
 use borrow.Author.Tests.{not-true, not-false}
 use native.Mathlib.Omega.{arith}
-use mathlib.Core.Path.{refl, sym, _∙_}
+use mathlib.Core.Path.{refl, _∙_}
 use Rattle.chains.specs.Formed.{ahead}
 use Rattle.chains.specs.Shapes.{switch-here, if-here, to-arms, to-then, to-else, arm-goals, arm-next}
 use Rattle.walks.specs.Closed.{goal-closed, arm-closed}
@@ -107,47 +107,93 @@ switch-calls t =
 arms-returns : (t : ℕ) → arms-lts.Need-returns (arms-calls t) (arms-at t) arms.Post
 arms-returns t c = arms-none-checked _ _ _ _ _ (c .if1 .taken)
 
-arms-word-requires : (t : ℕ) → arms-lts.Need-word-requires (arms-calls t) (arms-at t) arms.Post
-arms-word-requires t c κs = let p = c .before .before .before .pre .1 in (p .0, (omega arith, p .1 .below))
-
 arms-returns-2 : (t : ℕ) → arms-lts.Need-returns-2 (arms-calls t) (arms-at t) arms.Post
-arms-returns-2 t c = let p = c .before .before .before .before .before .pre .1 in arm-closed (p .1) (c .before .before .if1 .left) (c .before .word .ensures .0) (c .if2 .taken)
-
-arms-word-requires-2 : (t : ℕ) → arms-lts.Need-word-requires-2 (arms-calls t) (arms-at t) arms.Post
-arms-word-requires-2 t c κs = let p = c .before .before .before .before .before .before .before .before .before .before .before .pre .1 in (p .0, (omega arith, p .1 .below))
+arms-returns-2 t c =
+    let at-word = c .before in
+    let at-if1 = at-word .before in
+    let start = at-if1 .before .before .before in
+    let p = start .pre .1 in
+    arm-closed (p .1) (at-if1 .if1 .left) (at-word .word .ensures .0) (c .if2 .taken)
 
 arms-goals-requires : (t : ℕ) → arms-lts.Need-goals-requires (arms-calls t) (arms-at t) arms.Post
-arms-goals-requires t c κs = let a = c .before .before .before .before .before .before .before .before .before .before .before .before .before .pre in let o = arm-goals (a .1 .0) (c .before .before .before .before .before .before .before .before .before .before .if1 .left) (a .1 .1) (c .before .word2 .ensures .0) in (omega (arith, o .falls, a .0), (a .1 .0, o .stands))
+arms-goals-requires t c κs =
+    let at-word2 = c .before in
+    let at-if1 = at-word2 .before .before .before .before .before .before .before .before .before in
+    let start = at-if1 .before .before .before in
+    let a = start .pre in
+    let o = arm-goals (a .1 .0) (at-if1 .if1 .left) (a .1 .1) (at-word2 .word2 .ensures .0) in
+    (omega (arith, o .falls, a .0), (a .1 .0, o .stands))
 
 arms-returns-3 : (t : ℕ) → arms-lts.Need-returns-3 (arms-calls t) (arms-at t) arms.Post
-arms-returns-3 t c = let p = c .before .before .before .before .before .before .before .before .before .before .before .before .before .before .before .pre .1 in arm-broken _ _ _ _ (p .0) (p .1) (c .before .before .before .before .before .before .before .before .before .before .before .before .if1 .left) _ (c .before .before .before .before .enter .ensures .0) (c .before .before .before .before .enter .ensures .1) (c .before .before .before .word2 .ensures .0) _ _ (c .before .goals .ensures) _ (not-true _ (c .if3 .taken))
-
-arms-word-requires-3 : (t : ℕ) → arms-lts.Need-word-requires-3 (arms-calls t) (arms-at t) arms.Post
-arms-word-requires-3 t c κs = let p = c .before .before .before .before .before .before .before .before .before .before .before .before .before .before .before .pre .1 in (p .0, (omega arith, p .1 .below))
+arms-returns-3 t c = search (not-true, arm-broken, needs)
 
 arms-returns-4 : (t : ℕ) → arms-lts.Need-returns-4 (arms-calls t) (arms-at t) arms.Post
-arms-returns-4 t c = let p = c .before .before .before .before .before .before .before .before .before .before .before .before .before .before .before .before .before .pre .1 in arm-ended _ _ _ _ (p .0) (p .1) (c .before .before .before .before .before .before .before .before .before .before .before .before .before .before .if1 .left) _ (c .before .before .before .before .before .before .enter .ensures .0) (c .before .before .before .before .before .before .enter .ensures .1) (c .before .before .before .before .before .word2 .ensures .0) _ _ (c .before .before .before .goals .ensures) (not-false _ (c .before .before .if3 .left)) (c .before .word3 .ensures .0) (c .if4 .taken)
+arms-returns-4 t c = search (not-false, arm-ended, needs)
 
 arms-arms-requires : (t : ℕ) → arms-lts.Need-arms-requires (arms-calls t) (arms-at t) arms.Post
-arms-arms-requires t c κs = let a = c .before .before .before .before .before .before .before .before .before .before .before .before .before .before .before .before .before .before .before .before .before .before .before .before .pre in let o = arm-next (a .1 .0) (c .before .before .before .before .before .before .before .before .before .before .before .before .before .before .before .before .before .before .before .before .before .if1 .left) (a .1 .1) (c .before .before .before .before .before .before .before .before .word3 .ensures .0) in (omega (arith, o .falls, a .0), (a .1 .0, o .stands))
+arms-arms-requires t c κs =
+    let at-word3 = c .before .before .before .before .before .before .before .before in
+    let at-if1 = at-word3 .before .before .before .before .before .before .before .before .before .before .before .before .before in
+    let start = at-if1 .before .before .before in
+    let a = start .pre in
+    let o = arm-next (a .1 .0) (at-if1 .if1 .left) (a .1 .1) (at-word3 .word3 .ensures .0) in
+    (omega (arith, o .falls, a .0), (a .1 .0, o .stands))
 
 arms-returns-5 : (t : ℕ) → arms-lts.Need-returns-5 (arms-calls t) (arms-at t) arms.Post
-arms-returns-5 t c = let p = c .before .before .before .before .before .before .before .before .before .before .before .before .before .before .before .before .before .before .before .before .before .before .before .before .before .before .pre .1 in rest-broken _ _ _ _ (p .0) (p .1) (c .before .before .before .before .before .before .before .before .before .before .before .before .before .before .before .before .before .before .before .before .before .before .before .if1 .left) _ (c .before .before .before .before .before .before .before .before .before .before .before .before .before .before .before .enter .ensures .0) (c .before .before .before .before .before .before .before .before .before .before .before .before .before .before .before .enter .ensures .1) (c .before .before .before .before .before .before .before .before .before .before .before .before .before .before .word2 .ensures .0) _ _ (c .before .before .before .before .before .before .before .before .before .before .before .before .goals .ensures) (not-false _ (c .before .before .before .before .before .before .before .before .before .before .before .if3 .left)) (c .before .before .before .before .before .before .before .before .before .before .word3 .ensures .0) (c .before .before .before .before .before .before .before .before .before .if4 .left) _ ((c .before .before .before .carry .ensures .0) ∙ c .before .before .before .before .before .before .before .before .before .before .before .before .before .before .before .before .before .before .before .held-in .ensures) ((c .before .before .before .carry .ensures .1) ∙ c .before .before .before .before .before .before .before .before .before .before .before .before .before .before .before .before .before .sound-in .ensures) _ _ (c .before .arms .ensures) _ (not-true _ (c .if5 .taken))
+arms-returns-5 t c =
+    let at-arms = c .before in
+    let at-carry = at-arms .before .before in
+    let at-if4 = at-carry .before .before .before .before .before .before in
+    let at-word3 = at-if4 .before in
+    let at-if3 = at-word3 .before in
+    let at-goals = at-if3 .before in
+    let at-word2 = at-goals .before .before in
+    let at-enter = at-word2 .before in
+    let at-sound-in = at-enter .before .before in
+    let at-held-in = at-sound-in .before .before in
+    let at-if1 = at-held-in .before .before .before .before in
+    let start = at-if1 .before .before .before in
+    let p = start .pre .1 in
+    rest-broken _ _ _ _ (p .0) (p .1) (at-if1 .if1 .left) _ (at-enter .enter .ensures .0) (at-enter .enter .ensures .1) (at-word2 .word2 .ensures .0)
+    _ _ (at-goals .goals .ensures) (not-false _ (at-if3 .if3 .left)) (at-word3 .word3 .ensures .0) (at-if4 .if4 .left) _
+    ((at-carry .carry .ensures .0) ∙ at-held-in .held-in .ensures) ((at-carry .carry .ensures .1) ∙ at-sound-in .sound-in .ensures) _ _
+    (at-arms .arms .ensures) _ (not-true _ (c .if5 .taken))
 
 arms-returns-6 : (t : ℕ) → arms-lts.Need-returns-6 (arms-calls t) (arms-at t) arms.Post
-arms-returns-6 t c = let p = c .before .before .before .before .before .before .before .before .before .before .before .before .before .before .before .before .before .before .before .before .before .before .before .before .before .before .before .before .pre .1 in arm-more _ _ _ _ (p .0) (p .1) (c .before .before .before .before .before .before .before .before .before .before .before .before .before .before .before .before .before .before .before .before .before .before .before .before .before .if1 .left) _ (c .before .before .before .before .before .before .before .before .before .before .before .before .before .before .before .before .before .enter .ensures .0) (c .before .before .before .before .before .before .before .before .before .before .before .before .before .before .before .before .before .enter .ensures .1) (c .before .before .before .before .before .before .before .before .before .before .before .before .before .before .before .before .word2 .ensures .0) _ _ (c .before .before .before .before .before .before .before .before .before .before .before .before .before .before .goals .ensures) (not-false _ (c .before .before .before .before .before .before .before .before .before .before .before .before .before .if3 .left)) (c .before .before .before .before .before .before .before .before .before .before .before .before .word3 .ensures .0) (c .before .before .before .before .before .before .before .before .before .before .before .if4 .left) _ ((c .before .before .before .before .before .carry .ensures .0) ∙ c .before .before .before .before .before .before .before .before .before .before .before .before .before .before .before .before .before .before .before .before .before .held-in .ensures) ((c .before .before .before .before .before .carry .ensures .1) ∙ c .before .before .before .before .before .before .before .before .before .before .before .before .before .before .before .before .before .before .before .sound-in .ensures) _ _ (c .before .before .before .arms .ensures) _ _ (not-false _ (c .before .before .if5 .left)) (c .before .before .before .before .before .before .before .before .before .held-in2 .ensures) (c .before .before .before .before .before .before .before .sound-in2 .ensures) (c .join .ensures)
+arms-returns-6 t c =
+    let at-if5 = c .before .before in
+    let at-arms = at-if5 .before in
+    let at-carry = at-arms .before .before in
+    let at-sound-in2 = at-carry .before .before in
+    let at-held-in2 = at-sound-in2 .before .before in
+    let at-if4 = at-held-in2 .before .before in
+    let at-word3 = at-if4 .before in
+    let at-if3 = at-word3 .before in
+    let at-goals = at-if3 .before in
+    let at-word2 = at-goals .before .before in
+    let at-enter = at-word2 .before in
+    let at-sound-in = at-enter .before .before in
+    let at-held-in = at-sound-in .before .before in
+    let at-if1 = at-held-in .before .before .before .before in
+    let start = at-if1 .before .before .before in
+    let p = start .pre .1 in
+    arm-more _ _ _ _ (p .0) (p .1) (at-if1 .if1 .left) _ (at-enter .enter .ensures .0) (at-enter .enter .ensures .1) (at-word2 .word2 .ensures .0) _ _
+    (at-goals .goals .ensures) (not-false _ (at-if3 .if3 .left)) (at-word3 .word3 .ensures .0) (at-if4 .if4 .left) _
+    ((at-carry .carry .ensures .0) ∙ at-held-in .held-in .ensures) ((at-carry .carry .ensures .1) ∙ at-sound-in .sound-in .ensures) _ _
+    (at-arms .arms .ensures) _ _ (not-false _ (at-if5 .if5 .left)) (at-held-in2 .held-in2 .ensures) (at-sound-in2 .sound-in2 .ensures)
+    (c .join .ensures)
 
 branches-word-requires : (t : ℕ) → branches-lts.Need-word-requires (branches-calls t) (branches-at t) branches.Post
 branches-word-requires t c κs = let p = c .before .before .before .before .before .before .pre .1 in (p .0, (omega arith, if-here (p .0) refl (p .1) .below))
 
 branches-returns : (t : ℕ) → branches-lts.Need-returns (branches-calls t) (branches-at t) branches.Post
-branches-returns t c = let p = c .before .before .before .before .before .before .before .before .before .pre .1 in if-broken _ _ _ (p .0) (p .1) (c .before .before .before .sound-in .ensures) (c .before .before .word .ensures .0) (c .before .has .ensures) _ (not-true _ (c .if1 .taken))
+branches-returns t c = search (not-true, if-broken, needs)
 
 branches-word-requires-2 : (t : ℕ) → branches-lts.Need-word-requires-2 (branches-calls t) (branches-at t) branches.Post
 branches-word-requires-2 t c κs = let p = c .before .before .before .before .before .before .before .before .before .pre .1 in (p .0, (omega arith, if-here (p .0) refl (p .1) .below))
 
 branches-returns-2 : (t : ℕ) → branches-lts.Need-returns-2 (branches-calls t) (branches-at t) branches.Post
-branches-returns-2 t c = let p = c .before .before .before .before .before .before .before .before .before .before .before .before .pre .1 in if-broken-2 _ _ _ (p .0) (p .1) (c .before .before .before .before .before .before .sound-in .ensures) (c .before .before .before .before .before .word .ensures .0) (c .before .before .before .before .has .ensures) (not-false _ (c .before .before .before .if1 .left)) (c .before .before .word2 .ensures .0) (c .before .has2 .ensures) _ (not-true _ (c .if2 .taken))
+branches-returns-2 t c = search (not-true, not-false, if-broken-2, needs)
 
 branches-word-requires-3 : (t : ℕ) → branches-lts.Need-word-requires-3 (branches-calls t) (branches-at t) branches.Post
 branches-word-requires-3 t c κs = let p = c .before .before .before .before .before .before .before .before .before .before .before .before .pre .1 in (p .0, (omega arith, if-here (p .0) refl (p .1) .below))
@@ -156,31 +202,101 @@ branches-goals-requires : (t : ℕ) → branches-lts.Need-goals-requires (branch
 branches-goals-requires t c κs = let a = c .before .before .before .before .before .before .before .before .before .before .before .before .before .before .pre in let o = to-then (a .1 .0) (a .1 .1) (c .before .word3 .ensures .0) in (omega (arith, o .falls, a .0), (a .1 .0, o .stands))
 
 branches-returns-3 : (t : ℕ) → branches-lts.Need-returns-3 (branches-calls t) (branches-at t) branches.Post
-branches-returns-3 t c = let p = c .before .before .before .before .before .before .before .before .before .before .before .before .before .before .before .before .pre .1 in then-broken _ _ _ (p .0) (p .1) (c .before .before .before .before .before .before .before .before .before .before .sound-in .ensures) (c .before .before .before .before .before .before .before .before .before .word .ensures .0) (c .before .before .before .before .before .before .before .before .has .ensures) (not-false _ (c .before .before .before .before .before .before .before .if1 .left)) (c .before .before .before .before .before .before .word2 .ensures .0) (c .before .before .before .before .before .has2 .ensures) (not-false _ (c .before .before .before .before .if2 .left)) (c .before .before .before .word3 .ensures .0) _ _ (c .before .goals .ensures) _ (not-true _ (c .if3 .taken))
+branches-returns-3 t c = search (not-true, not-false, then-broken, needs)
 
 branches-word-requires-4 : (t : ℕ) → branches-lts.Need-word-requires-4 (branches-calls t) (branches-at t) branches.Post
 branches-word-requires-4 t c κs = let p = c .before .before .before .before .before .before .before .before .before .before .before .before .before .before .before .before .before .before .before .before .before .before .pre .1 in (p .0, (omega arith, if-here (p .0) refl (p .1) .below))
 
 branches-returns-4 : (t : ℕ) → branches-lts.Need-returns-4 (branches-calls t) (branches-at t) branches.Post
-branches-returns-4 t c = let p = c .before .before .before .before .before .before .before .before .before .before .before .before .before .before .before .before .before .before .before .before .before .before .before .before .before .before .pre .1 in if-done _ _ _ (p .0) (p .1) (c .before .before .before .before .before .before .before .before .before .before .before .before .before .before .before .before .before .before .before .before .sound-in .ensures) (c .before .before .before .before .before .before .before .before .before .before .before .before .before .before .before .before .before .before .before .word .ensures .0) (c .before .before .before .before .before .before .before .before .before .before .before .before .before .before .before .before .before .before .has .ensures) (not-false _ (c .before .before .before .before .before .before .before .before .before .before .before .before .before .before .before .before .before .if1 .left)) (c .before .before .before .before .before .before .before .before .before .before .before .before .before .before .before .before .word2 .ensures .0) (c .before .before .before .before .before .before .before .before .before .before .before .before .before .before .before .has2 .ensures) (not-false _ (c .before .before .before .before .before .before .before .before .before .before .before .before .before .before .if2 .left)) (c .before .before .before .before .before .before .before .before .before .before .before .before .before .word3 .ensures .0) _ _ (c .before .before .before .before .before .before .before .before .before .before .before .goals .ensures) (not-false _ (c .before .before .before .before .before .before .before .before .before .before .if3 .left)) (c .before .before .before .word4 .ensures .0) _ ((c .before .before .before .before .carry .ensures .0) ∙ c .before .before .before .before .before .before .before .before .before .before .before .before .before .before .before .before .before .before .before .before .before .before .held-in .ensures) ((c .before .before .before .before .carry .ensures .1) ∙ c .before .before .before .before .before .before .before .before .before .before .before .before .before .before .before .before .before .before .before .before .sound-in .ensures) _ _ (none-checked _ _ _ _ (c .before .before .if4 .taken)) _ _ refl (c .before .before .before .before .before .before .before .before .held-in2 .ensures) (c .before .before .before .before .before .before .sound-in2 .ensures) (c .join .ensures)
+branches-returns-4 t c =
+    let at-if4 = c .before .before in
+    let at-word4 = at-if4 .before in
+    let at-carry = at-word4 .before in
+    let at-sound-in2 = at-carry .before .before in
+    let at-held-in2 = at-sound-in2 .before .before in
+    let at-if3 = at-held-in2 .before .before in
+    let at-goals = at-if3 .before in
+    let at-word3 = at-goals .before .before in
+    let at-if2 = at-word3 .before in
+    let at-has2 = at-if2 .before in
+    let at-word2 = at-has2 .before in
+    let at-if1 = at-word2 .before in
+    let at-has = at-if1 .before in
+    let at-word = at-has .before in
+    let at-sound-in = at-word .before in
+    let at-held-in = at-sound-in .before .before in
+    let start = at-held-in .before .before .before .before in
+    let p = start .pre .1 in
+    if-done _ _ _ (p .0) (p .1) (at-sound-in .sound-in .ensures) (at-word .word .ensures .0) (at-has .has .ensures) (not-false _ (at-if1 .if1 .left))
+    (at-word2 .word2 .ensures .0) (at-has2 .has2 .ensures) (not-false _ (at-if2 .if2 .left)) (at-word3 .word3 .ensures .0) _ _
+    (at-goals .goals .ensures) (not-false _ (at-if3 .if3 .left)) (at-word4 .word4 .ensures .0) _
+    ((at-carry .carry .ensures .0) ∙ at-held-in .held-in .ensures) ((at-carry .carry .ensures .1) ∙ at-sound-in .sound-in .ensures) _ _
+    (none-checked _ _ _ _ (at-if4 .if4 .taken)) _ _ refl (at-held-in2 .held-in2 .ensures) (at-sound-in2 .sound-in2 .ensures) (c .join .ensures)
 
 branches-goals-requires-2 : (t : ℕ) → branches-lts.Need-goals-requires-2 (branches-calls t) (branches-at t) branches.Post
 branches-goals-requires-2 t c κs = let a = c .before .before .before .before .before .before .before .before .before .before .before .before .before .before .before .before .before .before .before .before .before .before .before .before .before .pre in let o = to-else (a .1 .0) (a .1 .1) (c .before .before .word4 .ensures .0) in (omega (arith, o .falls, a .0), (a .1 .0, o .stands))
 
 branches-returns-5 : (t : ℕ) → branches-lts.Need-returns-5 (branches-calls t) (branches-at t) branches.Post
-branches-returns-5 t c = let p = c .before .before .before .before .before .before .before .before .before .before .before .before .before .before .before .before .before .before .before .before .before .before .before .before .before .before .before .pre .1 in else-broken _ _ _ (p .0) (p .1) (c .before .before .before .before .before .before .before .before .before .before .before .before .before .before .before .before .before .before .before .before .before .sound-in .ensures) (c .before .before .before .before .before .before .before .before .before .before .before .before .before .before .before .before .before .before .before .before .word .ensures .0) (c .before .before .before .before .before .before .before .before .before .before .before .before .before .before .before .before .before .before .before .has .ensures) (not-false _ (c .before .before .before .before .before .before .before .before .before .before .before .before .before .before .before .before .before .before .if1 .left)) (c .before .before .before .before .before .before .before .before .before .before .before .before .before .before .before .before .before .word2 .ensures .0) (c .before .before .before .before .before .before .before .before .before .before .before .before .before .before .before .before .has2 .ensures) (not-false _ (c .before .before .before .before .before .before .before .before .before .before .before .before .before .before .before .if2 .left)) (c .before .before .before .before .before .before .before .before .before .before .before .before .before .before .word3 .ensures .0) _ _ (c .before .before .before .before .before .before .before .before .before .before .before .before .goals .ensures) (not-false _ (c .before .before .before .before .before .before .before .before .before .before .before .if3 .left)) (c .before .before .before .before .word4 .ensures .0) _ ((c .before .before .before .before .before .carry .ensures .0) ∙ c .before .before .before .before .before .before .before .before .before .before .before .before .before .before .before .before .before .before .before .before .before .before .before .held-in .ensures) ((c .before .before .before .before .before .carry .ensures .1) ∙ c .before .before .before .before .before .before .before .before .before .before .before .before .before .before .before .before .before .before .before .before .before .sound-in .ensures) _ _ (c .before .goals2 .ensures) _ (not-true _ (c .if5 .taken))
+branches-returns-5 t c =
+    let at-goals2 = c .before in
+    let at-word4 = at-goals2 .before .before .before in
+    let at-carry = at-word4 .before in
+    let at-if3 = at-carry .before .before .before .before .before .before in
+    let at-goals = at-if3 .before in
+    let at-word3 = at-goals .before .before in
+    let at-if2 = at-word3 .before in
+    let at-has2 = at-if2 .before in
+    let at-word2 = at-has2 .before in
+    let at-if1 = at-word2 .before in
+    let at-has = at-if1 .before in
+    let at-word = at-has .before in
+    let at-sound-in = at-word .before in
+    let at-held-in = at-sound-in .before .before in
+    let start = at-held-in .before .before .before .before in
+    let p = start .pre .1 in
+    else-broken _ _ _ (p .0) (p .1) (at-sound-in .sound-in .ensures) (at-word .word .ensures .0) (at-has .has .ensures)
+    (not-false _ (at-if1 .if1 .left)) (at-word2 .word2 .ensures .0) (at-has2 .has2 .ensures) (not-false _ (at-if2 .if2 .left))
+    (at-word3 .word3 .ensures .0) _ _ (at-goals .goals .ensures) (not-false _ (at-if3 .if3 .left)) (at-word4 .word4 .ensures .0) _
+    ((at-carry .carry .ensures .0) ∙ at-held-in .held-in .ensures) ((at-carry .carry .ensures .1) ∙ at-sound-in .sound-in .ensures) _ _
+    (at-goals2 .goals2 .ensures) _ (not-true _ (c .if5 .taken))
 
 branches-returns-6 : (t : ℕ) → branches-lts.Need-returns-6 (branches-calls t) (branches-at t) branches.Post
-branches-returns-6 t c = let p = c .before .before .before .before .before .before .before .before .before .before .before .before .before .before .before .before .before .before .before .before .before .before .before .before .before .before .before .before .before .pre .1 in if-done _ _ _ (p .0) (p .1) (c .before .before .before .before .before .before .before .before .before .before .before .before .before .before .before .before .before .before .before .before .before .before .before .sound-in .ensures) (c .before .before .before .before .before .before .before .before .before .before .before .before .before .before .before .before .before .before .before .before .before .before .word .ensures .0) (c .before .before .before .before .before .before .before .before .before .before .before .before .before .before .before .before .before .before .before .before .before .has .ensures) (not-false _ (c .before .before .before .before .before .before .before .before .before .before .before .before .before .before .before .before .before .before .before .before .if1 .left)) (c .before .before .before .before .before .before .before .before .before .before .before .before .before .before .before .before .before .before .before .word2 .ensures .0) (c .before .before .before .before .before .before .before .before .before .before .before .before .before .before .before .before .before .before .has2 .ensures) (not-false _ (c .before .before .before .before .before .before .before .before .before .before .before .before .before .before .before .before .before .if2 .left)) (c .before .before .before .before .before .before .before .before .before .before .before .before .before .before .before .before .word3 .ensures .0) _ _ (c .before .before .before .before .before .before .before .before .before .before .before .before .before .before .goals .ensures) (not-false _ (c .before .before .before .before .before .before .before .before .before .before .before .before .before .if3 .left)) (c .before .before .before .before .before .before .word4 .ensures .0) _ ((c .before .before .before .before .before .before .before .carry .ensures .0) ∙ c .before .before .before .before .before .before .before .before .before .before .before .before .before .before .before .before .before .before .before .before .before .before .before .before .before .held-in .ensures) ((c .before .before .before .before .before .before .before .carry .ensures .1) ∙ c .before .before .before .before .before .before .before .before .before .before .before .before .before .before .before .before .before .before .before .before .before .before .before .sound-in .ensures) _ _ (c .before .before .before .goals2 .ensures) _ _ (not-false _ (c .before .before .if5 .left)) (c .before .before .before .before .before .before .before .before .before .before .before .held-in2 .ensures) (c .before .before .before .before .before .before .before .before .before .sound-in2 .ensures) (c .join2 .ensures)
-
-goal-switch-requires : (t : ℕ) → goal-lts.Need-switch-requires (goal-calls t) (goal-at t) goal.Post
-goal-switch-requires t c κs = let a = c .before .before .before .before .before .pre in (omega (arith, a .0), (a .1 .0, sym (c .before .before .word .ensures .0) ∙ c .before .match .keys1))
-
-goal-branches-requires : (t : ℕ) → goal-lts.Need-branches-requires (goal-calls t) (goal-at t) goal.Post
-goal-branches-requires t c κs = let a = c .before .before .before .before .before .pre in (omega (arith, a .0), (a .1 .0, sym (c .before .before .word .ensures .0) ∙ c .before .match .keys2))
+branches-returns-6 t c =
+    let at-if5 = c .before .before in
+    let at-goals2 = at-if5 .before in
+    let at-word4 = at-goals2 .before .before .before in
+    let at-carry = at-word4 .before in
+    let at-sound-in2 = at-carry .before .before in
+    let at-held-in2 = at-sound-in2 .before .before in
+    let at-if3 = at-held-in2 .before .before in
+    let at-goals = at-if3 .before in
+    let at-word3 = at-goals .before .before in
+    let at-if2 = at-word3 .before in
+    let at-has2 = at-if2 .before in
+    let at-word2 = at-has2 .before in
+    let at-if1 = at-word2 .before in
+    let at-has = at-if1 .before in
+    let at-word = at-has .before in
+    let at-sound-in = at-word .before in
+    let at-held-in = at-sound-in .before .before in
+    let start = at-held-in .before .before .before .before in
+    let p = start .pre .1 in
+    if-done _ _ _ (p .0) (p .1) (at-sound-in .sound-in .ensures) (at-word .word .ensures .0) (at-has .has .ensures) (not-false _ (at-if1 .if1 .left))
+    (at-word2 .word2 .ensures .0) (at-has2 .has2 .ensures) (not-false _ (at-if2 .if2 .left)) (at-word3 .word3 .ensures .0) _ _
+    (at-goals .goals .ensures) (not-false _ (at-if3 .if3 .left)) (at-word4 .word4 .ensures .0) _
+    ((at-carry .carry .ensures .0) ∙ at-held-in .held-in .ensures) ((at-carry .carry .ensures .1) ∙ at-sound-in .sound-in .ensures) _ _
+    (at-goals2 .goals2 .ensures) _ _ (not-false _ (at-if5 .if5 .left)) (at-held-in2 .held-in2 .ensures) (at-sound-in2 .sound-in2 .ensures)
+    (c .join2 .ensures)
 
 goal-returns : (t : ℕ) → goal-lts.Need-returns (goal-calls t) (goal-at t) goal.Post
-goal-returns t c = let p = c .before .before .before .before .before .before .pre .1 in goal-closed (p .0) _ (p .1 .0) (p .1 .1) (c .before .before .before .word .ensures .0) (c .before .before .match .rest .0 .1) (c .before .before .match .rest .1) (c .before .is-step .ensures) (not-true _ (c .if1 .taken))
+goal-returns t c =
+    let at-is-step = c .before in
+    let at-match = at-is-step .before in
+    let at-word = at-match .before in
+    let start = at-word .before .before .before in
+    let p = start .pre .1 in
+    goal-closed (p .0) _ (p .1 .0) (p .1 .1) (at-word .word .ensures .0) (at-match .match .rest .0 .1) (at-match .match .rest .1)
+    (at-is-step .is-step .ensures) (not-true _ (c .if1 .taken))
 
 goal-returns-2 : (t : ℕ) → goal-lts.Need-returns-2 (goal-calls t) (goal-at t) goal.Post
 goal-returns-2 t c = c .switch .ensures
@@ -189,7 +305,7 @@ goal-returns-3 : (t : ℕ) → goal-lts.Need-returns-3 (goal-calls t) (goal-at t
 goal-returns-3 t c = c .branches .ensures
 
 goal-returns-4 : (t : ℕ) → goal-lts.Need-returns-4 (goal-calls t) (goal-at t) goal.Post
-goal-returns-4 t c = let p = c .before .before .before .before .before .before .before .before .pre .1 in step-checked _ _ _ _ _ _ (p .0) (p .1 .0) (p .1 .1) (c .before .before .before .before .before .word .ensures .0) (c .before .before .before .before .match .rest .0 .1) (c .before .before .before .before .match .rest .1) (c .step .ensures)
+goal-returns-4 t c = search (step-checked, needs)
 
 abbrev goals-Inv-loop : goals-lts.InvT-loop
 goals-Inv-loop file rows own carried₀ start i₀ carried i = Walking file rows own start carried₀ carried i
@@ -197,29 +313,27 @@ goals-Inv-loop file rows own carried₀ start i₀ carried i = Walking file rows
 abbrev goals-μ-loop : goals-lts.MeasureT-loop
 goals-μ-loop file rows own carried₀ start i₀ carried i = ahead file i
 
-goals-loop-holds : (t : ℕ) → goals-lts.Need-loop-holds (goals-calls t) (goals-at t) goals.Post goals-Inv-loop goals-μ-loop
-goals-loop-holds t c = let p = c .before .before .pre .1 in record { stands = p .1; near = omega arith; rest = λ o q y h. (h, refl) }
-
-goals-goal-requires : (t : ℕ) → goals-lts.Need-goal-requires (goals-calls t) (goals-at t) goals.Post goals-Inv-loop goals-μ-loop
-goals-goal-requires t c κs = let a = c .before .before .before .before .before .pre in let w = (c .before .before .loop .inv) in (omega (arith, w .near, a .0), (a .1 .0, (w .stands, c .before .loop-test .taken)))
-
 goals-returns : (t : ℕ) → goals-lts.Need-returns (goals-calls t) (goals-at t) goals.Post goals-Inv-loop goals-μ-loop
-goals-returns t c = walk-stop (c .before .before .before .before .before .before .before .pre .1 .0) (c .before .before .before .before .loop .inv) (c .before .before .before .loop-test .taken) _ _ (c .before .goal .ensures) _ (not-true _ (c .if1 .taken))
+goals-returns t c = search (not-true, walk-stop, needs)
 
 goals-loop-less : (t : ℕ) → goals-lts.Need-loop-less (goals-calls t) (goals-at t) goals.Post goals-Inv-loop goals-μ-loop
-goals-loop-less t c = walk-onward (c .before .before .before .before .before .before .before .before .pre .1 .0) (c .before .before .before .before .before .loop .inv) (c .before .before .before .before .loop-test .taken) (c .word .ensures .0) .falls
+goals-loop-less t c =
+    let at-loop-test = c .before .before .before .before in
+    let at-loop = at-loop-test .before in
+    let start = at-loop .before .before .before in
+    walk-onward (start .pre .1 .0) (at-loop .loop .inv) (at-loop-test .loop-test .taken) (c .word .ensures .0) .falls
 
 goals-loop-again : (t : ℕ) → goals-lts.Need-loop-again (goals-calls t) (goals-at t) goals.Post goals-Inv-loop goals-μ-loop
-goals-loop-again t c = walk-next (c .before .before .before .before .before .before .before .before .pre .1 .0) (c .before .before .before .before .before .loop .inv) (c .before .before .before .before .loop-test .taken) _ _ (c .before .before .goal .ensures) (not-false _ (c .before .if1 .left)) (c .word .ensures .0)
+goals-loop-again t c = search (not-false, walk-next, needs)
 
 goals-returns-2 : (t : ℕ) → goals-lts.Need-returns-2 (goals-calls t) (goals-at t) goals.Post goals-Inv-loop goals-μ-loop
-goals-returns-2 t c = walk-last (c .before .before .before .before .pre .1 .0) (c .before .loop .inv) (c .loop-test .left)
+goals-returns-2 t c = search (walk-last, needs)
 
 switch-word-requires : (t : ℕ) → switch-lts.Need-word-requires (switch-calls t) (switch-at t) switch.Post
 switch-word-requires t c κs = let p = c .before .before .before .before .pre .1 in (p .0, (omega arith, switch-here (p .0) refl (p .1) .below))
 
 switch-returns : (t : ℕ) → switch-lts.Need-returns (switch-calls t) (switch-at t) switch.Post
-switch-returns t c = let p = c .before .before .before .before .before .before .before .pre .1 in switch-broken _ _ _ (p .0) (p .1) (c .before .before .before .sound-in .ensures) (c .before .before .word .ensures .0) (c .before .has .ensures) _ (not-true _ (c .if1 .taken))
+switch-returns t c = search (not-true, switch-broken, needs)
 
 switch-word-requires-2 : (t : ℕ) → switch-lts.Need-word-requires-2 (switch-calls t) (switch-at t) switch.Post
 switch-word-requires-2 t c κs = let p = c .before .before .before .before .before .before .before .pre .1 in (p .0, (omega arith, switch-here (p .0) refl (p .1) .below))
@@ -228,13 +342,13 @@ switch-arms-requires : (t : ℕ) → switch-lts.Need-arms-requires (switch-calls
 switch-arms-requires t c κs = let a = c .before .before .before .before .before .before .before .before .before .pre in let o = to-arms (a .1 .0) (a .1 .1) (c .before .word2 .ensures .0) in (omega (arith, o .falls, a .0), (a .1 .0, o .stands))
 
 switch-returns-2 : (t : ℕ) → switch-lts.Need-returns-2 (switch-calls t) (switch-at t) switch.Post
-switch-returns-2 t c = let p = c .before .before .before .before .before .before .before .before .before .before .pre .1 in switch-done _ _ _ (p .0) (p .1) (c .before .before .before .before .before .before .sound-in .ensures) (c .before .before .before .before .before .word .ensures .0) (c .before .before .before .before .has .ensures) _ _ (not-false _ (c .before .before .before .if1 .left)) (c .before .before .word2 .ensures .0) (c .arms .ensures)
+switch-returns-2 t c = search (not-false, switch-done, needs)
 
 pub +arms+branches+goal+goals+switch-spec : {M : Type 1} → statement M
 +arms+branches+goal+goals+switch-spec =
     close μ-arms μ-branches μ-goal μ-goals μ-switch
-    (λ t. arms-lts.spec (arms-calls t) (arms-at t) arms.Post (arms-returns t) (arms-word-requires t) (arms-returns-2 t) (λ c κs. search needs)
-    (λ c κs. search needs) (λ c κs. search needs) (arms-word-requires-2 t) (arms-goals-requires t) (arms-returns-3 t) (arms-word-requires-3 t)
+    (λ t. arms-lts.spec (arms-calls t) (arms-at t) arms.Post (arms-returns t) (λ c κs. search needs) (arms-returns-2 t) (λ c κs. search needs)
+    (λ c κs. search needs) (λ c κs. search needs) (λ c κs. search needs) (arms-goals-requires t) (arms-returns-3 t) (λ c κs. search needs)
     (arms-returns-4 t) (λ c κs. search needs) (λ c κs. search needs) (λ c κs. search needs) (arms-arms-requires t) (arms-returns-5 t)
     (λ c κs. search needs) (arms-returns-6 t))
     (λ t. branches-lts.spec (branches-calls t) (branches-at t) branches.Post (λ c κs. search needs) (λ c κs. search needs) (branches-word-requires t)
@@ -242,10 +356,9 @@ pub +arms+branches+goal+goals+switch-spec : {M : Type 1} → statement M
     (branches-word-requires-3 t) (branches-goals-requires t) (branches-returns-3 t) (λ c κs. search needs) (λ c κs. search needs)
     (λ c κs. search needs) (branches-word-requires-4 t) (λ c κs. search needs) (branches-returns-4 t) (branches-goals-requires-2 t)
     (branches-returns-5 t) (λ c κs. search needs) (branches-returns-6 t))
-    (λ t. goal-lts.spec (goal-calls t) (goal-at t) goal.Post (λ c κs. search needs) (goal-switch-requires t) (goal-branches-requires t)
+    (λ t. goal-lts.spec (goal-calls t) (goal-at t) goal.Post (λ c κs. search needs) (λ c κs. search needs) (λ c κs. search needs)
     (λ c κs. search needs) (goal-returns t) (λ c κs. search needs) (goal-returns-2 t) (goal-returns-3 t) (goal-returns-4 t))
     (λ t. goals-lts.spec (goal-below t, goal.Post, word-reads.Asked, word-reads.Learnt) (goals-at t) goals.Post goals-Inv-loop goals-μ-loop
-    (goals-loop-holds t) (goals-goal-requires t) (goals-returns t) (λ c κs. search needs) (goals-loop-less t) (goals-loop-again t)
-    (goals-returns-2 t))
+    (λ c. search needs) (λ c κs. search needs) (goals-returns t) (λ c κs. search needs) (goals-loop-less t) (goals-loop-again t) (goals-returns-2 t))
     λ t. switch-lts.spec (switch-calls t) (switch-at t) switch.Post (λ c κs. search needs) (switch-word-requires t) (λ c κs. search needs)
     (switch-returns t) (switch-word-requires-2 t) (switch-arms-requires t) (switch-returns-2 t)

@@ -1,14 +1,7 @@
--- `fill_points` meets its contract.
-use Rattle.insertion.specs.Bodies.{points-start, points-filled}
+use Rattle.insertion.proofs.BodiesLaws.{points-start, points-filled}
 use borrow.Author.Needs.{needs}
 use Rattle.insertion.proofs.bodies.fill_points.Statement.{statement}
 use Rattle.insertion.proofs.bodies.fill_points.Tie as tie
-
-word-at-requires : tie.Need-word-at-requires
-word-at-requires c κs = search needs
-
-set-at-requires : tie.Need-set-at-requires
-set-at-requires c κs = search needs
 
 list-live-requires : tie.Need-list-live-requires
 list-live-requires c κs =
@@ -26,6 +19,4 @@ returns c =
     points-filled _ _ _ _ _ _ _ _ (e .0) (c .before .before .before .before .before .word-at .ensures) (c .before .before .before .before .set-at .ensures) (e .1 .0) (c .list-wanted .ensures)
 
 pub fill-points-spec : {M : Type 1} → statement M
-fill-points-spec =
-    tie.close
-    (tie.spec word-at-requires set-at-requires list-live-requires list-wanted-requires returns)
+fill-points-spec = tie.close (tie.spec (search needs) (search needs) list-live-requires list-wanted-requires returns)

@@ -1,25 +1,9 @@
--- `lay_body` meets its contract.
 use mathlib.Core.Path.{sym}
-use Rattle.insertion.specs.Along.{along-rest}
-use Rattle.insertion.specs.Bodies.{body-laid}
+use Rattle.insertion.proofs.AlongLaws.{along-rest}
+use Rattle.insertion.proofs.BodiesLaws.{body-laid}
 use borrow.Author.Needs.{needs}
 use Rattle.insertion.proofs.bodies.lay_body.Statement.{statement}
 use Rattle.insertion.proofs.bodies.lay_body.Tie as tie
-
-fill-points-requires : tie.Need-fill-points-requires
-fill-points-requires c κs = search needs
-
-start-removed-requires : tie.Need-start-removed-requires
-start-removed-requires c κs = search needs
-
-word-at-requires : tie.Need-word-at-requires
-word-at-requires c κs = search needs
-
-lay-marks-requires : tie.Need-lay-marks-requires
-lay-marks-requires c κs = search needs
-
-cursor-requires : tie.Need-cursor-requires
-cursor-requires c κs = search needs
 
 steps-requires : tie.Need-steps-requires
 steps-requires c κs =
@@ -30,9 +14,6 @@ goals-requires : tie.Need-goals-requires
 goals-requires c κs =
     let e = c .before .before .before .before .steps .ensures in
     (c .before .before .before .before .before .before .before .before .before .before .before .before .before .before .before .before .before .before .before .pre .0, (e .0 .stands, e .1))
-
-record-in-requires : tie.Need-record-in-requires
-record-in-requires c κs = search needs
 
 returns : tie.Need-returns
 returns c =
@@ -47,13 +28,4 @@ returns c =
 pub lay-body-spec : {M : Type 1} → statement M
 lay-body-spec =
     tie.close
-    (tie.spec
-    fill-points-requires
-    start-removed-requires
-    word-at-requires
-    lay-marks-requires
-    cursor-requires
-    steps-requires
-    goals-requires
-    record-in-requires
-    returns)
+    (tie.spec (λ c κs. search needs) (search needs) (search needs) (search needs) (search needs) steps-requires goals-requires (search needs) returns)

@@ -1,4 +1,3 @@
--- `cursor` meets its contract.
 use mathlib.Core.Path.{refl}
 use Rattle.insertion.specs.Cursor.{recordIn, pointIn}
 use Rattle.insertion.proofs.cursor.cursor.Statement.{statement}

@@ -1,24 +1,8 @@
--- `lay_goals` meets its contract.
 use borrow.Author.Needs.{needs}
 use Rattle.tables.specs.Starts.{body-stands}
-use Rattle.insertion.specs.Procedures.{goals-laid}
+use Rattle.insertion.proofs.ProceduresLaws.{goals-laid}
 use Rattle.insertion.proofs.procedures.lay_goals.Statement.{statement}
 use Rattle.insertion.proofs.procedures.lay_goals.Tie as tie
-
-start-of-requires : tie.Need-start-of-requires
-start-of-requires c κs = search needs
-
-mul-lay-body : tie.Need-mul-lay-body
-mul-lay-body c = search needs
-
-sub-lay-body : tie.Need-sub-lay-body
-sub-lay-body c = search needs
-
-part-lay-body-start : tie.Need-part-lay-body-start
-part-lay-body-start c = search needs
-
-part-lay-body-end : tie.Need-part-lay-body-end
-part-lay-body-end c = search needs
 
 lay-body-requires : tie.Need-lay-body-requires
 lay-body-requires c κs =
@@ -30,13 +14,4 @@ returns c =
     (c .lay-body .ensures .0, goals-laid (c .before .before .before .before .before .before .before .pre .0) (c .before .before .before .before .before .before .before .pre .1 .0) (c .before .before .before .before .start-of .ensures .0) (c .lay-body .ensures .1))
 
 pub lay-goals-spec : {M : Type 1} → statement M
-lay-goals-spec =
-    tie.close
-    (tie.spec
-    start-of-requires
-    mul-lay-body
-    sub-lay-body
-    part-lay-body-start
-    part-lay-body-end
-    lay-body-requires
-    returns)
+lay-goals-spec = tie.close (tie.spec (search needs) (search needs) (search needs) (search needs) (search needs) lay-body-requires returns)

@@ -1,22 +1,12 @@
--- `lay_procedure` meets its contract.
 use borrow.Author.Needs.{needs}
-use Rattle.insertion.specs.Procedures.{here, here-below, procedure-laid}
+use Rattle.insertion.proofs.ProceduresLaws.{here, here-below, procedure-laid}
 use Rattle.insertion.proofs.procedures.lay_procedure.Statement.{statement}
 use Rattle.insertion.proofs.procedures.lay_procedure.Tie as tie
-
-behind-requires : tie.Need-behind-requires
-behind-requires c κs = search needs
-
-word-requires : tie.Need-word-requires
-word-requires c κs = search needs
 
 lay-chain-requires : tie.Need-lay-chain-requires
 lay-chain-requires c κs =
     let p = c .before .before .before .before .before .pre in
     (p .0 .formed, rw (c .before .word .ensures .0) (here (p .0 .formed) (p .1 .0 .0) (p .1 .0 .1) .to-variables .stands .below))
-
-word-requires-2 : tie.Need-word-requires-2
-word-requires-2 c κs = search needs
 
 lay-chain-requires-2 : tie.Need-lay-chain-requires-2
 lay-chain-requires-2 c κs =
@@ -28,9 +18,6 @@ lay-goals-requires c κs =
     let p = c .before .before .before .before .before .before .before .before .before .before .before .pre in
     (p .0, (here-below (p .0 .formed) (p .1 .0 .0) (p .1 .0 .1), p .1 .1))
 
-store-procedure-requires : tie.Need-store-procedure-requires
-store-procedure-requires c κs = search needs
-
 returns : tie.Need-returns
 returns c =
     let p = c .before .before .before .before .before .before .before .before .before .before .before .before .before .before .pre in
@@ -39,12 +26,4 @@ returns c =
 pub lay-procedure-spec : {M : Type 1} → statement M
 lay-procedure-spec =
     tie.close
-    (tie.spec
-    behind-requires
-    word-requires
-    lay-chain-requires
-    word-requires-2
-    lay-chain-requires-2
-    lay-goals-requires
-    store-procedure-requires
-    returns)
+    (tie.spec (search needs) (search needs) lay-chain-requires (search needs) lay-chain-requires-2 lay-goals-requires (search needs) returns)

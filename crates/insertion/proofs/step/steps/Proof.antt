@@ -1,9 +1,9 @@
--- `steps` meets its contract.
 use native.Mathlib.Omega.{arith}
 use mathlib.Core.Path.{sym, _∙_}
 use Rattle.chains.specs.Formed.{ahead}
 use Rattle.insertion.specs.Cursor.{recordIn, pointIn}
-use Rattle.insertion.specs.Along.{LaidAlong, along-first, along-onward, along-next}
+use Rattle.insertion.specs.Along.{LaidAlong}
+use Rattle.insertion.proofs.AlongLaws.{along-first, along-onward, along-next}
 use Rattle.insertion.proofs.step.steps.Statement.{statement}
 use Rattle.insertion.proofs.step.steps.Tie as tie
 

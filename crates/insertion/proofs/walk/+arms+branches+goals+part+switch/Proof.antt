@@ -1,4 +1,4 @@
--- The walk over goals meets its contracts: one law of Walking for each way through it. The records ahead fall.
+-- The walk over goals: one law of Walking for each way through it. The records ahead fall.
 use borrow.Author.Needs.{needs}
 use mathlib.Core.Logic.{inl, inr}
 use mathlib.Core.Path.{refl, sym, _∙_}
@@ -7,7 +7,8 @@ use Prim.Native.Nat.{_+_, _*_, ℕ, _<_}
 use Rattle.chains.specs.Formed.{ahead}
 use Rattle.chains.specs.Shapes.{switch-here, if-here, to-arms, to-then, to-else, arm-goals, arm-next}
 use Rattle.insertion.specs.Cursor.{recordIn, pointIn}
-use Rattle.insertion.specs.Along.{LaidAlong, HasParts, along-first, along-last, along-onward, along-rest}
+use Rattle.insertion.specs.Along.{LaidAlong, HasParts}
+use Rattle.insertion.proofs.AlongLaws.{along-first, along-last, along-onward, along-rest}
 use Rattle.insertion.proofs.Walking.{along-turn, goal-moved, part-laid, switch-laid, if-laid, no-arms, arms-laid}
 use borrow.Fn.Kinds.{In}
 use borrow.Fn.PlainCycle.{Measures, is, falls, and}
@@ -117,35 +118,18 @@ arms-returns : (t : ℕ) → arms-lts.Need-returns (arms-calls t) (arms-at t) ar
 arms-returns t c =
     no-arms _ _ _ _ _ _ (c .if1 .taken)
 
-arms-record-in-requires : (t : ℕ) → arms-lts.Need-record-in-requires (arms-calls t) (arms-at t) arms.Post
-arms-record-in-requires t c κs =
-    search needs
-
-arms-behind-requires : (t : ℕ) → arms-lts.Need-behind-requires (arms-calls t) (arms-at t) arms.Post
-arms-behind-requires t c κs =
-    search needs
-
-arms-point-in-requires : (t : ℕ) → arms-lts.Need-point-in-requires (arms-calls t) (arms-at t) arms.Post
-arms-point-in-requires t c κs =
-    search needs
-
-arms-put-requires : (t : ℕ) → arms-lts.Need-put-requires (arms-calls t) (arms-at t) arms.Post
-arms-put-requires t c κs =
-    search needs
-
 arms-word-requires : (t : ℕ) → arms-lts.Need-word-requires (arms-calls t) (arms-at t) arms.Post
 arms-word-requires t c κs =
     (c .before .before .before .before .before .before .before .before .before .pre .1 .0, (omega arith, c .before .before .before .before .before .before .before .before .before .pre .1 .1 .below))
 
 arms-part-requires : (t : ℕ) → arms-lts.Need-part-requires (arms-calls t) (arms-at t) arms.Post
 arms-part-requires t c κs =
-    let p = c .before .before .before .before .before .before .before .before .before .before .before .before .pre .1 in
-    let o = arm-goals (p .0) (c .before .before .before .before .before .before .before .before .before .before .before .if1 .left) (p .1) (c .before .before .word .ensures .0) in
-    (omega (arith, o .falls, c .before .before .before .before .before .before .before .before .before .before .before .before .pre .0), (p .0, o .stands))
-
-arms-record-in-requires-2 : (t : ℕ) → arms-lts.Need-record-in-requires-2 (arms-calls t) (arms-at t) arms.Post
-arms-record-in-requires-2 t c κs =
-    search needs
+    let at-word = c .before .before in
+    let at-if1 = at-word .before .before .before .before .before .before .before .before .before in
+    let start = at-if1 .before in
+    let p = start .pre .1 in
+    let o = arm-goals (p .0) (at-if1 .if1 .left) (p .1) (at-word .word .ensures .0) in
+    (omega (arith, o .falls, start .pre .0), (p .0, o .stands))
 
 arms-word-requires-2 : (t : ℕ) → arms-lts.Need-word-requires-2 (arms-calls t) (arms-at t) arms.Post
 arms-word-requires-2 t c κs =
@@ -153,40 +137,30 @@ arms-word-requires-2 t c κs =
 
 arms-arms-requires : (t : ℕ) → arms-lts.Need-arms-requires (arms-calls t) (arms-at t) arms.Post
 arms-arms-requires t c κs =
-    let p = c .before .before .before .before .before .before .before .before .before .before .before .before .before .before .before .before .before .before .before .pre .1 in
-    let o = arm-next (p .0) (c .before .before .before .before .before .before .before .before .before .before .before .before .before .before .before .before .before .before .if1 .left) (p .1) (c .before .before .word2 .ensures .0) in
-    (omega (arith, o .falls, c .before .before .before .before .before .before .before .before .before .before .before .before .before .before .before .before .before .before .before .pre .0), (p .0, o .stands))
-
-arms-store-arm-requires : (t : ℕ) → arms-lts.Need-store-arm-requires (arms-calls t) (arms-at t) arms.Post
-arms-store-arm-requires t c κs =
-    search needs
+    let at-word2 = c .before .before in
+    let at-if1 = at-word2 .before .before .before .before .before .before .before .before .before .before .before .before .before .before .before .before in
+    let start = at-if1 .before in
+    let p = start .pre .1 in
+    let o = arm-next (p .0) (at-if1 .if1 .left) (p .1) (at-word2 .word2 .ensures .0) in
+    (omega (arith, o .falls, start .pre .0), (p .0, o .stands))
 
 arms-returns-2 : (t : ℕ) → arms-lts.Need-returns-2 (arms-calls t) (arms-at t) arms.Post
 arms-returns-2 t c =
-    let p = c .before .before .before .before .before .before .before .before .before .before .before .before .before .before .before .before .before .before .before .before .before .before .before .pre .1 in
-    let e = c .before .before .before .before .before .before .before .before .before .before .before .before .before .before .before .put .ensures in
-    rw (sym (c .before .before .before .before .before .before .before .before .before .before .before .before .before .before .before .before .before .point-in .ensures), sym (c .before .before .before .before .before .before .before .before .before .before .before .before .before .before .before .before .before .before .before .before .record-in .ensures))
-    (arms-laid _ _ _ _ (p .0) (p .1) (c .before .before .before .before .before .before .before .before .before .before .before .before .before .before .before .before .before .before .before .before .before .before .if1 .left) (c .before .before .before .before .before .before .before .before .before .before .before .before .before .before .before .before .before .before .before .behind .ensures) (c .before .before .before .before .before .before .before .before .before .before .before .before .before .word .ensures .0) (rw (e .record-is, e .point-is, sym (c .before .before .before .before .before .before .before .before .record-in2 .ensures)) at (c .before .before .before .before .before .before .before .before .before .before .part .ensures)) (c .before .before .before .before .before .before .word2 .ensures .0) (rw (sym (c .before .before .before .before .before .before .before .before .record-in2 .ensures)) at (c .before .before .before .arms .ensures)) (c .store-arm .ensures))
-
-branches-record-in-requires : (t : ℕ) → branches-lts.Need-record-in-requires (branches-calls t) (branches-at t) branches.Post
-branches-record-in-requires t c κs =
-    search needs
-
-branches-point-in-requires : (t : ℕ) → branches-lts.Need-point-in-requires (branches-calls t) (branches-at t) branches.Post
-branches-point-in-requires t c κs =
-    search needs
-
-branches-behind-requires : (t : ℕ) → branches-lts.Need-behind-requires (branches-calls t) (branches-at t) branches.Post
-branches-behind-requires t c κs =
-    search needs
-
-branches-past-requires : (t : ℕ) → branches-lts.Need-past-requires (branches-calls t) (branches-at t) branches.Post
-branches-past-requires t c κs =
-    search needs
-
-branches-put-requires : (t : ℕ) → branches-lts.Need-put-requires (branches-calls t) (branches-at t) branches.Post
-branches-put-requires t c κs =
-    search needs
+    let at-arms = c .before .before .before in
+    let at-word2 = at-arms .before .before .before in
+    let at-record-in2 = at-word2 .before .before in
+    let at-part = at-record-in2 .before .before in
+    let at-word = at-part .before .before .before in
+    let at-put = at-word .before .before in
+    let at-point-in = at-put .before .before in
+    let at-behind = at-point-in .before .before in
+    let at-record-in = at-behind .before in
+    let at-if1 = at-record-in .before .before in
+    let start = at-if1 .before in
+    let p = start .pre .1 in
+    let e = at-put .put .ensures in
+    rw (sym (at-point-in .point-in .ensures), sym (at-record-in .record-in .ensures))
+    (arms-laid _ _ _ _ (p .0) (p .1) (at-if1 .if1 .left) (at-behind .behind .ensures) (at-word .word .ensures .0) (rw (e .record-is, e .point-is, sym (at-record-in2 .record-in2 .ensures)) at (at-part .part .ensures)) (at-word2 .word2 .ensures .0) (rw (sym (at-record-in2 .record-in2 .ensures)) at (at-arms .arms .ensures)) (c .store-arm .ensures))
 
 branches-word-requires : (t : ℕ) → branches-lts.Need-word-requires (branches-calls t) (branches-at t) branches.Post
 branches-word-requires t c κs =
@@ -198,10 +172,6 @@ branches-part-requires t c κs =
     let o = to-then (p .0) (p .1) (c .before .before .word .ensures .0) in
     (omega (arith, o .falls, c .before .before .before .before .before .before .before .before .before .before .before .before .pre .0), (p .0, o .stands))
 
-branches-record-in-requires-2 : (t : ℕ) → branches-lts.Need-record-in-requires-2 (branches-calls t) (branches-at t) branches.Post
-branches-record-in-requires-2 t c κs =
-    search needs
-
 branches-word-requires-2 : (t : ℕ) → branches-lts.Need-word-requires-2 (branches-calls t) (branches-at t) branches.Post
 branches-word-requires-2 t c κs =
     (c .before .before .before .before .before .before .before .before .before .before .before .before .before .before .before .before .pre .1 .0, (omega arith, if-here (c .before .before .before .before .before .before .before .before .before .before .before .before .before .before .before .before .pre .1 .0) refl (c .before .before .before .before .before .before .before .before .before .before .before .before .before .before .before .before .pre .1 .1) .below))
@@ -212,20 +182,24 @@ branches-part-requires-2 t c κs =
     let o = to-else (p .0) (p .1) (c .before .before .word2 .ensures .0) in
     (omega (arith, o .falls, c .before .before .before .before .before .before .before .before .before .before .before .before .before .before .before .before .before .before .before .pre .0), (p .0, o .stands))
 
-branches-record-in-requires-3 : (t : ℕ) → branches-lts.Need-record-in-requires-3 (branches-calls t) (branches-at t) branches.Post
-branches-record-in-requires-3 t c κs =
-    search needs
-
-branches-store-if-requires : (t : ℕ) → branches-lts.Need-store-if-requires (branches-calls t) (branches-at t) branches.Post
-branches-store-if-requires t c κs =
-    search needs
-
 branches-returns : (t : ℕ) → branches-lts.Need-returns (branches-calls t) (branches-at t) branches.Post
 branches-returns t c =
-    let p = c .before .before .before .before .before .before .before .before .before .before .before .before .before .before .before .before .before .before .before .before .before .before .before .before .before .pre .1 in
-    let e = c .before .before .before .before .before .before .before .before .before .before .before .before .before .before .before .before .before .put .ensures in
-    rw (sym (c .before .before .before .before .before .before .before .before .before .before .before .before .before .before .before .before .before .before .before .before .before .point-in .ensures), sym (c .before .before .before .before .before .before .before .before .before .before .before .before .before .before .before .before .before .before .before .before .before .before .before .record-in .ensures), sym (c .before .record-in3 .ensures))
-    (if-laid _ _ _ _ (p .0) (p .1) (c .before .before .before .before .before .before .before .before .before .before .before .before .before .before .before .before .before .before .before .before .behind .ensures) (c .before .before .before .before .before .before .before .before .before .before .before .before .before .before .before .word .ensures .0) (c .before .before .before .before .before .before .before .before .before .before .before .before .before .before .before .before .before .before .past .ensures) (rw (e .record-is, e .point-is, sym (c .before .before .before .before .before .before .before .before .before .before .record-in2 .ensures)) at (c .before .before .before .before .before .before .before .before .before .before .before .before .part .ensures)) (c .before .before .before .before .before .before .before .before .word2 .ensures .0) (rw (sym (c .before .before .before .before .before .before .before .before .before .before .record-in2 .ensures), sym (c .before .record-in3 .ensures)) at (c .before .before .before .before .before .part2 .ensures)) (c .store-if .ensures))
+    let at-record-in3 = c .before in
+    let at-part2 = at-record-in3 .before .before .before .before in
+    let at-word2 = at-part2 .before .before .before in
+    let at-record-in2 = at-word2 .before .before in
+    let at-part = at-record-in2 .before .before in
+    let at-word = at-part .before .before .before in
+    let at-put = at-word .before .before in
+    let at-past = at-put .before in
+    let at-behind = at-past .before .before in
+    let at-point-in = at-behind .before in
+    let at-record-in = at-point-in .before .before in
+    let start = at-record-in .before .before in
+    let p = start .pre .1 in
+    let e = at-put .put .ensures in
+    rw (sym (at-point-in .point-in .ensures), sym (at-record-in .record-in .ensures), sym (at-record-in3 .record-in3 .ensures))
+    (if-laid _ _ _ _ (p .0) (p .1) (at-behind .behind .ensures) (at-word .word .ensures .0) (at-past .past .ensures) (rw (e .record-is, e .point-is, sym (at-record-in2 .record-in2 .ensures)) at (at-part .part .ensures)) (at-word2 .word2 .ensures .0) (rw (sym (at-record-in2 .record-in2 .ensures), sym (at-record-in3 .record-in3 .ensures)) at (at-part2 .part2 .ensures)) (c .store-if .ensures))
 
 abbrev goals-Inv-loop : goals-lts.InvT-loop
 goals-Inv-loop file rows points out₀ at₀ start i₀ out at i =
@@ -245,11 +219,20 @@ goals-word-requires t c κs =
 
 goals-switch-requires : (t : ℕ) → goals-lts.Need-switch-requires (goals-calls t) (goals-at t) goals.Post goals-Inv-loop goals-μ-loop
 goals-switch-requires t c κs =
-    (omega (arith, c .before .before .before .before .before .before .loop .inv .0 .near, c .before .before .before .before .before .before .before .pre .0), (c .before .before .before .before .before .before .before .pre .1 .0, sym (c .before .before .before .word .ensures .0) ∙ c .before .before .if1 .taken))
+    let at-if1 = c .before .before in
+    let at-word = at-if1 .before in
+    let at-loop = at-word .before .before .before in
+    let start = at-loop .before in
+    (omega (arith, at-loop .loop .inv .0 .near, start .pre .0), (start .pre .1 .0, sym (at-word .word .ensures .0) ∙ at-if1 .if1 .taken))
 
 goals-branches-requires : (t : ℕ) → goals-lts.Need-branches-requires (goals-calls t) (goals-at t) goals.Post goals-Inv-loop goals-μ-loop
 goals-branches-requires t c κs =
-    (omega (arith, c .before .before .before .before .before .before .loop .inv .0 .near, c .before .before .before .before .before .before .before .pre .0), (c .before .before .before .before .before .before .before .pre .1 .0, c .before .before .before .before .before .before .loop .inv .1 (c .before .before .before .before .before .loop-test .taken) (λ k. c .before .before .if1 .left (c .before .before .before .word .ensures .0 ∙ k))))
+    let at-if1 = c .before .before in
+    let at-word = at-if1 .before in
+    let at-loop-test = at-word .before .before in
+    let at-loop = at-loop-test .before in
+    let start = at-loop .before in
+    (omega (arith, at-loop .loop .inv .0 .near, start .pre .0), (start .pre .1 .0, at-loop .loop .inv .1 (at-loop-test .loop-test .taken) (λ k. at-if1 .if1 .left (at-word .word .ensures .0 ∙ k))))
 
 goals-word-requires-2 : (t : ℕ) → goals-lts.Need-word-requires-2 (goals-calls t) (goals-at t) goals.Post goals-Inv-loop goals-μ-loop
 goals-word-requires-2 t c κs =
@@ -257,45 +240,43 @@ goals-word-requires-2 t c κs =
 
 goals-steps-requires : (t : ℕ) → goals-lts.Need-steps-requires (goals-calls t) (goals-at t) goals.Post goals-Inv-loop goals-μ-loop
 goals-steps-requires t c κs =
-    (c .before .before .before .before .before .before .before .before .before .pre .1 .0, along-onward (c .before .before .before .before .before .before .before .before .loop .inv .0) (c .before .before .before .before .before .before .before .before .before .pre .1 .0) (c .before .before .before .before .before .before .before .loop-test .taken) (c .before .before .word2 .ensures .0) .stands)
+    let at-word2 = c .before .before in
+    let at-loop-test = at-word2 .before .before .before .before .before in
+    let at-loop = at-loop-test .before in
+    let start = at-loop .before in
+    (start .pre .1 .0, along-onward (at-loop .loop .inv .0) (start .pre .1 .0) (at-loop-test .loop-test .taken) (at-word2 .word2 .ensures .0) .stands)
 
 goals-loop-less : (t : ℕ) → goals-lts.Need-loop-less (goals-calls t) (goals-at t) goals.Post goals-Inv-loop goals-μ-loop
 goals-loop-less t c =
-    omega (arith, c .steps .ensures .0 .near, along-onward (c .before .before .before .before .before .before .before .before .before .loop .inv .0) (c .before .before .before .before .before .before .before .before .before .before .pre .1 .0) (c .before .before .before .before .before .before .before .before .loop-test .taken) (c .before .before .before .word2 .ensures .0) .falls)
+    let at-word2 = c .before .before .before in
+    let at-loop-test = at-word2 .before .before .before .before .before in
+    let at-loop = at-loop-test .before in
+    let start = at-loop .before in
+    omega
+    (arith, c .steps .ensures .0 .near, along-onward (at-loop .loop .inv .0) (start .pre .1 .0) (at-loop-test .loop-test .taken) (at-word2 .word2 .ensures .0) .falls)
 
 goals-loop-again : (t : ℕ) → goals-lts.Need-loop-again (goals-calls t) (goals-at t) goals.Post goals-Inv-loop goals-μ-loop
-goals-loop-again t c = (
-  along-turn (c .before .before .before .before .before .before .before .before .before .loop .inv .0) (c .before .before .before .before .before .before .before .before .before .before .pre .1 .0) (c .before .before .before .before .before .before .before .before .loop-test .taken) (c .before .before .before .word2 .ensures .0) (c .steps .ensures .0)
-      (elim (c .before .before .before .before .before .if1 .came) [
-        | inl x ↦ goal-moved _ _ (x .4) (x .5) (x .3 .ensures)
-        | inr x ↦ goal-moved _ _ (x .4) (x .5) (x .3 .ensures)
-      ]),
-  c .steps .ensures .1,
-)
+goals-loop-again t c =
+    let at-word2 = c .before .before .before in
+    let at-if1 = at-word2 .before .before in
+    let at-loop-test = at-if1 .before .before .before in
+    let at-loop = at-loop-test .before in
+    let start = at-loop .before in (
+      along-turn (at-loop .loop .inv .0) (start .pre .1 .0) (at-loop-test .loop-test .taken) (at-word2 .word2 .ensures .0) (c .steps .ensures .0)
+          (elim (at-if1 .if1 .came) [
+            | inl x ↦ goal-moved _ _ (x .4) (x .5) (x .3 .ensures)
+            | inr x ↦ goal-moved _ _ (x .4) (x .5) (x .3 .ensures)
+          ]),
+      c .steps .ensures .1,
+    )
 
 goals-returns : (t : ℕ) → goals-lts.Need-returns (goals-calls t) (goals-at t) goals.Post goals-Inv-loop goals-μ-loop
 goals-returns t c =
     along-last (c .before .loop .inv .0) (c .loop-test .left)
 
-part-point-in-requires : (t : ℕ) → part-lts.Need-point-in-requires (part-calls t) (part-at t) part.Post
-part-point-in-requires t c κs =
-    search needs
-
-part-left-over-requires : (t : ℕ) → part-lts.Need-left-over-requires (part-calls t) (part-at t) part.Post
-part-left-over-requires t c κs =
-    search needs
-
-part-record-in-requires : (t : ℕ) → part-lts.Need-record-in-requires (part-calls t) (part-at t) part.Post
-part-record-in-requires t c κs =
-    search needs
-
 part-lay-marks-requires : (t : ℕ) → part-lts.Need-lay-marks-requires (part-calls t) (part-at t) part.Post
 part-lay-marks-requires t c κs =
     omega arith
-
-part-put-requires : (t : ℕ) → part-lts.Need-put-requires (part-calls t) (part-at t) part.Post
-part-put-requires t c κs =
-    search needs
 
 part-steps-requires : (t : ℕ) → part-lts.Need-steps-requires (part-calls t) (part-at t) part.Post
 part-steps-requires t c κs =
@@ -307,39 +288,33 @@ part-goals-requires t c κs =
 
 part-returns : (t : ℕ) → part-lts.Need-returns (part-calls t) (part-at t) part.Post
 part-returns t c =
-    let p = c .before .before .before .before .before .before .before .before .before .before .before .before .before .before .before .before .pre .1 in
-    let e = c .before .before .before .before .before .before .before .put .ensures in
-    let o = c .before .before .before .before .before .before .before .before .before .before .before .before .before .left-over .ensures in
-    rw (sym (c .before .before .before .before .before .before .before .before .before .before .before .before .before .before .point-in .ensures), sym (c .before .before .before .before .before .before .before .before .before .before .record-in .ensures))
-    (part-laid _ _ _ _ (p .0) (p .1) (o .0) (o .1) (c .before .before .before .before .before .before .before .before .before .lay-marks .ensures) (rw (e .record-is, e .point-is) at (along-rest (c .before .before .before .before .steps .ensures .0) (c .goals .ensures))))
+    let at-steps = c .before .before .before .before in
+    let at-put = at-steps .before .before .before in
+    let at-lay-marks = at-put .before .before in
+    let at-record-in = at-lay-marks .before in
+    let at-left-over = at-record-in .before .before .before in
+    let at-point-in = at-left-over .before in
+    let start = at-point-in .before .before in
+    let p = start .pre .1 in
+    let e = at-put .put .ensures in
+    let o = at-left-over .left-over .ensures in
+    rw (sym (at-point-in .point-in .ensures), sym (at-record-in .record-in .ensures))
+    (part-laid _ _ _ _ (p .0) (p .1) (o .0) (o .1) (at-lay-marks .lay-marks .ensures) (rw (e .record-is, e .point-is) at (along-rest (at-steps .steps .ensures .0) (c .goals .ensures))))
 
 part-returns-2 : (t : ℕ) → part-lts.Need-returns-2 (part-calls t) (part-at t) part.Post
 part-returns-2 t c =
-    let p = c .before .before .before .before .before .before .before .before .before .before .before .before .before .pre .1 in
-    let e = c .before .before .before .before .put .ensures in
-    let o = c .before .before .before .before .before .before .before .before .before .before .left-over .ensures in
-    rw (sym (c .before .before .before .before .before .before .before .before .before .before .before .point-in .ensures), sym (c .before .before .before .before .before .before .before .record-in .ensures))
-    (part-laid _ _ _ _ (p .0) (p .1) (o .0) (o .1) (c .before .before .before .before .before .before .lay-marks .ensures) (rw (e .record-is, e .point-is) at (along-last (c .before .steps .ensures .0) (c .if1 .left))))
-
-switch-record-in-requires : (t : ℕ) → switch-lts.Need-record-in-requires (switch-calls t) (switch-at t) switch.Post
-switch-record-in-requires t c κs =
-    search needs
-
-switch-point-in-requires : (t : ℕ) → switch-lts.Need-point-in-requires (switch-calls t) (switch-at t) switch.Post
-switch-point-in-requires t c κs =
-    search needs
-
-switch-behind-requires : (t : ℕ) → switch-lts.Need-behind-requires (switch-calls t) (switch-at t) switch.Post
-switch-behind-requires t c κs =
-    search needs
-
-switch-past-requires : (t : ℕ) → switch-lts.Need-past-requires (switch-calls t) (switch-at t) switch.Post
-switch-past-requires t c κs =
-    search needs
-
-switch-put-requires : (t : ℕ) → switch-lts.Need-put-requires (switch-calls t) (switch-at t) switch.Post
-switch-put-requires t c κs =
-    search needs
+    let at-steps = c .before in
+    let at-put = at-steps .before .before .before in
+    let at-lay-marks = at-put .before .before in
+    let at-record-in = at-lay-marks .before in
+    let at-left-over = at-record-in .before .before .before in
+    let at-point-in = at-left-over .before in
+    let start = at-point-in .before .before in
+    let p = start .pre .1 in
+    let e = at-put .put .ensures in
+    let o = at-left-over .left-over .ensures in
+    rw (sym (at-point-in .point-in .ensures), sym (at-record-in .record-in .ensures))
+    (part-laid _ _ _ _ (p .0) (p .1) (o .0) (o .1) (at-lay-marks .lay-marks .ensures) (rw (e .record-is, e .point-is) at (along-last (at-steps .steps .ensures .0) (c .if1 .left))))
 
 switch-word-requires : (t : ℕ) → switch-lts.Need-word-requires (switch-calls t) (switch-at t) switch.Post
 switch-word-requires t c κs =
@@ -351,90 +326,36 @@ switch-arms-requires t c κs =
     let o = to-arms (p .0) (p .1) (c .before .before .word .ensures .0) in
     (omega (arith, o .falls, c .before .before .before .before .before .before .before .before .before .before .before .before .pre .0), (p .0, o .stands))
 
-switch-record-in-requires-2 : (t : ℕ) → switch-lts.Need-record-in-requires-2 (switch-calls t) (switch-at t) switch.Post
-switch-record-in-requires-2 t c κs =
-    search needs
-
-switch-store-switch-requires : (t : ℕ) → switch-lts.Need-store-switch-requires (switch-calls t) (switch-at t) switch.Post
-switch-store-switch-requires t c κs =
-    search needs
-
 switch-returns : (t : ℕ) → switch-lts.Need-returns (switch-calls t) (switch-at t) switch.Post
 switch-returns t c =
-    let p = c .before .before .before .before .before .before .before .before .before .before .before .before .before .before .before .before .before .before .pre .1 in
-    let e = c .before .before .before .before .before .before .before .before .before .before .put .ensures in
-    rw (sym (c .before .before .before .before .before .before .before .before .before .before .before .before .before .before .point-in .ensures), sym (c .before .before .before .before .before .before .before .before .before .before .before .before .before .before .before .before .record-in .ensures), sym (c .before .record-in2 .ensures))
-    (switch-laid _ _ _ _ (p .0) (p .1) (c .before .before .before .before .before .before .before .before .before .before .before .before .before .behind .ensures) (c .before .before .before .before .before .before .before .before .word .ensures .0) (c .before .before .before .before .before .before .before .before .before .before .before .past .ensures) (rw (e .record-is, e .point-is, sym (c .before .record-in2 .ensures)) at (c .before .before .before .before .before .arms .ensures)) (c .store-switch .ensures))
+    let at-record-in2 = c .before in
+    let at-arms = at-record-in2 .before .before .before .before in
+    let at-word = at-arms .before .before .before in
+    let at-put = at-word .before .before in
+    let at-past = at-put .before in
+    let at-behind = at-past .before .before in
+    let at-point-in = at-behind .before in
+    let at-record-in = at-point-in .before .before in
+    let start = at-record-in .before .before in
+    let p = start .pre .1 in
+    let e = at-put .put .ensures in
+    rw (sym (at-point-in .point-in .ensures), sym (at-record-in .record-in .ensures), sym (at-record-in2 .record-in2 .ensures))
+    (switch-laid _ _ _ _ (p .0) (p .1) (at-behind .behind .ensures) (at-word .word .ensures .0) (at-past .past .ensures) (rw (e .record-is, e .point-is, sym (at-record-in2 .record-in2 .ensures)) at (at-arms .arms .ensures)) (c .store-switch .ensures))
 
 pub +arms+branches+goals+part+switch-spec : {M : Type 1} → statement M
 +arms+branches+goals+part+switch-spec =
-    close μ-arms μ-branches μ-goals μ-part μ-switch (λ t. arms-lts.spec (arms-calls t)
-    (arms-at t)
-    arms.Post
-    (arms-returns t)
-    (arms-record-in-requires t)
-    (arms-behind-requires t)
-    (arms-point-in-requires t)
-    (arms-put-requires t)
-    (arms-word-requires t)
-    (arms-part-requires t)
-    (arms-record-in-requires-2 t)
-    (arms-word-requires-2 t)
-    (arms-arms-requires t)
-    (arms-store-arm-requires t)
-    (arms-returns-2 t))
-    (λ t. branches-lts.spec (branches-calls t)
-    (branches-at t)
-    branches.Post
-    (branches-record-in-requires t)
-    (branches-point-in-requires t)
-    (branches-behind-requires t)
-    (branches-past-requires t)
-    (branches-put-requires t)
-    (branches-word-requires t)
-    (branches-part-requires t)
-    (branches-record-in-requires-2 t)
-    (branches-word-requires-2 t)
-    (branches-part-requires-2 t)
-    (branches-record-in-requires-3 t)
-    (branches-store-if-requires t)
-    (branches-returns t))
-    (λ t. goals-lts.spec (goals-calls t)
-    (goals-at t)
-    goals.Post
-    goals-Inv-loop
-    goals-μ-loop
-    (goals-loop-holds t)
-    (goals-word-requires t)
-    (goals-switch-requires t)
-    (goals-branches-requires t)
-    (goals-word-requires-2 t)
-    (goals-steps-requires t)
-    (goals-loop-less t)
-    (goals-loop-again t)
+    close μ-arms μ-branches μ-goals μ-part μ-switch
+    (λ t. arms-lts.spec (arms-calls t) (arms-at t) arms.Post (arms-returns t) (λ c κs. search needs) (λ c κs. search needs) (λ c κs. search needs)
+    (λ c κs. search needs) (arms-word-requires t) (arms-part-requires t) (λ c κs. search needs) (arms-word-requires-2 t) (arms-arms-requires t)
+    (λ c κs. search needs) (arms-returns-2 t))
+    (λ t. branches-lts.spec (branches-calls t) (branches-at t) branches.Post (λ c κs. search needs) (λ c κs. search needs) (λ c κs. search needs)
+    (λ c κs. search needs) (λ c κs. search needs) (branches-word-requires t) (branches-part-requires t) (λ c κs. search needs)
+    (branches-word-requires-2 t) (branches-part-requires-2 t) (λ c κs. search needs) (λ c κs. search needs) (branches-returns t))
+    (λ t. goals-lts.spec (goals-calls t) (goals-at t) goals.Post goals-Inv-loop goals-μ-loop (goals-loop-holds t) (goals-word-requires t)
+    (goals-switch-requires t) (goals-branches-requires t) (goals-word-requires-2 t) (goals-steps-requires t) (goals-loop-less t) (goals-loop-again t)
     (goals-returns t))
-    (λ t. part-lts.spec (part-calls t)
-    (part-at t)
-    part.Post
-    (part-point-in-requires t)
-    (part-left-over-requires t)
-    (part-record-in-requires t)
-    (part-lay-marks-requires t)
-    (part-put-requires t)
-    (part-steps-requires t)
-    (part-goals-requires t)
-    (part-returns t)
-    (part-returns-2 t))
-    λ t. switch-lts.spec (switch-calls t)
-    (switch-at t)
-    switch.Post
-    (switch-record-in-requires t)
-    (switch-point-in-requires t)
-    (switch-behind-requires t)
-    (switch-past-requires t)
-    (switch-put-requires t)
-    (switch-word-requires t)
-    (switch-arms-requires t)
-    (switch-record-in-requires-2 t)
-    (switch-store-switch-requires t)
+    (λ t. part-lts.spec (part-calls t) (part-at t) part.Post (λ c κs. search needs) (λ c κs. search needs) (λ c κs. search needs)
+    (part-lay-marks-requires t) (λ c κs. search needs) (part-steps-requires t) (part-goals-requires t) (part-returns t) (part-returns-2 t))
+    λ t. switch-lts.spec (switch-calls t) (switch-at t) switch.Post (λ c κs. search needs) (λ c κs. search needs) (λ c κs. search needs)
+    (λ c κs. search needs) (λ c κs. search needs) (switch-word-requires t) (switch-arms-requires t) (λ c κs. search needs) (λ c κs. search needs)
     (switch-returns t)

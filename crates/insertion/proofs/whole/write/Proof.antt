@@ -1,10 +1,9 @@
--- `write` meets its contract.
 use Prim.Native.Nat.{_-_, _≤_}
 use native.Mathlib.Omega.{arith}
 use mathlib.Core.List.{_++_}
 use mathlib.Core.Path.{_≡_, refl, _∙_}
 use lib.ListN.{length, take, drop, length-set}
-use Rattle.insertion.specs.Whole.{copied-more, copied-all}
+use Rattle.insertion.proofs.WholeLaws.{copied-more, copied-all}
 use Rattle.insertion.proofs.whole.write.Statement.{statement}
 use Rattle.insertion.proofs.whole.write.Tie as tie
 

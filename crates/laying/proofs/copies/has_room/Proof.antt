@@ -1,4 +1,3 @@
--- `has_room` meets its contract.
 use native.Mathlib.Omega.{arith}
 use mathlib.Core.Bool.{false≢true}
 use borrow.Author.Tests.{leb-true, leb-false}
@@ -10,12 +9,9 @@ returns : tie.Need-returns
 returns c =
     record { yes-room = λ e. absurd (false≢true e); no-room = λ e l. absurd (omega arith) }
 
-mul-result : tie.Need-mul-result
-mul-result c = search needs
-
 returns-2 : tie.Need-returns-2
 returns-2 c =
     record { yes-room = λ e. (omega arith, leb-true _ _ e); no-room = λ e l. leb-false _ _ e }
 
 pub has-room-spec : {M : Type 1} → statement M
-has-room-spec = tie.close (tie.spec returns mul-result returns-2)
+has-room-spec = tie.close (tie.spec returns (search needs) returns-2)

@@ -1,4 +1,3 @@
--- `refer` meets its contract.
 use native.Mathlib.Omega.{arith}
 use Rattle.writer.specs.Laid.{linked-none, linked-some}
 use Rattle.laying.proofs.place.refer.Statement.{statement}

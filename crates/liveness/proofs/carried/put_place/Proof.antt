@@ -1,17 +1,10 @@
--- `put_place` meets its contract.
-use Rattle.liveness.specs.Carried.{place-put}
+use Rattle.liveness.proofs.CarriedLaws.{place-put}
 use borrow.Author.Needs.{needs}
 use Rattle.liveness.proofs.carried.put_place.Statement.{statement}
 use Rattle.liveness.proofs.carried.put_place.Tie as tie
-
-slice-write-carried : tie.Need-slice-write-carried
-slice-write-carried c = search needs
-
-same-length : tie.Need-same-length
-same-length c = search needs
 
 returns : tie.Need-returns
 returns c = place-put (c .args .carried .now) (c .pre) _
 
 pub put-place-spec : {M : Type 1} → statement M
-put-place-spec = tie.close (tie.spec slice-write-carried same-length returns)
+put-place-spec = tie.close (tie.spec (search needs) (search needs) returns)

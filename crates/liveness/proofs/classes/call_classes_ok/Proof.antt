@@ -1,4 +1,3 @@
--- `call_classes_ok` meets its contract.
 use borrow.Author.Tests.{not-true, not-false}
 use mathlib.Core.Path.{_≡_, refl, _∙_}
 use lib.ListN.{length}
@@ -8,7 +7,8 @@ use Rattle.chains.specs.Declared.{procedure-at}
 use Rattle.chains.specs.Is.{procedure-is}
 use Rattle.chains.specs.Turns.{Tests, tests-first, tests-last, tests-stop, tests-next, turn-below}
 use Rattle.liveness.specs.Points.{pointWords}
-use Rattle.liveness.specs.Classes.{procedureClasses, classes-all}
+use Rattle.liveness.specs.Classes.{procedureClasses}
+use Rattle.liveness.proofs.ClassesLaws.{classes-all}
 use borrow.Author.Needs.{needs}
 use Rattle.liveness.proofs.classes.call_classes_ok.Statement.{statement}
 use Rattle.liveness.proofs.classes.call_classes_ok.Tie as tie
@@ -19,11 +19,8 @@ Inv-loop file table rows points₀ i₀ q₀ points i q = Tests file (procedureC
 abbrev μ-loop : tie.MeasureT-loop
 μ-loop file table rows points₀ i₀ q₀ points i q = ahead file i
 
-word-requires : tie.Need-word-requires Inv-loop μ-loop
-word-requires c κs = search needs
-
 loop-holds : tie.Need-loop-holds Inv-loop μ-loop
-loop-holds c = (tests-first _ (c .before .before .pre .0) (c .word .ensures .0), c .before .before .pre .1 .1)
+loop-holds c = search (tests-first, needs)
 
 procedure-ok-requires : tie.Need-procedure-ok-requires Inv-loop μ-loop
 procedure-ok-requires c κs = let p = c .before .before .before .before .before .before .pre in let h = c .before .before .before .loop .inv .0 in let a = procedure-at (p .0) refl (procedure-is (h .turn .stands) (c .before .before .loop-test .taken)) in (p .0, (p .1 .0, (turn-below (h .turn) a, c .before .before .before .loop .inv .1)))
@@ -33,9 +30,6 @@ returns c = let p = c .before .before .before .before .before .before .before .b
 
 add-q : tie.Need-add-q Inv-loop μ-loop
 add-q c = let p = c .before .before .before .before .before .before .before .before .pre in let h = c .before .before .before .before .before .loop .inv .0 in let a = procedure-at (p .0) refl (procedure-is (h .turn .stands) (c .before .before .before .before .loop-test .taken)) in let l = turn-below (h .turn) a in let m = p .1 .0 .few in search needs
-
-word-requires-2 : tie.Need-word-requires-2 Inv-loop μ-loop
-word-requires-2 c κs = search needs
 
 loop-less : tie.Need-loop-less Inv-loop μ-loop
 loop-less c = let p = c .before .before .before .before .before .before .before .before .before .pre in let h = c .before .before .before .before .before .before .loop .inv .0 in let a = procedure-at (p .0) refl (procedure-is (h .turn .stands) (c .before .before .before .before .before .loop-test .taken)) in (rw (c .word2 .ensures .0) (a .to-next .falls))
@@ -49,15 +43,4 @@ returns-2 c = (c .before .loop .inv .1, tests-last _ (c .before .loop .inv .0) (
 pub call-classes-ok-spec : {M : Type 1} → statement M
 call-classes-ok-spec =
     tie.close
-    (tie.spec
-    Inv-loop
-    μ-loop
-    word-requires
-    loop-holds
-    procedure-ok-requires
-    returns
-    add-q
-    word-requires-2
-    loop-less
-    loop-again
-    returns-2)
+    (tie.spec Inv-loop μ-loop (search needs) loop-holds procedure-ok-requires returns add-q (search needs) loop-less loop-again returns-2)

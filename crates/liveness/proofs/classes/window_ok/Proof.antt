@@ -1,13 +1,6 @@
--- `window_ok` meets its contract.
 use borrow.Author.Needs.{needs}
 use Rattle.liveness.proofs.classes.window_ok.Statement.{statement}
 use Rattle.liveness.proofs.classes.window_ok.Tie as tie
-
-word-at-requires : tie.Need-word-at-requires
-word-at-requires c κs = search needs
-
-set-at-requires : tie.Need-set-at-requires
-set-at-requires c κs = search needs
 
 list-live-requires : tie.Need-list-live-requires
 list-live-requires c κs = let p = c .before .before .before .before .before .pre in (p .0, (p .1 .0, (rw (c .before .before .word-at .ensures) (p .1 .1 .0), p .1 .1 .1)))
@@ -16,6 +9,4 @@ returns : tie.Need-returns
 returns c = (c .list-live .ensures .0, rw (c .before .before .before .word-at .ensures, c .before .before .set-at .ensures) at (c .list-live .ensures .1 .1))
 
 pub window-ok-spec : {M : Type 1} → statement M
-window-ok-spec =
-    tie.close
-    (tie.spec word-at-requires set-at-requires list-live-requires returns)
+window-ok-spec = tie.close (tie.spec (search needs) (search needs) list-live-requires returns)

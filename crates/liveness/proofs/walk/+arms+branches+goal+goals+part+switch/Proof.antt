@@ -1,4 +1,4 @@
--- The walk over goals meets its contracts: one law of Walking for each way through it. The records ahead fall.
+-- The walk over goals: one law of Walking for each way through it. The records ahead fall.
 use mathlib.Core.Path.{sym, ap, _∙_}
 use native.Mathlib.Omega.{arith}
 use Rattle.language.specs.File.{word}
@@ -119,32 +119,17 @@ abbrev switch-calls : ℕ → switch-lts.Claims
 switch-calls t =
     (live-in-reads.Asked, live-in-reads.Learnt, word-reads.Asked, word-reads.Learnt, arms-below t, arms.Post, of-reads.Asked, of-reads.Learnt, union-reads.Asked, union-reads.Learnt, put-point-reads.Asked, put-point-reads.Learnt)
 
-arms-put-live-requires : (t : ℕ) → arms-lts.Need-put-live-requires (arms-calls t) (arms-at t) arms.Post
-arms-put-live-requires t c κs = search needs
-
 arms-returns : (t : ℕ) → arms-lts.Need-returns (arms-calls t) (arms-at t) arms.Post
-arms-returns t c = arms-last _ _ _ _ (c .before .before .if1 .taken) (c .put-live .ensures)
-
-arms-live-in-requires : (t : ℕ) → arms-lts.Need-live-in-requires (arms-calls t) (arms-at t) arms.Post
-arms-live-in-requires t c κs = search needs
-
-arms-word-requires : (t : ℕ) → arms-lts.Need-word-requires (arms-calls t) (arms-at t) arms.Post
-arms-word-requires t c κs =
-    let p = c .before .before .before .before .pre .1 in
-    (p .0, (omega arith, p .1 .1 .below))
+arms-returns t c = search (arms-last, needs)
 
 arms-arms-requires : (t : ℕ) → arms-lts.Need-arms-requires (arms-calls t) (arms-at t) arms.Post
 arms-arms-requires t c κs =
-    let start = c .before .before .before .before .before .before .before in
+    let at-word = c .before .before in
+    let at-if1 = at-word .before .before .before in
+    let start = at-if1 .before .before in
     let p = start .pre .1 in
-    let o = chain-next (p .0) (p .1 .1) (c .before .before .before .before .before .if1 .left) (c .before .before .word .ensures .0) in
+    let o = chain-next (p .0) (p .1 .1) (at-if1 .if1 .left) (at-word .word .ensures .0) in
     (omega (arith, o .falls, start .pre .0), (p .0, (p .1 .0, o .stands)))
-
-arms-live-in-requires-2 : (t : ℕ) → arms-lts.Need-live-in-requires-2 (arms-calls t) (arms-at t) arms.Post
-arms-live-in-requires-2 t c κs = search needs
-
-arms-put-live-requires-2 : (t : ℕ) → arms-lts.Need-put-live-requires-2 (arms-calls t) (arms-at t) arms.Post
-arms-put-live-requires-2 t c κs = search needs
 
 arms-part-requires : (t : ℕ) → arms-lts.Need-part-requires (arms-calls t) (arms-at t) arms.Post
 arms-part-requires t c κs =
@@ -153,30 +138,25 @@ arms-part-requires t c κs =
     let o = arm-here (p .0) (c .before .before .before .before .before .before .before .before .before .before .before .before .if1 .left) (p .1 .1) .to-goals in
     (omega (arith, o .falls, start .pre .0), (p .0, (p .1 .0, (omega arith, (p .1 .1 .below, o .stands)))))
 
-arms-live-in-requires-3 : (t : ℕ) → arms-lts.Need-live-in-requires-3 (arms-calls t) (arms-at t) arms.Post
-arms-live-in-requires-3 t c κs = search needs
-
-arms-gives-at-requires : (t : ℕ) → arms-lts.Need-gives-at-requires (arms-calls t) (arms-at t) arms.Post
-arms-gives-at-requires t c κs = search needs
-
-arms-difference-requires : (t : ℕ) → arms-lts.Need-difference-requires (arms-calls t) (arms-at t) arms.Post
-arms-difference-requires t c κs = search needs
-
-arms-union-requires : (t : ℕ) → arms-lts.Need-union-requires (arms-calls t) (arms-at t) arms.Post
-arms-union-requires t c κs = search needs
-
-arms-put-live-requires-3 : (t : ℕ) → arms-lts.Need-put-live-requires-3 (arms-calls t) (arms-at t) arms.Post
-arms-put-live-requires-3 t c κs = search needs
-
 arms-returns-2 : (t : ℕ) → arms-lts.Need-returns-2 (arms-calls t) (arms-at t) arms.Post
 arms-returns-2 t c =
-    let start = c .before .before .before .before .before .before .before .before .before .before .before .before .before .before .before .before .before .before .before .before .before .before in
+    let at-union = c .before in
+    let at-difference = at-union .before in
+    let at-gives-at = at-difference .before .before in
+    let at-live-in3 = at-gives-at .before in
+    let at-part = at-live-in3 .before .before in
+    let at-put-live2 = at-part .before .before .before in
+    let at-live-in2 = at-put-live2 .before .before in
+    let at-arms = at-live-in2 .before .before in
+    let at-word = at-arms .before .before .before in
+    let at-live-in = at-word .before in
+    let at-if1 = at-live-in .before .before in
+    let start = at-if1 .before .before in
     let p = start .pre .1 in
-    arms-more _ _ _ (p .0) (p .1 .1) (c .before .before .before .before .before .before .before .before .before .before .before .before .before .before .before .before .before .before .before .before .if1 .left) (c .before .before .before .before .before .before .before .before .before .before .before .before .before .before .before .before .before .before .live-in .ensures) (c .before .before .before .before .before .before .before .before .before .before .before .before .before .before .before .before .before .word .ensures .0) (c .before .before .before .before .before .before .before .before .before .before .before .before .before .before .arms .ensures) (c .before .before .before .before .before .before .before .before .before .before .before .before .live-in2 .ensures) (c .before .before .before .before .before .before .before .before .before .before .put-live2 .ensures)
-    (c .before .before .before .before .before .before .before .part .ensures) (c .before .before .before .before .before .live-in3 .ensures) (c .before .before .before .before .gives-at .ensures ∙ p .1 .0 .arm-gives _ (p .1 .1) (c .before .before .before .before .before .before .before .before .before .before .before .before .before .before .before .before .before .before .before .before .if1 .left)) (c .before .before .difference .ensures) (c .before .union .ensures) (c .put-live3 .ensures)
-
-branches-live-in-requires : (t : ℕ) → branches-lts.Need-live-in-requires (branches-calls t) (branches-at t) branches.Post
-branches-live-in-requires t c κs = search needs
+    arms-more _ _ _ (p .0) (p .1 .1) (at-if1 .if1 .left) (at-live-in .live-in .ensures) (at-word .word .ensures .0) (at-arms .arms .ensures)
+    (at-live-in2 .live-in2 .ensures) (at-put-live2 .put-live2 .ensures) (at-part .part .ensures) (at-live-in3 .live-in3 .ensures)
+    (at-gives-at .gives-at .ensures ∙ p .1 .0 .arm-gives _ (p .1 .1) (at-if1 .if1 .left)) (at-difference .difference .ensures)
+    (at-union .union .ensures) (c .put-live3 .ensures)
 
 branches-part-requires : (t : ℕ) → branches-lts.Need-part-requires (branches-calls t) (branches-at t) branches.Post
 branches-part-requires t c κs =
@@ -185,12 +165,6 @@ branches-part-requires t c κs =
     let o = to-else _ _ (p .0) (p .1 .1) in
     (omega (arith, o .falls, start .pre .0), (p .0, (p .1 .0, (omega arith, (if-there _ _ (p .0) (p .1 .1), o .stands)))))
 
-branches-live-in-requires-2 : (t : ℕ) → branches-lts.Need-live-in-requires-2 (branches-calls t) (branches-at t) branches.Post
-branches-live-in-requires-2 t c κs = search needs
-
-branches-put-live-requires : (t : ℕ) → branches-lts.Need-put-live-requires (branches-calls t) (branches-at t) branches.Post
-branches-put-live-requires t c κs = search needs
-
 branches-part-requires-2 : (t : ℕ) → branches-lts.Need-part-requires-2 (branches-calls t) (branches-at t) branches.Post
 branches-part-requires-2 t c κs =
     let start = c .before .before .before .before .before .before .before .before .before .before .before .before in
@@ -198,43 +172,35 @@ branches-part-requires-2 t c κs =
     let o = to-then _ _ (p .0) (p .1 .1) in
     (omega (arith, o .falls, start .pre .0), (p .0, (p .1 .0, (omega arith, (if-there _ _ (p .0) (p .1 .1), o .stands)))))
 
-branches-live-in-requires-3 : (t : ℕ) → branches-lts.Need-live-in-requires-3 (branches-calls t) (branches-at t) branches.Post
-branches-live-in-requires-3 t c κs = search needs
-
 branches-word-requires : (t : ℕ) → branches-lts.Need-word-requires (branches-calls t) (branches-at t) branches.Post
-branches-word-requires t c κs =
-    let p = c .before .before .before .before .before .before .before .before .before .before .before .before .before .before .before .pre .1 in
-    (p .0, (omega arith, if-there _ _ (p .0) (p .1 .1)))
-
-branches-of-requires : (t : ℕ) → branches-lts.Need-of-requires (branches-calls t) (branches-at t) branches.Post
-branches-of-requires t c κs = search needs
+branches-word-requires t c κs = search (if-there, needs)
 
 branches-word-requires-2 : (t : ℕ) → branches-lts.Need-word-requires-2 (branches-calls t) (branches-at t) branches.Post
 branches-word-requires-2 t c κs =
     let p = c .before .before .before .before .before .before .before .before .before .before .before .before .before .before .before .before .before .pre .1 in
     (p .0, (omega arith, if-there _ _ (p .0) (p .1 .1)))
 
-branches-of-requires-2 : (t : ℕ) → branches-lts.Need-of-requires-2 (branches-calls t) (branches-at t) branches.Post
-branches-of-requires-2 t c κs = search needs
-
-branches-union-requires : (t : ℕ) → branches-lts.Need-union-requires (branches-calls t) (branches-at t) branches.Post
-branches-union-requires t c κs = search needs
-
-branches-union-requires-2 : (t : ℕ) → branches-lts.Need-union-requires-2 (branches-calls t) (branches-at t) branches.Post
-branches-union-requires-2 t c κs = search needs
-
-branches-union-requires-3 : (t : ℕ) → branches-lts.Need-union-requires-3 (branches-calls t) (branches-at t) branches.Post
-branches-union-requires-3 t c κs = search needs
-
-branches-put-point-requires : (t : ℕ) → branches-lts.Need-put-point-requires (branches-calls t) (branches-at t) branches.Post
-branches-put-point-requires t c κs = search needs
-
 branches-returns : (t : ℕ) → branches-lts.Need-returns (branches-calls t) (branches-at t) branches.Post
 branches-returns t c =
-    let start = c .before .before .before .before .before .before .before .before .before .before .before .before .before .before .before .before .before .before .before .before .before .before .before .before .before in
+    let at-union3 = c .before .before .before in
+    let at-union2 = at-union3 .before in
+    let at-union = at-union2 .before in
+    let at-of2 = at-union .before in
+    let at-word2 = at-of2 .before in
+    let at-of = at-word2 .before in
+    let at-word = at-of .before in
+    let at-live-in3 = at-word .before in
+    let at-part2 = at-live-in3 .before .before in
+    let at-put-live = at-part2 .before .before .before in
+    let at-live-in2 = at-put-live .before .before in
+    let at-part = at-live-in2 .before .before in
+    let at-live-in = at-part .before .before .before in
+    let start = at-live-in .before .before .before in
     let p = start .pre .1 in
-    if-done _ _ _ (p .0) (p .1 .1) (c .before .before .before .before .before .before .before .before .before .before .before .before .before .before .before .before .before .before .before .before .before .before .live-in .ensures) (c .before .before .before .before .before .before .before .before .before .before .before .before .before .before .before .before .before .before .before .part .ensures) (c .before .before .before .before .before .before .before .before .before .before .before .before .before .before .before .before .before .live-in2 .ensures) (c .before .before .before .before .before .before .before .before .before .before .before .before .before .before .before .put-live .ensures) (c .before .before .before .before .before .before .before .before .before .before .before .before .part2 .ensures) (c .before .before .before .before .before .before .before .before .before .before .live-in3 .ensures)
-    (c .before .before .before .before .before .before .before .before .before .word .ensures .0) (c .before .before .before .before .before .before .before .before .of .ensures) (c .before .before .before .before .before .before .before .word2 .ensures .0) (c .before .before .before .before .before .before .of2 .ensures) (c .before .before .before .before .before .union .ensures) (c .before .before .before .before .union2 .ensures) (c .before .before .before .union3 .ensures) (c .put-point .ensures)
+    if-done _ _ _ (p .0) (p .1 .1) (at-live-in .live-in .ensures) (at-part .part .ensures) (at-live-in2 .live-in2 .ensures)
+    (at-put-live .put-live .ensures) (at-part2 .part2 .ensures) (at-live-in3 .live-in3 .ensures) (at-word .word .ensures .0) (at-of .of .ensures)
+    (at-word2 .word2 .ensures .0) (at-of2 .of2 .ensures) (at-union .union .ensures) (at-union2 .union2 .ensures) (at-union3 .union3 .ensures)
+    (c .put-point .ensures)
 
 goal-word-requires : (t : ℕ) → goal-lts.Need-word-requires (goal-calls t) (goal-at t) goal.Post
 goal-word-requires t c κs =
@@ -243,18 +209,19 @@ goal-word-requires t c κs =
 
 goal-switch-requires : (t : ℕ) → goal-lts.Need-switch-requires (goal-calls t) (goal-at t) goal.Post
 goal-switch-requires t c κs =
-    let start = c .before .before .before .before .before in
+    let at-match = c .before .before in
+    let at-word = at-match .before in
+    let start = at-word .before .before in
     let p = start .pre .1 in
-    (omega (arith, start .pre .0), (p .0, (p .1 .0, sym (c .before .before .before .word .ensures .0) ∙ c .before .before .match .keys1)))
+    (omega (arith, start .pre .0), (p .0, (p .1 .0, sym (at-word .word .ensures .0) ∙ at-match .match .keys1)))
 
 goal-branches-requires : (t : ℕ) → goal-lts.Need-branches-requires (goal-calls t) (goal-at t) goal.Post
 goal-branches-requires t c κs =
-    let start = c .before .before .before .before .before in
+    let at-match = c .before .before in
+    let at-word = at-match .before in
+    let start = at-word .before .before in
     let p = start .pre .1 in
-    (omega (arith, start .pre .0), (p .0, (p .1 .0, sym (c .before .before .before .word .ensures .0) ∙ c .before .before .match .keys2)))
-
-goal-step-requires : (t : ℕ) → goal-lts.Need-step-requires (goal-calls t) (goal-at t) goal.Post
-goal-step-requires t c κs = search needs
+    (omega (arith, start .pre .0), (p .0, (p .1 .0, sym (at-word .word .ensures .0) ∙ at-match .match .keys2)))
 
 goal-returns : (t : ℕ) → goal-lts.Need-returns (goal-calls t) (goal-at t) goal.Post
 goal-returns t c = c .switch .ensures
@@ -264,9 +231,12 @@ goal-returns-2 t c = c .branches .ensures
 
 goal-returns-3 : (t : ℕ) → goal-lts.Need-returns-3 (goal-calls t) (goal-at t) goal.Post
 goal-returns-3 t c =
-    let start = c .before .before .before .before .before .before in
+    let at-match = c .before .before .before in
+    let at-word = at-match .before in
+    let start = at-word .before .before in
     let p = start .pre .1 in
-    step-done _ _ _ (p .0) (p .1 .1 .0) (p .1 .1 .1) (λ e. c .before .before .before .match .rest .0 .1 (c .before .before .before .before .word .ensures .0 ∙ e)) (λ e. c .before .before .before .match .rest .1 (c .before .before .before .before .word .ensures .0 ∙ e)) _ (p .1 .0) (c .step .ensures)
+    step-done _ _ _ (p .0) (p .1 .1 .0) (p .1 .1 .1) (λ e. at-match .match .rest .0 .1 (at-word .word .ensures .0 ∙ e))
+    (λ e. at-match .match .rest .1 (at-word .word .ensures .0 ∙ e)) _ (p .1 .0) (c .step .ensures)
 
 goals-returns : (t : ℕ) → goals-lts.Need-returns (goals-calls t) (goals-at t) goals.Post
 goals-returns t c = goals-last _ _ _ _ _ (c .if1 .taken)
@@ -278,17 +248,8 @@ goals-part-requires t c κs =
     let o = to-next _ _ (p .0) (p .1 .1) (c .before .before .if1 .left) in
     (omega (arith, o .falls, start .pre .0), (p .0, (p .1 .0, (omega arith, (p .1 .1 .below, o .stands)))))
 
-goals-goal-requires : (t : ℕ) → goals-lts.Need-goal-requires (goals-calls t) (goals-at t) goals.Post
-goals-goal-requires t c κs =
-    let start = c .before .before .before .before .before .before .before in
-    let p = start .pre .1 in
-    (omega (arith, start .pre .0), (p .0, (p .1 .0, (p .1 .1, c .before .before .before .before .before .if1 .left))))
-
 goals-returns-2 : (t : ℕ) → goals-lts.Need-returns-2 (goals-calls t) (goals-at t) goals.Post
-goals-returns-2 t c =
-    let start = c .before .before .before .before .before .before .before .before in
-    let p = start .pre .1 in
-    goals-more _ _ _ (p .0) (p .1 .1) (c .before .before .before .before .before .before .if1 .left) (c .before .before .before .part .ensures) (c .goal .ensures)
+goals-returns-2 t c = search (goals-more, needs)
 
 part-word-requires : (t : ℕ) → part-lts.Need-word-requires (part-calls t) (part-at t) part.Post
 part-word-requires t c κs =
@@ -306,15 +267,10 @@ part-goals-requires t c κs =
     (omega (arith, ap (ahead (start .args .file .now)) e, start .pre .0), (p .0, (p .1 .0, part-stands _ _ _ e (p .1 .1 .1 .1))))
 
 part-returns-2 : (t : ℕ) → part-lts.Need-returns-2 (part-calls t) (part-at t) part.Post
-part-returns-2 t c = part-done _ _ _ _ (c .before .before .before .before .word .ensures .0) (c .goals .ensures)
-
-switch-live-in-requires : (t : ℕ) → switch-lts.Need-live-in-requires (switch-calls t) (switch-at t) switch.Post
-switch-live-in-requires t c κs = search needs
+part-returns-2 t c = search (part-done, needs)
 
 switch-word-requires : (t : ℕ) → switch-lts.Need-word-requires (switch-calls t) (switch-at t) switch.Post
-switch-word-requires t c κs =
-    let p = c .before .before .before .pre .1 in
-    (p .0, (omega arith, switch-there _ _ (p .0) (p .1 .1)))
+switch-word-requires t c κs = search (switch-there, needs)
 
 switch-arms-requires : (t : ℕ) → switch-lts.Need-arms-requires (switch-calls t) (switch-at t) switch.Post
 switch-arms-requires t c κs =
@@ -324,100 +280,37 @@ switch-arms-requires t c κs =
     (omega (arith, o .falls, start .pre .0), (p .0, (p .1 .0, o .stands)))
 
 switch-word-requires-2 : (t : ℕ) → switch-lts.Need-word-requires-2 (switch-calls t) (switch-at t) switch.Post
-switch-word-requires-2 t c κs =
-    let p = c .before .before .before .before .before .before .before .pre .1 in
-    (p .0, (omega arith, switch-there _ _ (p .0) (p .1 .1)))
-
-switch-of-requires : (t : ℕ) → switch-lts.Need-of-requires (switch-calls t) (switch-at t) switch.Post
-switch-of-requires t c κs = search needs
-
-switch-live-in-requires-2 : (t : ℕ) → switch-lts.Need-live-in-requires-2 (switch-calls t) (switch-at t) switch.Post
-switch-live-in-requires-2 t c κs = search needs
-
-switch-union-requires : (t : ℕ) → switch-lts.Need-union-requires (switch-calls t) (switch-at t) switch.Post
-switch-union-requires t c κs = search needs
-
-switch-put-point-requires : (t : ℕ) → switch-lts.Need-put-point-requires (switch-calls t) (switch-at t) switch.Post
-switch-put-point-requires t c κs = search needs
+switch-word-requires-2 t c κs = search (switch-there, needs)
 
 switch-returns : (t : ℕ) → switch-lts.Need-returns (switch-calls t) (switch-at t) switch.Post
 switch-returns t c =
-    let start = c .before .before .before .before .before .before .before .before .before .before .before .before .before .before .before in
+    let at-union = c .before .before .before in
+    let at-live-in2 = at-union .before in
+    let at-of = at-live-in2 .before .before in
+    let at-word2 = at-of .before in
+    let at-arms = at-word2 .before in
+    let at-word = at-arms .before .before .before in
+    let at-live-in = at-word .before in
+    let start = at-live-in .before .before .before in
     let p = start .pre .1 in
-    switch-done _ _ _ (p .0) (p .1 .1) (c .before .before .before .before .before .before .before .before .before .before .before .before .live-in .ensures) (c .before .before .before .before .before .before .before .before .before .before .before .word .ensures .0) (c .before .before .before .before .before .before .before .before .arms .ensures) (c .before .before .before .before .before .before .before .word2 .ensures .0) (c .before .before .before .before .before .before .of .ensures) (c .before .before .before .before .live-in2 .ensures) (c .before .before .before .union .ensures) (c .put-point .ensures)
+    switch-done _ _ _ (p .0) (p .1 .1) (at-live-in .live-in .ensures) (at-word .word .ensures .0) (at-arms .arms .ensures)
+    (at-word2 .word2 .ensures .0) (at-of .of .ensures) (at-live-in2 .live-in2 .ensures) (at-union .union .ensures) (c .put-point .ensures)
 
 pub +arms+branches+goal+goals+part+switch-spec : {M : Type 1} → statement M
 +arms+branches+goal+goals+part+switch-spec =
-    close μ-arms μ-branches μ-goal μ-goals μ-part μ-switch (λ t. arms-lts.spec (arms-calls t)
-    (arms-at t)
-    arms.Post
-    (arms-put-live-requires t)
-    (arms-returns t)
-    (arms-live-in-requires t)
-    (arms-word-requires t)
-    (arms-arms-requires t)
-    (arms-live-in-requires-2 t)
-    (arms-put-live-requires-2 t)
-    (arms-part-requires t)
-    (arms-live-in-requires-3 t)
-    (arms-gives-at-requires t)
-    (arms-difference-requires t)
-    (arms-union-requires t)
-    (arms-put-live-requires-3 t)
-    (arms-returns-2 t))
-    (λ t. branches-lts.spec (branches-calls t)
-    (branches-at t)
-    branches.Post
-    (branches-live-in-requires t)
-    (branches-part-requires t)
-    (branches-live-in-requires-2 t)
-    (branches-put-live-requires t)
-    (branches-part-requires-2 t)
-    (branches-live-in-requires-3 t)
-    (branches-word-requires t)
-    (branches-of-requires t)
-    (branches-word-requires-2 t)
-    (branches-of-requires-2 t)
-    (branches-union-requires t)
-    (branches-union-requires-2 t)
-    (branches-union-requires-3 t)
-    (branches-put-point-requires t)
+    close μ-arms μ-branches μ-goal μ-goals μ-part μ-switch
+    (λ t. arms-lts.spec (arms-calls t) (arms-at t) arms.Post (λ c κs. search needs) (arms-returns t) (λ c κs. search needs) (λ c κs. search needs)
+    (arms-arms-requires t) (λ c κs. search needs) (λ c κs. search needs) (arms-part-requires t) (λ c κs. search needs) (λ c κs. search needs)
+    (λ c κs. search needs) (λ c κs. search needs) (λ c κs. search needs) (arms-returns-2 t))
+    (λ t. branches-lts.spec (branches-calls t) (branches-at t) branches.Post (λ c κs. search needs) (branches-part-requires t) (λ c κs. search needs)
+    (λ c κs. search needs) (branches-part-requires-2 t) (λ c κs. search needs) (branches-word-requires t) (λ c κs. search needs)
+    (branches-word-requires-2 t) (λ c κs. search needs) (λ c κs. search needs) (λ c κs. search needs) (λ c κs. search needs) (λ c κs. search needs)
     (branches-returns t))
-    (λ t. goal-lts.spec (goal-calls t)
-    (goal-at t)
-    goal.Post
-    (goal-word-requires t)
-    (goal-switch-requires t)
-    (goal-branches-requires t)
-    (goal-step-requires t)
-    (goal-returns t)
-    (goal-returns-2 t)
-    (goal-returns-3 t))
-    (λ t. goals-lts.spec
-    (part-below t, part.Post, goal-below t, goal.Post)
-    (goals-at t)
-    goals.Post
-    (goals-returns t)
-    (goals-part-requires t)
-    (goals-goal-requires t)
-    (goals-returns-2 t))
-    (λ t. part-lts.spec
-    (word-reads.Asked, word-reads.Learnt, goals-below t, goals.Post)
-    (part-at t)
-    part.Post
-    (part-word-requires t)
-    (part-returns t)
-    (part-goals-requires t)
-    (part-returns-2 t))
-    λ t. switch-lts.spec (switch-calls t)
-    (switch-at t)
-    switch.Post
-    (switch-live-in-requires t)
-    (switch-word-requires t)
-    (switch-arms-requires t)
-    (switch-word-requires-2 t)
-    (switch-of-requires t)
-    (switch-live-in-requires-2 t)
-    (switch-union-requires t)
-    (switch-put-point-requires t)
-    (switch-returns t)
+    (λ t. goal-lts.spec (goal-calls t) (goal-at t) goal.Post (goal-word-requires t) (goal-switch-requires t) (goal-branches-requires t)
+    (λ c κs. search needs) (goal-returns t) (goal-returns-2 t) (goal-returns-3 t))
+    (λ t. goals-lts.spec (part-below t, part.Post, goal-below t, goal.Post) (goals-at t) goals.Post (goals-returns t) (goals-part-requires t)
+    (λ c κs. search needs) (goals-returns-2 t))
+    (λ t. part-lts.spec (word-reads.Asked, word-reads.Learnt, goals-below t, goals.Post) (part-at t) part.Post (part-word-requires t) (part-returns t)
+    (part-goals-requires t) (part-returns-2 t))
+    λ t. switch-lts.spec (switch-calls t) (switch-at t) switch.Post (λ c κs. search needs) (switch-word-requires t) (switch-arms-requires t)
+    (switch-word-requires-2 t) (λ c κs. search needs) (λ c κs. search needs) (λ c κs. search needs) (λ c κs. search needs) (switch-returns t)

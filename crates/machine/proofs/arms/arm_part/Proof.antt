@@ -1,11 +1,11 @@
--- `arm_part` meets its contract: what the arguments from the next one on still get.
+-- What the arguments from the next one on still get.
 use Prim.Native.Nat.{_-_, _<_}
 use native.Mathlib.Omega.{arith}
 use mathlib.Core.Path.{_≡_, refl, ap, _∙_}
 use lib.ListN.{length, length-set}
 use Rattle.language.specs.Format.{maxArity, termArguments}
 use Rattle.language.specs.File.{word}
-use Rattle.machine.specs.Terms.{any-yet, givenFrom, give-first, give-end, give-stop, give-on}
+use Rattle.machine.proofs.Terms.{any-yet, givenFrom, give-first, give-end, give-stop, give-on}
 use borrow.Author.Needs.{needs}
 use Rattle.machine.proofs.arms.arm_part.Statement.{statement}
 use Rattle.machine.proofs.arms.arm_part.Tie as tie
@@ -16,38 +16,14 @@ Inv-loop file j cell at cells frames₀ p n₀ frames n = (givenFrom file j cell
 abbrev μ-loop : tie.MeasureT-loop
 μ-loop file j cell at cells frames₀ p n₀ frames n = maxArity - n
 
-mul-p : tie.Need-mul-p Inv-loop μ-loop
-mul-p c = search needs
-
 loop-holds : tie.Need-loop-holds Inv-loop μ-loop
 loop-holds c = (refl, refl, λ l. absurd (omega arith))
-
-add-word-in : tie.Need-add-word-in Inv-loop μ-loop
-add-word-in c = search needs
-
-word-in-requires : tie.Need-word-in-requires Inv-loop μ-loop
-word-in-requires c κs = search needs
-
-same-length : tie.Need-same-length Inv-loop μ-loop
-same-length c = search needs
 
 returns : tie.Need-returns Inv-loop μ-loop
 returns c = give-stop _ _ _ _ _ _ _ (c .before .before .loop-test .taken) (c .before .word-in .ensures .0) _ (c .if1 .taken) ∙ c .before .before .before .loop .inv .0 ∙ give-first _ _ _ _ _ _
 
-add-word : tie.Need-add-word Inv-loop μ-loop
-add-word c = search needs
-
-add-word-2 : tie.Need-add-word-2 Inv-loop μ-loop
-add-word-2 c = search needs
-
-word-requires : tie.Need-word-requires Inv-loop μ-loop
-word-requires c κs = search needs
-
 give-requires : tie.Need-give-requires Inv-loop μ-loop
 give-requires c κs = (rw (c .before .before .before .word-in .ensures .0) (c .before .before .before .before .before .before .before .before .before .pre .1 (any-yet _ _ _ _ (c .before .before .before .word-in .ensures .0) (c .before .before .if1 .left) (c .before .before .before .before .before .loop .inv .2)) _ (c .before .before .before .before .loop-test .taken)), omega (arith, c .before .before .before .before .before .loop .inv .1, c .before .before .before .before .before .before .before .before .before .pre .0 .1))
-
-add-n : tie.Need-add-n Inv-loop μ-loop
-add-n c = search needs
 
 loop-less : tie.Need-loop-less Inv-loop μ-loop
 loop-less c = omega (arith, c .before .before .before .before .before .before .before .loop-test .taken)
@@ -59,30 +35,11 @@ loop-again c = (
   λ l. any-yet _ _ _ _ (c .before .before .before .before .before .before .word-in .ensures .0) (c .before .before .before .before .before .if1 .left) (c .before .before .before .before .before .before .before .before .loop .inv .2),
 )
 
-same-length-2 : tie.Need-same-length-2 Inv-loop μ-loop
-same-length-2 c = search needs
-
 returns-2 : tie.Need-returns-2 Inv-loop μ-loop
 returns-2 c = give-end _ _ _ _ _ _ _ (c .loop-test .left) ∙ c .before .loop .inv .0 ∙ give-first _ _ _ _ _ _
 
 pub arm-part-spec : {M : Type 1} → statement M
 arm-part-spec =
     tie.close
-    (tie.spec
-    Inv-loop
-    μ-loop
-    mul-p
-    loop-holds
-    add-word-in
-    word-in-requires
-    same-length
-    returns
-    add-word
-    add-word-2
-    word-requires
-    give-requires
-    add-n
-    loop-less
-    loop-again
-    same-length-2
-    returns-2)
+    (tie.spec Inv-loop μ-loop (search needs) loop-holds (search needs) (search needs) (search needs) returns (search needs) (search needs)
+    (search needs) give-requires (search needs) loop-less loop-again (search needs) returns-2)

@@ -1,25 +1,10 @@
 use native.Mathlib.Omega.{arith}
 use mathlib.Core.Path.{refl}
 use Rattle.frames.specs.Strays.{whole, in-length, past-length}
-use Rattle.machine.specs.Calls.{return-none, return-as, pictured}
+use Rattle.machine.proofs.CallsLaws.{return-none, return-as, pictured}
 use borrow.Author.Needs.{needs}
 use Rattle.machine.proofs.calls.give_back.Statement.{statement}
 use Rattle.machine.proofs.calls.give_back.Tie as tie
-
-add-wide : tie.Need-add-wide
-add-wide c = search needs
-
-add-wide-2 : tie.Need-add-wide-2
-add-wide-2 c = search needs
-
-mul-wide : tie.Need-mul-wide
-mul-wide c = search needs
-
-slice-read-wide : tie.Need-slice-read-wide
-slice-read-wide c = search needs
-
-wide-requires : tie.Need-wide-requires
-wide-requires c κs = search needs
 
 returns : tie.Need-returns
 returns c = λ k e. return-none _ _ _ _ k _ _ _ e (c .before .wide .ensures) (past-length (c .before .before .before .before .before .before .pre .0) _ (c .if1 .taken))
@@ -29,12 +14,6 @@ values-out-requires c κs = (c .before .before .before .before .before .before .
 
 word-in-requires : tie.Need-word-in-requires
 word-in-requires c κs = (omega arith, whole (c .before .before .before .before .before .before .before .before .before .before .pre .0) _ (in-length (c .before .before .before .before .before .before .before .before .before .before .pre .0) _ (c .before .before .before .before .if1 .left)) .1)
-
-callee-word-requires : tie.Need-callee-word-requires
-callee-word-requires c κs = search needs
-
-loaded-requires : tie.Need-loaded-requires
-loaded-requires c κs = search needs
 
 add-regions-out : tie.Need-add-regions-out
 add-regions-out c = omega (arith, whole (c .before .before .before .before .before .before .before .before .before .before .before .before .before .pre .0) _ (in-length (c .before .before .before .before .before .before .before .before .before .before .before .before .before .pre .0) _ (c .before .before .before .before .before .before .before .if1 .left)) .0)
@@ -48,29 +27,11 @@ element-copy-out-regions-out c = omega (arith, whole (c .before .before .before 
 regions-out-requires : tie.Need-regions-out-requires
 regions-out-requires c κs = (pictured (c .before .before .before .before .before .before .before .before .before .before .before .before .before .before .before .pre .1 .0) _ (whole (c .before .before .before .before .before .before .before .before .before .before .before .before .before .before .before .pre .0) _ (in-length (c .before .before .before .before .before .before .before .before .before .before .before .before .before .before .before .pre .0) _ (c .before .before .before .before .before .before .before .before .before .if1 .left)) .0), search needs)
 
-same-length : tie.Need-same-length
-same-length c = search needs
-
 returns-2 : tie.Need-returns-2
 returns-2 c = λ k e. return-as _ _ _ _ k _ _ _ _ _ _ _ _ _ e (c .before .before .before .before .before .before .before .before .before .before .before .before .before .wide .ensures) (in-length (c .before .before .before .before .before .before .before .before .before .before .before .before .before .before .before .before .before .before .pre .0) _ (c .before .before .before .before .before .before .before .before .before .before .before .before .if1 .left)) (c .before .before .before .before .before .before .before .before .before .before .values-out .ensures) (c .before .before .before .before .before .before .before .word-in .ensures .0) (c .before .before .before .before .before .before .callee-word .ensures) (c .before .before .before .before .before .loaded .ensures) refl (c .before .before .regions-out .ensures)
 
 pub give-back-spec : {M : Type 1} → statement M
 give-back-spec =
     tie.close
-    (tie.spec
-    add-wide
-    add-wide-2
-    mul-wide
-    slice-read-wide
-    wide-requires
-    returns
-    values-out-requires
-    word-in-requires
-    callee-word-requires
-    loaded-requires
-    add-regions-out
-    mul-regions-out
-    element-copy-out-regions-out
-    regions-out-requires
-    same-length
-    returns-2)
+    (tie.spec (search needs) (search needs) (search needs) (search needs) (search needs) returns values-out-requires word-in-requires (search needs)
+    (search needs) add-regions-out mul-regions-out element-copy-out-regions-out regions-out-requires (search needs) returns-2)

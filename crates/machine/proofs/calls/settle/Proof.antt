@@ -1,4 +1,4 @@
--- `settle` meets its contract: what is returned from so far and the returns still to come make the whole.
+-- What is returned from so far and the returns still to come make the whole.
 use Prim.Native.Nat.{ℕ, _+_, _-_, _*_, _≤_}
 use native.Mathlib.Omega.{arith}
 use mathlib.Core.Path.{_≡_, refl, ap, _∙_}
@@ -8,7 +8,7 @@ use Rattle.memory.specs.declared.Heap.{Heap}
 use Rattle.plans.specs.Plan.{tablesIn}
 use Rattle.word_machine.specs.Machine.{frameWords, settledFrom, settled}
 use Rattle.machine.specs.Words.{wordsOf}
-use Rattle.machine.specs.Calls.{settle-first, settle-entry, settle-goal, settle-return}
+use Rattle.machine.proofs.CallsLaws.{settle-first, settle-entry, settle-goal, settle-return}
 use borrow.Author.Needs.{needs}
 use Rattle.word_machine.specs.Copies.{return-length}
 use Rattle.machine.proofs.calls.settle.Statement.{statement}
@@ -47,9 +47,6 @@ mul-wide c = let l = c .before .before .loop .inv .3 in search needs
 slice-read-wide : tie.Need-slice-read-wide Inv-loop μ-loop
 slice-read-wide c = let l = c .before .before .before .loop .inv .3 in search needs
 
-wide-requires : tie.Need-wide-requires Inv-loop μ-loop
-wide-requires c κs = search needs
-
 give-back-requires : tie.Need-give-back-requires Inv-loop μ-loop
 give-back-requires c κs =
     let l = c .before .before .before .before .before .loop .inv in
@@ -81,19 +78,5 @@ returns-2 c =
 pub settle-spec : {M : Type 1} → statement M
 settle-spec =
     tie.close
-    (tie.spec
-    Inv-loop
-    μ-loop
-    loop-holds
-    same-length
-    returns
-    sub-top
-    sub-at
-    mul-wide
-    slice-read-wide
-    wide-requires
-    give-back-requires
-    loop-less
-    loop-again
-    same-length-2
-    returns-2)
+    (tie.spec Inv-loop μ-loop loop-holds same-length returns sub-top sub-at mul-wide slice-read-wide (search needs) give-back-requires loop-less
+    loop-again same-length-2 returns-2)

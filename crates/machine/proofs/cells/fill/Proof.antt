@@ -1,10 +1,10 @@
--- `fill` meets its contract: what is still to be put into the cell is what the arguments from the next one on say.
+-- What is still to be put into the cell is what the arguments from the next one on say.
 use Prim.Native.Nat.{_-_}
 use native.Mathlib.Omega.{arith}
 use mathlib.Core.Path.{_≡_, refl, ap, _∙_}
 use lib.ListN.{length, length-set}
 use Rattle.language.specs.Format.{maxArity}
-use Rattle.machine.specs.Terms.{pouredFrom, pour-first, pour-end, pour-stop, pour-on}
+use Rattle.machine.proofs.Terms.{pouredFrom, pour-first, pour-end, pour-stop, pour-on}
 use borrow.Author.Needs.{needs}
 use Rattle.machine.proofs.cells.fill.Statement.{statement}
 use Rattle.machine.proofs.cells.fill.Tie as tie
@@ -15,47 +15,17 @@ Inv-loop file i at cell cells₀ frames p n₀ cells n = (pouredFrom file i at f
 abbrev μ-loop : tie.MeasureT-loop
 μ-loop file i at cell cells₀ frames p n₀ cells n = maxArity - n
 
-mul-p : tie.Need-mul-p Inv-loop μ-loop
-mul-p c = search needs
-
-word-in-requires : tie.Need-word-in-requires Inv-loop μ-loop
-word-in-requires c κs = search needs
-
-cast-store : tie.Need-cast-store Inv-loop μ-loop
-cast-store c = search needs
-
-store-requires : tie.Need-store-requires Inv-loop μ-loop
-store-requires c κs = search needs
-
 loop-holds : tie.Need-loop-holds Inv-loop μ-loop
 loop-holds c = (refl, refl)
 
-add-word-in : tie.Need-add-word-in Inv-loop μ-loop
-add-word-in c = search needs
-
-word-in-requires-2 : tie.Need-word-in-requires-2 Inv-loop μ-loop
-word-in-requires-2 c κs = search needs
-
-same-length : tie.Need-same-length Inv-loop μ-loop
-same-length c = search needs
-
 returns : tie.Need-returns Inv-loop μ-loop
 returns c = pour-stop _ _ _ _ _ _ _ (c .before .before .loop-test .taken) (c .before .word-in2 .ensures .0) _ (c .if1 .taken) ∙ c .before .before .before .loop .inv .0 ∙ pour-first _ _ _ _ _ _ _ _ (c .before .before .before .before .before .before .before .word-in .ensures .0) (c .before .before .before .before .before .before .store .ensures)
-
-add-store : tie.Need-add-store Inv-loop μ-loop
-add-store c = search needs
-
-add-store-2 : tie.Need-add-store-2 Inv-loop μ-loop
-add-store-2 c = search needs
 
 value-requires : tie.Need-value-requires Inv-loop μ-loop
 value-requires c κs = (rw (c .before .before .word-in2 .ensures .0) (c .before .before .before .before .before .before .before .before .before .before .before .before .before .pre .1 .0 _ (c .before .before .before .loop-test .taken)), c .before .before .before .before .before .before .before .before .before .before .before .before .before .pre .0 .1)
 
 store-requires-2 : tie.Need-store-requires-2 Inv-loop μ-loop
 store-requires-2 c κs = omega (arith, c .before .before .before .before .loop-test .taken, c .before .before .before .before .before .loop .inv .1, simp length-set at (ap length (c .before .before .before .before .before .before .before .before .store .ensures)), c .before .before .before .before .before .before .before .before .before .before .before .before .before .before .pre .1 .1)
-
-add-n : tie.Need-add-n Inv-loop μ-loop
-add-n c = search needs
 
 loop-less : tie.Need-loop-less Inv-loop μ-loop
 loop-less c = omega (arith, c .before .before .before .before .before .before .before .loop-test .taken)
@@ -66,33 +36,11 @@ loop-again c = (
   ap length (c .before .before .store2 .ensures) ∙ simp length-set (c .before .before .before .before .before .before .before .before .loop .inv .1),
 )
 
-same-length-2 : tie.Need-same-length-2 Inv-loop μ-loop
-same-length-2 c = search needs
-
 returns-2 : tie.Need-returns-2 Inv-loop μ-loop
 returns-2 c = pour-end _ _ _ _ _ _ _ (c .loop-test .left) ∙ c .before .loop .inv .0 ∙ pour-first _ _ _ _ _ _ _ _ (c .before .before .before .before .before .word-in .ensures .0) (c .before .before .before .before .store .ensures)
 
 pub fill-spec : {M : Type 1} → statement M
 fill-spec =
     tie.close
-    (tie.spec
-    Inv-loop
-    μ-loop
-    mul-p
-    word-in-requires
-    cast-store
-    store-requires
-    loop-holds
-    add-word-in
-    word-in-requires-2
-    same-length
-    returns
-    add-store
-    add-store-2
-    value-requires
-    store-requires-2
-    add-n
-    loop-less
-    loop-again
-    same-length-2
-    returns-2)
+    (tie.spec Inv-loop μ-loop (search needs) (search needs) (search needs) (search needs) loop-holds (search needs) (search needs) (search needs)
+    returns (search needs) (search needs) value-requires store-requires-2 (search needs) loop-less loop-again (search needs) returns-2)

@@ -1,11 +1,12 @@
--- `run_on` meets its contract: what is done so far and the steps still to come make the whole.
+-- What is done so far and the steps still to come make the whole.
 use borrow.Author.Needs.{needs}
 use native.Mathlib.Omega.{arith}
 use mathlib.Core.Path.{_∙_}
 use Rattle.plans.specs.Plan.{tablesIn}
 use Rattle.frames.specs.Strays.{whole, in-length, past-length}
 use Rattle.machine.specs.Calls.{successor-as}
-use Rattle.machine.specs.Runs.{Going, runFirst, first, first-as, arrives, past-on, kept-on, went-on, run-finished, run-spent, kept-stopped, went-stopped}
+use Rattle.machine.specs.Runs.{runFirst}
+use Rattle.machine.proofs.RunsLaws.{Going, first, first-as, arrives, past-on, changed-on, went-on, run-finished, run-spent, change-stopped, went-stopped}
 use Rattle.machine.specs.Heaps.{changed, unchanged}
 use native.Mathlib.Omega.{arith}
 use Rattle.machine.proofs.runs.run_on.Statement.{statement}
@@ -19,12 +20,6 @@ abbrev μ-loop : tie.MeasureT-loop
 μ-loop file plan images callees cells₀ regions₀ frames₀ prints₀ steps heap₀ state₀ left₀ cells regions frames prints heap state left =
     left
 
-empty-requires : tie.Need-empty-requires Inv-loop μ-loop
-empty-requires c κs = search needs
-
-first-state-requires : tie.Need-first-state-requires Inv-loop μ-loop
-first-state-requires c κs = search needs
-
 loop-holds : tie.Need-loop-holds Inv-loop μ-loop
 loop-holds c = first _ _ _ _ _ _ _ _ (c .before .before .before .before .before .before .before .before .before .before .args .callees .now) _ (c .first-state .ensures) (c .before .before .before .before .before .before .before .before .before .before .pre .1)
 
@@ -33,9 +28,6 @@ settle-requires c κs = ((c .before .before .before .before .before .before .bef
 
 sub-ended : tie.Need-sub-ended Inv-loop μ-loop
 sub-ended c = omega (arith, c .before .before .before .before .before .loop .inv .most)
-
-ended-requires : tie.Need-ended-requires Inv-loop μ-loop
-ended-requires c κs = search needs
 
 same-length : tie.Need-same-length Inv-loop μ-loop
 same-length c = c .before .before .before .before .before .before .loop .inv .cells
@@ -51,14 +43,16 @@ same-length-4 c = c .before .before .before .before .before .before .loop .inv .
 
 returns : tie.Need-returns Inv-loop μ-loop
 returns c =
-    first-as _ _ _ _ _ _ _ _ _ _ _ _ _ _ _ _ (c .before .before .before .before .before .before .before .before .empty .ensures) (c .before .before .before .before .before .before .before .first-state .ensures)
-    (run-finished _ _ _ _ _ _ _ _ _ _ _ _ _ _ _ (arrives _ _ _ _ _ _ _ _ _ _ _ _ _ _ _ _ _ (c .before .before .before .before .before .before .loop .inv) (c .before .before .before .before .settle .ensures .0) (c .before .before .before .before .settle .ensures .1) (c .before .before .before .before .settle .kept .1 .1 .1 .1 .1 .0)) _ (c .before .if1 .taken) (c .ended .ensures))
+    let at-if1 = c .before in
+    let at-settle = at-if1 .before .before .before in
+    let at-loop = at-settle .before .before in
+    let at-first-state = at-loop .before in
+    let at-empty = at-first-state .before in
+    first-as _ _ _ _ _ _ _ _ _ _ _ _ _ _ _ _ (at-empty .empty .ensures) (at-first-state .first-state .ensures)
+    (run-finished _ _ _ _ _ _ _ _ _ _ _ _ _ _ _ (arrives _ _ _ _ _ _ _ _ _ _ _ _ _ _ _ _ _ (at-loop .loop .inv) (at-settle .settle .ensures .0) (at-settle .settle .ensures .1) (at-settle .settle .kept .1 .1 .1 .1 .1 .0)) _ (at-if1 .if1 .taken) (c .ended .ensures))
 
 sub-ended-2 : tie.Need-sub-ended-2 Inv-loop μ-loop
 sub-ended-2 c = omega (arith, c .before .before .before .before .before .before .loop .inv .most)
-
-ended-requires-2 : tie.Need-ended-requires-2 Inv-loop μ-loop
-ended-requires-2 c κs = search needs
 
 same-length-5 : tie.Need-same-length-5 Inv-loop μ-loop
 same-length-5 c = c .before .before .before .before .before .before .before .loop .inv .cells
@@ -74,8 +68,14 @@ same-length-8 c = c .before .before .before .before .before .before .before .loo
 
 returns-2 : tie.Need-returns-2 Inv-loop μ-loop
 returns-2 c =
-    first-as _ _ _ _ _ _ _ _ _ _ _ _ _ _ _ _ (c .before .before .before .before .before .before .before .before .before .empty .ensures) (c .before .before .before .before .before .before .before .before .first-state .ensures)
-    (run-spent _ _ _ _ _ _ _ _ _ _ _ _ _ _ _ (arrives _ _ _ _ _ _ _ _ _ _ _ _ _ _ _ _ _ (c .before .before .before .before .before .before .before .loop .inv) (c .before .before .before .before .before .settle .ensures .0) (c .before .before .before .before .before .settle .ensures .1) (c .before .before .before .before .before .settle .kept .1 .1 .1 .1 .1 .0)) _ (c .before .before .if1 .left) (c .before .if2 .taken) (c .ended2 .ensures))
+    let at-if2 = c .before in
+    let at-if1 = at-if2 .before in
+    let at-settle = at-if1 .before .before .before in
+    let at-loop = at-settle .before .before in
+    let at-first-state = at-loop .before in
+    let at-empty = at-first-state .before in
+    first-as _ _ _ _ _ _ _ _ _ _ _ _ _ _ _ _ (at-empty .empty .ensures) (at-first-state .first-state .ensures)
+    (run-spent _ _ _ _ _ _ _ _ _ _ _ _ _ _ _ (arrives _ _ _ _ _ _ _ _ _ _ _ _ _ _ _ _ _ (at-loop .loop .inv) (at-settle .settle .ensures .0) (at-settle .settle .ensures .1) (at-settle .settle .kept .1 .1 .1 .1 .1 .0)) _ (at-if1 .if1 .left) (at-if2 .if2 .taken) (c .ended2 .ensures))
 
 sub-left : tie.Need-sub-left Inv-loop μ-loop
 sub-left c = omega (arith, c .before .if2 .left)
@@ -84,25 +84,31 @@ loop-less : tie.Need-loop-less Inv-loop μ-loop
 loop-less c = omega (arith, c .before .if2 .left)
 
 loop-again : tie.Need-loop-again Inv-loop μ-loop
-loop-again c = past-on _ _ _ _ _ _ _ _ _ _ _ _ _ _ _ (arrives _ _ _ _ _ _ _ _ _ _ _ _ _ _ _ _ _ (c .before .before .before .before .before .before .before .loop .inv) (c .before .before .before .before .before .settle .ensures .0) (c .before .before .before .before .before .settle .ensures .1) (c .before .before .before .before .before .settle .kept .1 .1 .1 .1 .1 .0)) (c .before .before .before .before .before .before .before .before .before .before .before .before .before .before .before .before .before .before .pre .0 .0) (c .before .before .if1 .left) (omega (arith, c .before .if2 .left)) (past-length (c .before .before .before .before .before .before .before .before .before .before .before .before .before .before .before .before .before .before .pre .0 .0) _ (c .if3 .taken))
+loop-again c =
+    let at-if2 = c .before in
+    let at-if1 = at-if2 .before in
+    let at-settle = at-if1 .before .before .before in
+    let at-loop = at-settle .before .before in
+    let start = at-loop .before .before .before .before .before .before .before .before .before .before .before in
+    past-on _ _ _ _ _ _ _ _ _ _ _ _ _ _ _
+    (arrives _ _ _ _ _ _ _ _ _ _ _ _ _ _ _ _ _ (at-loop .loop .inv) (at-settle .settle .ensures .0) (at-settle .settle .ensures .1) (at-settle .settle .kept .1 .1 .1 .1 .1 .0))
+    (start .pre .0 .0) (at-if1 .if1 .left) (omega (arith, at-if2 .if2 .left)) (past-length (start .pre .0 .0) _ (c .if3 .taken))
 
 word-in-requires : tie.Need-word-in-requires Inv-loop μ-loop
 word-in-requires c κs = let w = whole (c .before .before .before .before .before .before .before .before .before .before .before .before .before .before .before .before .before .before .pre .0 .0) _ (in-length (c .before .before .before .before .before .before .before .before .before .before .before .before .before .before .before .before .before .before .pre .0 .0) _ (c .if3 .left)) in search needs
 
-changes-heap-requires : tie.Need-changes-heap-requires Inv-loop μ-loop
-changes-heap-requires c κs = search needs
-
-keep-requires : tie.Need-keep-requires Inv-loop μ-loop
-keep-requires c κs = ((c .before .before .before .before .before .before .before .before .before .before .before .before .before .before .before .before .before .before .before .before .before .before .before .before .pre .0 .0, c .before .before .before .before .before .before .before .before .before .before .before .before .before .before .before .before .before .before .before .before .before .before .before .before .pre .0 .2), ((in-length (c .before .before .before .before .before .before .before .before .before .before .before .before .before .before .before .before .before .before .before .before .before .before .before .before .pre .0 .0) _ (c .before .before .before .before .before .before .if3 .left), c .before .before .before .before .before .before .before .before .before .before .before .settle .ensures .1), changed _ _ _ (c .before .before .before .before .before .word-in .ensures .0) (c .before .before .before .before .changes-heap .ensures) (c .before .before .before .if4 .taken)))
-
-enum-known-kept : tie.Need-enum-known-kept Inv-loop μ-loop
-enum-known-kept c = search needs
+change-heap-requires : tie.Need-change-heap-requires Inv-loop μ-loop
+change-heap-requires c κs =
+    let at-if4 = c .before .before .before in
+    let at-changes-heap = at-if4 .before in
+    let at-word-in = at-changes-heap .before in
+    let at-if3 = at-word-in .before in
+    let at-settle = at-if3 .before .before .before .before .before in
+    let start = at-settle .before .before .before .before .before .before .before .before .before .before .before .before .before in
+    ((start .pre .0 .0, start .pre .0 .2), ((in-length (start .pre .0 .0) _ (at-if3 .if3 .left), at-settle .settle .ensures .1), changed _ _ _ (at-word-in .word-in .ensures .0) (at-changes-heap .changes-heap .ensures) (at-if4 .if4 .taken)))
 
 successor-requires : tie.Need-successor-requires Inv-loop μ-loop
 successor-requires c κs = let w = whole (c .before .before .before .before .before .before .before .before .before .before .before .before .before .before .before .before .before .before .before .before .before .before .before .before .before .before .before .before .before .before .before .before .before .before .pre .0 .0) _ (in-length (c .before .before .before .before .before .before .before .before .before .before .before .before .before .before .before .before .before .before .before .before .before .before .before .before .before .before .before .before .before .before .before .before .before .before .pre .0 .0) _ (c .before .before .before .before .before .before .before .before .before .before .before .before .before .before .before .before .if3 .left)) in search needs
-
-onward-requires : tie.Need-onward-requires Inv-loop μ-loop
-onward-requires c κs = search needs
 
 sub-left-2 : tie.Need-sub-left-2 Inv-loop μ-loop
 sub-left-2 c = omega (arith, c .before .before .before .before .before .before .before .before .before .before .before .before .before .before .before .before .before .before .before .if2 .left)
@@ -112,40 +118,60 @@ loop-less-2 c = omega (arith, c .before .before .before .before .before .before 
 
 loop-again-2 : tie.Need-loop-again-2 Inv-loop μ-loop
 loop-again-2 c =
-    kept-on _ _ _ _ _ _ _ _ _ _ _ _ _ _ _ (arrives _ _ _ _ _ _ _ _ _ _ _ _ _ _ _ _ _ (c .before .before .before .before .before .before .before .before .before .before .before .before .before .before .before .before .before .before .before .before .before .before .before .before .before .loop .inv) (c .before .before .before .before .before .before .before .before .before .before .before .before .before .before .before .before .before .before .before .before .before .before .before .settle .ensures .0) (c .before .before .before .before .before .before .before .before .before .before .before .before .before .before .before .before .before .before .before .before .before .before .before .settle .ensures .1) (c .before .before .before .before .before .before .before .before .before .before .before .before .before .before .before .before .before .before .before .before .before .before .before .settle .kept .1 .1 .1 .1 .1 .0)) _ _ _ _ _ _ _ (c .before .before .before .before .before .before .before .before .before .before .before .before .before .before .before .before .before .before .before .before .if1 .left) (omega (arith, c .before .before .before .before .before .before .before .before .before .before .before .before .before .before .before .before .before .before .before .if2 .left)) (c .before .before .before .before .before .before .before .before .before .before .before .keep .ensures _ _) (c .before .before .before .kept .given .1) (successor-as _ _ _ _ _ (c .before .successor .ensures)) (c .onward .ensures)
-    (c .before .before .before .before .before .before .before .before .before .before .before .keep .kept .1 .1 .1 .1 .0) (c .before .before .before .before .before .before .before .before .before .before .before .keep .kept .1 .1 .1 .1 .1 .0) (c .before .before .before .before .before .before .before .before .before .before .before .keep .kept .1 .1 .1 .1 .1 .1 .0)
-
-enum-known-kept-2 : tie.Need-enum-known-kept-2 Inv-loop μ-loop
-enum-known-kept-2 c = search needs
+    let at-successor = c .before in
+    let at-stepped = at-successor .before .before in
+    let at-change-heap = at-stepped .before .before .before .before .before .before .before .before in
+    let at-if2 = at-change-heap .before .before .before .before .before .before .before .before in
+    let at-if1 = at-if2 .before in
+    let at-settle = at-if1 .before .before .before in
+    let at-loop = at-settle .before .before in
+    changed-on _ _ _ _ _ _ _ _ _ _ _ _ _ _ _
+    (arrives _ _ _ _ _ _ _ _ _ _ _ _ _ _ _ _ _ (at-loop .loop .inv) (at-settle .settle .ensures .0) (at-settle .settle .ensures .1) (at-settle .settle .kept .1 .1 .1 .1 .1 .0))
+    _ _ _ _ _ _ _ (at-if1 .if1 .left) (omega (arith, at-if2 .if2 .left)) (at-change-heap .change-heap .ensures _ _) (at-stepped .stepped .given .1)
+    (successor-as _ _ _ _ _ (at-successor .successor .ensures)) (c .onward .ensures) (at-change-heap .change-heap .kept .1 .1 .1 .1 .0)
+    (at-change-heap .change-heap .kept .1 .1 .1 .1 .1 .0) (at-change-heap .change-heap .kept .1 .1 .1 .1 .1 .1 .0)
 
 sub-ended-3 : tie.Need-sub-ended-3 Inv-loop μ-loop
 sub-ended-3 c = omega (arith, c .before .before .before .before .before .before .before .before .before .before .before .before .before .before .before .before .before .before .before .before .before .before .before .loop .inv .most)
 
-ended-requires-3 : tie.Need-ended-requires-3 Inv-loop μ-loop
-ended-requires-3 c κs = search needs
-
 same-length-9 : tie.Need-same-length-9 Inv-loop μ-loop
-same-length-9 c = c .before .before .before .before .before .before .before .before .before .before .keep .kept .1 .1 .1 .1 .0 ∙ c .before .before .before .before .before .before .before .before .before .before .before .before .before .before .before .before .before .before .before .before .before .before .before .before .loop .inv .cells
+same-length-9 c = c .before .before .before .before .before .before .before .before .before .before .change-heap .kept .1 .1 .1 .1 .0 ∙ c .before .before .before .before .before .before .before .before .before .before .before .before .before .before .before .before .before .before .before .before .before .before .before .before .loop .inv .cells
 
 same-length-10 : tie.Need-same-length-10 Inv-loop μ-loop
-same-length-10 c = c .before .before .before .before .before .before .before .before .before .before .keep .kept .1 .1 .1 .1 .1 .0 ∙ c .before .before .before .before .before .before .before .before .before .before .before .before .before .before .before .before .before .before .before .before .before .before .before .before .loop .inv .regions
+same-length-10 c = c .before .before .before .before .before .before .before .before .before .before .change-heap .kept .1 .1 .1 .1 .1 .0 ∙ c .before .before .before .before .before .before .before .before .before .before .before .before .before .before .before .before .before .before .before .before .before .before .before .before .loop .inv .regions
 
 same-length-11 : tie.Need-same-length-11 Inv-loop μ-loop
-same-length-11 c = c .before .before .before .before .before .before .before .before .before .before .keep .kept .1 .1 .1 .1 .1 .1 .0 ∙ c .before .before .before .before .before .before .before .before .before .before .before .before .before .before .before .before .before .before .before .before .before .before .settle .kept .1 .1 .1 .1 .1 .0 ∙ c .before .before .before .before .before .before .before .before .before .before .before .before .before .before .before .before .before .before .before .before .before .before .before .before .loop .inv .frames
+same-length-11 c =
+    let at-change-heap = c .before .before .before .before .before .before .before .before .before .before in
+    let at-settle = at-change-heap .before .before .before .before .before .before .before .before .before .before .before .before in
+    let at-loop = at-settle .before .before in
+    at-change-heap .change-heap .kept .1 .1 .1 .1 .1 .1 .0 ∙ at-settle .settle .kept .1 .1 .1 .1 .1 .0 ∙ at-loop .loop .inv .frames
 
 same-length-12 : tie.Need-same-length-12 Inv-loop μ-loop
 same-length-12 c = c .before .before .before .before .before .before .before .before .before .before .before .before .before .before .before .before .before .before .before .before .before .before .before .before .loop .inv .prints
 
 returns-3 : tie.Need-returns-3 Inv-loop μ-loop
 returns-3 c =
-    first-as _ _ _ _ _ _ _ _ _ _ _ _ _ _ _ _ (c .before .before .before .before .before .before .before .before .before .before .before .before .before .before .before .before .before .before .before .before .before .before .before .before .before .before .empty .ensures) (c .before .before .before .before .before .before .before .before .before .before .before .before .before .before .before .before .before .before .before .before .before .before .before .before .before .first-state .ensures)
-    (kept-stopped _ _ _ _ _ _ _ _ _ _ _ _ _ _ _ (arrives _ _ _ _ _ _ _ _ _ _ _ _ _ _ _ _ _ (c .before .before .before .before .before .before .before .before .before .before .before .before .before .before .before .before .before .before .before .before .before .before .before .before .loop .inv) (c .before .before .before .before .before .before .before .before .before .before .before .before .before .before .before .before .before .before .before .before .before .before .settle .ensures .0) (c .before .before .before .before .before .before .before .before .before .before .before .before .before .before .before .before .before .before .before .before .before .before .settle .ensures .1) (c .before .before .before .before .before .before .before .before .before .before .before .before .before .before .before .before .before .before .before .before .before .before .settle .kept .1 .1 .1 .1 .1 .0)) _ _ _ _ _ _ (c .before .before .before .before .before .before .before .before .before .before .before .before .before .before .before .before .before .before .before .if1 .left) (omega (arith, c .before .before .before .before .before .before .before .before .before .before .before .before .before .before .before .before .before .before .if2 .left)) (c .before .before .before .before .before .before .before .before .before .before .keep .ensures _ _) (c .before .before .kept2 .given .1) (c .ended3 .ensures))
+    let at-stepped2 = c .before .before in
+    let at-change-heap = at-stepped2 .before .before .before .before .before .before .before .before in
+    let at-if2 = at-change-heap .before .before .before .before .before .before .before .before in
+    let at-if1 = at-if2 .before in
+    let at-settle = at-if1 .before .before .before in
+    let at-loop = at-settle .before .before in
+    let at-first-state = at-loop .before in
+    let at-empty = at-first-state .before in
+    first-as _ _ _ _ _ _ _ _ _ _ _ _ _ _ _ _ (at-empty .empty .ensures) (at-first-state .first-state .ensures)
+    (change-stopped _ _ _ _ _ _ _ _ _ _ _ _ _ _ _ (arrives _ _ _ _ _ _ _ _ _ _ _ _ _ _ _ _ _ (at-loop .loop .inv) (at-settle .settle .ensures .0) (at-settle .settle .ensures .1) (at-settle .settle .kept .1 .1 .1 .1 .1 .0)) _ _ _ _ _ _ (at-if1 .if1 .left) (omega (arith, at-if2 .if2 .left)) (at-change-heap .change-heap .ensures _ _) (at-stepped2 .stepped2 .given .1) (c .ended3 .ensures))
 
 go-requires : tie.Need-go-requires Inv-loop μ-loop
-go-requires c κs = ((c .before .before .before .before .before .before .before .before .before .before .before .before .before .before .before .before .before .before .before .before .before .before .before .before .pre .0 .0, c .before .before .before .before .before .before .before .before .before .before .before .before .before .before .before .before .before .before .before .before .before .before .before .before .pre .0 .2), (c .before .before .before .before .before .before .before .before .before .before .before .before .before .before .before .before .before .before .before .before .before .before .before .before .pre .0 .1, ((in-length (c .before .before .before .before .before .before .before .before .before .before .before .before .before .before .before .before .before .before .before .before .before .before .before .before .pre .0 .0) _ (c .before .before .before .before .before .before .if3 .left), c .before .before .before .before .before .before .before .before .before .before .before .settle .ensures .1), unchanged _ _ _ (c .before .before .before .before .before .word-in .ensures .0) (c .before .before .before .before .changes-heap .ensures) (c .before .before .before .if4 .left))))
-
-enum-known-went : tie.Need-enum-known-went Inv-loop μ-loop
-enum-known-went c = search needs
+go-requires c κs =
+    let at-if4 = c .before .before .before in
+    let at-changes-heap = at-if4 .before in
+    let at-word-in = at-changes-heap .before in
+    let at-if3 = at-word-in .before in
+    let at-settle = at-if3 .before .before .before .before .before in
+    let start = at-settle .before .before .before .before .before .before .before .before .before .before .before .before .before in
+    ((start .pre .0 .0, start .pre .0 .2), (start .pre .0 .1, ((in-length (start .pre .0 .0) _ (at-if3 .if3 .left), at-settle .settle .ensures .1), unchanged _ _ _ (at-word-in .word-in .ensures .0) (at-changes-heap .changes-heap .ensures) (at-if4 .if4 .left))))
 
 sub-left-3 : tie.Need-sub-left-3 Inv-loop μ-loop
 sub-left-3 c = omega (arith, c .before .before .before .before .before .before .before .before .before .before .before .before .before .before .before .if2 .left)
@@ -154,16 +180,20 @@ loop-less-3 : tie.Need-loop-less-3 Inv-loop μ-loop
 loop-less-3 c = omega (arith, c .before .before .before .before .before .before .before .before .before .before .before .before .before .before .before .if2 .left)
 
 loop-again-3 : tie.Need-loop-again-3 Inv-loop μ-loop
-loop-again-3 c = went-on _ _ _ _ _ _ _ _ _ _ _ _ _ _ _ (arrives _ _ _ _ _ _ _ _ _ _ _ _ _ _ _ _ _ (c .before .before .before .before .before .before .before .before .before .before .before .before .before .before .before .before .before .before .before .before .before .loop .inv) (c .before .before .before .before .before .before .before .before .before .before .before .before .before .before .before .before .before .before .before .settle .ensures .0) (c .before .before .before .before .before .before .before .before .before .before .before .before .before .before .before .before .before .before .before .settle .ensures .1) (c .before .before .before .before .before .before .before .before .before .before .before .before .before .before .before .before .before .before .before .settle .kept .1 .1 .1 .1 .1 .0)) _ _ _ _ (c .before .before .before .before .before .before .before .before .before .before .before .before .before .before .before .before .if1 .left) (omega (arith, c .before .before .before .before .before .before .before .before .before .before .before .before .before .before .before .if2 .left)) (c .before .before .before .before .before .before .before .go .ensures) (c .before .went .given .1) (c .before .before .before .before .before .before .before .go .kept .1 .1 .1 .1 .1 .1 .0) (c .before .before .before .before .before .before .before .go .kept .1 .1 .1 .1 .1 .1 .1 .0)
-
-enum-known-went-2 : tie.Need-enum-known-went-2 Inv-loop μ-loop
-enum-known-went-2 c = search needs
+loop-again-3 c =
+    let at-went = c .before in
+    let at-go = at-went .before .before .before .before .before .before in
+    let at-if2 = at-go .before .before .before .before .before .before .before .before in
+    let at-if1 = at-if2 .before in
+    let at-settle = at-if1 .before .before .before in
+    let at-loop = at-settle .before .before in
+    went-on _ _ _ _ _ _ _ _ _ _ _ _ _ _ _
+    (arrives _ _ _ _ _ _ _ _ _ _ _ _ _ _ _ _ _ (at-loop .loop .inv) (at-settle .settle .ensures .0) (at-settle .settle .ensures .1) (at-settle .settle .kept .1 .1 .1 .1 .1 .0))
+    _ _ _ _ (at-if1 .if1 .left) (omega (arith, at-if2 .if2 .left)) (at-go .go .ensures) (at-went .went .given .1)
+    (at-go .go .kept .1 .1 .1 .1 .1 .1 .0) (at-go .go .kept .1 .1 .1 .1 .1 .1 .1 .0)
 
 sub-ended-4 : tie.Need-sub-ended-4 Inv-loop μ-loop
 sub-ended-4 c = omega (arith, c .before .before .before .before .before .before .before .before .before .before .before .before .before .before .before .before .before .before .before .before .before .loop .inv .most)
-
-ended-requires-4 : tie.Need-ended-requires-4 Inv-loop μ-loop
-ended-requires-4 c κs = search needs
 
 same-length-13 : tie.Need-same-length-13 Inv-loop μ-loop
 same-length-13 c = c .before .before .before .before .before .before .before .before .before .before .before .before .before .before .before .before .before .before .before .before .before .before .loop .inv .cells
@@ -172,70 +202,34 @@ same-length-14 : tie.Need-same-length-14 Inv-loop μ-loop
 same-length-14 c = c .before .before .before .before .before .before .before .before .before .before .before .before .before .before .before .before .before .before .before .before .before .before .loop .inv .regions
 
 same-length-15 : tie.Need-same-length-15 Inv-loop μ-loop
-same-length-15 c = c .before .before .before .before .before .before .before .before .go .kept .1 .1 .1 .1 .1 .1 .0 ∙ c .before .before .before .before .before .before .before .before .before .before .before .before .before .before .before .before .before .before .before .before .settle .kept .1 .1 .1 .1 .1 .0 ∙ c .before .before .before .before .before .before .before .before .before .before .before .before .before .before .before .before .before .before .before .before .before .before .loop .inv .frames
+same-length-15 c =
+    let at-go = c .before .before .before .before .before .before .before .before in
+    let at-settle = at-go .before .before .before .before .before .before .before .before .before .before .before .before in
+    let at-loop = at-settle .before .before in
+    at-go .go .kept .1 .1 .1 .1 .1 .1 .0 ∙ at-settle .settle .kept .1 .1 .1 .1 .1 .0 ∙ at-loop .loop .inv .frames
 
 same-length-16 : tie.Need-same-length-16 Inv-loop μ-loop
 same-length-16 c = c .before .before .before .before .before .before .before .before .go .kept .1 .1 .1 .1 .1 .1 .1 .0 ∙ c .before .before .before .before .before .before .before .before .before .before .before .before .before .before .before .before .before .before .before .before .before .before .loop .inv .prints
 
 returns-4 : tie.Need-returns-4 Inv-loop μ-loop
 returns-4 c =
-    first-as _ _ _ _ _ _ _ _ _ _ _ _ _ _ _ _ (c .before .before .before .before .before .before .before .before .before .before .before .before .before .before .before .before .before .before .before .before .before .before .before .before .empty .ensures) (c .before .before .before .before .before .before .before .before .before .before .before .before .before .before .before .before .before .before .before .before .before .before .before .first-state .ensures)
-    (went-stopped _ _ _ _ _ _ _ _ _ _ _ _ _ _ _ (arrives _ _ _ _ _ _ _ _ _ _ _ _ _ _ _ _ _ (c .before .before .before .before .before .before .before .before .before .before .before .before .before .before .before .before .before .before .before .before .before .before .loop .inv) (c .before .before .before .before .before .before .before .before .before .before .before .before .before .before .before .before .before .before .before .before .settle .ensures .0) (c .before .before .before .before .before .before .before .before .before .before .before .before .before .before .before .before .before .before .before .before .settle .ensures .1) (c .before .before .before .before .before .before .before .before .before .before .before .before .before .before .before .before .before .before .before .before .settle .kept .1 .1 .1 .1 .1 .0)) _ _ _ _ _ (c .before .before .before .before .before .before .before .before .before .before .before .before .before .before .before .before .before .if1 .left) (omega (arith, c .before .before .before .before .before .before .before .before .before .before .before .before .before .before .before .before .if2 .left)) (c .before .before .before .before .before .before .before .before .go .ensures) (c .before .before .went2 .given .1) (c .ended4 .ensures))
+    let at-went2 = c .before .before in
+    let at-go = at-went2 .before .before .before .before .before .before in
+    let at-if2 = at-go .before .before .before .before .before .before .before .before in
+    let at-if1 = at-if2 .before in
+    let at-settle = at-if1 .before .before .before in
+    let at-loop = at-settle .before .before in
+    let at-first-state = at-loop .before in
+    let at-empty = at-first-state .before in
+    first-as _ _ _ _ _ _ _ _ _ _ _ _ _ _ _ _ (at-empty .empty .ensures) (at-first-state .first-state .ensures)
+    (went-stopped _ _ _ _ _ _ _ _ _ _ _ _ _ _ _ (arrives _ _ _ _ _ _ _ _ _ _ _ _ _ _ _ _ _ (at-loop .loop .inv) (at-settle .settle .ensures .0) (at-settle .settle .ensures .1) (at-settle .settle .kept .1 .1 .1 .1 .1 .0)) _ _ _ _ _ (at-if1 .if1 .left) (omega (arith, at-if2 .if2 .left)) (at-go .go .ensures) (at-went2 .went2 .given .1) (c .ended4 .ensures))
 
 pub run-on-spec : {M : Type 1} → statement M
 run-on-spec =
     tie.close
-    (tie.spec
-    Inv-loop
-    μ-loop
-    empty-requires
-    first-state-requires
-    loop-holds
-    settle-requires
-    sub-ended
-    ended-requires
-    same-length
-    same-length-2
-    same-length-3
-    same-length-4
-    returns
-    sub-ended-2
-    ended-requires-2
-    same-length-5
-    same-length-6
-    same-length-7
-    same-length-8
-    returns-2
-    sub-left
-    loop-less
-    loop-again
-    word-in-requires
-    changes-heap-requires
-    keep-requires
-    enum-known-kept
-    successor-requires
-    onward-requires
-    sub-left-2
-    loop-less-2
-    loop-again-2
-    enum-known-kept-2
-    sub-ended-3
-    ended-requires-3
-    same-length-9
-    same-length-10
-    same-length-11
-    same-length-12
-    returns-3
-    go-requires
-    enum-known-went
-    sub-left-3
-    loop-less-3
-    loop-again-3
-    enum-known-went-2
-    sub-ended-4
-    ended-requires-4
-    same-length-13
-    same-length-14
-    same-length-15
-    same-length-16
-    returns-4)
+    (tie.spec Inv-loop μ-loop (search needs) (search needs) loop-holds settle-requires sub-ended (search needs) same-length same-length-2
+    same-length-3 same-length-4 returns sub-ended-2 (search needs) same-length-5 same-length-6 same-length-7 same-length-8 returns-2 sub-left
+    loop-less loop-again word-in-requires (search needs) change-heap-requires (search needs) successor-requires (search needs) sub-left-2 loop-less-2
+    loop-again-2 (search needs) sub-ended-3 (search needs) same-length-9 same-length-10 same-length-11 same-length-12 returns-3 go-requires
+    (search needs) sub-left-3 loop-less-3 loop-again-3 (search needs) sub-ended-4 (search needs) same-length-13 same-length-14 same-length-15
+    same-length-16 returns-4)

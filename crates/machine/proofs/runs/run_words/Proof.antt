@@ -1,40 +1,16 @@
 use mathlib.Core.Path.{refl}
-use Rattle.machine.specs.Calls.{body-as, size-as}
-use Rattle.machine.specs.Runs.{from-start, frameless}
+use Rattle.machine.proofs.CallsLaws.{body-as, size-as}
+use Rattle.machine.proofs.RunsLaws.{from-start, frameless}
 use native.Mathlib.Omega.{arith}
 use borrow.Author.Needs.{needs}
 use Rattle.machine.proofs.runs.run_words.Statement.{statement}
 use Rattle.machine.proofs.runs.run_words.Tie as tie
 
-first-state-requires : tie.Need-first-state-requires
-first-state-requires c κs = search needs
-
-ended-requires : tie.Need-ended-requires
-ended-requires c κs = search needs
-
 returns : tie.Need-returns
 returns c = frameless _ _ _ _ _ _ _ (c .before .before .before .before .before .before .before .before .before .args .callees .now) _ _ (c .before .before .if1 .taken) (c .before .first-state .ensures) (c .ended .ensures)
 
-size-of-requires : tie.Need-size-of-requires
-size-of-requires c κs = search needs
-
-clear-requires : tie.Need-clear-requires
-clear-requires c κs = search needs
-
 run-on-requires : tie.Need-run-on-requires
 run-on-requires c κs = let p = c .before .before .before .before .before .before .before .before .before .before .before .before .before .before .before .before .pre in (p, omega (arith, c .before .before .before .before .before .before .before .before .before .if1 .left, c .before .before .before .before .before .before .clear .kept .0))
-
-same-length : tie.Need-same-length
-same-length c = search needs
-
-same-length-2 : tie.Need-same-length-2
-same-length-2 c = search needs
-
-same-length-3 : tie.Need-same-length-3
-same-length-3 c = search needs
-
-same-length-4 : tie.Need-same-length-4
-same-length-4 c = search needs
 
 returns-2 : tie.Need-returns-2
 returns-2 c =
@@ -44,15 +20,5 @@ returns-2 c =
 pub run-words-spec : {M : Type 1} → statement M
 run-words-spec =
     tie.close
-    (tie.spec
-    first-state-requires
-    ended-requires
-    returns
-    size-of-requires
-    clear-requires
-    run-on-requires
-    same-length
-    same-length-2
-    same-length-3
-    same-length-4
-    returns-2)
+    (tie.spec (search needs) (search needs) returns (search needs) (search needs) run-on-requires (search needs) (search needs) (search needs)
+    (search needs) returns-2)

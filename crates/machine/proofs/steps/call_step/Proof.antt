@@ -1,24 +1,12 @@
 use Rattle.frames.specs.Strays.{whole}
 use native.Mathlib.Omega.{arith}
 use mathlib.Core.Path.{refl}
-use Rattle.machine.specs.Calls.{body-as}
-use Rattle.machine.specs.Steps.{call-goes, call-stops, step-fits}
+use Rattle.machine.proofs.CallsLaws.{body-as}
+use Rattle.machine.proofs.StepsLaws.{call-goes, call-stops, step-fits}
 use native.Mathlib.Omega.{arith}
 use borrow.Author.Needs.{needs}
 use Rattle.machine.proofs.steps.call_step.Statement.{statement}
 use Rattle.machine.proofs.steps.call_step.Tie as tie
-
-room-requires : tie.Need-room-requires
-room-requires c κs = search needs
-
-cast-limit : tie.Need-cast-limit
-cast-limit c = search needs
-
-cast-above : tie.Need-cast-above
-cast-above c = search needs
-
-add-above : tie.Need-add-above
-add-above c = search needs
 
 returns : tie.Need-returns
 returns c = λ m ps. call-stops _ _ _ _ _ _ (c .before .before .before .before .before .pre .1 .1 .2) _ refl _ (c .before .before .before .before .before .pre .1 .1 .1) (c .before .room .ensures) (omega (arith, c .if1 .taken))
@@ -26,14 +14,8 @@ returns c = λ m ps. call-stops _ _ _ _ _ _ (c .before .before .before .before .
 call-requires : tie.Need-call-requires
 call-requires c κs = let p = c .before .before .before .before .before .before .pre in (whole (p .0) _ (p .1 .1 .0), (p .1 .0, step-fits _ _ _ (p .1 .1 .2) (c .before .before .room .ensures) (omega (arith, c .before .if1 .left))))
 
-add-t14 : tie.Need-add-t14
-add-t14 c = search needs
-
 add-t15 : tie.Need-add-t15
 add-t15 c = let l = step-fits _ _ _ (c .before .before .before .before .before .before .before .before .before .pre .1 .1 .2) (c .before .before .before .before .before .room .ensures) (omega (arith, c .before .before .before .before .if1 .left)) in search needs
-
-same-length : tie.Need-same-length
-same-length c = search needs
 
 returns-2 : tie.Need-returns-2
 returns-2 c = λ m ps. call-goes _ _ _ _ _ _ (c .before .before .before .before .before .before .before .before .before .pre .1 .1 .2) _ refl _ _ _ _ _ (c .before .before .before .before .before .before .before .before .before .pre .1 .1 .1) (body-as _ _ _ _ _ (c .before .before .call .ensures .0)) (c .before .before .call .ensures .1 _ (c .before .before .before .before .before .before .before .before .before .pre .1 .1 .2 .place)) (omega arith) refl (c .before .before .before .before .before .room .ensures) (omega (arith, c .before .before .before .before .if1 .left))
@@ -41,14 +23,4 @@ returns-2 c = λ m ps. call-goes _ _ _ _ _ _ (c .before .before .before .before 
 pub call-step-spec : {M : Type 1} → statement M
 call-step-spec =
     tie.close
-    (tie.spec
-    room-requires
-    cast-limit
-    cast-above
-    add-above
-    returns
-    call-requires
-    add-t14
-    add-t15
-    same-length
-    returns-2)
+    (tie.spec (search needs) (search needs) (search needs) (search needs) returns call-requires (search needs) add-t15 (search needs) returns-2)

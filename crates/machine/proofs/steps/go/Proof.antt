@@ -1,9 +1,9 @@
 use native.Mathlib.Omega.{arith}
-use Rattle.machine.specs.Numbers.{literal-low, assign-low}
+use Rattle.machine.proofs.Numbers.{literal-low, assign-low}
 use mathlib.Core.Path.{sym, _∙_}
 use Rattle.frames.specs.Strays.{whole}
 use Rattle.machine.specs.Calls.{successor-as}
-use Rattle.machine.specs.Steps.{goes-same, literal-goes, assign-goes, else-goes}
+use Rattle.machine.proofs.StepsLaws.{goes-same, literal-goes, assign-goes, else-goes}
 use borrow.Author.Needs.{needs}
 use Rattle.machine.proofs.steps.go.Statement.{statement}
 use Rattle.machine.proofs.steps.go.Tie as tie
@@ -17,9 +17,6 @@ literal-requires c κs = let p = c .before .before .before .before .before .befo
 successor-requires : tie.Need-successor-requires
 successor-requires c κs = let p = c .before .before .before .before .before .before .before .before .before .before .before .pre in whole (p .0 .0) _ (p .1 .1 .0 .0) .0
 
-onward-requires : tie.Need-onward-requires
-onward-requires c κs = search needs
-
 sum-step-requires : tie.Need-sum-step-requires
 sum-step-requires c κs = (c .before .before .before .before .before .before .before .before .pre .0, (c .before .before .before .before .before .before .before .before .pre .1 .1 .0 .0, sym (c .before .before .word-in .ensures .0) ∙ c .before .match .keys2, c .before .before .before .before .before .before .before .before .pre .1 .1 .0 .1))
 
@@ -28,9 +25,6 @@ assign-requires c κs = let p = c .before .before .before .before .before .befor
 
 successor-requires-2 : tie.Need-successor-requires-2
 successor-requires-2 c κs = let p = c .before .before .before .before .before .before .before .before .before .before .before .pre in whole (p .0 .0) _ (p .1 .1 .0 .0) .0
-
-onward-requires-2 : tie.Need-onward-requires-2
-onward-requires-2 c κs = search needs
 
 switch-step-requires : tie.Need-switch-step-requires
 switch-step-requires c κs = (c .before .before .before .before .before .before .before .before .pre .0, (c .before .before .before .before .before .before .before .before .pre .1 .1 .0 .0, sym (c .before .before .word-in .ensures .0) ∙ c .before .match .keys4, c .before .before .before .before .before .before .before .before .pre .1 .1 .0 .1))
@@ -44,47 +38,23 @@ call-step-requires c κs = let p = c .before .before .before .before .before .be
 print-step-requires : tie.Need-print-step-requires
 print-step-requires c κs = (c .before .before .before .before .before .before .before .before .before .pre .0, (c .before .before .before .before .before .before .before .before .before .pre .1 .1 .0 .0, sym (c .before .before .before .word-in .ensures .0) ∙ c .before .before .match .keys7, c .before .before .before .before .before .before .before .before .before .pre .1 .1 .0 .1))
 
-same-length : tie.Need-same-length
-same-length c = search needs
-
 returns : tie.Need-returns
 returns c = goes-same _ _ _ _ _ _ _ _ _ _ (c .onward .ensures) (literal-goes _ _ _ _ _ _ (c .before .before .before .before .before .before .before .before .before .before .before .before .before .pre .1 .1 .0 .1) _ _ (c .before .before .before .before .before .before .before .word-in .ensures .0) (successor-as _ _ _ _ _ (c .before .successor .ensures)) _ (c .before .before .before .before .before .before .match .keys1) (c .before .before .before .before .literal .ensures))
-
-same-length-2 : tie.Need-same-length-2
-same-length-2 c = search needs
 
 returns-2 : tie.Need-returns-2
 returns-2 c = c .before .before .sum-step .ensures _ _ _ _
 
-same-length-3 : tie.Need-same-length-3
-same-length-3 c = search needs
-
 returns-3 : tie.Need-returns-3
 returns-3 c = goes-same _ _ _ _ _ _ _ _ _ _ (c .onward2 .ensures) (assign-goes _ _ _ _ _ _ (c .before .before .before .before .before .before .before .before .before .before .before .before .before .pre .1 .1 .0 .1) _ _ (c .before .before .before .before .before .before .before .word-in .ensures .0) (successor-as _ _ _ _ _ (c .before .successor2 .ensures)) _ (c .before .before .before .before .before .before .match .keys3) (c .before .before .before .before .assign .ensures))
-
-same-length-4 : tie.Need-same-length-4
-same-length-4 c = search needs
 
 returns-4 : tie.Need-returns-4
 returns-4 c = c .before .before .switch-step .ensures _ _ _
 
-same-length-5 : tie.Need-same-length-5
-same-length-5 c = search needs
-
 returns-5 : tie.Need-returns-5
 returns-5 c = c .if-step .ensures _ _ _ _
 
-same-length-6 : tie.Need-same-length-6
-same-length-6 c = search needs
-
 returns-6 : tie.Need-returns-6
 returns-6 c = c .before .before .call-step .ensures _ _
-
-same-length-7 : tie.Need-same-length-7
-same-length-7 c = search needs
-
-same-length-8 : tie.Need-same-length-8
-same-length-8 c = search needs
 
 returns-7 : tie.Need-returns-7
 returns-7 c = c .before .before .print-step .ensures _ _ _
@@ -97,32 +67,7 @@ returns-8 c =
 pub go-spec : {M : Type 1} → statement M
 go-spec =
     tie.close
-    (tie.spec
-    word-in-requires
-    literal-requires
-    successor-requires
-    onward-requires
-    sum-step-requires
-    assign-requires
-    successor-requires-2
-    onward-requires-2
-    switch-step-requires
-    if-step-requires
-    call-step-requires
-    print-step-requires
-    same-length
-    returns
-    same-length-2
-    returns-2
-    same-length-3
-    returns-3
-    same-length-4
-    returns-4
-    same-length-5
-    returns-5
-    same-length-6
-    returns-6
-    same-length-7
-    same-length-8
-    returns-7
+    (tie.spec word-in-requires literal-requires successor-requires (search needs) sum-step-requires assign-requires successor-requires-2
+    (search needs) switch-step-requires if-step-requires call-step-requires print-step-requires (search needs) returns (search needs) returns-2
+    (search needs) returns-3 (search needs) returns-4 (search needs) returns-5 (search needs) returns-6 (search needs) (search needs) returns-7
     returns-8)

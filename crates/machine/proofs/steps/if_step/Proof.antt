@@ -1,7 +1,7 @@
-use Rattle.machine.specs.Numbers.{if-low}
+use Rattle.machine.proofs.Numbers.{if-low}
 use mathlib.Core.Path.{refl}
 use Rattle.machine.specs.Calls.{successor-as}
-use Rattle.machine.specs.Steps.{goes-same, if-goes}
+use Rattle.machine.proofs.StepsLaws.{goes-same, if-goes}
 use Rattle.frames.specs.Strays.{whole}
 use borrow.Author.Needs.{needs}
 use Rattle.machine.proofs.steps.if_step.Statement.{statement}
@@ -13,16 +13,10 @@ part-of-requires c κs = let p = c .before .before .pre in ((whole (p .0 .0) _ (
 successor-requires : tie.Need-successor-requires
 successor-requires c κs = whole (c .before .before .before .pre .0 .0) _ (c .before .before .before .pre .1 .0) .0
 
-onto-requires : tie.Need-onto-requires
-onto-requires c κs = search needs
-
-onward-requires : tie.Need-onward-requires
-onward-requires c κs = search needs
-
 returns : tie.Need-returns
 returns c =
     λ images callees m ps. goes-same _ _ _ _ _ _ _ _ _ _ (c .onward .ensures)
     (if-goes _ _ _ _ _ _ (c .before .before .before .before .before .before .pre .1 .2) _ _ refl (successor-as _ _ _ _ _ (c .before .before .successor .ensures)) _ _ (c .before .before .before .before .before .before .pre .1 .1) (c .before .before .before .part-of .ensures) (c .before .onto .ensures))
 
 pub if-step-spec : {M : Type 1} → statement M
-if-step-spec = tie.close (tie.spec part-of-requires successor-requires onto-requires onward-requires returns)
+if-step-spec = tie.close (tie.spec part-of-requires successor-requires (search needs) (search needs) returns)

@@ -1,19 +1,13 @@
 use native.Mathlib.Omega.{arith}
-use Rattle.machine.specs.Numbers.{print-low}
+use Rattle.machine.proofs.Numbers.{print-low}
 use mathlib.Core.Path.{refl}
 use Rattle.frames.specs.Strays.{whole}
 use Rattle.machine.specs.Calls.{successor-as}
-use Rattle.machine.specs.Goals.{value-as}
-use Rattle.machine.specs.Steps.{print-goes, print-stops}
+use Rattle.machine.proofs.GoalsLaws.{value-as}
+use Rattle.machine.proofs.StepsLaws.{print-goes, print-stops}
 use borrow.Author.Needs.{needs}
 use Rattle.machine.proofs.steps.print_step.Statement.{statement}
 use Rattle.machine.proofs.steps.print_step.Tie as tie
-
-room-requires : tie.Need-room-requires
-room-requires c κs = search needs
-
-cast-limit : tie.Need-cast-limit
-cast-limit c = search needs
 
 returns : tie.Need-returns
 returns c = λ images callees m. print-stops _ _ _ _ _ _ (c .before .before .before .before .before .pre .1 .2) _ refl _ (c .before .before .before .before .before .pre .1 .1) (c .before .room .ensures) (c .if1 .taken)
@@ -24,17 +18,8 @@ word-in-requires c κs = let p = c .before .before .before .before .before .pre 
 value-requires : tie.Need-value-requires
 value-requires c κs = let p = c .before .before .before .before .before .before .pre in (rw (c .word-in .ensures .0) (print-low (p .0 .1) _ refl (p .1 .1)), p .1 .2 .fits)
 
-put-requires : tie.Need-put-requires
-put-requires c κs = search needs
-
 successor-requires : tie.Need-successor-requires
 successor-requires c κs = whole (c .before .before .before .before .before .before .before .before .before .before .before .pre .0 .0) _ (c .before .before .before .before .before .before .before .before .before .before .before .pre .1 .0) .0
-
-add-t19 : tie.Need-add-t19
-add-t19 c = search needs
-
-same-length : tie.Need-same-length
-same-length c = search needs
 
 returns-2 : tie.Need-returns-2
 returns-2 c =
@@ -44,14 +29,5 @@ returns-2 c =
 pub print-step-spec : {M : Type 1} → statement M
 print-step-spec =
     tie.close
-    (tie.spec
-    room-requires
-    cast-limit
-    returns
-    word-in-requires
-    value-requires
-    put-requires
-    successor-requires
-    add-t19
-    same-length
+    (tie.spec (search needs) (search needs) returns word-in-requires value-requires (search needs) successor-requires (search needs) (search needs)
     returns-2)

@@ -5,21 +5,15 @@ use mir.Facts.{toZ-ofZ}
 use Rattle.language.specs.Numbers.{residue}
 use Rattle.frames.specs.Strays.{whole}
 use Rattle.machine.specs.Calls.{successor-as}
-use Rattle.machine.specs.Goals.{gives, range-as}
-use Rattle.machine.specs.Numbers.{sum-low}
-use Rattle.machine.specs.Steps.{goes-same, sum-goes, sum-stops}
+use Rattle.machine.proofs.GoalsLaws.{gives, range-as}
+use Rattle.machine.proofs.Numbers.{sum-low}
+use Rattle.machine.proofs.StepsLaws.{goes-same, sum-goes, sum-stops}
 use borrow.Author.Needs.{needs}
 use Rattle.machine.proofs.steps.sum_step.Statement.{statement}
 use Rattle.machine.proofs.steps.sum_step.Tie as tie
 
 sum-requires : tie.Need-sum-requires
 sum-requires c κs = let p = c .before .before .before .pre in let l = sum-low (p .0 .1) _ refl (p .1 .1) in ((whole (p .0 .0) _ (p .1 .0) .1, p .1 .2 .fits), (l .1, l .2))
-
-in-range-requires : tie.Need-in-range-requires
-in-range-requires c κs = search needs
-
-same-length : tie.Need-same-length
-same-length c = search needs
 
 returns : tie.Need-returns
 returns c = λ images callees m ps. sum-stops _ _ _ _ _ _ (c .before .before .before .before .before .before .pre .1 .2) _ refl _ (c .before .before .before .before .before .before .pre .1 .1) (c .before .before .sum .ensures) (sym (range-as _ _ (search needs) (c .before .in-range .ensures)) ∙ not-true _ (c .if1 .taken))
@@ -36,12 +30,6 @@ give-requires c κs = let p = c .before .before .before .before .before .before 
 successor-requires : tie.Need-successor-requires
 successor-requires c κs = let p = c .before .before .before .before .before .before .before .before .before .before .before .before .pre in whole (p .0 .0) _ (p .1 .0) .0
 
-onward-requires : tie.Need-onward-requires
-onward-requires c κs = search needs
-
-same-length-2 : tie.Need-same-length-2
-same-length-2 c = search needs
-
 returns-2 : tie.Need-returns-2
 returns-2 c =
     λ images callees m ps. goes-same _ _ _ _ _ _ _ _ _ _ (c .onward .ensures)
@@ -51,15 +39,5 @@ returns-2 c =
 pub sum-step-spec : {M : Type 1} → statement M
 sum-step-spec =
     tie.close
-    (tie.spec
-    sum-requires
-    in-range-requires
-    same-length
-    returns
-    word-in-requires
-    word-of-requires
-    give-requires
-    successor-requires
-    onward-requires
-    same-length-2
-    returns-2)
+    (tie.spec sum-requires (search needs) (search needs) returns word-in-requires word-of-requires give-requires successor-requires (search needs)
+    (search needs) returns-2)

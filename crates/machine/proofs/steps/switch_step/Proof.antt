@@ -1,7 +1,7 @@
-use Rattle.machine.specs.Numbers.{switch-low, arm-low}
+use Rattle.machine.proofs.Numbers.{switch-low, arm-low}
 use mathlib.Core.Path.{refl}
-use Rattle.machine.specs.Calls.{entry-as}
-use Rattle.machine.specs.Steps.{goes-same, switch-goes}
+use Rattle.machine.proofs.CallsLaws.{entry-as}
+use Rattle.machine.proofs.StepsLaws.{goes-same, switch-goes}
 use Rattle.frames.specs.Strays.{whole}
 use borrow.Author.Needs.{needs}
 use Rattle.machine.proofs.steps.switch_step.Statement.{statement}
@@ -13,18 +13,10 @@ switch-arm-requires c κs = let p = c .before .before .before .before .pre in (p
 successor-requires : tie.Need-successor-requires
 successor-requires c κs = whole (c .before .before .before .before .before .before .before .pre .0 .0) _ (c .before .before .switch-arm .ensures .1 .0) .0
 
-onward-requires : tie.Need-onward-requires
-onward-requires c κs = search needs
-
-same-length : tie.Need-same-length
-same-length c = search needs
-
 returns : tie.Need-returns
 returns c =
     λ images callees ps. goes-same _ _ _ _ _ _ _ _ _ _ (c .onward .ensures)
     (switch-goes _ _ _ _ _ _ (c .before .before .before .before .before .before .before .before .before .pre .1 .2) _ refl _ _ _ (c .before .before .before .before .before .before .before .before .before .pre .1 .1) (c .before .before .before .before .switch-arm .ensures .0) (c .before .before .before .before .switch-arm .ensures .1 .1) (entry-as _ _ _ _ _ (c .before .successor .ensures)))
 
 pub switch-step-spec : {M : Type 1} → statement M
-switch-step-spec =
-    tie.close
-    (tie.spec switch-arm-requires successor-requires onward-requires same-length returns)
+switch-step-spec = tie.close (tie.spec switch-arm-requires successor-requires (search needs) (search needs) returns)

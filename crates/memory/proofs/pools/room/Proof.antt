@@ -1,19 +1,10 @@
-use Rattle.memory.specs.Laws.{room-none, room-all, room-most}
+use Rattle.memory.proofs.Ways.{room-none, room-all, room-most}
 use borrow.Author.Needs.{needs}
 use Rattle.memory.proofs.pools.room.Statement.{statement}
 use Rattle.memory.proofs.pools.room.Tie as tie
 
 returns : tie.Need-returns
 returns c = room-none _ _ (c .if1 .taken)
-
-div-n : tie.Need-div-n
-div-n c = search needs
-
-cast-if2 : tie.Need-cast-if2
-cast-if2 c = search needs
-
-cast-result : tie.Need-cast-result
-cast-result c = search needs
 
 returns-2 : tie.Need-returns-2
 returns-2 c = room-all _ _ (c .if2 .taken)
@@ -22,4 +13,4 @@ returns-3 : tie.Need-returns-3
 returns-3 c = room-most _ _ (c .if2 .left)
 
 pub room-spec : {M : Type 1} → statement M
-room-spec = tie.close (tie.spec returns div-n cast-if2 cast-result returns-2 returns-3)
+room-spec = tie.close (tie.spec returns (search needs) (search needs) (search needs) returns-2 returns-3)

@@ -7,9 +7,6 @@ use Rattle.memory.proofs.pools.take.Tie as tie
 returns : tie.Need-returns
 returns c = sym (take-full _ _ (c .if1 .taken))
 
-add-above : tie.Need-add-above
-add-above c = search needs
-
 returns-2 : tie.Need-returns-2
 returns-2 c = sym (take-top _ _ (c .before .if1 .left) (c .if2 .taken))
 
@@ -17,4 +14,4 @@ returns-3 : tie.Need-returns-3
 returns-3 c = sym (take-link _ _ (c .before .if1 .left) (c .if2 .left))
 
 pub take-spec : {M : Type 1} → statement M
-take-spec = tie.close (tie.spec returns add-above returns-2 returns-3)
+take-spec = tie.close (tie.spec returns (search needs) returns-2 returns-3)

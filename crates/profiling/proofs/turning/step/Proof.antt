@@ -2,7 +2,7 @@
 use Rattle.frames.specs.Strays.{whole}
 use Rattle.machine.specs.Calls.{successor-as}
 use Rattle.machine.specs.Heaps.{changed, unchanged}
-use Rattle.profiling.specs.Turning.{placed-long, placed-onward, kept-turns, kept-lacks, went-turns, went-lacks}
+use Rattle.profiling.specs.Turning.{placed-long, placed-onward, changed-turns, change-lacks, went-turns, went-lacks}
 use borrow.Author.Needs.{needs}
 use Rattle.profiling.proofs.turning.step.Statement.{statement}
 use Rattle.profiling.proofs.turning.step.Tie as tie
@@ -13,13 +13,13 @@ word-in-requires c κs = let w = whole (c .before .before .before .before .befor
 changes-heap-requires : tie.Need-changes-heap-requires
 changes-heap-requires c κs = search needs
 
-keep-requires : tie.Need-keep-requires
-keep-requires c κs =
+change-heap-requires : tie.Need-change-heap-requires
+change-heap-requires c κs =
     let p = c .before .before .before .before .before .before .before .before .before .before .before .before .pre in
     ((p .0, p .1 .0 .1), (p .1 .1, changed _ _ _ (c .before .before .before .before .before .word-in .ensures .0) (c .before .before .before .before .changes-heap .ensures) (c .before .before .before .if1 .taken)))
 
-enum-known-kept : tie.Need-enum-known-kept
-enum-known-kept c = search needs
+enum-known-stepped : tie.Need-enum-known-stepped
+enum-known-stepped c = search needs
 
 successor-requires : tie.Need-successor-requires
 successor-requires c κs = let w = whole (c .before .before .before .before .before .before .before .before .before .before .before .before .before .before .before .before .before .before .before .before .before .before .pre .0) _ (c .before .before .before .before .before .before .before .before .before .before .before .before .before .before .before .before .before .before .before .before .before .before .pre .1 .1 .0) in search needs
@@ -28,7 +28,7 @@ onward-requires : tie.Need-onward-requires
 onward-requires c κs = search needs
 
 settle-requires : tie.Need-settle-requires
-settle-requires c κs = ((c .before .before .before .before .before .before .before .before .before .before .before .before .before .before .before .before .before .before .before .before .before .before .before .before .before .pre .0, placed-onward _ (c .before .onward .ensures) (c .before .before .before .before .before .before .before .before .before .before .before .before .keep .kept .1 .1 .1 .1 .1 .1 .0) (c .before .before .before .before .before .before .before .before .before .before .before .before .before .before .before .before .before .before .before .before .before .before .before .before .before .pre .1 .1 .1)), c .before .before .before .before .before .before .before .before .before .before .before .before .before .before .before .before .before .before .before .before .before .before .before .before .before .pre .1 .0 .0)
+settle-requires c κs = ((c .before .before .before .before .before .before .before .before .before .before .before .before .before .before .before .before .before .before .before .before .before .before .before .before .before .pre .0, placed-onward _ (c .before .onward .ensures) (c .before .before .before .before .before .before .before .before .before .before .before .before .change-heap .kept .1 .1 .1 .1 .1 .1 .0) (c .before .before .before .before .before .before .before .before .before .before .before .before .before .before .before .before .before .before .before .before .before .before .before .before .before .pre .1 .1 .1)), c .before .before .before .before .before .before .before .before .before .before .before .before .before .before .before .before .before .before .before .before .before .before .before .before .before .pre .1 .0 .0)
 
 same-length : tie.Need-same-length
 same-length c = search needs
@@ -41,11 +41,11 @@ same-length-3 c = search needs
 
 returns : tie.Need-returns
 returns c =
-    kept-turns _ _ _ _ _ _ _ _ _ _ _ _ (c .before .before .before .before .before .before .before .before .before .before .before .before .before .before .before .keep .ensures _ _) _ _ _ _ _ (c .before .before .before .before .before .before .before .kept .given .1) (successor-as _ _ _ _ _ (c .before .before .before .before .before .successor .ensures))
+    changed-turns _ _ _ _ _ _ _ _ _ _ _ _ (c .before .before .before .before .before .before .before .before .before .before .before .before .before .before .before .change-heap .ensures _ _) _ _ _ _ _ (c .before .before .before .before .before .before .before .stepped .given .1) (successor-as _ _ _ _ _ (c .before .before .before .before .before .successor .ensures))
     (c .before .before .before .before .onward .ensures) (c .before .before .settle .ensures .0) (c .before .before .settle .ensures .1)
 
-enum-known-kept-2 : tie.Need-enum-known-kept-2
-enum-known-kept-2 c = search needs
+enum-known-stepped-2 : tie.Need-enum-known-stepped-2
+enum-known-stepped-2 c = search needs
 
 same-length-4 : tie.Need-same-length-4
 same-length-4 c = search needs
@@ -57,7 +57,7 @@ same-length-6 : tie.Need-same-length-6
 same-length-6 c = search needs
 
 returns-2 : tie.Need-returns-2
-returns-2 c = kept-lacks _ _ _ _ _ _ _ _ _ _ _ _ (c .before .before .before .before .before .before .before .before .before .keep .ensures _ _) _ (c .before .kept2 .given .1)
+returns-2 c = change-lacks _ _ _ _ _ _ _ _ _ _ _ _ (c .before .before .before .before .before .before .before .before .before .change-heap .ensures _ _) _ (c .before .stepped2 .given .1)
 
 go-requires : tie.Need-go-requires
 go-requires c κs =
@@ -104,8 +104,8 @@ step-spec =
     (tie.spec
     word-in-requires
     changes-heap-requires
-    keep-requires
-    enum-known-kept
+    change-heap-requires
+    enum-known-stepped
     successor-requires
     onward-requires
     settle-requires
@@ -113,7 +113,7 @@ step-spec =
     same-length-2
     same-length-3
     returns
-    enum-known-kept-2
+    enum-known-stepped-2
     same-length-4
     same-length-5
     same-length-6

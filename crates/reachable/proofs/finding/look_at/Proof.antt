@@ -1,10 +1,9 @@
--- `look_at` meets its contract.
 use native.Mathlib.Omega.{arith}
 use mathlib.Core.Logic.{inl, inr}
 use Rattle.laws.specs.Typed.{procedures-count}
 use Rattle.chains.specs.Formed.{counted}
-use Rattle.reachable.specs.Found.{room}
-use Rattle.reachable.specs.Worklist.{Looking, looking-first, call-fits, link-falls, looking-old, looking-new, looking-last}
+use Rattle.reachable.proofs.FoundLaws.{room}
+use Rattle.reachable.proofs.WorklistLaws.{Looking, looking-first, call-fits, link-falls, looking-old, looking-new, looking-last}
 use borrow.Author.Needs.{needs}
 use Rattle.reachable.proofs.finding.look_at.Statement.{statement}
 use Rattle.reachable.proofs.finding.look_at.Tie as tie
@@ -27,19 +26,9 @@ loop-holds c = let p = c .before .before .before .pre in looking-first (p .1 .1 
 word-requires : tie.Need-word-requires Inv-loop μ-loop
 word-requires c κs = let p = c .before .before .before .before .before .pre in (p .0, (omega arith, c .before .loop .inv .call (c .loop-test .taken) .below))
 
-mul-if1 : tie.Need-mul-if1 Inv-loop μ-loop
-mul-if1 c =
-    let p = c .before .before .before .before .before .before .pre in let f = call-fits (p .1 .1 .0) (c .before .before .loop .inv) (c .before .loop-test .taken) (p .0) (p .1 .0) (c .word .ensures .0) in
-    let b = procedures-count _ (p .1 .0) .1 in let l = f .1 in search needs
-
 element-copy-out-if1 : tie.Need-element-copy-out-if1 Inv-loop μ-loop
 element-copy-out-if1 c =
     let p = c .before .before .before .before .before .before .pre in let f = call-fits (p .1 .1 .0) (c .before .before .loop .inv) (c .before .loop-test .taken) (p .0) (p .1 .0) (c .word .ensures .0) in
-    let b = procedures-count _ (p .1 .0) .1 in let l = f .1 in search needs
-
-mul-marks : tie.Need-mul-marks Inv-loop μ-loop
-mul-marks c =
-    let p = c .before .before .before .before .before .before .before .before .pre in let f = call-fits (p .1 .1 .0) (c .before .before .before .before .loop .inv) (c .before .before .before .loop-test .taken) (p .0) (p .1 .0) (c .before .before .word .ensures .0) in
     let b = procedures-count _ (p .1 .0) .1 in let l = f .1 in search needs
 
 element-write-marks : tie.Need-element-write-marks Inv-loop μ-loop
@@ -69,7 +58,7 @@ element-copy-out-wide-2 : tie.Need-element-copy-out-wide-2 Inv-loop μ-loop
 element-copy-out-wide-2 c = let p = c .before .before .before .before .before .before .before .before .pre in let l = c .before .before .before .before .loop .inv .call (c .before .before .before .loop-test .taken) .below in let b = counted (p .0) .most in search needs
 
 loop-less : tie.Need-loop-less Inv-loop μ-loop
-loop-less c = let p = c .before .before .before .before .before .before .before .before .before .before .pre in link-falls (p .1 .1 .0) (c .before .before .before .before .before .before .loop .inv) (c .before .before .before .before .before .loop-test .taken) (c .wide2 .ensures)
+loop-less c = search (link-falls, needs)
 
 loop-again : tie.Need-loop-again Inv-loop μ-loop
 loop-again c =
@@ -84,9 +73,11 @@ loop-again c =
     ]
 
 returns : tie.Need-returns Inv-loop μ-loop
-returns c = let p = c .before .before .before .before .before .pre in looking-last (p .1 .1 .0) (p .0) (c .before .loop .inv) (c .loop-test .left)
+returns c = search (looking-last, needs)
 
 pub look-at-spec : {M : Type 1} → statement M
 look-at-spec =
     tie.close
-    (tie.spec Inv-loop μ-loop mul-wide element-copy-out-wide (search needs) loop-holds word-requires mul-if1 element-copy-out-if1 mul-marks element-write-marks (search needs) mul-order element-write-order add-found mul-wide-2 element-copy-out-wide-2 (search needs) loop-less loop-again returns)
+    (tie.spec Inv-loop μ-loop mul-wide element-copy-out-wide (search needs) loop-holds word-requires (search needs) element-copy-out-if1
+    (search needs) element-write-marks (search needs) mul-order element-write-order add-found mul-wide-2 element-copy-out-wide-2 (search needs)
+    loop-less loop-again returns)

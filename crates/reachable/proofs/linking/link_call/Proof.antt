@@ -1,4 +1,3 @@
--- `link_call` meets its contract.
 use mathlib.Core.Path.{refl}
 use borrow.Author.Needs.{needs}
 use Rattle.reachable.proofs.linking.link_call.Statement.{statement}

@@ -1,11 +1,11 @@
--- `link_calls` meets its contract.
 use Prim.Native.Nat.{_-_, _≤_}
 use native.Mathlib.Omega.{arith}
 use mathlib.Core.Logic.{inl, inr}
 use mathlib.Core.Path.{_≡_, sym, _∙_}
 use Rattle.language.specs.File.{recordCount}
 use Rattle.chains.specs.Formed.{counted}
-use Rattle.reachable.specs.Linked.{LinkedUpTo, KeptFrom, linked-first, linked-skip, linked-call, call-asks, linked-last}
+use Rattle.reachable.specs.Linked.{LinkedUpTo, KeptFrom}
+use Rattle.reachable.proofs.LinkedLaws.{linked-first, linked-skip, linked-call, call-asks, linked-last}
 use borrow.Author.Needs.{needs}
 use Rattle.reachable.proofs.linking.link_calls.Statement.{statement}
 use Rattle.reachable.proofs.linking.link_calls.Tie as tie
@@ -22,9 +22,6 @@ loop-holds c =
     let p = c .before .before .pre in
     let n = counted (p .0) in
     (c .record-count .ensures, omega arith, omega (arith, c .record-count .ensures), linked-first _ (p .1 .1 .1))
-
-word-requires : tie.Need-word-requires Inv-loop μ-loop
-word-requires c κs = let v = c .before .loop .inv in (c .before .before .before .before .pre .0, (omega arith, omega (arith, v .0)))
 
 link-call-requires : tie.Need-link-call-requires Inv-loop μ-loop
 link-call-requires c κs =
@@ -54,4 +51,4 @@ returns c = let v = c .before .loop .inv in linked-last (v .3 .0) (v .3 .1) (v .
 pub link-calls-spec : {M : Type 1} → statement M
 link-calls-spec =
     tie.close
-    (tie.spec Inv-loop μ-loop (λ c κs. search needs) loop-holds word-requires link-call-requires (search needs) (search needs) loop-again returns)
+    (tie.spec Inv-loop μ-loop (λ c κs. search needs) loop-holds (λ c κs. search needs) link-call-requires (search needs) (search needs) loop-again returns)

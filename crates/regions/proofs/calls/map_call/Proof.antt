@@ -1,4 +1,4 @@
--- `map_call` meets its contract: the rest of the parameters against the rest of the arguments, from the images so far, gives the whole mapping.
+-- The rest of the parameters against the rest of the arguments, from the images so far, gives the whole mapping.
 use Prim.Native.Nat.{ℕ}
 use mathlib.Core.Path.{_≡_, refl, _∙_}
 use mathlib.Core.Logic.{inl, inr}
@@ -9,8 +9,10 @@ use lib.ListN.{length}
 use Rattle.language.specs.File
 use Rattle.chains.specs.Formed.{Stands, ahead, variablesAt, variables-none, argumentsAt, arguments-none}
 use Rattle.chains.specs.Is.{chain-next}
-use Rattle.regions.specs.Pairs.{Grown, grown-refl, grown-trans, RestMapped, rest-first, rest-next, rest-stops, rest-ends}
-use Rattle.regions.specs.CallMap.{regionsOfParameters, parameters-none, parameter-passed, parameter-here, argument-here, homesIn, homes-none, rest-skips, call-mapped}
+use Rattle.regions.specs.Pairs.{Grown}
+use Rattle.regions.proofs.PairsLaws.{grown-refl, grown-trans, RestMapped, rest-first, rest-next, rest-stops, rest-ends}
+use Rattle.regions.specs.CallMap.{homesIn}
+use Rattle.regions.proofs.CallMapLaws.{regionsOfParameters, parameters-none, parameter-passed, parameter-here, argument-here, homes-none, rest-skips, call-mapped}
 use Rattle.regions.proofs.calls.map_call.Statement.{statement}
 use Rattle.regions.proofs.calls.map_call.Tie as tie
 
@@ -34,9 +36,6 @@ loop-holds c =
       rest-first f _ _ (regionsOfParameters (variablesAt f (c .word-at .result))) (homesIn (a .args .own .now) (argumentsAt f (a .args .arguments))) _,
     )
 
-same-length : tie.Need-same-length Inv-loop μ-loop
-same-length c = c .before .before .before .before .before .loop .inv .2
-
 returns : tie.Need-returns Inv-loop μ-loop
 returns c =
     let l = c .before .before .before .before .before in
@@ -46,17 +45,6 @@ returns c =
       call-mapped f _ _ (a .args .arguments) _ _ _ (l .before .word-at .ensures)
           (rest-ends f _ _ (l .loop .inv .4) (inr (homes-none (a .args .own .now) (arguments-none f (c .if2 .taken))))),
     )
-
-map-region-requires : tie.Need-map-region-requires Inv-loop μ-loop
-map-region-requires c κs =
-    let a = c .before .before .before .before .before .before .before .before .before .before .before .before .before .before .before in
-    (a .pre .0, (a .pre .1 .0, a .pre .1 .1 .0))
-
-same-length-2 : tie.Need-same-length-2 Inv-loop μ-loop
-same-length-2 c =
-    let m = c .before .before .before in
-    let l = m .before .before .before .before .before .before .before .before .before .before in
-    m .map-region .kept .1 .1 .1 .1 .1 .0 ∙ l .loop .inv .2
 
 returns-2 : tie.Need-returns-2 Inv-loop μ-loop
 returns-2 c =
@@ -143,6 +131,6 @@ returns-3 c =
 pub map-call-spec : {M : Type 1} → statement M
 map-call-spec =
     tie.close
-    (tie.spec Inv-loop μ-loop (search needs) loop-holds (λ c κs. search needs) (λ c κs. search needs) same-length returns (λ c κs. search needs)
-    (λ c κs. search needs) (search needs) map-region-requires same-length-2 returns-2 (λ c κs. search needs) loop-less loop-again loop-less-2
-    loop-again-2 same-length-3 returns-3)
+    (tie.spec Inv-loop μ-loop (search needs) loop-holds (λ c κs. search needs) (λ c κs. search needs) (search needs) returns (λ c κs. search needs)
+    (λ c κs. search needs) (search needs) (λ c κs. search needs) (search needs) returns-2 (λ c κs. search needs) loop-less loop-again loop-less-2 loop-again-2
+    same-length-3 returns-3)

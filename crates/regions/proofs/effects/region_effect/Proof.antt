@@ -1,4 +1,3 @@
--- `region_effect` meets its contract.
 use Rattle.regions.specs.Effects.{regionEffect}
 use borrow.Author.Needs.{needs}
 use Rattle.regions.proofs.effects.region_effect.Statement.{statement}

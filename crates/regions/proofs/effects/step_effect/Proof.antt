@@ -1,5 +1,4 @@
--- `step_effect` meets its contract.
-use Rattle.regions.specs.Effects.{construct-made, create-made, remove-made, none-made}
+use Rattle.regions.proofs.EffectsLaws.{construct-made, create-made, remove-made, none-made}
 use borrow.Author.Needs.{needs}
 use Rattle.regions.proofs.effects.step_effect.Statement.{statement}
 use Rattle.regions.proofs.effects.step_effect.Tie as tie

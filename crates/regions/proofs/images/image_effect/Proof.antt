@@ -1,5 +1,4 @@
--- `image_effect` meets its contract.
-use Rattle.regions.specs.Images.{imaged-effect}
+use Rattle.regions.proofs.ImagesLaws.{imaged-effect}
 use borrow.Author.Needs.{needs}
 use Rattle.regions.proofs.images.image_effect.Statement.{statement}
 use Rattle.regions.proofs.images.image_effect.Tie as tie

@@ -1,11 +1,10 @@
--- `images_of` meets its contract.
 use Prim.Native.Nat.{_-_}
 use borrow.Author.Needs.{needs}
 use Rattle.regions.specs.Pairs.{imagesIn}
 use Rattle.sets.specs.Sets.{single}
 use Rattle.language.specs.Format.{places}
 use Rattle.tables.specs.Walks.{Gathering, gather-first, gather-more, gather-last, next-falls}
-use Rattle.regions.specs.Images.{image-here, images-are}
+use Rattle.regions.proofs.ImagesLaws.{image-here, images-are}
 use Rattle.regions.proofs.images.images_of.Statement.{statement}
 use Rattle.regions.proofs.images.images_of.Tie as tie
 

@@ -1,10 +1,9 @@
--- `shared_images` meets its contract.
 use Prim.Native.Nat.{_-_}
 use borrow.Author.Needs.{needs}
 use Rattle.language.specs.Format.{places}
 use Rattle.regions.specs.Pairs.{imagesIn}
-use Rattle.regions.specs.Doubled.{Seeing, see-first, see-more, see-last}
-use Rattle.regions.specs.Images.{image-here}
+use Rattle.regions.proofs.DoubledLaws.{Seeing, see-first, see-more, see-last}
+use Rattle.regions.proofs.ImagesLaws.{image-here}
 use Rattle.tables.specs.Walks.{next-falls}
 use Rattle.regions.proofs.images.shared_images.Statement.{statement}
 use Rattle.regions.proofs.images.shared_images.Tie as tie

@@ -1,4 +1,4 @@
--- `map_region` and `map_edges` meet their contracts: the laws of the table of images are in Pairs; the places without an image fall in number.
+-- The laws of the table of images are in Pairs; the places without an image fall in number.
 use Prim.Native.Nat.{ℕ, _<_, _*_, _+_}
 use mathlib.Core.Path.{_≡_, refl, _∙_}
 use mathlib.Core.Logic.{inl, inr, ⊎-elim}
@@ -12,7 +12,8 @@ use Rattle.language.specs.Regions.{targetsIn}
 use Rattle.chains.specs.Formed.{Stands, ahead, edgesAt}
 use Rattle.chains.specs.Is.{chain-next}
 use Rattle.chains.specs.Edges.{targets-end, targets-here}
-use Rattle.regions.specs.Pairs.{edges-stand, PairMapped, pair-mapped, pair-known, zeros, zeros-grown, zeros-set, Grown, grown-refl, grown-trans, grown-set, RestMapped, rest-first, rest-next, rest-stops, rest-ends, region-none, region-again, region-new}
+use Rattle.regions.specs.Pairs.{Grown}
+use Rattle.regions.proofs.PairsLaws.{edges-stand, PairMapped, pair-mapped, pair-known, zeros, zeros-grown, zeros-set, grown-refl, grown-trans, grown-set, RestMapped, rest-next, rest-stops, rest-ends, region-none, region-again, region-new}
 use borrow.Fn.Kinds.{In}
 use borrow.Fn.PlainCycle.{Measures, is, falls, and}
 use Rattle.regions.proofs.pairs.map_edges.Reads as map-edges
@@ -66,15 +67,6 @@ abbrev map-region-calls : ℕ → map-region-lts.Claims
 map-region-calls t =
     (is-pair-reads.Asked, is-pair-reads.Learnt, edges-reads.Asked, edges-reads.Learnt, map-edges-below t, map-edges.Post)
 
-map-edges-loop-holds : (t : ℕ) → map-edges-lts.Need-loop-holds (map-edges-calls t) (map-edges-at t) map-edges.Post map-edges-Inv-loop map-edges-μ-loop
-map-edges-loop-holds t c =
-    let a = c .before .before .before .before in
-    let f : List ℕ = a .args .file .now in
-    (a .pre .1 .1 .1 .1 .0, a .pre .1 .1 .1 .1 .1, refl, grown-refl _, rest-first f _ _ (targetsIn (edgesAt f (a .args .from))) (targetsIn (edgesAt f (a .args .onto))) _)
-
-map-edges-same-length : (t : ℕ) → map-edges-lts.Need-same-length (map-edges-calls t) (map-edges-at t) map-edges.Post map-edges-Inv-loop map-edges-μ-loop
-map-edges-same-length t c = c .before .before .loop .inv .2
-
 map-edges-returns : (t : ℕ) → map-edges-lts.Need-returns (map-edges-calls t) (map-edges-at t) map-edges.Post map-edges-Inv-loop map-edges-μ-loop
 map-edges-returns t c =
     let l = c .before .before in
@@ -86,11 +78,6 @@ map-edges-map-region-requires t c κs =
     let l = c .before .before .before .before .before .before .before .before in
     let a = l .before .before .before .before .before in
     (omega (arith, zeros-grown (l .loop .inv .2) (l .loop .inv .3), a .pre .0), (a .pre .1 .0, (a .pre .1 .1 .0, a .pre .1 .1 .1 .0)))
-
-map-edges-same-length-2 : (t : ℕ) → map-edges-lts.Need-same-length-2 (map-edges-calls t) (map-edges-at t) map-edges.Post map-edges-Inv-loop map-edges-μ-loop
-map-edges-same-length-2 t c =
-    let m = c .before .before .before in
-    m .map-region .kept .1 .1 .1 .1 .1 .0 ∙ m .before .before .before .before .before .before .before .before .before .loop .inv .2
 
 map-edges-returns-2 : (t : ℕ) → map-edges-lts.Need-returns-2 (map-edges-calls t) (map-edges-at t) map-edges.Post map-edges-Inv-loop map-edges-μ-loop
 map-edges-returns-2 t c =
@@ -115,7 +102,9 @@ map-edges-loop-less t c =
 
 map-edges-loop-again : (t : ℕ) → map-edges-lts.Need-loop-again (map-edges-calls t) (map-edges-at t) map-edges.Post map-edges-Inv-loop map-edges-μ-loop
 map-edges-loop-again t c =
-    let e = c .before .before .before in
+    let at-word3 = c .before in
+    let at-if2 = at-word3 .before in
+    let e = at-if2 .before in
     let w = e .before .before in
     let x = w .before .before in
     let l = x .before .before in
@@ -125,13 +114,13 @@ map-edges-loop-again t c =
     let k = l .loop .inv in
     let i = x .before .loop-test .taken in
     let j = x .if1 .left in
-    let rs = targets-here f (l .loop .i) F (k .0) i (w .before .word .ensures .0) (c .before .word3 .ensures .0) in
+    let rs = targets-here f (l .loop .i) F (k .0) i (w .before .word .ensures .0) (at-word3 .word3 .ensures .0) in
     let us = targets-here f (l .loop .j) F (k .1) j (w .word2 .ensures .0) (c .word4 .ensures .0) in
-    let p : PairMapped f (a .args .own .now) (a .args .callee .now) (w .before .word .result) (w .word2 .result) (l .loop .images) (c .before .before .if2 .images) =
+    let p : PairMapped f (a .args .own .now) (a .args .callee .now) (w .before .word .result) (w .word2 .result) (l .loop .images) (at-if2 .if2 .images) =
     ⊎-elim (λ y. pair-mapped f _ _ _ _ _ (y .2 .ensures .1) (not-false _ (y .5 .left)) (y .2 .kept .1 .1 .1 .1 .1 .0) (y .2 .ensures .0) (y .6))
-    (λ y. pair-known f _ _ _ _ _ (e .entry .ensures) (y .0 .left) (y .1)) (c .before .before .if2 .came)
+    (λ y. pair-known f _ _ _ _ _ (e .entry .ensures) (y .0 .left) (y .1)) (at-if2 .if2 .came)
     in (
-      chain-next F (k .0) i (c .before .word3 .ensures .0) .stands,
+      chain-next F (k .0) i (at-word3 .word3 .ensures .0) .stands,
       chain-next F (k .1) j (c .word4 .ensures .0) .stands,
       p .length-kept ∙ k .2,
       grown-trans (k .3) (p .grown),
@@ -219,10 +208,10 @@ map-region-returns-3 t c =
 pub +map-edges+map-region-spec : {M : Type 1} → statement M
 +map-edges+map-region-spec =
     close μ-map-edges μ-map-region
-    (λ t. map-edges-lts.spec (map-edges-calls t) (map-edges-at t) map-edges.Post map-edges-Inv-loop map-edges-μ-loop (map-edges-loop-holds t)
-    (map-edges-same-length t) (map-edges-returns t) (λ c κs. search needs) (λ c κs. search needs) (λ c κs. search needs)
-    (map-edges-map-region-requires t) (map-edges-same-length-2 t) (map-edges-returns-2 t) (λ c κs. search needs) (λ c κs. search needs)
-    (map-edges-loop-less t) (map-edges-loop-again t) (map-edges-same-length-3 t) (map-edges-returns-3 t))
-    λ t. map-region-lts.spec (map-region-calls t) (map-region-at t) map-region.Post (λ c κs. search needs) (map-region-returns t)
-    (map-region-mul-v t) (map-region-slice-read-v t) (map-region-returns-2 t) (map-region-mul-images t) (map-region-slice-write-images t)
-    (λ c κs. search needs) (λ c κs. search needs) (map-region-map-edges-requires t) (map-region-same-length t) (map-region-returns-3 t)
+    (λ t. map-edges-lts.spec (map-edges-calls t) (map-edges-at t) map-edges.Post map-edges-Inv-loop map-edges-μ-loop (λ c. search needs)
+    (λ c. search needs) (map-edges-returns t) (λ c κs. search needs) (λ c κs. search needs) (λ c κs. search needs) (map-edges-map-region-requires t)
+    (λ c. search needs) (map-edges-returns-2 t) (λ c κs. search needs) (λ c κs. search needs) (map-edges-loop-less t) (map-edges-loop-again t)
+    (map-edges-same-length-3 t) (map-edges-returns-3 t))
+    λ t. map-region-lts.spec (map-region-calls t) (map-region-at t) map-region.Post (λ c κs. search needs) (map-region-returns t) (map-region-mul-v t)
+    (map-region-slice-read-v t) (map-region-returns-2 t) (map-region-mul-images t) (map-region-slice-write-images t) (λ c κs. search needs)
+    (λ c κs. search needs) (map-region-map-edges-requires t) (map-region-same-length t) (map-region-returns-3 t)

@@ -1,4 +1,3 @@
--- `call_ok` meets its contract.
 use Prim.Native.Nat.{_<_}
 use native.Mathlib.Omega.{arith}
 use mathlib.Core.Logic.{inl}
@@ -6,8 +5,9 @@ use mathlib.Core.Path.{refl, sym, _∙_}
 use borrow.Author.Tests.{not-true, not-false}
 use Rattle.language.specs.Format.{maxRecords}
 use Rattle.chains.specs.Formed.{counted}
-use Rattle.regions.specs.CallEffect.{blank, call-own, call-callee, call-arguments, call-agrees, call-made}
-use Rattle.regions.specs.Rowed.{rowed-put, rowed-not}
+use Rattle.regions.specs.CallEffect.{blank, call-own, call-callee, call-arguments, call-made}
+use Rattle.regions.proofs.CallEffectLaws.{call-agrees}
+use Rattle.regions.proofs.RowedLaws.{rowed-put, rowed-not}
 use borrow.Author.Needs.{needs}
 use Rattle.regions.proofs.pass.call_ok.Statement.{statement}
 use Rattle.regions.proofs.pass.call_ok.Tie as tie

@@ -1,4 +1,3 @@
--- `effect_at` meets its contract.
 use Rattle.tables.specs.Rows.{effectIn}
 use borrow.Author.Needs.{needs}
 use Rattle.regions.proofs.pass.effect_at.Statement.{statement}

@@ -1,4 +1,3 @@
--- `next_call_ok` meets its contract.
 use Prim.Native.Nat.{_<_}
 use native.Mathlib.Omega.{arith}
 use mathlib.Core.Path.{ap, _∙_}
@@ -7,14 +6,11 @@ use Rattle.chains.specs.Formed.{counted}
 use Rattle.tables.specs.Starts.{windowIn, window-lent}
 use Rattle.regions.specs.Here.{here}
 use Rattle.regions.specs.CallEffect.{call-window}
-use Rattle.regions.specs.Repeats.{repeated-agrees, repeated-made}
-use Rattle.regions.specs.Rowed.{rowed-put}
+use Rattle.regions.proofs.RepeatsLaws.{repeated-agrees, repeated-made}
+use Rattle.regions.proofs.RowedLaws.{rowed-put}
 use borrow.Author.Needs.{needs}
 use Rattle.regions.proofs.pass.next_call_ok.Statement.{statement}
 use Rattle.regions.proofs.pass.next_call_ok.Tie as tie
-
-repeats-requires : tie.Need-repeats-requires
-repeats-requires c κs = c .before .before .before .before .before .before .pre .0 .formed
 
 put-effect-requires : tie.Need-put-effect-requires
 put-effect-requires c κs =
@@ -51,6 +47,6 @@ returns-2 c = (c .call-ok .ensures .0, c .call-ok .ensures .1)
 pub next-call-ok-spec : {M : Type 1} → statement M
 next-call-ok-spec =
     tie.close
-    (tie.spec (search needs) (search needs) (search needs) (search needs) (search needs) (search needs) repeats-requires (search needs)
+    (tie.spec (search needs) (search needs) (search needs) (search needs) (search needs) (search needs) (λ c κs. search needs) (search needs)
     put-effect-requires returns (search needs) (search needs) (search needs) (search needs) (search needs) (search needs) (search needs)
     (search needs) (search needs) (search needs) call-ok-requires returns-2)

@@ -1,13 +1,12 @@
--- `next_ok` meets its contract, kind by kind.
 use Prim.Native.Nat.{_<_}
 use native.Mathlib.Omega.{arith}
 use mathlib.Core.Logic.{inr}
 use mathlib.Core.Path.{refl, sym, _∙_}
 use Rattle.language.specs.Format.{maxRecords}
 use Rattle.chains.specs.Formed.{counted}
-use Rattle.regions.specs.Here.{other-agrees}
-use Rattle.regions.specs.Effects.{literal-made, sum-made, print-made, assign-step, construct-step, create-step, remove-step, switch-none, no-step-left}
-use Rattle.regions.specs.Rowed.{rowed-put, rowed-not}
+use Rattle.regions.proofs.HereLaws.{other-agrees}
+use Rattle.regions.proofs.EffectsLaws.{literal-made, sum-made, print-made, assign-step, construct-step, create-step, remove-step, switch-none, no-step-left}
+use Rattle.regions.proofs.RowedLaws.{rowed-put, rowed-not}
 use borrow.Author.Needs.{needs}
 use Rattle.regions.proofs.pass.next_ok.Statement.{statement}
 use Rattle.regions.proofs.pass.next_ok.Tie as tie
@@ -115,11 +114,6 @@ returns-4 c =
     let a = m .before .before .before .before .before in
     (c .switch-ok .ensures .0, (rowed-not (a .args .file .now) (a .args .i) _ (inr (switch-none (a .pre .0 .formed) (sym (m .before .word .ensures .0) ∙ m .match .keys4))), c .switch-ok .ensures .1))
 
-returns-5 : tie.Need-returns-5
-returns-5 c =
-    let p = c .before .before .before .before .before .before .before .pre in
-    (c .next-call-ok .ensures .0, (c .next-call-ok .ensures .1, p .1 .1 .1 .1))
-
 returns-6 : tie.Need-returns-6
 returns-6 c = (c .step-ok .ensures .0, c .step-ok .ensures .1)
 
@@ -148,5 +142,5 @@ pub next-ok-spec : {M : Type 1} → statement M
 next-ok-spec =
     tie.close
     (tie.spec (search needs) put-none-requires put-none-requires-2 put-none-requires-3 switch-ok-requires next-call-ok-requires step-ok-requires
-    step-ok-requires-2 step-ok-requires-3 step-ok-requires-4 returns returns-2 returns-3 returns-4 returns-5 returns-6 returns-7 returns-8 returns-9
-    returns-10)
+    step-ok-requires-2 step-ok-requires-3 step-ok-requires-4 returns returns-2 returns-3 returns-4 (λ c. search needs) returns-6 returns-7 returns-8
+    returns-9 returns-10)

@@ -1,4 +1,3 @@
--- `put_none` meets its contract.
 use mathlib.Core.Path.{refl, ap, _∙_}
 use Rattle.tables.specs.Rows.{putEffect}
 use borrow.Author.Needs.{needs}

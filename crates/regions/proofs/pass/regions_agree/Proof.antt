@@ -1,12 +1,13 @@
--- `regions_agree` meets its contract: the records below are done, and the rest decides.
+-- The records below are done, and the rest decides.
 use borrow.Author.Needs.{needs}
 use Prim.Native.Nat.{_-_, _<_}
 use native.Mathlib.Omega.{arith}
 use mathlib.Core.Logic.{⊎-elim}
 use borrow.Author.Tests.{not-true, not-false}
 use Rattle.language.specs.File.{recordCount}
-use Rattle.regions.specs.Rowed.{RowsGoing, going-first, going-stop, going-next, going-last, going-passed, going-stopped, going-before}
-use Rattle.regions.specs.Firsts.{Firsts, firsts-none}
+use Rattle.regions.proofs.RowedLaws.{RowsGoing, going-first, going-stop, going-next, going-last, going-passed, going-stopped, going-before}
+use Rattle.regions.specs.Firsts.{Firsts}
+use Rattle.regions.proofs.TermsLaws.{firsts-none}
 use Rattle.regions.proofs.pass.regions_agree.Statement.{statement}
 use Rattle.regions.proofs.pass.regions_agree.Tie as tie
 

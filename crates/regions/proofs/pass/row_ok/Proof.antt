@@ -1,9 +1,8 @@
--- `row_ok` meets its contract.
 use Prim.Native.Nat.{_<_}
 use native.Mathlib.Omega.{arith}
 use Rattle.language.specs.Format.{maxRecords}
 use Rattle.chains.specs.Formed.{counted}
-use Rattle.regions.specs.Rowed.{rowed-put}
+use Rattle.regions.proofs.RowedLaws.{rowed-put}
 use Rattle.regions.proofs.pass.row_ok.Statement.{statement}
 use Rattle.regions.proofs.pass.row_ok.Tie as tie
 

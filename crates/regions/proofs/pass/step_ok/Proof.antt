@@ -1,4 +1,3 @@
--- `step_ok` meets its contract.
 use mathlib.Core.Path.{ap, _∙_}
 use Rattle.tables.specs.Starts.{windowIn, window-lent}
 use Rattle.regions.specs.Here.{here}

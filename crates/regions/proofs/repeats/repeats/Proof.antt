@@ -1,4 +1,3 @@
--- `repeats` meets its contract.
 use mathlib.Core.Bool.{false≢true}
 use mathlib.Core.Path.{sym, ap, _∙_}
 use mathlib.Core.List.{List}

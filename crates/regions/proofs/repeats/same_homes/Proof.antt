@@ -1,4 +1,4 @@
--- `same_homes` meets its contract: where the rest is in the same regions, so is the whole.
+-- Where the rest is in the same regions, so is the whole.
 use mathlib.Core.Bool.{false≢true}
 use mathlib.Core.List.{List}
 use mathlib.Core.Path.{_≡_, sym, _∙_}
@@ -7,8 +7,9 @@ use borrow.Author.Tests.{eqb-true}
 use Rattle.language.specs.File
 use Rattle.chains.specs.Formed.{Stands, ahead, argumentsAt, arguments-none}
 use Rattle.chains.specs.Is.{chain-next}
-use Rattle.regions.specs.CallMap.{homesIn, homes-none, argument-here}
-use Rattle.regions.specs.Repeats.{same-next}
+use Rattle.regions.specs.CallMap.{homesIn}
+use Rattle.regions.proofs.CallMapLaws.{homes-none, argument-here}
+use Rattle.regions.proofs.RepeatsLaws.{same-next}
 use borrow.Author.Needs.{needs}
 use Rattle.regions.proofs.repeats.same_homes.Statement.{statement}
 use Rattle.regions.proofs.repeats.same_homes.Tie as tie
@@ -20,11 +21,6 @@ Inv-loop file own a b x₀ y₀ x y =
 
 abbrev μ-loop : tie.MeasureT-loop
 μ-loop file own a b x₀ y₀ x y = ahead file x
-
-loop-holds : tie.Need-loop-holds Inv-loop μ-loop
-loop-holds c =
-    let p = c .before .before .pre in
-    (p .1 .0, p .1 .1, λ e. e)
 
 returns : tie.Need-returns Inv-loop μ-loop
 returns c = λ e. absurd (false≢true e)
@@ -65,5 +61,5 @@ returns-3 c = λ e.
 pub same-homes-spec : {M : Type 1} → statement M
 same-homes-spec =
     tie.close
-    (tie.spec Inv-loop μ-loop loop-holds returns (λ c κs. search needs) (search needs) (λ c κs. search needs) (search needs) returns-2
+    (tie.spec Inv-loop μ-loop (λ c. search needs) returns (λ c κs. search needs) (search needs) (λ c κs. search needs) (search needs) returns-2
     (λ c κs. search needs) (λ c κs. search needs) loop-less loop-again returns-3)

@@ -1,10 +1,11 @@
--- `arms_ok` meets its contract: the arms that are not looked at yet decide.
-use mathlib.Core.Path.{_≡_, refl, _∙_}
+-- The arms that are not looked at yet decide.
+use mathlib.Core.Path.{_≡_, _∙_}
 use borrow.Author.Tests.{not-true, not-false}
 use Rattle.language.specs.File
 use Rattle.chains.specs.Formed.{Stands, ahead, edgesAt, armsAt}
 use Rattle.chains.specs.Is.{chain-next}
-use Rattle.regions.specs.Here.{armsIn, arms-stop, arms-on, arms-last}
+use Rattle.regions.specs.Here.{armsIn}
+use Rattle.regions.proofs.HereLaws.{arms-stop, arms-on, arms-last}
 use borrow.Author.Needs.{needs}
 use Rattle.regions.specs.Firsts.{Firsts}
 use Rattle.regions.proofs.single.arms_ok.Statement.{statement}
@@ -16,15 +17,6 @@ Inv-loop file own edges start firsts₀ a₀ firsts a =
 
 abbrev μ-loop : tie.MeasureT-loop
 μ-loop file own edges start firsts₀ a₀ firsts a = ahead file a
-
-loop-holds : tie.Need-loop-holds Inv-loop μ-loop
-loop-holds c = let p = c .before .before .pre in (p .1 .1 .1, p .1 .1 .0, refl)
-
-in-targets-requires : tie.Need-in-targets-requires Inv-loop μ-loop
-in-targets-requires c κs =
-    let l = c .before .before in
-    let p = l .before .before .before .pre in
-    (p .0, ((p .1 .0, l .loop .inv .1 .below), l .loop .inv .0))
 
 returns : tie.Need-returns Inv-loop μ-loop
 returns c =
@@ -58,4 +50,4 @@ returns-2 c =
     (arms-last (a .args .file .now) (a .args .own .now) (edgesAt (a .args .file .now) (a .args .edges)) (c .loop-test .left) ∙ l .loop .inv .2, l .loop .inv .0)
 
 pub arms-ok-spec : {M : Type 1} → statement M
-arms-ok-spec = tie.close (tie.spec Inv-loop μ-loop loop-holds in-targets-requires returns (λ c κs. search needs) loop-less loop-again returns-2)
+arms-ok-spec = tie.close (tie.spec Inv-loop μ-loop (λ c. search needs) (λ c κs. search needs) returns (λ c κs. search needs) loop-less loop-again returns-2)

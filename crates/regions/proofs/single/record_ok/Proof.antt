@@ -1,8 +1,8 @@
--- `record_ok` meets its contract.
 use mathlib.Core.Path.{refl, sym, _∙_}
 use Rattle.language.specs.File.{kConstruct, kSwitch}
 use Rattle.chains.specs.Shapes.{to-arms}
-use Rattle.regions.specs.Here.{construct-kind, switch-kind, edges-stand, assign-agrees, construct-agrees, switch-agrees, other-agrees}
+use Rattle.regions.specs.Here.{construct-kind}
+use Rattle.regions.proofs.HereLaws.{switch-kind, edges-stand, assign-agrees, construct-agrees, switch-agrees, other-agrees}
 use borrow.Author.Needs.{needs}
 use Rattle.regions.proofs.single.record_ok.Statement.{statement}
 use Rattle.regions.proofs.single.record_ok.Tie as tie

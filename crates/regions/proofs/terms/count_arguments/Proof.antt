@@ -1,6 +1,5 @@
--- `count_arguments` meets its contract.
 use native.Mathlib.Omega.{arith}
-use Rattle.regions.specs.Terms.{count-four, count-three, count-two, count-one, count-none}
+use Rattle.regions.proofs.TermsLaws.{count-four, count-three, count-two, count-one, count-none}
 use borrow.Author.Needs.{needs}
 use Rattle.regions.proofs.terms.count_arguments.Statement.{statement}
 use Rattle.regions.proofs.terms.count_arguments.Tie as tie

@@ -1,4 +1,4 @@
--- `edges_for` meets its contract: what the rest of the chain has for the functor is what the whole has.
+-- What the rest of the chain has for the functor is what the whole has.
 use Prim.Native.Nat.{ℕ}
 use borrow.Author.Needs.{needs}
 use mathlib.Core.Path.{_≡_, refl, _∙_}
@@ -6,7 +6,7 @@ use Rattle.language.specs.File.{edges}
 use Rattle.language.specs.Regions.{targetFor}
 use Rattle.chains.specs.Formed.{Stands, ahead, edgesAt}
 use Rattle.chains.specs.Is.{chain-next}
-use Rattle.regions.specs.Terms.{functor-passed}
+use Rattle.regions.proofs.TermsLaws.{functor-passed}
 use Rattle.regions.proofs.terms.edges_for.Statement.{statement}
 use Rattle.regions.proofs.terms.edges_for.Tie as tie
 
@@ -18,9 +18,6 @@ abbrev μ-loop : tie.MeasureT-loop
 
 loop-holds : tie.Need-loop-holds Inv-loop μ-loop
 loop-holds c = (c .before .pre .1, λ k. refl)
-
-returns : tie.Need-returns Inv-loop μ-loop
-returns c = (c .before .before .before .loop .inv .0, c .before .before .before .loop .inv .1)
 
 loop-less : tie.Need-loop-less Inv-loop μ-loop
 loop-less c =
@@ -38,4 +35,6 @@ returns-2 : tie.Need-returns-2 Inv-loop μ-loop
 returns-2 c = (c .before .loop .inv .0, c .before .loop .inv .1)
 
 pub edges-for-spec : {M : Type 1} → statement M
-edges-for-spec = tie.close (tie.spec Inv-loop μ-loop loop-holds (λ c κs. search needs) returns (λ c κs. search needs) loop-less loop-again returns-2)
+edges-for-spec =
+    tie.close
+    (tie.spec Inv-loop μ-loop loop-holds (λ c κs. search needs) (λ c. search needs) (λ c κs. search needs) loop-less loop-again returns-2)

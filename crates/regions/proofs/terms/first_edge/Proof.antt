@@ -1,7 +1,7 @@
--- `first_edge` meets its contract: what is kept for the functor is of this chain, or it is searched for and kept.
+-- What is kept for the functor is of this chain, or it is searched for and kept.
 use borrow.Author.Needs.{needs}
 use native.Mathlib.Omega.{arith}
-use Rattle.regions.specs.Firsts.{firsts-put, first-kept}
+use Rattle.regions.proofs.TermsLaws.{firsts-put, first-kept}
 use Rattle.regions.proofs.terms.first_edge.Statement.{statement}
 use Rattle.regions.proofs.terms.first_edge.Tie as tie
 

@@ -1,10 +1,10 @@
--- `in_targets` meets its contract: the arguments that are not looked at yet decide.
+-- The arguments that are not looked at yet decide.
 use Prim.Native.Nat.{ℕ, _-_, _≤_}
 use native.Mathlib.Omega.{arith}
 use mathlib.Core.List.{List}
 use mathlib.Core.Path.{_≡_, refl, _∙_}
 use Rattle.chains.specs.Formed.{edgesAt}
-use Rattle.regions.specs.Terms.{restIn, rest-stop, rest-on, rest-end, terms-decided}
+use Rattle.regions.proofs.TermsLaws.{restIn, rest-stop, rest-on, rest-end, terms-decided}
 use borrow.Author.Needs.{needs}
 use Rattle.regions.proofs.terms.in_targets.Statement.{statement}
 use Rattle.regions.proofs.terms.in_targets.Tie as tie

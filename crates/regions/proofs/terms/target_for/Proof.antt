@@ -1,10 +1,10 @@
--- `target_for` meets its contract: what the rest of the chain has is what the whole has.
+-- What the rest of the chain has is what the whole has.
 use mathlib.Core.Path.{_≡_, refl, _∙_}
 use Rattle.language.specs.File.{edges}
 use Rattle.language.specs.Regions.{targetFor}
 use Rattle.chains.specs.Formed.{Stands, ahead, edgesAt, edges-none}
 use Rattle.chains.specs.Is.{chain-next}
-use Rattle.regions.specs.Terms.{target-none, functor-passed, position-passed, edge-found}
+use Rattle.regions.proofs.TermsLaws.{target-none, functor-passed, position-passed, edge-found}
 use borrow.Author.Needs.{needs}
 use Rattle.regions.proofs.terms.target_for.Statement.{statement}
 use Rattle.regions.proofs.terms.target_for.Tie as tie

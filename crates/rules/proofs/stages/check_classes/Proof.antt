@@ -1,9 +1,8 @@
--- `check_classes` meets its contract.
 use mathlib.Core.Path.{sym, _∙_}
 use borrow.Author.Tests.{not-true, not-false}
-use Rattle.rules.specs.Stages.{values-refused, regions-found, middle-refused, classes-refused, tables-passed, not-accepted}
-use Rattle.rules.specs.Owned.{prepared}
-use Rattle.rules.specs.Tabled.{tabled-values, tabled-middle, tabled-all}
+use Rattle.rules.specs.Stages.{not-accepted}
+use Rattle.rules.proofs.StagesLaws.{values-refused, regions-found, middle-refused, classes-refused, tables-passed, tabled-values, tabled-middle, tabled-all}
+use Rattle.rules.proofs.Owned.{prepared}
 use borrow.Author.Needs.{needs}
 use Rattle.rules.proofs.stages.check_classes.Statement.{statement}
 use Rattle.rules.proofs.stages.check_classes.Tie as tie

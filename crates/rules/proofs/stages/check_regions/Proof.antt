@@ -1,8 +1,7 @@
--- `check_regions` meets its contract.
 use borrow.Author.Tests.{not-true, not-false}
 use Rattle.owners.specs.Owners.{owners-fit}
-use Rattle.rules.specs.Stages.{regions-refused, unreached-refused, regions-passed}
-use Rattle.rules.specs.Owned.{given, owners-in}
+use Rattle.rules.proofs.StagesLaws.{regions-refused, unreached-refused, regions-passed}
+use Rattle.rules.proofs.Owned.{given, owners-in}
 use borrow.Author.Needs.{needs}
 use Rattle.rules.proofs.stages.check_regions.Statement.{statement}
 use Rattle.rules.proofs.stages.check_regions.Tie as tie

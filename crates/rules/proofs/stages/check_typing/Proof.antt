@@ -1,21 +1,12 @@
--- `check_typing` meets its contract.
 use borrow.Author.Tests.{not-true, not-false}
 use mathlib.Core.Path.{sym, _∙_}
 use Rattle.language.specs.declared.Refusal.the-variants.{Typing}
 use Rattle.chains.specs.Formed.{formed}
-use Rattle.rules.specs.Stages.{form-lowest, passed-up, refused-here, passed-here}
+use Rattle.rules.specs.Stages.{passed-up, refused-here, passed-here}
+use Rattle.rules.proofs.StagesLaws.{form-lowest}
 use borrow.Author.Needs.{needs}
 use Rattle.rules.proofs.stages.check_typing.Statement.{statement}
 use Rattle.rules.proofs.stages.check_typing.Tie as tie
-
-check-form-requires : tie.Need-check-form-requires
-check-form-requires c κs = search needs
-
-enum-told : tie.Need-enum-told
-enum-told c = search needs
-
-enum-told-2 : tie.Need-enum-told-2
-enum-told-2 c = search needs
 
 returns : tie.Need-returns
 returns c = passed-up _ Typing _ (form-lowest _ (c .before .before .check-form .ensures)) (c .enum-told2 .given .1)
@@ -30,6 +21,4 @@ returns-3 : tie.Need-returns-3
 returns-3 c = passed-here _ Typing (form-lowest _ (c .before .before .before .before .check-form .ensures)) (c .before .before .enum-told .given .1) (sym (c .before .typing-ok .ensures) ∙ not-false _ (c .if1 .left))
 
 pub check-typing-spec : {M : Type 1} → statement M
-check-typing-spec =
-    tie.close
-    (tie.spec check-form-requires enum-told enum-told-2 returns typing-ok-requires returns-2 returns-3)
+check-typing-spec = tie.close (tie.spec (search needs) (search needs) (search needs) returns typing-ok-requires returns-2 returns-3)

@@ -1,0 +1,3 @@
+mod HeadsLaws
+mod MarksLaws
+mod CopiesLaws

@@ -1,0 +1,5 @@
+mod CallsLaws
+mod LinkedLaws
+mod MarksLaws
+mod FoundLaws
+mod WorklistLaws

@@ -1,0 +1,11 @@
+mod PairsLaws
+mod CallMapLaws
+mod TermsLaws
+mod DoubledLaws
+mod ImagesLaws
+mod SingleLaws
+mod HereLaws
+mod EffectsLaws
+mod CallEffectLaws
+mod RowedLaws
+mod RepeatsLaws

@@ -1,0 +1,2 @@
+mod StagesLaws
+mod Owned
