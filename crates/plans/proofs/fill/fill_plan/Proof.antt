@@ -10,7 +10,7 @@ use Rattle.plans.specs.Kept.{zeros-every}
 use Rattle.plans.specs.Pictures.{images-length}
 use Rattle.owners.specs.Owners.{owners-fit}
 use Rattle.plans.specs.Turns.{owners-given, filled-plan, filled-images}
-use Rattle.plans.specs.Early.{matched-joinable}
+use Rattle.plans.specs.Early.{plan-fits, matched-joinable}
 use Rattle.plans.specs.Narrow.{filled-narrow}
 use Rattle.plans.specs.Tabling.{filled-tabled, filled-numbered}
 use Rattle.plans.proofs.fill.fill_plan.Statement.{statement}
@@ -28,7 +28,7 @@ list-owners-requires c κs =
     (F, owners-fit F (c .before .blank-owners .ensures))
 
 fill-onward-requires : tie.Need-fill-onward-requires
-fill-onward-requires c κs = search needs
+fill-onward-requires c κs = let p = c .before .before .before .before .before .before .pre in (p .0 .formed, plan-fits (p .0 .formed) (p .1 .0))
 
 match-calls-requires : tie.Need-match-calls-requires
 match-calls-requires c κs = search needs
