@@ -23,7 +23,7 @@ module _ (L : Goal → Bool) (h : (g : Goal) → L g ≡ true) where
   mutual
     unfolding allGoals
 
-    goals-pass : (gs : Goals) → allGoals L gs ≡ true
+    pub goals-pass : (gs : Goals) → allGoals L gs ≡ true
     goals-pass done = refl
     goals-pass (g then gs) = true-and (goal-passes g) (goals-pass gs)
 
