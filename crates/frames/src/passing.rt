@@ -1,9 +1,9 @@
 // The values that a call's arguments pass, along the links of the plan: from the call's record to its arguments of a mode, each to the next.
 use crate::words::FRAME_WORDS;
 use plans::GIVEN_UNIT;
-use plans::INS;
+use plans::IN_LINKS;
 use plans::LINK_UNIT;
-use plans::OUTS;
+use plans::OUT_LINKS;
 use plans::PLAN;
 ghost use mathlib.Core.Path.{_≡_};
 ghost use Prim.Native.Nat.{_+_, _*_, _≤_, _<_};
@@ -20,13 +20,13 @@ pub fn values_in(plan: &[usize; PLAN], i: usize, at: usize, frames: &mut [u32])
     ensures { λ _. ⌜ now (frames .exit) ≡ passedIn (now (plan .entry)) i at (now (frames .entry)) ⌝ }
 {
     let mut a = i;
-    let mut w = plan[INS + a];
+    let mut w = plan[IN_LINKS + a];
     loop {
         let n = w / LINK_UNIT;
         if n <= a {
             return;
         }
-        w = plan[INS + n];
+        w = plan[IN_LINKS + n];
         frames[at + FRAME_WORDS + w % GIVEN_UNIT] = frames[at + (w / GIVEN_UNIT) % GIVEN_UNIT];
         a = n;
     }
@@ -39,13 +39,13 @@ pub fn values_out(plan: &[usize; PLAN], i: usize, at: usize, frames: &mut [u32])
     ensures { λ _. ⌜ now (frames .exit) ≡ passedOut (now (plan .entry)) i at (now (frames .entry)) ⌝ }
 {
     let mut a = i;
-    let mut w = plan[OUTS + a];
+    let mut w = plan[OUT_LINKS + a];
     loop {
         let n = w / LINK_UNIT;
         if n <= a {
             return;
         }
-        w = plan[OUTS + n];
+        w = plan[OUT_LINKS + n];
         frames[at + (w / GIVEN_UNIT) % GIVEN_UNIT] = frames[at + FRAME_WORDS + w % GIVEN_UNIT];
         a = n;
     }

@@ -1,3 +1,2 @@
 mod Filling
-mod Passing
 mod Testing

@@ -1,11 +1,13 @@
 pub mod Counting
 pub mod Referred
-pub mod Owner
+pub mod Handed
 pub mod Handing
+pub mod Digits
+pub mod Owner
 pub mod Owners
-pub mod Below
 pub mod Everywhere
 pub mod TreeLaw
 pub mod Numbered
 pub mod Typed
+pub mod Below
 pub mod Plain

@@ -2,17 +2,19 @@
 -- stand beside chains' `if-at`; `goals-owned` where a loop reads w1 itself; `procedure-owner` for the procedure numbered q.
 use Prim.Native.Nat.{ℕ, zero, suc, _+_, _≤_, _<_}
 use native.Mathlib.Omega.{arith}
-use native.Mathlib.Decide.{decLt}
 use mathlib.Core.Path.{_≡_, refl, ap, sym, _∙_}
-use mathlib.Core.List.{List, [], _∷_, _++_, map}
+use mathlib.Core.Bool.{true, false, false≢true}
+use mathlib.Core.List.{List, _∷_, _++_}
 use mathlib.Core.Logic.{inl, inr}
+use borrow.Author.Tests.{ne-eqb}
+use lib.Dec.{eqb}
 use lib.ListN.{length, getD, replicate, length-replicate, getD-replicate, List·getD-append}
-use Rattle.language.specs.Lists.{nth, count}
-use Rattle.language.specs.Format.{maxRecords, kindWord, nextWord, headerProcedures, procedureVariables, procedureRegions, procedureGoals, regionEdges, armGoals, switchArms, ifThen, ifElse, callArguments}
-use Rattle.language.specs.File.{GoalKind, kLiteral, kSum, kAssign, kConstruct, kSwitch, kIf, kCall, kPrint, kCreate, kRemove, Kind, kHeader, kProcedure, kVariable, kRegion, kEdge, kArm, kArgument, kGoal, procedures, goals, row, kindOf, word, recordCount}
+use Rattle.sets.specs.Members.{inList}
+use Rattle.language.specs.Lists.{choose, nth}
+use Rattle.language.specs.Format.{maxRecords, kindWord, nextWord, headerProcedures, procedureGoals, armGoals, switchArms, ifThen, ifElse}
+use Rattle.language.specs.File.{GoalKind, kLiteral, kSum, kAssign, kConstruct, kSwitch, kIf, kCall, kPrint, kCreate, kRemove, Kind, kHeader, kProcedure, kArm, kGoal, procedures, goals, row, kindOf, word, recordCount}
 use Rattle.language.specs.Answers.{program}
-use Rattle.laws.specs.Counts.{hit-same, count-cons}
-use Rattle.chains.specs.Layout.{all-rows, header-kind, real, chain-kind, goals-kind}
+use Rattle.chains.specs.Layout.{all-rows, number-is, header-kind, real, chain-kind, goals-kind}
 use Rattle.records.specs.Records.{recordAt}
 use Rattle.records.specs.declared.Record.{Record}
 use Rattle.records.specs.declared.Record.the-variants.{Procedure, Switch, Arm, If}
@@ -24,142 +26,85 @@ use Rattle.chains.specs.Is.{procedure-is}
 use Rattle.chains.specs.Reached.{stands-nth, place-past}
 use Rattle.chains.specs.Records.{chainRecords, records-none, records-step, records-some, along}
 use Rattle.chains.specs.Elements.{procedures-count}
-use Rattle.owners.specs.Referred.{times, refers-up, times-refers, times-one, times-other}
-use Rattle.owners.specs.Owner.{partWords, nextMore, kindHere, partsHere, handOn, ownersUpTo, ownersOf, ownerOf}
-use Rattle.owners.specs.Handing.{hands-few, on-next, on-part, up-to-length, stays}
+use Rattle.owners.specs.Handed.{referenceWords, words-open, nextAnd}
+use Rattle.owners.specs.Handing.{handed-length, handed-none, handed-by}
+use Rattle.owners.specs.Owner.{ownerBy, ownersOf, ownerOf}
 
 -- record w, where it is one, belongs to procedure q
 abbrev pub OwnedBy : List ℕ → ℕ → ℕ → Type 0
 OwnedBy f q w = (w ≡ 0 → ⊥) → ownerOf f w ≡ q
 
-module _ {f : List ℕ} (F : Formed f) where
-  not-back : (l i : ℕ) → i ≤ l → l < recordCount f → 0 < i → times f l i ≡ 0
-  not-back l i o q p =
-      elim (decLt 0 (times f l i)) [
-        | yes y ↦ absurd (omega (arith, refers-up F p (times-refers l i q y .2) .order))
-        | no y ↦ omega arith
-      ]
-
-  -- a record has its entry when the pass comes to it
-  pub settled : (i : ℕ) → i < recordCount f → ownerOf f i ≡ getD (ownersUpTo f i) i 0
-  settled i q = stays f i i (omega arith) (λ l a b p. not-back l i a b p)
-
-  -- .. and has had it since the one record that refers to it
-  given : (j i : ℕ) → 0 < i → j < recordCount f → 0 < times f j i → ownerOf f i ≡ getD (handOn f j (ownersUpTo f j)) i 0
-  unfolding ownersUpTo
-  given j i p q h =
-      let b = refers-up F p (times-refers j i q h .2) .below in
-      stays f (suc j) i (omega arith) (λ l a c s. times-other F j l i p b q c (λ e. omega arith) h)
-
-  pub next-owner : (j : ℕ) → j < recordCount f → OwnedBy f (ownerOf f j + nextMore (kindHere f j)) (word f j nextWord)
-  next-owner j q z =
-      let i = word f j nextWord in
-      let h : 0 < times f j i = omega (arith, hands-few f j i, hit-same i) in
-      let b = refers-up F {i = i} (omega (arith, z)) (times-refers j i q h .2) .below in
-      given j i (omega (arith, z)) q h
-      ∙ on-next f j i (ownersUpTo f j) (omega (arith, z)) (omega (arith, up-to-length f j)) (times-one F j i (omega (arith, z)) b q) refl
-      ∙ ap (λ o. o + nextMore (kindHere f j)) (sym (settled j q))
-
-  part-owner : (j i : ℕ) → j < recordCount f → 0 < count i (partsHere f j) → OwnedBy f (ownerOf f j) i
-  part-owner j i q c z =
-      let h : 0 < times f j i = omega (arith, hands-few f j i) in
-      let b = refers-up F {i = i} (omega (arith, z)) (times-refers j i q h .2) .below in
-      given j i (omega (arith, z)) q h
-      ∙ on-part f j i (ownersUpTo f j) (omega (arith, z)) (omega (arith, up-to-length f j)) c
-      ∙ sym (settled j q)
-
 -- the table that `list_owners` leaves
+pub owners-length : (f : List ℕ) → length (ownersOf f) ≡ recordCount f
+unfolding ownersOf
+owners-length f = handed-length ownerBy f (replicate (recordCount f) 0) ∙ length-replicate (recordCount f) 0
+
 pub listed-owner : (f : List ℕ) {t : List ℕ} (i : ℕ) (behind : List ℕ) → t ≡ ownersOf f ++ behind → i < recordCount f → getD t i 0 ≡ ownerOf f i
-unfolding ownerOf ownersOf
-listed-owner f i behind e q =
-    rw e (List·getD-append (ownersUpTo f (recordCount f)) behind 0 i (omega (arith, up-to-length f (recordCount f))))
+unfolding ownerOf
+listed-owner f i behind e q = rw e (List·getD-append (ownersOf f) behind 0 i (omega (arith, owners-length f)))
 
 -- ---- by the kind of record i
-pub count-first : (w : ℕ) (ws : List ℕ) → 0 < count w (w ∷ ws)
-count-first w ws = omega (arith, count-cons w w ws, hit-same w)
+unfoldable opened : Unit {0}
+unfolding words-open ownerBy nextAnd choose
+opened = tt
 
-pub count-later : (w v : ℕ) (ws : List ℕ) → 0 < count w ws → 0 < count w (v ∷ ws)
-count-later w v ws h = omega (arith, count-cons w v ws)
+-- the numbers of two kinds differ
+numbers-differ : (K L : Kind) → (K ≡ L → ⊥) → eqb (row K .kind) (row L .kind) ≡ false
+numbers-differ K L n = ne-eqb (row K .kind) (row L .kind) (λ e. n (sym (number-is K (row K .kind) refl) ∙ number-is L (row K .kind) e))
 
 module _ {f : List ℕ} (F : Formed f) (i : ℕ) (q : i < recordCount f) where
-  next-of : (k : Kind) (m : ℕ) → kindOf (word f i kindWord) ≡ k → nextMore k ≡ m → OwnedBy f (ownerOf f i + m) (word f i nextWord)
-  unfolding kindHere
-  next-of k m e n z = next-owner F i q z ∙ ap (λ x. ownerOf f i + x) (ap nextMore e ∙ n)
+  owned : (K : Kind) → kindOf (word f i kindWord) ≡ K → (k : ℕ) → inList k (referenceWords K) ≡ true
+      → OwnedBy f (ownerBy (row K .kind) i k (ownerOf f i)) (word f i k)
+  unfolding ownerOf ownersOf
+  owned K e k m z =
+      handed-by F ownerBy (replicate (recordCount f) 0) (omega (arith, length-replicate {A = ℕ} (recordCount f) 0))
+      (getD-replicate {A = ℕ} (recordCount f) 0 0 0 (counted F .some)) K i q e k m z
 
-  next-same : (k : Kind) → kindOf (word f i kindWord) ≡ k → nextMore k ≡ 0 → OwnedBy f (ownerOf f i) (word f i nextWord)
-  next-same k e n z = omega (arith, next-of k 0 e n z)
+  -- what its other words lead to belongs to the procedure of the record
+  pub part-owned : (K : Kind) → kindOf (word f i kindWord) ≡ K → (k : ℕ) → inList k (referenceWords K) ≡ true → eqb k nextWord ≡ false
+      → OwnedBy f (ownerOf f i) (word f i k)
+  unfolding opened
+  part-owned K e k m d z = owned K e k m z ∙ rw d refl
 
-  part-of : (k : Kind) → kindOf (word f i kindWord) ≡ k → (w : ℕ) → 0 < count w (map (word f i) (partWords k)) → OwnedBy f (ownerOf f i) w
-  unfolding partsHere kindHere
-  part-of k e w h z = part-owner F i w q (rw e h) z
+  -- .. and so does its next, unless it is a procedure
+  pub next-owned : (K : Kind) → kindOf (word f i kindWord) ≡ K → (K ≡ kProcedure → ⊥) → OwnedBy f (ownerOf f i) (word f i nextWord)
+  unfolding opened
+  next-owned K e n z = owned K e nextWord refl z ∙ rw (numbers-differ K kProcedure n) refl
 
   pub goal-next : (g : GoalKind) → kindOf (word f i kindWord) ≡ kGoal g → OwnedBy f (ownerOf f i) (word f i nextWord)
-  unfolding nextMore
-  goal-next g e = next-same (kGoal g) e refl
+  goal-next g e = next-owned (kGoal g) e (λ d. false≢true cc)
 
   pub switch-arms : kindOf (word f i kindWord) ≡ kGoal kSwitch → OwnedBy f (ownerOf f i) (word f i switchArms)
-  unfolding partWords
-  switch-arms e = part-of (kGoal kSwitch) e (word f i switchArms) (count-first _ [])
+  unfolding opened
+  switch-arms e = part-owned (kGoal kSwitch) e switchArms refl refl
 
   pub arm-next : kindOf (word f i kindWord) ≡ kArm → OwnedBy f (ownerOf f i) (word f i nextWord)
-  unfolding nextMore
-  arm-next e = next-same kArm e refl
+  arm-next e = next-owned kArm e (λ d. false≢true cc)
 
   pub arm-goals : kindOf (word f i kindWord) ≡ kArm → OwnedBy f (ownerOf f i) (word f i armGoals)
-  unfolding partWords
-  arm-goals e = part-of kArm e (word f i armGoals) (count-first _ [])
+  unfolding opened
+  arm-goals e = part-owned kArm e armGoals refl refl
 
   pub if-then : kindOf (word f i kindWord) ≡ kGoal kIf → OwnedBy f (ownerOf f i) (word f i ifThen)
-  unfolding partWords
-  if-then e = part-of (kGoal kIf) e (word f i ifThen) (count-first _ (word f i ifElse ∷ []))
+  unfolding opened
+  if-then e = part-owned (kGoal kIf) e ifThen refl refl
 
   pub if-else : kindOf (word f i kindWord) ≡ kGoal kIf → OwnedBy f (ownerOf f i) (word f i ifElse)
-  unfolding partWords
-  if-else e = part-of (kGoal kIf) e (word f i ifElse) (count-later _ (word f i ifThen) _ (count-first _ []))
+  unfolding opened
+  if-else e = part-owned (kGoal kIf) e ifElse refl refl
 
   -- "procedures [are numbered] from 0 .. in chain order"
   pub procedure-next : kindOf (word f i kindWord) ≡ kProcedure → OwnedBy f (ownerOf f i + 1) (word f i nextWord)
-  unfolding nextMore
-  procedure-next e = next-of kProcedure 1 e refl
+  unfolding opened
+  procedure-next e = owned kProcedure e nextWord refl
 
   pub procedure-goals : kindOf (word f i kindWord) ≡ kProcedure → OwnedBy f (ownerOf f i) (word f i procedureGoals)
-  unfolding partWords
-  procedure-goals e =
-      part-of kProcedure e (word f i procedureGoals) (count-later _ (word f i procedureVariables) _ (count-later _ (word f i procedureRegions) _ (count-first _ [])))
+  unfolding opened
+  procedure-goals e = part-owned kProcedure e procedureGoals refl refl
 
-  -- the same of what a procedure declares, and of arguments
-  pub procedure-variables : kindOf (word f i kindWord) ≡ kProcedure → OwnedBy f (ownerOf f i) (word f i procedureVariables)
-  unfolding partWords
-  procedure-variables e = part-of kProcedure e (word f i procedureVariables) (count-first _ (word f i procedureRegions ∷ word f i procedureGoals ∷ []))
-
-  pub procedure-regions : kindOf (word f i kindWord) ≡ kProcedure → OwnedBy f (ownerOf f i) (word f i procedureRegions)
-  unfolding partWords
-  procedure-regions e =
-      part-of kProcedure e (word f i procedureRegions) (count-later _ (word f i procedureVariables) _ (count-first _ (word f i procedureGoals ∷ [])))
-
-  pub variable-next : kindOf (word f i kindWord) ≡ kVariable → OwnedBy f (ownerOf f i) (word f i nextWord)
-  unfolding nextMore
-  variable-next e = next-same kVariable e refl
-
-  pub region-next : kindOf (word f i kindWord) ≡ kRegion → OwnedBy f (ownerOf f i) (word f i nextWord)
-  unfolding nextMore
-  region-next e = next-same kRegion e refl
-
-  pub region-edges : kindOf (word f i kindWord) ≡ kRegion → OwnedBy f (ownerOf f i) (word f i regionEdges)
-  unfolding partWords
-  region-edges e = part-of kRegion e (word f i regionEdges) (count-first _ [])
-
-  pub edge-next : kindOf (word f i kindWord) ≡ kEdge → OwnedBy f (ownerOf f i) (word f i nextWord)
-  unfolding nextMore
-  edge-next e = next-same kEdge e refl
-
-  pub call-arguments : kindOf (word f i kindWord) ≡ kGoal kCall → OwnedBy f (ownerOf f i) (word f i callArguments)
-  unfolding partWords
-  call-arguments e = part-of (kGoal kCall) e (word f i callArguments) (count-first _ [])
-
-  pub argument-next : kindOf (word f i kindWord) ≡ kArgument → OwnedBy f (ownerOf f i) (word f i nextWord)
-  unfolding nextMore
-  argument-next e = next-same kArgument e refl
+  -- the first procedure is number 0
+  header-next : kindOf (word f i kindWord) ≡ kHeader → OwnedBy f (ownerOf f i) (word f i nextWord)
+  header-next e = next-owned kHeader e (λ d. false≢true cc)
 
 -- ---- of a record that the code has read
 pub record SwitchOwned (f : List ℕ) (i next cs : ℕ) : Type 0 where
@@ -234,13 +179,9 @@ pub goals-owned : {f : List ℕ} {i w : ℕ} → Formed f → Stands f goals i �
 goals-owned {f} {i} F s z e = let k = goal-kind s z in rw e (goal-next F i (s .below) (k .0) (k .1))
 
 -- ---- procedures by their numbers
-pub owner-none : {f : List ℕ} → Formed f → ownerOf f 0 ≡ 0
-unfolding ownersUpTo
-owner-none {f} F = settled F 0 (counted F .some) ∙ getD-replicate (recordCount f) 0 0 0 (counted F .some)
-
 pub first-owner : {f : List ℕ} → Formed f → OwnedBy f 0 (word f 0 headerProcedures)
-unfolding nextMore
-first-owner {f} F z = next-of F 0 (counted F .some) kHeader 0 (header-kind f (F .header) (F .form)) refl z ∙ omega (arith, owner-none F)
+unfolding ownerOf ownersOf
+first-owner {f} F z = header-next F 0 (counted F .some) (header-kind f (F .header) (F .form)) z ∙ handed-none ownerBy f (replicate (recordCount f) 0)
 
 -- the record of procedure q
 unfoldable pub procedureRecord : List ℕ → ℕ → ℕ

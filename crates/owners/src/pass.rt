@@ -1,15 +1,21 @@
-// The procedure that each record belongs to, in one pass: a record hands its entry on to the records that it refers to, which stand behind it.
+// The procedure that each record belongs to, in one pass: a record hands it down to the records that it refers to, which stand behind it.
+use crate::words::part_words;
 use chains::record_count;
 use language::format;
-use records::word;
+use records::sizes::DIGIT_END;
+use records::sizes::KINDS_END;
+use records::word_in;
 ghost use mathlib.Core.Path.{_≡_};
-ghost use mathlib.Core.List.{_++_, map};
+ghost use mathlib.Core.List.{_++_};
 ghost use Prim.Native.Nat.{_+_, _≤_, _<_};
 ghost use lib.ListN.{length, getD, drop, replicate};
-ghost use Rattle.language.specs.File.{word, kindOf, recordCount};
-ghost use Rattle.records.specs.Sizes.{recordWords, wordEnd};
+ghost use Rattle.language.specs.File.{word, recordCount};
+ghost use Rattle.records.specs.Sizes.{wordEnd};
+ghost use Rattle.records.specs.Table.{tableOf};
 ghost use Rattle.chains.specs.Formed.{Formed};
-ghost use Rattle.owners.specs.Owner.{partWords, nextMore, hand, handEach, handOn, ownersOf};
+ghost use Rattle.owners.specs.Handed.{partDigits, nextAnd, handTo, wordsOf, handDown};
+ghost use Rattle.owners.specs.Digits.{Hander};
+ghost use Rattle.owners.specs.Owner.{ownerBy, ownersOf};
 
 // Writes, for each record of the file, the number of the procedure that it belongs to. Places behind stay as they are.
 pub fn list_owners(file: &[u8], owners: &mut [u16])
@@ -19,11 +25,13 @@ pub fn list_owners(file: &[u8], owners: &mut [u16])
 {
     let n = record_count(file);
     clear(owners, n);
+    let parts = part_words();
     let mut i = 0;
     while i < n {
-        hand_on(file, i, owners);
+        hand_down(&parts, file, i, owners);
         i += 1;
     }
+    owners[0] = 0;
 }
 
 // Clears the first n places.
@@ -38,61 +46,35 @@ fn clear(owners: &mut [u16], n: usize)
     }
 }
 
-// Hands on the entry of record i.
-fn hand_on(file: &[u8], i: usize, owners: &mut [u16])
-    requires { ⌜ i < length (now owners) ⌝ }
+// Hands down the entry of record i: the next procedure has the next number.
+fn hand_down(parts: &[usize; KINDS_END], file: &[u8], i: usize, owners: &mut [u16])
+    requires { ⌜ Formed (now file) ⌝ }
+    requires { ⌜ now parts ≡ tableOf partDigits ⌝ }
+    requires { ⌜ (i < recordCount (now file)) × (recordCount (now file) ≤ length (now owners)) ⌝ }
     requires { ⌜ getD (now owners) i 0 + 1 < wordEnd ⌝ }
-    ensures { λ _. ⌜ now (owners .exit) ≡ handOn (now (file .entry)) i (now (owners .entry)) ⌝ }
+    ensures { λ _. ⌜ now (owners .exit) ≡ handDown ownerBy (now (file .entry)) i (now (owners .entry)) ⌝ }
 {
     let own = owners[i];
-    let kind = word(file, i, format::KIND);
-    hand_word(file, i, format::NEXT, for_next(kind, own), owners);
-    hand_parts(file, i, kind, own, owners);
-}
-
-// What a record hands to the next of its chain: the next procedure has the next number.
-fn for_next(kind: usize, own: u16) -> u16
-    requires { ⌜ own + 1 < wordEnd ⌝ }
-    ensures { λ r. ⌜ r ≡ own + nextMore (kindOf kind) ⌝ }
-{
+    let kind = word_in(file, i, format::KIND);
+    let words = parts[kind];
     if kind == format::PROCEDURE {
-        own + 1
+        hand_to(file, i, words, own + 1, own, owners);
     } else {
-        own
+        hand_to(file, i, words, own, own, owners);
     }
 }
 
-// Hands x to what the words of record i, beside w1, lead to.
-fn hand_parts(file: &[u8], i: usize, kind: usize, x: u16, owners: &mut [u16])
-    ensures { λ _. ⌜ now (owners .exit) ≡ handEach (now (owners .entry)) (map (word (now (file .entry)) i) (partWords (kindOf kind))) x ⌝ }
+// Hands `on` to the next record of the chain of record i, and x to what its other words lead to, which `words` lists.
+fn hand_to(file: &[u8], i: usize, words: usize, on: u16, x: u16, owners: &mut [u16])
+    requires { ⌜ Hander (now file) i words (now owners) ⌝ }
+    ensures { λ _. ⌜ now (owners .exit) ≡ handTo (nextAnd on x) (word (now (file .entry)) i) (wordsOf (now (file .entry)) i) (now (owners .entry)) ⌝ }
 {
-    match kind {
-        format::PROCEDURE => {
-            hand_word(file, i, format::PROCEDURE_VARIABLES, x, owners);
-            hand_word(file, i, format::PROCEDURE_REGIONS, x, owners);
-            hand_word(file, i, format::PROCEDURE_GOALS, x, owners);
-        }
-        format::REGION => hand_word(file, i, format::REGION_EDGES, x, owners),
-        format::SWITCH => hand_word(file, i, format::SWITCH_ARMS, x, owners),
-        format::ARM => hand_word(file, i, format::ARM_GOALS, x, owners),
-        format::IF => {
-            hand_word(file, i, format::IF_THEN, x, owners);
-            hand_word(file, i, format::IF_ELSE, x, owners);
-        }
-        format::CALL => hand_word(file, i, format::CALL_ARGUMENTS, x, owners),
-        _ => {}
-    }
-}
-
-// Hands x to the record that word k of record i refers to; 0 is no record.
-fn hand_word(file: &[u8], i: usize, k: usize, x: u16, owners: &mut [u16])
-    requires { ⌜ k < recordWords ⌝ }
-    ensures { λ _. ⌜ now (owners .exit) ≡ hand (now (owners .entry)) (word (now (file .entry)) i k) x ⌝ }
-{
-    let w = word(file, i, k);
-    if w != 0 {
-        if w < owners.len() {
-            owners[w] = x;
-        }
+    let next = word_in(file, i, format::NEXT);
+    owners[next] = on;
+    let mut left = words;
+    while left != 0 {
+        let w = word_in(file, i, left % DIGIT_END);
+        owners[w] = x;
+        left = left / DIGIT_END;
     }
 }

@@ -1,36 +1,33 @@
 -- What stands in the plan before the links: where chains go on, and what arguments match.
 use Prim.Native.Nat.{ℕ, zero, suc, _+_, _-_, _≤_, _<_}
 use native.Mathlib.Omega.{arith}
-use native.Mathlib.Decide.{ℕ-discrete}
 use mathlib.Core.Bool.{Bool, true, false}
 use mathlib.Core.List.{List, [], _∷_}
 use mathlib.Core.Path.{_≡_, refl, ap, _∙_}
 use borrow.Author.Tests.{leb-true}
+use lib.Dec.{eqb}
 use lib.ListN.{length, set, replicate, length-replicate}
 use Rattle.sets.specs.Tests.{and-true}
 use Rattle.sets.specs.Members.{inList, cons-here, cons-later}
-use Rattle.language.specs.Lists.{count, choose, all}
+use Rattle.language.specs.Lists.{choose, all}
 use Rattle.language.specs.File.{word, recordCount}
-use Rattle.language.specs.Format.{maxVariables, maxRegions, places, maxRecords, callArguments, argumentVariable, callKind}
+use Rattle.language.specs.Format.{maxVariables, maxRegions, places, maxRecords, nextWord, procedureKind, callArguments, argumentVariable, callKind}
 use Rattle.language.specs.Program.{Functor, Variable, Parameter, Signature, parameterIn, parametersFrom, parametersOf}
 use Rattle.language.specs.Typing.{variableOk, signatureOk, typingOk}
 use Rattle.language.specs.Answers.{program}
 use Rattle.region_graph.specs.Typed.{variables-few, signature-typed}
-use Rattle.records.specs.Records.{recordAt}
-use Rattle.records.specs.declared.Record.{Record}
-use Rattle.records.specs.declared.Record.the-variants.{Header, «Type» as TypeOf, Functor as FunctorOf, Procedure, Variable as VariableOf, Region, Edge, Literal, Sum, Assign, Construct, Switch, Arm, If, Call, Argument, Print, Create, Remove, Other}
 use Rattle.chains.specs.Formed.{Formed, counted}
 use Rattle.chains.specs.Parts.{call-at}
 use Rattle.chains.specs.Records.{chainRecords}
+use Rattle.owners.specs.Handed.{referenceWords, nextAnd, wordsOf, handed}
+use Rattle.owners.specs.Handing.{handed-length, word-below, handed-keeps}
 use Rattle.word_machine.specs.Tables.{onto}
-use Rattle.word_machine.specs.Filling.{referred, onwardWords, filled}
-use Rattle.word_machine.specs.FillingLaws.{filled-length}
-use Rattle.word_machine.specs.FormedTree.{formed-tree}
+use Rattle.word_machine.specs.Filling.{partsOnward, onwardBy}
 use Rattle.word_machine.specs.Arguments.{given-small}
 use Rattle.plans.specs.Plan.{insFrom, outsFrom, sidesFrom, planWords, imageBytes}
 use Rattle.plans.specs.Passes.{slotsFrom, modesFrom, isKind, calleeOf, placed, placedAt, placing}
-use Rattle.plans.specs.Kept.{Every, set-keeps, zeros-every, Pairs, filled-keeps, each-keeps}
-use Rattle.plans.specs.Placing.{AllRecords, all-records, arguments-records, placing-length}
+use Rattle.plans.specs.Kept.{Every, set-keeps, zeros-every, each-keeps}
+use Rattle.plans.specs.Placing.{AllRecords, arguments-records, placing-length}
 use Rattle.plans.specs.Turns.{call-record}
 use Rattle.plans.specs.Links.{Joinable, small-ok}
 
@@ -76,33 +73,14 @@ unfolding onto
 onto-few zero v k h = h
 onto-few (suc n) v k h = k
 
-words-few : (i : ℕ) (r : Record) (v : ℕ) → AllRecords (referred r) → v < maxRecords → AllRecords (onwardWords i r v)
-unfolding referred onwardWords
-words-few i (Procedure n vs rs g) v k h = (omega arith, (omega arith, tt))
-words-few i (Literal n x w) v k h = (h, tt)
-words-few i (Sum n x o y z) v k h = (h, tt)
-words-few i (Assign n x y) v k h = (h, tt)
-words-few i (Construct n x f a b c d) v k h = (h, tt)
-words-few i (Switch n x cs) v k h = (h, (onto-few n v (k .0) h, tt))
-words-few i (Arm n g f a b c d) v k h = (h, (h, tt))
-words-few i (If n y z a b) v k h = (h, (onto-few n v (k .0) h, (onto-few n v (k .0) h, tt)))
-words-few i (Call n q ys) v k h = (h, (h, tt))
-words-few i (Argument n y) v k h = (h, tt)
-words-few i (Print n y) v k h = (h, tt)
-words-few i (Create n r) v k h = (h, tt)
-words-few i (Remove n r) v k h = (h, tt)
-words-few i (Header a b c) v k h = tt
-words-few i (TypeOf n fs) v k h = tt
-words-few i (FunctorOf n a b c d e) v k h = tt
-words-few i (VariableOf n a b c) v k h = tt
-words-few i (Region n a b c) v k h = tt
-words-few i (Edge n a b c) v k h = tt
-words-few i Other v k h = tt
+choose-few : (b : Bool) (x y : ℕ) → x < maxRecords → y < maxRecords → choose b x y < maxRecords
+unfolding choose
+choose-few true x y p q = p
+choose-few false x y p q = q
 
-goal-pairs : (f ps vs : List ℕ) → AllRecords ps → AllRecords vs → Pairs (Early f) ps vs
-goal-pairs f [] vs a b = tt
-goal-pairs f (p ∷ ps) [] a b = tt
-goal-pairs f (p ∷ ps) (v ∷ vs) a b = (early-goal f p v (a .0) (b .0), goal-pairs f ps vs (a .1) (b .1))
+given-few : (kind n v k : ℕ) → n < maxRecords → v < maxRecords → nextAnd v (partsOnward kind n v) k < maxRecords
+unfolding nextAnd partsOnward
+given-few kind n v k l h = choose-few (eqb k nextWord) v _ h (choose-few (eqb kind procedureKind) 0 _ (omega arith) (choose-few _ (onto n v) v (onto-few n v l h) h))
 
 -- ---- a procedure's in and out variables: numbers and modes
 abbrev Small : List Parameter → Type 0
@@ -151,36 +129,39 @@ module _ {f : List ℕ} (F : Formed f) (ok : typingOk (program f) ≡ true) wher
           (given-small F ok i _ _ _ (call-record f i e)) h
       go false e = h
 
+next-word : (f : List ℕ) (m : ℕ) → inList nextWord (wordsOf f m) ≡ true
+unfolding wordsOf referenceWords
+next-word f m = cons-here nextWord nextWord _ refl
+
+-- the plan has a place for every record
+pub plan-fits : {f t : List ℕ} → Formed f → t ≡ replicate planWords 0 → recordCount f ≤ length t
+plan-fits F e = omega (arith, counted F .most, ap length e, length-replicate {A = ℕ} planWords 0)
+
 -- ---- the first two passes over the plan, which has zeros before
 module _ {f : List ℕ} (F : Formed f) where
-  -- a record's references are records
-  pub references : (i : ℕ) → 1 ≤ i → i < 1 + (recordCount f - 1) → AllRecords (referred (recordAt f i))
-  references i a b = all-records (referred (recordAt f i)) (λ p h. go p h (ℕ-discrete p 0))
-    where
-      go : (p : ℕ) → 0 < count p (referred (recordAt f i)) → Dec (p ≡ 0) → p < maxRecords
-      go p h (yes e) = omega arith
-      go p h (no z) = let u = formed-tree f F .up i p a b z h in omega (arith, u .1, counted F .most)
-
   module _ (ok : typingOk (program f) ≡ true) (t : List ℕ) (zeros : t ≡ replicate planWords 0) where
     abbrev n : ℕ
     n = recordCount f - 1
 
     abbrev pub matchedPlan : List ℕ
-    matchedPlan = placing f n 1 (filled onwardWords f n 1 t)
+    matchedPlan = placing f n 1 (handed (onwardBy f) f t)
 
-    early-filled : Every (Early f) (filled onwardWords f n 1 t)
+    early-filled : Every (Early f) (handed (onwardBy f) f t)
+    unfolding onwardBy
     early-filled =
-        filled-keeps (Early f) onwardWords f n 1
-        (λ i l u v q. goal-pairs f (referred (recordAt f i)) (onwardWords i (recordAt f i) v) (references i l u) (words-few i (recordAt f i) v (references i l u) (q .reaches .goal (omega (arith, counted F .most)))))
-        t (zeros-every (Early f) (early-zero f) planWords zeros)
+        let c = counted F .most in
+        handed-keeps F (onwardBy f) (λ m. Early f) (λ m p v h. h)
+        (λ m q v h k i. early-goal f (word f m k) _ (omega (arith, word-below F m q k i))
+        (given-few _ (word f m nextWord) v k (omega (arith, word-below F m q nextWord (next-word f m))) (h .reaches .goal (omega arith))))
+        t (early-zero f 0) (zeros-every (Early f) (early-zero f) planWords zeros)
 
     pub early-matched : Every (Early f) matchedPlan
     unfolding placing
-    early-matched = each-keeps (Early f) (placedAt f) n 1 (λ i l u v h. placed-here F ok i v h) (filled onwardWords f n 1 t) early-filled
+    early-matched = each-keeps (Early f) (placedAt f) n 1 (λ i l u v h. placed-here F ok i v h) (handed (onwardBy f) f t) early-filled
 
     pub matched-joinable : Joinable f (recordCount f) matchedPlan
     matched-joinable = record {
-      long = placing-length f n 1 (filled onwardWords f n 1 t) ∙ filled-length onwardWords f n 1 t ∙ ap length zeros ∙ length-replicate {A = ℕ} planWords 0;
+      long = placing-length f n 1 (handed (onwardBy f) f t) ∙ handed-length (onwardBy f) f t ∙ ap length zeros ∙ length-replicate {A = ℕ} planWords 0;
       most = counted F .most;
       slots = λ a l. early-matched (slotsFrom + a) .small (omega arith);
       modes = λ a l. early-matched (modesFrom + a) .small (omega arith);

@@ -1,14 +1,19 @@
--- What the functions come to on each way through them.
-use Prim.Native.Nat.{ℕ, zero, suc, _+_, _-_, _≤_, _<_}
+-- What the functions of the pass come to on each way through them.
+use Prim.Native.Nat.{ℕ, zero, suc, _+_, _≤_, _<_}
 use native.Mathlib.Omega.{arith}
-use mathlib.Core.Path.{_≡_, refl}
+use native.Mathlib.Numerals.{add-one}
+use mathlib.Core.Bool.{true, false}
+use mathlib.Core.Path.{_≡_, refl, sym, ap, _∙_}
 use mathlib.Core.List.{List}
-use lib.ListN.{getD}
-use Rattle.records.specs.Records.{recordAt}
-use Rattle.records.specs.declared.Record.{Record}
-use Rattle.records.specs.declared.Record.the-variants.{Header, «Type» as TypeOf, Functor, Procedure, Variable, Region, Edge, Literal, Sum, Assign, Construct, Switch, Arm, If, Call, Argument, Print, Create, Remove, Other}
+use borrow.Author.Tests.{eq-eqb, ne-eqb}
+use lib.ListN.{getD, set}
+use Rattle.sets.specs.Tests.{_or_}
+use Rattle.language.specs.Lists.{choose}
+use Rattle.language.specs.File.{word, recordCount}
+use Rattle.language.specs.Format.{kindWord, nextWord, procedureKind, switchKind, ifKind}
+use Rattle.owners.specs.Handed.{nextAnd, handTo, wordsOf, given, handDown, handedUpTo, handed}
 use Rattle.word_machine.specs.Tables.{onto}
-use Rattle.word_machine.specs.Filling.{stores, referred, onwardWords, filled}
+use Rattle.word_machine.specs.Filling.{partsOnward, onwardBy}
 
 pub onto-none : (i c : ℕ) → i ≡ 0 → c ≡ onto i c
 unfolding onto
@@ -19,40 +24,35 @@ unfolding onto
 onto-some zero c z = absurd (z refl)
 onto-some (suc i) c z = refl
 
--- where a chain goes on does not depend on the record's number
-pub onward-any : (i v : ℕ) (r : Record) → onwardWords i r v ≡ onwardWords 0 r v
-unfolding onwardWords
-onward-any i v (Procedure n vs rs g) = refl
-onward-any i v (Literal n x k) = refl
-onward-any i v (Sum n x o y z) = refl
-onward-any i v (Assign n x y) = refl
-onward-any i v (Construct n x k a b c d) = refl
-onward-any i v (Switch n x cs) = refl
-onward-any i v (Arm n g k a b c d) = refl
-onward-any i v (If n y z a b) = refl
-onward-any i v (Call n q ys) = refl
-onward-any i v (Argument n y) = refl
-onward-any i v (Print n y) = refl
-onward-any i v (Create n r) = refl
-onward-any i v (Remove n r) = refl
-onward-any i v (Header a b c) = refl
-onward-any i v (TypeOf n fs) = refl
-onward-any i v (Functor n a b c d e) = refl
-onward-any i v (Variable n a b c) = refl
-onward-any i v (Region n a b c) = refl
-onward-any i v (Edge n a b c) = refl
-onward-any i v Other = refl
+-- ---- by the kind
+module _ (kind next v : ℕ) where
+  pub procedure-onward : kind ≡ procedureKind → 0 ≡ partsOnward kind next v
+  unfolding partsOnward choose
+  procedure-onward e = rw e refl
 
--- ---- the pass: record i is next
-module _ (f : List ℕ) where
-  pub onward-more : (n i v : ℕ) (r : Record) (t u : List ℕ) → i < n → r ≡ recordAt f i → v ≡ getD t i 0
-      → u ≡ stores (referred r) (onwardWords 0 r v) t → filled onwardWords f (n - (i + 1)) (i + 1) u ≡ filled onwardWords f (n - i) i t
-  unfolding filled
-  onward-more n i v r t u l er ev eu =
-      let e : n - i ≡ suc (n - (i + 1)) = omega arith in
-      let d : i + 1 ≡ suc i = omega arith in
-      rw (e, d, eu, ev, er, ← onward-any i (getD t i 0) (recordAt f i))
+  pub switch-onward : kind ≡ switchKind → onto next v ≡ partsOnward kind next v
+  unfolding partsOnward choose _or_
+  switch-onward e = rw e refl
 
-  pub onward-end : (n i : ℕ) (t : List ℕ) → n ≤ i → t ≡ filled onwardWords f (n - i) i t
-  unfolding filled
-  onward-end n i t l = let e : n - i ≡ 0 = omega arith in rw e
+  pub if-onward : kind ≡ ifKind → onto next v ≡ partsOnward kind next v
+  unfolding partsOnward choose _or_
+  if-onward e = rw e refl
+
+  pub other-onward : (kind ≡ procedureKind → ⊥) → (kind ≡ switchKind → ⊥) → (kind ≡ ifKind → ⊥) → v ≡ partsOnward kind next v
+  unfolding partsOnward choose _or_
+  other-onward a b c = rw (ne-eqb kind procedureKind a, ne-eqb kind switchKind b, ne-eqb kind ifKind c) refl
+
+-- ---- the pass
+module _ (f : List ℕ) (i : ℕ) (t : List ℕ) where
+  pub onward-down : {k n x : ℕ} {u : List ℕ} → k ≡ word f i kindWord → n ≡ word f i nextWord → x ≡ partsOnward k n (getD t i 0)
+      → u ≡ handTo (nextAnd (getD t i 0) x) (word f i) (wordsOf f i) t → u ≡ handDown (onwardBy f) f i t
+  unfolding handDown given onwardBy
+  onward-down e g h j = j ∙ rw (h, e, g) refl
+
+  pub onward-next : (t₁ : List ℕ) {u : List ℕ} → t ≡ handedUpTo (onwardBy f) f i t₁ → u ≡ handDown (onwardBy f) f i t → u ≡ handedUpTo (onwardBy f) f (i + 1) t₁
+  unfolding handedUpTo
+  onward-next t₁ e g = g ∙ rw (add-one i, e) refl
+
+  pub onward-last : (t₁ : List ℕ) {n : ℕ} → n ≡ recordCount f → t ≡ handedUpTo (onwardBy f) f i t₁ → i ≤ n → n ≤ i → set t 0 0 ≡ handed (onwardBy f) f t₁
+  unfolding handed
+  onward-last t₁ e h l m = let z : i ≡ recordCount f = omega arith in ap (λ (u : List ℕ). set u 0 0) (h ∙ ap (λ j. handedUpTo (onwardBy f) f j t₁) z)

@@ -3,8 +3,8 @@ use Prim.Native.Nat.{ℕ, _+_, _-_, _≤_, _<_}
 use native.Mathlib.Omega.{arith}
 use mathlib.Core.List.{List, _++_}
 use mathlib.Core.Path.{_≡_, sym, ap, _∙_}
-use lib.ListN.{getD, set, take, drop, replicate, length-replicate, replicate-append-replicate}
-use lib.Seq.{take-set-lt, take-set-le, drop-set-add, drop-set-lt, getD-take, getD-drop, drop-at, take-at}
+use lib.ListN.{length, getD, set, take, drop, replicate, length-replicate, replicate-append-replicate}
+use lib.Seq.{take-set-lt, take-set-le, drop-set-add, drop-set-lt, getD-take, getD-drop, drop-append-add, drop-at, take-at}
 use Rattle.language.specs.Format.{maxRecords}
 
 -- the words for the records that start at place s
@@ -32,6 +32,11 @@ module _ (s : ℕ) (t : List ℕ) where
   pub part-read : (j : ℕ) → j < maxRecords → getD (part s t) j 0 ≡ getD t (s + j) 0
   unfolding part
   part-read j l = getD-take maxRecords (drop s t) j 0 l ∙ getD-drop s t j 0
+
+-- behind a first list
+pub part-past : (a b : List ℕ) (k : ℕ) {s : ℕ} → s ≡ length a + k → part s (a ++ b) ≡ part k b
+unfolding part
+part-past a b k e = rw e (ap (take maxRecords) (drop-append-add a b k))
 
 -- in a table of zeros
 zeros : (s k r : ℕ) → take k (drop s (replicate s 0 ++ (replicate k 0 ++ replicate r 0))) ≡ replicate {A = ℕ} k 0

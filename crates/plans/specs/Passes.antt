@@ -18,11 +18,12 @@ use Rattle.language.specs.Regions.{mapping, imageIn}
 use Rattle.language.specs.Answers.{program}
 use Rattle.chains.specs.Formed.{Formed, argumentsAt}
 use Rattle.chains.specs.Records.{chainRecords}
+use Rattle.owners.specs.Handed.{handed}
 use Rattle.owners.specs.Owner.{ownerOf}
 use Rattle.tables.specs.Window.{FileTable, variablesPlace, bodyPlace, bornPlace, deadPlace, keptPlace, setIn}
 use Rattle.tables.specs.Starts.{windowIn}
 use Rattle.word_machine.specs.Tables.{linkUnit, slotOf, onto}
-use Rattle.word_machine.specs.Filling.{onwardWords, filled}
+use Rattle.word_machine.specs.Filling.{onwardBy}
 use Rattle.word_machine.specs.Passing.{packed}
 use Rattle.plans.specs.Plan.{calleeRow, insFrom, outsFrom, sidesFrom, linksFrom, calleeBody, calleeSize, calleeHeld, calleeBorn}
 
@@ -136,7 +137,7 @@ module _ (f : List ℕ) where
 
   -- ---- all of the plan, and all images
   unfoldable pub planOf : List ℕ → List ℕ
-  planOf t = siding f (recordCount f - 1) 1 (joining f (placing f (recordCount f - 1) 1 (filled onwardWords f (recordCount f - 1) 1 t)))
+  planOf t = siding f (recordCount f - 1) 1 (joining f (placing f (recordCount f - 1) 1 (handed (onwardBy f) f t)))
 
   unfoldable pub imagesOf : List ℕ → List ℕ
   imagesOf t = picturing (recordCount f - 1) 1 t

@@ -1,23 +1,20 @@
--- What the passes leave in each sort of the plan: where chains go on in the first, and in the second and third what the arguments of calls match.
+-- What the arguments of calls match: stores in the second and third sort of the plan.
 use Prim.Native.Nat.{ℕ, zero, suc, _+_, _≤_, _<_}
 use native.Mathlib.Omega.{arith}
 use mathlib.Core.Bool.{Bool, true, false}
 use mathlib.Core.List.{List, [], _∷_}
 use mathlib.Core.Path.{_≡_, refl, sym, ap, _∙_}
-use borrow.Author.Tests.{eqb-true, eqb-false}
+use borrow.Author.Tests.{eqb-true}
 use lib.ListN.{length, getD, set, length-set}
-use Rattle.language.specs.Lists.{count, choose}
-use Rattle.language.specs.File.{arguments, kLiteral, kSum, kAssign, kConstruct, kSwitch, kIf, kCall, kPrint, kCreate, kRemove, Kind, kNone, kHeader, kType, kFunctor, kProcedure, kVariable, kRegion, kEdge, kArm, kArgument, kGoal, kindOf, word}
-use Rattle.language.specs.Format.{nextWord, maxRecords, kindWord, callArguments, callKind}
+use Rattle.language.specs.Lists.{choose}
+use Rattle.language.specs.File.{arguments, word}
+use Rattle.language.specs.Format.{nextWord, maxRecords, callArguments, callKind}
 use Rattle.language.specs.Program.{Parameter, parametersOf}
-use Rattle.laws.specs.Counts.{hit-same, count-cons}
-use Rattle.records.specs.Records.{recordAs, recordAt}
-use Rattle.records.specs.declared.Record.{Record}
-use Rattle.chains.specs.Layout.{real, all-rows}
+use Rattle.chains.specs.Layout.{real}
 use Rattle.chains.specs.Formed.{Formed, Stands, counted}
-use Rattle.chains.specs.Shapes.{goal-number, by-number, to-arguments}
+use Rattle.chains.specs.Shapes.{to-arguments}
 use Rattle.chains.specs.Records.{chainRecords, records-none, records-step, along}
-use Rattle.word_machine.specs.Filling.{stores, referred, filled, matched, matchedBy, matches}
+use Rattle.word_machine.specs.Filling.{matched, matchedAt, matches}
 use Rattle.plans.specs.Passes.{slotsFrom, modesFrom, isKind, calleeOf, eachFrom, placed, placedAt, placing}
 use Rattle.plans.specs.Parts.{part, part-here, part-before, part-behind, part-read}
 
@@ -26,47 +23,8 @@ abbrev pub AllRecords : List ℕ → Type 0
 AllRecords [] = Unit {0}
 AllRecords (j ∷ js) = (j < maxRecords) × AllRecords js
 
-pub all-records : (ps : List ℕ) → ((p : ℕ) → 0 < count p ps → p < maxRecords) → AllRecords ps
-all-records [] h = tt
-all-records (p ∷ ps) h =
-    (h p (omega (arith, count-cons p p ps, hit-same p)), all-records ps (λ q k. h q (omega (arith, count-cons q p ps))))
-
--- ---- where chains go on: stores in the first sort
-first-set : (t : List ℕ) (p v : ℕ) → p < maxRecords → part 0 (set t p v) ≡ set (part 0 t) p v
-first-set t p v l = let e : 0 + p ≡ p = omega arith in ap (λ (q : ℕ). part 0 (set t q v)) (sym e) ∙ part-here 0 t p v l
-
 pub first-read : (t : List ℕ) (p : ℕ) → p < maxRecords → getD (part 0 t) p 0 ≡ getD t p 0
 first-read t p l = let e : 0 + p ≡ p = omega arith in part-read 0 t p l ∙ ap (λ (q : ℕ). getD t q 0) e
-
-stores-first : (ps vs t : List ℕ) → AllRecords ps → part 0 (stores ps vs t) ≡ stores ps vs (part 0 t)
-unfolding stores
-stores-first [] vs t h = refl
-stores-first (p ∷ ps) [] t h = refl
-stores-first (p ∷ ps) (v ∷ vs) t h = stores-first ps vs (set t p v) (h .1) ∙ ap (stores ps vs) (first-set t p v (h .0))
-
-stores-later : (s : ℕ) (ps vs t : List ℕ) → maxRecords ≤ s → AllRecords ps → part s (stores ps vs t) ≡ part s t
-unfolding stores
-stores-later s [] vs t l h = refl
-stores-later s (p ∷ ps) [] t l h = refl
-stores-later s (p ∷ ps) (v ∷ vs) t l h = stores-later s ps vs (set t p v) l (h .1) ∙ part-before s t p v (omega (arith, h .0))
-
-module _ (words : ℕ → Record → ℕ → List ℕ) (f : List ℕ) where
-  pub filled-first : (m b : ℕ) (t : List ℕ) → ((i : ℕ) → b ≤ i → i < b + m → AllRecords (referred (recordAt f i))) → b + m ≤ maxRecords
-      → part 0 (filled words f m b t) ≡ filled words f m b (part 0 t)
-  unfolding filled
-  filled-first zero b t h l = refl
-  filled-first (suc m) b t h l =
-      filled-first m (suc b) (stores (referred (recordAt f b)) (words b (recordAt f b) (getD t b 0)) t) (λ i j k. h i (omega arith) (omega arith)) (omega arith)
-      ∙ ap (filled words f m (suc b)) (stores-first (referred (recordAt f b)) (words b (recordAt f b) (getD t b 0)) t (h b (omega arith) (omega arith))
-      ∙ ap (λ (v : ℕ). stores (referred (recordAt f b)) (words b (recordAt f b) v) (part 0 t)) (sym (first-read t b (omega arith))))
-
-  pub filled-later : (s m b : ℕ) (t : List ℕ) → maxRecords ≤ s → ((i : ℕ) → b ≤ i → i < b + m → AllRecords (referred (recordAt f i)))
-      → part s (filled words f m b t) ≡ part s t
-  unfolding filled
-  filled-later s zero b t l h = refl
-  filled-later s (suc m) b t l h =
-      filled-later s m (suc b) (stores (referred (recordAt f b)) (words b (recordAt f b) (getD t b 0)) t) l (λ i j k. h i (omega arith) (omega arith))
-      ∙ stores-later s (referred (recordAt f b)) (words b (recordAt f b) (getD t b 0)) t l (h b (omega arith) (omega arith))
 
 -- ---- what arguments match: stores in the second and the third
 placed-slots : (ps : List Parameter) (js t : List ℕ) → AllRecords js → part slotsFrom (placed ps js t) ≡ matched (λ a. a .variable) ps js (part slotsFrom t)
@@ -104,30 +62,6 @@ placed-length (a ∷ ps) (j ∷ js) t =
     placed-length ps js (set (set t (slotsFrom + j) (a .variable)) (modesFrom + j) (a .mode))
     ∙ length-set (set t (slotsFrom + j) (a .variable)) (modesFrom + j) (a .mode) ∙ length-set t (slotsFrom + j) (a .variable)
 
--- no other record's step stores anything
-other-step : (f : List ℕ) (g : Parameter → ℕ) (k : Kind) (w : ℕ → ℕ) (t : List ℕ) → (k ≡ kGoal kCall → ⊥) → matchedBy f g (recordAs k w) t ≡ t
-unfolding matchedBy
-other-step f g kNone w t n = refl
-other-step f g kHeader w t n = refl
-other-step f g kType w t n = refl
-other-step f g kFunctor w t n = refl
-other-step f g kProcedure w t n = refl
-other-step f g kVariable w t n = refl
-other-step f g kRegion w t n = refl
-other-step f g kEdge w t n = refl
-other-step f g kArm w t n = refl
-other-step f g kArgument w t n = refl
-other-step f g (kGoal kLiteral) w t n = refl
-other-step f g (kGoal kSum) w t n = refl
-other-step f g (kGoal kAssign) w t n = refl
-other-step f g (kGoal kConstruct) w t n = refl
-other-step f g (kGoal kSwitch) w t n = refl
-other-step f g (kGoal kIf) w t n = refl
-other-step f g (kGoal kCall) w t n = absurd (n refl)
-other-step f g (kGoal kPrint) w t n = refl
-other-step f g (kGoal kCreate) w t n = refl
-other-step f g (kGoal kRemove) w t n = refl
-
 module _ {f : List ℕ} (F : Formed f) where
   pub arguments-records : (a : ℕ) → Stands f arguments a → AllRecords (chainRecords f a)
   unfolding real
@@ -137,15 +71,14 @@ module _ {f : List ℕ} (F : Formed f) where
 
   module _ (s : ℕ) (g : Parameter → ℕ) (one : (ps : List Parameter) (js t : List ℕ) → AllRecords js → part s (placed ps js t) ≡ matched g ps js (part s t)) where
     by-test : (i : ℕ) (t : List ℕ) (b : Bool) → isKind f callKind i ≡ b
-        → part s (choose b (placed (parametersOf (calleeOf f i)) (chainRecords f (word f i callArguments)) t) t) ≡ matchedBy f g (recordAt f i) (part s t)
-    unfolding isKind choose matchedBy all-rows recordAt
-    by-test i t true e =
-        let k = eqb-true _ _ e in
-        rw (by-number f i (kGoal kCall) refl k) (one (parametersOf (calleeOf f i)) (chainRecords f (word f i callArguments)) t (arguments-records _ (to-arguments F k refl .stands)))
-    by-test i t false e = sym (other-step f g (kindOf (word f i kindWord)) (word f i) (part s t) (λ k. eqb-false _ _ e (goal-number (word f i kindWord) kCall k)))
+        → part s (choose b (placed (parametersOf (calleeOf f i)) (chainRecords f (word f i callArguments)) t) t)
+        ≡ choose b (matched g (parametersOf (calleeOf f i)) (chainRecords f (word f i callArguments)) (part s t)) (part s t)
+    unfolding isKind choose
+    by-test i t true e = one (parametersOf (calleeOf f i)) (chainRecords f (word f i callArguments)) t (arguments-records _ (to-arguments F (eqb-true _ _ e) refl .stands))
+    by-test i t false e = refl
 
-    step-part : (i : ℕ) (t : List ℕ) → part s (placedAt f i t) ≡ matchedBy f g (recordAt f i) (part s t)
-    unfolding placedAt
+    step-part : (i : ℕ) (t : List ℕ) → part s (placedAt f i t) ≡ matchedAt f g i (part s t)
+    unfolding placedAt matchedAt isKind
     step-part i t = by-test i t (isKind f callKind i) refl
 
     placing-part : (m b : ℕ) (t : List ℕ) → part s (placing f m b t) ≡ matches f g m b (part s t)

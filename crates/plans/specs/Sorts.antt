@@ -2,9 +2,10 @@
 use Prim.Native.Nat.{ℕ, _+_, _-_, _≤_, _<_}
 use native.Mathlib.Omega.{arith}
 use mathlib.Core.Bool.{true, false, false≢true}
-use mathlib.Core.List.{List}
+use mathlib.Core.List.{List, _++_}
 use mathlib.Core.Path.{_≡_, refl, sym, ap, _∙_}
-use lib.ListN.{getD, replicate}
+use lib.ListN.{length, getD, take, replicate, length-replicate, replicate-append-replicate}
+use lib.Seq.{take-at}
 use Rattle.language.specs.Lists.{choose, nth}
 use Rattle.language.specs.File.{GoalKind, kArm, kGoal, arms, kinds, kindOf, word, recordCount}
 use Rattle.language.specs.Format.{maxRecords, kindWord, nextWord, armKind, armGoals}
@@ -16,16 +17,18 @@ use Rattle.chains.specs.Kinds.{kindIn, kind-read}
 use Rattle.chains.specs.Is.{arm-is}
 use Rattle.chains.specs.Shapes.{kind-number}
 use Rattle.word_machine.specs.Tables.{onto}
-use Rattle.word_machine.specs.Filling.{onwardWords, filled, matches, onwards, slots, modes}
+use Rattle.owners.specs.Handed.{handed}
+use Rattle.owners.specs.Handing.{handed-length, handed-append}
+use Rattle.word_machine.specs.Filling.{onwardBy, matches, onwards, slots, modes}
 use Rattle.plans.specs.Plan.{sidesFrom, planWords}
 use Rattle.plans.specs.Passes.{slotsFrom, modesFrom, isKind, goalOf, joining, imagesBefore, sideAt, planOf}
 use Rattle.plans.specs.Tests.{kind-yes, kind-no}
-use Rattle.plans.specs.Parts.{part, part-read, part-zeros}
-use Rattle.plans.specs.Placing.{first-read, filled-first, filled-later, placing-slots, placing-modes, placing-first}
+use Rattle.plans.specs.Parts.{part, part-read, part-past, part-zeros}
+use Rattle.plans.specs.Placing.{first-read, placing-slots, placing-modes, placing-first}
 use Rattle.plans.specs.Pictures.{siding-low, siding-here}
 use Rattle.plans.specs.Links.{Joinable}
 use Rattle.plans.specs.Joined.{joining-ok, goal-read}
-use Rattle.plans.specs.Early.{references, matchedPlan, matched-joinable}
+use Rattle.plans.specs.Early.{matchedPlan, matched-joinable}
 
 -- ---- arms are no goals
 arm-differs : (g : GoalKind) → kArm ≡ kGoal g → ⊥
@@ -53,25 +56,36 @@ module _ {f : List ℕ} (F : Formed f) (ok : typingOk (program f) ≡ true) (pla
   abbrev pub J : Joinable f (recordCount f) early
   J = matched-joinable F ok plan₀ zeros
 
-  -- before the links
-  first-is : part 0 early ≡ onwards f
-  unfolding onwards
-  first-is =
-      let c = counted F .some in
-      let m = counted F .most in
-      placing-first f n 1 (filled onwardWords f n 1 plan₀) ∙ filled-first onwardWords f n 1 plan₀ (references F) (omega arith)
-      ∙ ap (filled onwardWords f n 1) (part-zeros 0 planWords zeros (omega arith))
+  abbrev behind : List ℕ
+  behind = replicate (planWords - maxRecords) 0
 
-  later-zeros : (s : ℕ) → maxRecords ≤ s → s + maxRecords ≤ planWords → part s (filled onwardWords f n 1 plan₀) ≡ replicate maxRecords 0
-  later-zeros s a b = filled-later onwardWords f s n 1 plan₀ a (references F) ∙ part-zeros s planWords zeros b
+  -- before the links: where chains go on in front, and nothing behind
+  filled-is : handed (onwardBy f) f plan₀ ≡ onwards f ++ behind
+  unfolding onwards
+  filled-is =
+      ap (handed (onwardBy f) f) (zeros ∙ sym (replicate-append-replicate maxRecords (planWords - maxRecords) 0))
+      ∙ handed-append F (onwardBy f) (replicate maxRecords 0) behind (omega (arith, counted F .most, length-replicate {A = ℕ} maxRecords 0))
+
+  onwards-length : length (onwards f) ≡ maxRecords
+  unfolding onwards
+  onwards-length = handed-length (onwardBy f) f (replicate maxRecords 0) ∙ length-replicate {A = ℕ} maxRecords 0
+
+  first-is : part 0 early ≡ onwards f
+  unfolding part
+  first-is = placing-first f n 1 (handed (onwardBy f) f plan₀) ∙ ap (take maxRecords) filled-is ∙ take-at (onwards f) behind maxRecords onwards-length
+
+  later-zeros : (s : ℕ) → maxRecords ≤ s → s + maxRecords ≤ planWords → part s (handed (onwardBy f) f plan₀) ≡ replicate maxRecords 0
+  later-zeros s a b =
+      let e : s ≡ length (onwards f) + (s - maxRecords) = omega (arith, onwards-length) in
+      ap (part s) filled-is ∙ part-past (onwards f) behind (s - maxRecords) e ∙ part-zeros (s - maxRecords) (planWords - maxRecords) refl (omega arith)
 
   slots-are : part slotsFrom early ≡ slots f
   unfolding slots
-  slots-are = placing-slots F n 1 (filled onwardWords f n 1 plan₀) ∙ ap (matches f (λ a. a .variable) n 1) (later-zeros slotsFrom (omega arith) (omega arith))
+  slots-are = placing-slots F n 1 (handed (onwardBy f) f plan₀) ∙ ap (matches f (λ a. a .variable) n 1) (later-zeros slotsFrom (omega arith) (omega arith))
 
   modes-are : part modesFrom early ≡ modes f
   unfolding modes
-  modes-are = placing-modes F n 1 (filled onwardWords f n 1 plan₀) ∙ ap (matches f (λ a. a .mode) n 1) (later-zeros modesFrom (omega arith) (omega arith))
+  modes-are = placing-modes F n 1 (handed (onwardBy f) f plan₀) ∙ ap (matches f (λ a. a .mode) n 1) (later-zeros modesFrom (omega arith) (omega arith))
 
   pub slot-read : (a : ℕ) → a < recordCount f → getD early (slotsFrom + a) 0 ≡ getD (slots f) a 0
   slot-read a l = sym (part-read slotsFrom early a (omega (arith, counted F .most))) ∙ ap (λ (t : List ℕ). getD t a 0) slots-are

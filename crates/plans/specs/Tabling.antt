@@ -10,7 +10,7 @@ use Rattle.sets.specs.Sets.{member, _∪_, union-in, loaded, loaded-stored}
 use Rattle.sets.specs.Members.{inList, cons-here, cons-later}
 use Rattle.language.specs.Lists.{choose}
 use Rattle.language.specs.File.{GoalKind, kConstruct, kSwitch, kIf, kGoal, arms, kindOf, word, recordCount}
-use Rattle.language.specs.Format.{maxVariables, maxProcedures, callKind, kindWord, constructKind, procedureGoals, argumentVariable}
+use Rattle.language.specs.Format.{maxVariables, maxProcedures, callKind, kindWord, nextWord, armGoals, constructKind, procedureGoals, argumentVariable}
 use Rattle.language.specs.Program.{Functor, Signature, regionOf, signatureOf, parametersOf, argumentsIn, variablesIn}
 use Rattle.language.specs.Typing.{signatureOk, typingOk}
 use Rattle.language.specs.Regions.{mapping, imageIn}
@@ -28,15 +28,14 @@ use Rattle.chains.specs.Records.{chainRecords}
 use Rattle.chains.specs.Goals.{construct-at}
 use Rattle.chains.specs.Parts.{switch-at, if-at, call-at}
 use Rattle.chains.specs.Kinds.{kindIn, kind-read}
-use Rattle.chains.specs.Is.{arm-is}
 use Rattle.chains.specs.Shapes.{goal-number}
 use Rattle.owners.specs.Owner.{ownerOf}
-use Rattle.owners.specs.Owners.{goal-kind, goals-owned, switch-owned, if-owned, arm-owned, procedureRecord, procedure-first, procedure-stands}
+use Rattle.owners.specs.Owners.{goal-kind, procedureRecord, procedure-stands}
 use Rattle.tables.specs.Starts.{window-here, body-here}
-use Rattle.word_machine.specs.Tables.{Tables, PassingMode, slotOf, givenOf, Continues, bodyRecord, Tabled}
-use Rattle.word_machine.specs.Filling.{slots, modes, tablesOf}
+use Rattle.word_machine.specs.Tables.{Tables, PassingMode, slotOf, givenOf, onto, bodyRecord, Tabled}
+use Rattle.word_machine.specs.Filling.{slots, modes}
 use Rattle.word_machine.specs.Arguments.{given-small, slot-small, slots-passed, givens-passed}
-use Rattle.word_machine.specs.Tabling.{argument-matches, tabled}
+use Rattle.word_machine.specs.Tabling.{Onward, goal-next, arm-next, arm-goals, switch-arms, if-then, if-else, body-starts, argument-matches}
 use Rattle.word_machine.specs.Passing.{ofMode}
 use Rattle.plans.specs.Plan.{sidesFrom, linksFrom, planWords, imageBytes, calleesWords, tablesIn, Numbered}
 use Rattle.plans.specs.Passes.{TypedAndFilled, callerOf, joining, imageCount, imagesBefore, imageOf, sideAt, picturing, planOf, imagesOf, calleesOf}
@@ -93,13 +92,13 @@ module _ {f table : List ℕ} (R : TypedAndFilled f table) (plan₀ : List ℕ) 
   T = tablesIn P (imagesOf f images₀) (calleesOf table callees₀)
 
   -- ---- where goals and arms go on
-  successor-same : (i : ℕ) → i < recordCount f → (g : GoalKind) → kindOf (word f i kindWord) ≡ kGoal g → T .successor i ≡ tablesOf f .successor i
-  unfolding tablesIn tablesOf choose
-  successor-same i l g k = plan-goal F ok plan₀ zeros i l ∙ rw (no-arm f i g k) refl
+  successor-is : (i : ℕ) → i < recordCount f → (g : GoalKind) → kindOf (word f i kindWord) ≡ kGoal g → T .successor i ≡ onto (word f i nextWord) (Onward F i)
+  unfolding tablesIn choose
+  successor-is i l g k = plan-goal F ok plan₀ zeros i l ∙ rw (no-arm f i g k) refl
 
-  entry-same : (i : ℕ) (s : Stands f arms i) → (i ≡ 0 → ⊥) → T .entry i ≡ tablesOf f .entry i
-  unfolding tablesIn tablesOf choose
-  entry-same i s z = plan-goal F ok plan₀ zeros i (s .below) ∙ rw (is-arm f i s z) refl
+  entry-is : (i : ℕ) (s : Stands f arms i) → (i ≡ 0 → ⊥) → T .entry i ≡ onto (word f i armGoals) (Onward F i)
+  unfolding tablesIn choose
+  entry-is i s z = plan-goal F ok plan₀ zeros i (s .below) ∙ rw (is-arm f i s z) refl
 
   -- ---- what calls pass
   module _ (i m q ys k : ℕ) (e : recordAt f i ≡ Call m q ys) (p : PassingMode k) where
@@ -197,21 +196,18 @@ module _ {f table : List ℕ} (R : TypedAndFilled f table) (plan₀ : List ℕ) 
 
   plan-tabled : Tabled f T
   plan-tabled = record {
-    onward = O .onward;
+    onward = Onward F;
     owner = ownerOf f;
-    next = λ i s z. (let k = goal-kind s z in successor-same i (s .below) (k .0) (k .1) ∙ O .next i s z);
-    goal-next = λ i s z y. (O .goal-next i s z y .0, goals-owned F s z refl y);
-    arm-next = λ i s z y. (O .arm-next i s z y .0, arm-owned F refl (arm-is s z) .to-next y);
-    arm-goals = λ i s z y. (O .arm-goals i s z y .0, arm-owned F refl (arm-is s z) .to-goals y);
-    switch-arms = λ i m x cs e y.
-        (O .switch-arms i m x cs e y .0 ∙ sym (successor-same i (switch-at F refl e .below) kSwitch (kind i ∙ ap kindIn e)), switch-owned F refl e .to-arms y);
-    if-then = λ i m y z a b e q.
-        (O .if-then i m y z a b e q .0 ∙ sym (successor-same i (if-at F refl e .below) kIf (kind i ∙ ap kindIn e)), if-owned F refl e .to-then q);
-    if-else = λ i m y z a b e q.
-        (O .if-else i m y z a b e q .0 ∙ sym (successor-same i (if-at F refl e .below) kIf (kind i ∙ ap kindIn e)), if-owned F refl e .to-else q);
-    bodies = bodies;
+    next = λ i s z. (let k = goal-kind s z in successor-is i (s .below) (k .0) (k .1));
+    goal-next = goal-next F;
+    arm-next = arm-next F;
+    arm-goals = arm-goals F;
+    switch-arms = λ i m x cs e. rw (successor-is i (switch-at F refl e .below) kSwitch (kind i ∙ ap kindIn e)) (switch-arms F i m x cs e);
+    if-then = λ i m y z a b e. rw (successor-is i (if-at F refl e .below) kIf (kind i ∙ ap kindIn e)) (if-then F i m y z a b e);
+    if-else = λ i m y z a b e. rw (successor-is i (if-at F refl e .below) kIf (kind i ∙ ap kindIn e)) (if-else F i m y z a b e);
+    bodies = λ p l. rw (body-window p l) (body-starts F p l);
     region = λ i m x k a b c d e. region-here i m x k (suc a) b c d e;
-    arm-entry = λ i s z. entry-same i s z ∙ O .arm-entry i s z;
+    arm-entry = entry-is;
     slots = λ i m q ys k e p. slots-here i m q ys k e p;
     givens = λ i m q ys k e p. givens-here i m q ys k e p;
     image = image-here;
@@ -221,17 +217,8 @@ module _ {f table : List ℕ} (R : TypedAndFilled f table) (plan₀ : List ℕ) 
     bears = bears-is;
   }
     where
-      O : Tabled f (tablesOf f)
-      O = tabled F ok
-
       kind : (i : ℕ) → kindOf (word f i kindWord) ≡ kindIn (recordAt f i)
       kind i = sym (kind-read f i refl)
-
-      bodies : (p : ℕ) → p < length (program f .procedures) → Continues (O .onward) (ownerOf f) (T .body p) 0 p
-      bodies p l y =
-          let same = sym (O .body p l) in
-          let b = body-is p l ∙ same in
-          (ap (O .onward) b ∙ O .bodies p l (λ z. y (b ∙ z)) .0, ap (ownerOf f) (body-window p l) ∙ procedure-first F p l (λ z. y (body-window p l ∙ z)))
 
   -- .. whatever names they have
   pub filled-tabled : {plan images callees : List ℕ} → plan ≡ planOf f plan₀ → images ≡ imagesOf f images₀ → callees ≡ calleesOf table callees₀

@@ -18,13 +18,14 @@ use Rattle.chains.specs.Formed.{Formed, variablesAt}
 use Rattle.chains.specs.Records.{chainRecords}
 use Rattle.chains.specs.Kinds.{kindIn, kind-read}
 use Rattle.chains.specs.Shapes.{IsCall, goal-number, by-number}
+use Rattle.owners.specs.Handed.{handed}
 use Rattle.owners.specs.Owner.{ownersOf}
 use Rattle.owners.specs.Owners.{listed-owner}
 use Rattle.regions.specs.Here.{Given, construct-kind, here}
 use Rattle.regions.specs.CallEffect.{call-window}
 use Rattle.tables.specs.Window.{Window, homeIn, firstPlace, regionsPlace}
 use Rattle.tables.specs.Starts.{windowIn}
-use Rattle.word_machine.specs.Filling.{onwardWords, filled}
+use Rattle.word_machine.specs.Filling.{onwardBy}
 use Rattle.plans.specs.Plan.{sidesFrom}
 use Rattle.plans.specs.Passes.{TypedAndFilled, eachFrom, isKind, calleeOf, placed, placedAt, placing, joining, imageCount, imagesBefore, imageOf, sideAt, sidedAt, siding, copied, picturedAt, picturing, planOf, imagesOf}
 use Rattle.plans.specs.Tests.{kind-is, kind-yes, kind-no}
@@ -173,7 +174,7 @@ pictured-next {f} {i} {j} {found} D h {n} {at} en ea t {u} eu = go (ℕ-discrete
         (rw z at eu) ∙ sym (copied-none _ at t) ∙ pictured-none f i refl k t
 
 -- ---- the passes over the plan, one after the other
-pub filled-plan : (f t : List ℕ) {u v w x : List ℕ} → u ≡ filled onwardWords f (recordCount f - 1) 1 t → v ≡ placing f (recordCount f - 1) 1 u → w ≡ joining f v
+pub filled-plan : (f t : List ℕ) {u v w x : List ℕ} → u ≡ handed (onwardBy f) f t → v ≡ placing f (recordCount f - 1) 1 u → w ≡ joining f v
     → x ≡ siding f (recordCount f - 1) 1 w → x ≡ planOf f t
 unfolding planOf
 filled-plan f t e g h k = rw (k, h, g, e) refl

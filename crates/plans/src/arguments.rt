@@ -1,6 +1,6 @@
 // The callee's variable that each argument of a call matches, and its mode.
-use crate::INS;
-use crate::OUTS;
+use crate::IN_LINKS;
+use crate::OUT_LINKS;
 use crate::PLAN;
 use language::format;
 use records::word;
@@ -20,9 +20,9 @@ ghost use Rattle.tables.specs.Window.{firstPlace};
 ghost use Rattle.plans.specs.Passes.{TypedAndFilled, slotsFrom, modesFrom, placed, placedAt, placing};
 
 // Where the variables and the modes of arguments stand in the plan, before the links replace them.
-pub const SLOTS: usize = INS;
+pub const SLOTS: usize = IN_LINKS;
 
-pub const MODES: usize = OUTS;
+pub const MODES: usize = OUT_LINKS;
 
 // The argument at record a matches variable x, which has this mode.
 fn put_match(plan: &mut [usize; PLAN], a: usize, x: usize, mode: usize)

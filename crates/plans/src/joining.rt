@@ -1,13 +1,13 @@
 // Where each record goes on, and the links from each call to its arguments and from each argument to the next, one for each mode. They are put where
 // the ends of chains and the matches stood, from the last record down to the first: a link leads to a later record, which has its own already.
 use crate::GIVEN_UNIT;
-use crate::INS;
+use crate::IN_LINKS;
 use crate::LINK_UNIT;
-use crate::OUTS;
+use crate::OUT_LINKS;
 use crate::PLAN;
 use crate::arguments::MODES;
 use crate::arguments::SLOTS;
-use crate::steps::onto;
+use crate::onward::onto;
 use language::format;
 use records::word;
 ghost use mathlib.Core.Path.{_≡_};
@@ -34,7 +34,11 @@ fn goal_of(file: &[u8], plan: &[usize; PLAN], i: usize) -> usize
 fn links_from(mode: usize) -> usize
     ensures { λ r. ⌜ r ≡ linksFrom mode ⌝ }
 {
-    if mode == format::MODE_IN { INS } else { OUTS }
+    if mode == format::MODE_IN {
+        IN_LINKS
+    } else {
+        OUT_LINKS
+    }
 }
 
 // The first argument of the mode, from argument a on: that one if its link says what it passes.
@@ -80,8 +84,8 @@ fn join_record(file: &[u8], i: usize, plan: &mut [usize; PLAN])
     let ins = link_of(file, &*plan, format::MODE_IN, i);
     let outs = link_of(file, &*plan, format::MODE_OUT, i);
     plan[i] = goal;
-    plan[INS + i] = ins;
-    plan[OUTS + i] = outs;
+    plan[IN_LINKS + i] = ins;
+    plan[OUT_LINKS + i] = outs;
 }
 
 // Those of all records.

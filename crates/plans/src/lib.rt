@@ -7,7 +7,6 @@ mod images;
 mod joining;
 mod onward;
 mod sides;
-mod steps;
 
 pub use blank::blank_callees;
 pub use blank::blank_images;
@@ -16,12 +15,12 @@ pub use fill::fill_plan;
 use language::format::MAX_PROCEDURES;
 use language::format::MAX_RECORDS;
 use language::format::MAX_REGIONS;
-pub use steps::onto;
+pub use onward::onto;
 
 // The plan: four words for each of 4,096 records, sort by sort (specs/Plan.antt). These are the places where the sorts after the first start.
-pub const INS: usize = MAX_RECORDS;
+pub const IN_LINKS: usize = MAX_RECORDS;
 
-pub const OUTS: usize = 2 * MAX_RECORDS;
+pub const OUT_LINKS: usize = 2 * MAX_RECORDS;
 
 pub const SIDES: usize = 3 * MAX_RECORDS;
 

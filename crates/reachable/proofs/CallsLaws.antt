@@ -31,7 +31,7 @@ use Rattle.chains.specs.Parts.{switch-at, if-at, call-at}
 use Rattle.chains.specs.Shapes.{goal-number, call-here}
 use Rattle.owners.specs.Owner.{ownerOf}
 use Rattle.owners.specs.Owners.{kind-goals}
-use Rattle.owners.specs.Below.{goal-owner-below}
+use Rattle.owners.specs.Below.{goals-pass, goal-owner-below}
 use Rattle.owners.specs.Typed.{typed-goal}
 use Rattle.owners.specs.Everywhere.{allGoals, allGoal, allArms, everyGoal, ifGoal, recordTest, everyRecord}
 use Rattle.owners.specs.Numbered.{at-every, every-at}
@@ -83,24 +83,6 @@ module _ (q : ℕ) where
     spared-arms : (cs : Arms) → allArms (spares q) cs ≡ true → inList q (armsCallees cs) ≡ true → ⊥
     spared-arms noArms h e = nil-in q e
     spared-arms (arm f ys gs cs) h e = ⊎-elim (λ c. spared-goals gs (and-true h .0) c) (λ c. spared-arms cs (and-true h .1) c) (append-in q (goalsCallees gs) (armsCallees cs) e)
-
--- a test that every goal passes
-module _ (L : Goal → Bool) (h : (g : Goal) → L g ≡ true) where
-  mutual
-    unfolding allGoals
-
-    goals-pass : (gs : Goals) → allGoals L gs ≡ true
-    goals-pass done = refl
-    goals-pass (g then gs) = true-and (goal-passes g) (goals-pass gs)
-
-    goal-passes : (g : Goal) → allGoal L g ≡ true
-    goal-passes (step s) = h (step s)
-    goal-passes (switch x cs) = true-and (h (switch x cs)) (arms-pass cs)
-    goal-passes (ifLess y z a b) = true-and (h (ifLess y z a b)) (true-and (goals-pass a) (goals-pass b))
-
-    arms-pass : (cs : Arms) → allArms L cs ≡ true
-    arms-pass noArms = refl
-    arms-pass (arm f ys gs cs) = true-and (goals-pass gs) (arms-pass cs)
 
 -- ---- no goal of procedure p calls q, asked of every goal
 unfoldable sparesIn : ℕ → ℕ → ℕ → Goal → Bool

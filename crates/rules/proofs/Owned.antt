@@ -8,7 +8,7 @@ use borrow.Author.Tests.{leb-true}
 use lib.ListN.{length, length-append}
 use Rattle.sets.specs.Tests.{and-true}
 use Rattle.language.specs.Format.{maxProcedures}
-use Rattle.language.specs.File.{kSwitch, kIf, kGoal, recordCount}
+use Rattle.language.specs.File.{kSwitch, kIf, kGoal}
 use Rattle.language.specs.Lists.{among}
 use Rattle.language.specs.Typing.{typingOk}
 use Rattle.language.specs.Answers.{program}
@@ -16,9 +16,8 @@ use Rattle.chains.specs.Layout.{all-rows}
 use Rattle.chains.specs.Formed.{Formed}
 use Rattle.chains.specs.Is.{arm-is}
 use Rattle.chains.specs.Shapes.{by-number}
-use Rattle.owners.specs.Owner.{ownersUpTo, ownersOf, ownerOf}
-use Rattle.owners.specs.Handing.{up-to-length}
-use Rattle.owners.specs.Owners.{listed-owner, goals-owned, switch-owned, if-owned, arm-owned, procedureRecord, procedure-first}
+use Rattle.owners.specs.Owner.{ownersOf, ownerOf}
+use Rattle.owners.specs.Owners.{owners-length, listed-owner, goals-owned, switch-owned, if-owned, arm-owned, procedureRecord, procedure-first}
 use Rattle.rows.specs.Noting.{AllNoted, noted-accessed}
 use Rattle.reachable.specs.Linked.{OwnersIn}
 use Rattle.regions.specs.Here.{Given}
@@ -47,9 +46,8 @@ pub given : {f table owners : List ℕ} (behind : List ℕ) → Formed f → typ
 given {f} behind F t w e = record { formed = F; typed = t; windows = w; owned = λ i l. listed-owner f i behind e l }
 
 pub owners-in : {f owners : List ℕ} (behind : List ℕ) → owners ≡ ownersOf f ++ behind → OwnersIn f owners
-unfolding ownersOf
 owners-in {f} behind e = record {
-  fits = omega (arith, ap length e, length-append (ownersUpTo f (recordCount f)) behind, up-to-length f (recordCount f));
+  fits = omega (arith, ap length e, length-append (ownersOf f) behind, owners-length f);
   owner = λ i q. listed-owner f i behind e q;
 }
 

@@ -19,11 +19,13 @@ use Rattle.chains.specs.Records.{recordsUpTo, chainRecords}
 use Rattle.memory.specs.Memory as Memory
 use Rattle.word_machine.specs.Tables.{onto, slotOf, givenOf}
 use Rattle.word_machine.specs.Passing.{packed, ofMode}
-use Rattle.word_machine.specs.Filling.{stores, referred, onwardWords, ownerWords, filled, matched, matchedBy, matches, onwards, owners, slots, modes, tablesOf}
+use Rattle.owners.specs.Handed.{words-open, nextAnd, handTo, wordsOf, given, handDown, handedUpTo, handed}
+use Rattle.owners.specs.Owner.{ownerBy, ownersOf, ownerOf}
+use Rattle.word_machine.specs.Filling.{partsOnward, onwardBy, matched, matchedAt, matches, onwards, slots, modes, tablesOf}
 use Rattle.word_machine.specs.Machine as M
 
 unfoldable pub opened : Unit {0}
-unfolding computing slotOf givenOf packed ofMode Steps.argumentsAt argumentsAt recordAt fieldOf recordsUpTo chainRecords onto stores referred onwardWords ownerWords filled matched matchedBy matches onwards owners slots modes tablesOf Memory.unused Memory.taken Memory.emptyHeap Memory.createdOf Memory.createdRegionsOf Memory.created Memory.createdRegions Memory.filled Memory.hung Memory.builtOf Memory.builtCellsOf Memory.builtRegionsOf Memory.built Memory.builtCells Memory.builtRegions Memory.removed Memory.removedCells Memory.removedRegions M.literalWord M.sumOfWords M.copied M.cleared M.blocks M.armOf M.givesEach M.withFrames M.given M.valueOf M.regionFor M.ifRoom M.sums M.termOf M.contentsOf M.constructedBy M.constructed M.constructs M.createdBy M.makesRegion M.dropsRegion M.printsWord M.armWords M.entersArm M.switchesOn M.switches M.valuesIn M.regionsIn M.calleeWords M.calls M.valuesOut M.regionsOut M.returnWords M.returned M.settledFrom M.settled M.settledIf M.steps M.stepped M.endedWith M.afterStep M.runOn M.startWords M.noFrame M.runFrom M.lentWords M.wordRun
+unfolding computing slotOf givenOf packed ofMode Steps.argumentsAt argumentsAt recordAt fieldOf recordsUpTo chainRecords onto words-open nextAnd handTo wordsOf given handDown handedUpTo handed ownerBy ownersOf ownerOf partsOnward onwardBy matched matchedAt matches onwards slots modes tablesOf Memory.unused Memory.taken Memory.emptyHeap Memory.createdOf Memory.createdRegionsOf Memory.created Memory.createdRegions Memory.filled Memory.hung Memory.builtOf Memory.builtCellsOf Memory.builtRegionsOf Memory.built Memory.builtCells Memory.builtRegions Memory.removed Memory.removedCells Memory.removedRegions M.literalWord M.sumOfWords M.copied M.cleared M.blocks M.armOf M.givesEach M.withFrames M.given M.valueOf M.regionFor M.ifRoom M.sums M.termOf M.contentsOf M.constructedBy M.constructed M.constructs M.createdBy M.makesRegion M.dropsRegion M.printsWord M.armWords M.entersArm M.switchesOn M.switches M.valuesIn M.regionsIn M.calleeWords M.calls M.valuesOut M.regionsOut M.returnWords M.returned M.settledFrom M.settled M.settledIf M.steps M.stepped M.endedWith M.afterStep M.runOn M.startWords M.noFrame M.runFrom M.lentWords M.wordRun
 opened = tt
 
 -- what a run ended with and printed

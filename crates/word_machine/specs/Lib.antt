@@ -23,8 +23,6 @@ pub mod ControlSteps
 pub mod NextGoal
 pub mod WholeRun
 pub mod Filling
-pub mod FillingLaws
-pub mod FormedTree
 pub mod Matching
 pub mod Tabling
 pub mod Theorem

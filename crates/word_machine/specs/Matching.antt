@@ -2,28 +2,34 @@
 use Prim.Native.Nat.{ℕ, zero, suc, _+_, _-_, _≤_, _<_}
 use native.Mathlib.Omega.{arith}
 use native.Mathlib.Decide.{ℕ-discrete}
+use mathlib.Core.Bool.{Bool, true, false}
 use mathlib.Core.Path.{_≡_, refl, sym, ap, _∙_}
 use mathlib.Core.List.{List, [], _∷_}
 use mathlib.Core.Logic.{_≢_, _⊎_, inl, inr}
-use lib.ListN.{length, getD, set, replicate, length-set, length-replicate}
+use borrow.Author.Tests.{eqb-true, eq-eqb}
+use lib.Dec.{eqb}
+use lib.ListN.{length, getD, set, replicate, length-set, length-replicate, getD-replicate}
 use lib.Seq.{getD-set-same, getD-set-other}
-use Rattle.language.specs.Lists.{count}
-use Rattle.language.specs.File.{arguments, word, recordCount}
+use Rattle.sets.specs.Tests.{_&_}
+use Rattle.sets.specs.Members.{inList}
+use Rattle.language.specs.Lists.{choose, count}
+use Rattle.language.specs.File.{kCall, Kind, kArgument, kGoal, arguments, row, kindOf, word, recordCount}
 use Rattle.language.specs.Program.{Parameter, signatureOf, parametersOf}
 use Rattle.language.specs.Answers.{program}
-use Rattle.language.specs.Format.{nextWord, argumentVariable, maxRecords}
+use Rattle.language.specs.Format.{kindWord, nextWord, callKind, callProcedure, callArguments, maxRecords}
 use Rattle.laws.specs.Counts.{hit, hit-same, hit-other, count-cons, count-none}
-use Rattle.chains.specs.Layout.{real}
+use Rattle.chains.specs.Layout.{all-rows, real}
 use Rattle.records.specs.Records.{recordAt}
-use Rattle.records.specs.declared.Record.{Record}
-use Rattle.records.specs.declared.Record.the-variants.{Header, «Type» as TypeOf, Functor, Procedure, Variable, Region, Edge, Literal, Sum, Assign, Construct, Switch, Arm, If, Call, Argument, Print, Create, Remove, Other}
+use Rattle.records.specs.declared.Record.the-variants.{Call}
 use Rattle.chains.specs.Formed.{Formed, Stands, counted}
 use Rattle.chains.specs.Is.{argument-is}
+use Rattle.chains.specs.Kinds.{kindIn, kind-read}
 use Rattle.chains.specs.Parts.{call-at, argument-at}
 use Rattle.chains.specs.Records.{chainRecords, records-none, records-step, along}
-use Rattle.word_machine.specs.Filling.{referred, filled, matched, matchedBy, matches}
-use Rattle.word_machine.specs.FillingLaws.{WordsAt, filled-holds}
-use Rattle.word_machine.specs.FormedTree.{formed-tree}
+use Rattle.chains.specs.Shapes.{goal-number, by-number}
+use Rattle.owners.specs.Handed.{Attribute, referenceWords, words-open, handed}
+use Rattle.owners.specs.Handing.{handed-by}
+use Rattle.word_machine.specs.Filling.{matched, matchedAt, matches}
 
 -- ---- stores by parameters
 module _ (g : Parameter → ℕ) where
@@ -65,56 +71,9 @@ module _ (g : Parameter → ℕ) where
   says-kept (a ∷ ps) (j ∷ js) t t′ e h =
       (e j (omega (arith, count-cons j j js, hit-same j)) ∙ h .0, says-kept ps js t t′ (λ p l. e p (omega (arith, count-cons p j js))) (h .1))
 
--- ---- the call that an argument's record belongs to, filled as the other tables are
-callWords : ℕ → Record → ℕ → List ℕ
-callWords i (Call n q ys) v = v ∷ i ∷ []
-callWords i (Argument n y) v = v ∷ []
-callWords i (Procedure n vs rs g) v = []
-callWords i (Literal n x k) v = []
-callWords i (Sum n x o y z) v = []
-callWords i (Assign n x y) v = []
-callWords i (Construct n x k a b c d) v = []
-callWords i (Switch n x cs) v = []
-callWords i (Arm n g k a b c d) v = []
-callWords i (If n y z a b) v = []
-callWords i (Print n y) v = []
-callWords i (Create n r) v = []
-callWords i (Remove n r) v = []
-callWords i (Header a b c) v = []
-callWords i (TypeOf n fs) v = []
-callWords i (Functor n a b c d e) v = []
-callWords i (Variable n a b c) v = []
-callWords i (Region n a b c) v = []
-callWords i (Edge n a b c) v = []
-callWords i Other v = []
-
--- a record is a call, or the pass leaves the table as it is
-data Sort (f : List ℕ) (r : Record) : Type 0 where
-  is-call : (n q ys : ℕ) → r ≡ Call n q ys → Sort f r
-  no-call : ((g : Parameter → ℕ) (t : List ℕ) → matchedBy f g r t ≡ t) → Sort f r
-
-sort-of : (f : List ℕ) (r : Record) → Sort f r
-unfolding matchedBy
-sort-of f (Call n q ys) = is-call n q ys refl
-sort-of f (Argument n y) = no-call (λ g t. refl)
-sort-of f (Procedure n vs rs b) = no-call (λ g t. refl)
-sort-of f (Literal n x k) = no-call (λ g t. refl)
-sort-of f (Sum n x o y z) = no-call (λ g t. refl)
-sort-of f (Assign n x y) = no-call (λ g t. refl)
-sort-of f (Construct n x k a b c d) = no-call (λ g t. refl)
-sort-of f (Switch n x cs) = no-call (λ g t. refl)
-sort-of f (Arm n b k a c d e) = no-call (λ g t. refl)
-sort-of f (If n y z a b) = no-call (λ g t. refl)
-sort-of f (Print n y) = no-call (λ g t. refl)
-sort-of f (Create n r) = no-call (λ g t. refl)
-sort-of f (Remove n r) = no-call (λ g t. refl)
-sort-of f (Header a b c) = no-call (λ g t. refl)
-sort-of f (TypeOf n fs) = no-call (λ g t. refl)
-sort-of f (Functor n a b c d e) = no-call (λ g t. refl)
-sort-of f (Variable n a b c) = no-call (λ g t. refl)
-sort-of f (Region n a b c) = no-call (λ g t. refl)
-sort-of f (Edge n a b c) = no-call (λ g t. refl)
-sort-of f Other = no-call (λ g t. refl)
+-- ---- the call that an argument's record belongs to: handed down, as where chains go on is
+unfoldable callBy : Attribute
+callBy kind i k v = choose (eqb k callArguments & eqb kind callKind) i v
 
 -- p is the first of a list, or a later one
 first-or : (p j : ℕ) (js : List ℕ) → 0 < count p (j ∷ js) → (j ≡ p) ⊎ (0 < count p js)
@@ -122,20 +81,23 @@ first-or p j js h = elim (ℕ-discrete j p) [ yes e ↦ inl e | no ne ↦ inr (o
 
 module _ {f : List ℕ} (F : Formed f) where
   abbrev calls : List ℕ
-  calls = filled callWords f (recordCount f - 1) 1 (replicate maxRecords 0)
+  calls = handed callBy f (replicate maxRecords 0)
 
-  calls-hold : (i : ℕ) → 0 < i → i < recordCount f → WordsAt (referred (recordAt f i)) (callWords i (recordAt f i) (getD calls i 0)) calls
-  calls-hold i a b =
-      let c = counted F in
-      filled-holds callWords f (recordCount f - 1) 1 (replicate maxRecords 0) (formed-tree f F) (omega arith) (omega (arith, length-replicate {A = ℕ} maxRecords 0)) i a (omega arith)
+  called : (K : Kind) (i : ℕ) → i < recordCount f → kindOf (word f i kindWord) ≡ K → (k : ℕ) → inList k (referenceWords K) ≡ true → word f i k ≢ 0
+      → getD calls (word f i k) 0 ≡ callBy (row K .kind) i k (getD calls i 0)
+  called K i q e k m z =
+      handed-by F callBy (replicate maxRecords 0) (omega (arith, counted F .most, length-replicate {A = ℕ} maxRecords 0)) (getD-replicate {A = ℕ} maxRecords 0 0 0 (omega arith))
+      K i q e k m z
 
   first-call : (i n q ys : ℕ) → recordAt f i ≡ Call n q ys → ys ≢ 0 → getD calls ys 0 ≡ i
-  unfolding referred callWords
-  first-call i n q ys e z = let c = call-at F refl e in let h = rw e at (calls-hold i (c .some) (c .below)) in h .1 .0 z
+  unfolding words-open callBy choose _&_
+  first-call i n q ys e =
+      let c = call-at F refl e in
+      rw (c .w3) (λ z. called (kGoal kCall) i (c .below) (sym (kind-read f i refl) ∙ ap kindIn e) callArguments refl z)
 
-  next-call : (j n y : ℕ) → recordAt f j ≡ Argument n y → n ≢ 0 → getD calls n 0 ≡ getD calls j 0
-  unfolding referred callWords
-  next-call j n y e z = let c = argument-at F refl e in let h = rw e at (calls-hold j (c .some) (c .below)) in h .0 z
+  next-call : (j : ℕ) → Stands f arguments j → j ≢ 0 → word f j nextWord ≢ 0 → getD calls (word f j nextWord) 0 ≡ getD calls j 0
+  unfolding words-open callBy choose _&_
+  next-call j s z y = called kArgument j (s .below) (sym (kind-read f j refl) ∙ ap kindIn (argument-is s z)) nextWord refl y
 
   -- ---- the records of a call's arguments are its own
   chain-call : (i j : ℕ) → Stands f arguments j → (j ≢ 0 → getD calls j 0 ≡ i) → (p : ℕ) → 0 < count p (chainRecords f j) → getD calls p 0 ≡ i
@@ -152,10 +114,14 @@ module _ {f : List ℕ} (F : Formed f) where
           → ((word f j nextWord ≢ 0 → getD calls (word f j nextWord) 0 ≡ i) → (p : ℕ) → 0 < count p (chainRecords f (word f j nextWord)) → getD calls p 0 ≡ i)
           → (j ≢ 0 → getD calls j 0 ≡ i) → (p : ℕ) → (j ≡ p) ⊎ (0 < count p (chainRecords f (word f j nextWord))) → getD calls p 0 ≡ i
       go j s z ih e p (inl y) = ap (λ k. getD calls k 0) (sym y) ∙ e z
-      go j s z ih e p (inr h) = ih (λ y. next-call j (word f j nextWord) (word f j argumentVariable) (argument-is s z) y ∙ e z) p h
+      go j s z ih e p (inr h) = ih (λ y. next-call j s z y ∙ e z) p h
 
   of-call : (i n q ys : ℕ) → recordAt f i ≡ Call n q ys → (p : ℕ) → 0 < count p (chainRecords f ys) → getD calls p 0 ≡ i
   of-call i n q ys e = chain-call i ys (call-at F refl e .to-arguments .stands) (first-call i n q ys e)
+
+  call-record : (i : ℕ) → word f i kindWord ≡ callKind → recordAt f i ≡ Call (word f i nextWord) (word f i callProcedure) (word f i callArguments)
+  unfolding all-rows
+  call-record i e = by-number f i (kGoal kCall) refl e
 
   -- ---- they go up, so none stands there twice
   chain-low : (j : ℕ) → Stands f arguments j → (p : ℕ) → 0 < count p (chainRecords f j) → (j ≤ p) × (0 < p) × (p < recordCount f)
@@ -208,46 +174,54 @@ module _ {f : List ℕ} (F : Formed f) where
 
   -- ---- the pass
   module _ (g : Parameter → ℕ) where
-    step-length : (r : Record) (t : List ℕ) → length (matchedBy f g r t) ≡ length t
-    unfolding matchedBy
-    step-length r t = go (sort-of f r)
+    abbrev stores : ℕ → List ℕ → List ℕ
+    stores i t = matched g (parametersOf (signatureOf (program f) (word f i callProcedure))) (chainRecords f (word f i callArguments)) t
+
+    step-length : (i : ℕ) (t : List ℕ) → length (matchedAt f g i t) ≡ length t
+    unfolding matchedAt choose
+    step-length i t = go (eqb (word f i kindWord) callKind)
       where
-        go : Sort f r → length (matchedBy f g r t) ≡ length t
-        go (is-call n q ys e) = rw e (matched-length g (parametersOf (signatureOf (program f) q)) (chainRecords f ys) t)
-        go (no-call h) = ap length (h g t)
+        go : (b : Bool) → length (choose b (stores i t) t) ≡ length t
+        go true = matched-length g (parametersOf (signatureOf (program f) (word f i callProcedure))) (chainRecords f (word f i callArguments)) t
+        go false = refl
 
     -- another record's step leaves the word of a call's argument
-    step-other : (i b p : ℕ) (t : List ℕ) → getD calls p 0 ≡ i → i ≢ b → getD (matchedBy f g (recordAt f b) t) p 0 ≡ getD t p 0
-    unfolding matchedBy
-    step-other i b p t c ne = go (sort-of f (recordAt f b))
+    step-other : (i b p : ℕ) (t : List ℕ) → getD calls p 0 ≡ i → i ≢ b → getD (matchedAt f g b t) p 0 ≡ getD t p 0
+    unfolding matchedAt choose
+    step-other i b p t c ne = go (eqb (word f b kindWord) callKind) refl
       where
-        none : (n q ys k : ℕ) → recordAt f b ≡ Call n q ys → count p (chainRecords f ys) ≡ k → k ≡ 0
-        none n q ys zero e z = refl
-        none n q ys (suc k) e z = absurd (ne (sym c ∙ of-call b n q ys e p (omega arith)))
+        none : (k : ℕ) → word f b kindWord ≡ callKind → count p (chainRecords f (word f b callArguments)) ≡ k → k ≡ 0
+        none zero e z = refl
+        none (suc k) e z = absurd (ne (sym c ∙ of-call b _ _ _ (call-record b e) p (omega arith)))
 
-        go : Sort f (recordAt f b) → getD (matchedBy f g (recordAt f b) t) p 0 ≡ getD t p 0
-        go (is-call n q ys e) = rw e (matched-other g (parametersOf (signatureOf (program f) q)) (chainRecords f ys) t p (none n q ys _ e refl))
-        go (no-call h) = ap (λ l. getD l p 0) (h g t)
+        go : (b′ : Bool) → eqb (word f b kindWord) callKind ≡ b′ → getD (choose b′ (stores b t) t) p 0 ≡ getD t p 0
+        go true e = matched-other g (parametersOf (signatureOf (program f) (word f b callProcedure))) (chainRecords f (word f b callArguments)) t p (none _ (eqb-true _ _ e) refl)
+        go false e = refl
+
+    step-call : (i n q ys : ℕ) (t : List ℕ) → recordAt f i ≡ Call n q ys → matchedAt f g i t ≡ matched g (parametersOf (signatureOf (program f) q)) (chainRecords f ys) t
+    unfolding matchedAt choose all-rows
+    step-call i n q ys t e =
+        let c = call-at F refl e in
+        rw (c .w2, c .w3, eq-eqb (word f i kindWord) callKind (goal-number (word f i kindWord) kCall (sym (kind-read f i refl) ∙ ap kindIn e))) refl
 
     matches-other : (m b : ℕ) (t : List ℕ) (i p : ℕ) → getD calls p 0 ≡ i → i < b → getD (matches f g m b t) p 0 ≡ getD t p 0
     unfolding matches
     matches-other zero b t i p c l = refl
     matches-other (suc m) b t i p c l =
-        matches-other m (suc b) (matchedBy f g (recordAt f b) t) i p c (omega arith) ∙ step-other i b p t c (λ z. omega arith)
+        matches-other m (suc b) (matchedAt f g b t) i p c (omega arith) ∙ step-other i b p t c (λ z. omega arith)
 
     pub matches-say : (m b : ℕ) (t : List ℕ) → recordCount f ≤ length t → (i n q ys : ℕ) → recordAt f i ≡ Call n q ys → b ≤ i → i < b + m
         → Says g (parametersOf (signatureOf (program f) q)) (chainRecords f ys) (matches f g m b t)
-    unfolding matches matchedBy
+    unfolding matches
     matches-say zero b t l i n q ys e h k = absurd (omega arith)
     matches-say (suc m) b t l i n q ys e h k = elim (ℕ-discrete b i) [
       | yes z ↦ here (rw (← z) at e)
-      | no ne ↦ matches-say m (suc b) (matchedBy f g (recordAt f b) t) (omega (arith, step-length (recordAt f b) t)) i n q ys e (omega (arith, ne)) (omega arith)
+      | no ne ↦ matches-say m (suc b) (matchedAt f g b t) (omega (arith, step-length b t)) i n q ys e (omega (arith, ne)) (omega arith)
     ]
       where
-        here : recordAt f b ≡ Call n q ys → Says g (parametersOf (signatureOf (program f) q)) (chainRecords f ys) (matches f g m (suc b) (matchedBy f g (recordAt f b) t))
+        here : recordAt f b ≡ Call n q ys → Says g (parametersOf (signatureOf (program f) q)) (chainRecords f ys) (matches f g m (suc b) (matchedAt f g b t))
         here d =
             let s = call-at F refl d .to-arguments .stands in
-            says-kept g (parametersOf (signatureOf (program f) q)) (chainRecords f ys) (matchedBy f g (recordAt f b) t) (matches f g m (suc b) (matchedBy f g (recordAt f b) t))
-            (λ p c. matches-other m (suc b) (matchedBy f g (recordAt f b) t) b p (of-call b n q ys d p c) (omega arith))
-            (rw d (matched-says g (parametersOf (signatureOf (program f) q)) (chainRecords f ys) t
-            (λ p c. omega (arith, chain-low ys s p c .2)) (chain-once ys s)))
+            says-kept g (parametersOf (signatureOf (program f) q)) (chainRecords f ys) (matchedAt f g b t) (matches f g m (suc b) (matchedAt f g b t))
+            (λ p c. matches-other m (suc b) (matchedAt f g b t) b p (of-call b n q ys d p c) (omega arith))
+            (rw (step-call b n q ys t d) (matched-says g (parametersOf (signatureOf (program f) q)) (chainRecords f ys) t (λ p c. omega (arith, chain-low ys s p c .2)) (chain-once ys s)))

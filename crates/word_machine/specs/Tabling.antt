@@ -6,153 +6,101 @@ use mathlib.Core.Bool.{true}
 use mathlib.Core.List.{List, [], _∷_, map}
 use mathlib.Core.Logic.{_≢_}
 use lib.ListN.{length, getD, replicate, length-replicate, getD-replicate}
-use Rattle.language.specs.Lists.{nth}
-use Rattle.language.specs.File.{GoalKind, kLiteral, kSum, kAssign, kConstruct, kSwitch, kIf, kCall, kPrint, kCreate, kRemove, kGoal, goals, arms, procedures, word, recordCount}
+use Rattle.sets.specs.Tests.{_or_}
+use Rattle.sets.specs.Members.{inList}
+use Rattle.language.specs.Lists.{choose}
+use Rattle.language.specs.File.{kSwitch, kIf, Kind, kProcedure, kArm, kGoal, goals, arms, row, kindOf, word, recordCount}
 use Rattle.language.specs.Program.{Parameter, signatureOf, parametersOf, argumentsIn, variablesIn}
 use Rattle.language.specs.Typing.{typingOk}
 use Rattle.language.specs.Answers.{program}
-use Rattle.language.specs.Format.{nextWord, headerProcedures, procedureGoals, armGoals, argumentVariable, maxRecords}
-use Rattle.records.specs.Records.{recordAs, recordAt}
+use Rattle.language.specs.Format.{kindWord, nextWord, procedureGoals, armGoals, switchArms, ifThen, ifElse, argumentVariable, maxRecords}
+use Rattle.records.specs.Records.{recordAt}
 use Rattle.records.specs.declared.Record.the-variants.{Switch, If, Call}
-use Rattle.chains.specs.Formed.{Formed, Stands, argumentsAt, counted, procedures-stand, program-procedures}
+use Rattle.chains.specs.Formed.{Formed, Stands, argumentsAt, counted}
 use Rattle.chains.specs.Fields.{field-some}
 use Rattle.chains.specs.Is.{arm-is, procedure-is}
-use Rattle.word_machine.specs.GoalKinds.{goal-is}
-use Rattle.chains.specs.Declared.{procedure-at}
+use Rattle.chains.specs.Kinds.{kindIn, kind-read}
 use Rattle.chains.specs.Goals.{construct-at}
 use Rattle.chains.specs.Parts.{switch-at, if-at, call-at}
-use Rattle.chains.specs.Records.{chainRecords, records-none, records-step}
-use Rattle.chains.specs.Elements.{procedures-count}
+use Rattle.chains.specs.Records.{chainRecords}
+use Rattle.owners.specs.Handed.{referenceWords, words-open, nextAnd}
+use Rattle.owners.specs.Handing.{handed-by}
+use Rattle.owners.specs.Owner.{ownerOf}
+use Rattle.owners.specs.Owners
+use Rattle.owners.specs.Owners.{goals-owned, procedureRecord, procedure-stands, procedure-first}
 use Rattle.word_machine.specs.Tables.{slotOf, givenOf, onto, Continues, bodyRecord, Tabled}
 use Rattle.word_machine.specs.Passing.{packed, Matches}
 use Rattle.word_machine.specs.Arguments.{slots-passed, givens-passed}
-use Rattle.word_machine.specs.Filling.{referred, onwardWords, ownerWords, onwards, owners, slots, modes, tablesOf}
-use Rattle.word_machine.specs.FillingLaws.{WordsAt, filled-other, filled-holds}
-use Rattle.word_machine.specs.FormedTree.{formed-tree, first-free}
+use Rattle.word_machine.specs.Filling.{partsOnward, onwardBy, onwards, slots, modes, tablesOf}
 use Rattle.word_machine.specs.Matching.{Says, matches-say}
 
--- ---- a goal's word is its next goal's
-goal-onward : (k : GoalKind) (w : ℕ → ℕ) (i v : ℕ) (t : List ℕ) → WordsAt (referred (recordAs (kGoal k) w)) (onwardWords i (recordAs (kGoal k) w) v) t
-    → w nextWord ≢ 0 → getD t (w nextWord) 0 ≡ v
-unfolding referred onwardWords
-goal-onward kLiteral w i v t h = h .0
-goal-onward kSum w i v t h = h .0
-goal-onward kAssign w i v t h = h .0
-goal-onward kConstruct w i v t h = h .0
-goal-onward kSwitch w i v t h = h .0
-goal-onward kIf w i v t h = h .0
-goal-onward kCall w i v t h = h .0
-goal-onward kPrint w i v t h = h .0
-goal-onward kCreate w i v t h = h .0
-goal-onward kRemove w i v t h = h .0
-
-goal-owner : (k : GoalKind) (w : ℕ → ℕ) (i v : ℕ) (t : List ℕ) → WordsAt (referred (recordAs (kGoal k) w)) (ownerWords i (recordAs (kGoal k) w) v) t
-    → w nextWord ≢ 0 → getD t (w nextWord) 0 ≡ v
-unfolding referred ownerWords
-goal-owner kLiteral w i v t h = h .0
-goal-owner kSum w i v t h = h .0
-goal-owner kAssign w i v t h = h .0
-goal-owner kConstruct w i v t h = h .0
-goal-owner kSwitch w i v t h = h .0
-goal-owner kIf w i v t h = h .0
-goal-owner kCall w i v t h = h .0
-goal-owner kPrint w i v t h = h .0
-goal-owner kCreate w i v t h = h .0
-goal-owner kRemove w i v t h = h .0
+unfoldable opened : Unit {0}
+unfolding words-open onwardBy partsOnward nextAnd choose _or_
+opened = tt
 
 module _ {f : List ℕ} (F : Formed f) where
   few : recordCount f ≤ length (replicate {A = ℕ} maxRecords 0)
   few = let c = counted F in omega (arith, length-replicate {A = ℕ} maxRecords 0)
 
-  abbrev Onward : ℕ → ℕ
+  abbrev pub Onward : ℕ → ℕ
   Onward i = getD (onwards f) i 0
 
-  abbrev Owner : ℕ → ℕ
-  Owner i = getD (owners f) i 0
-
-  onward-holds : (i : ℕ) → i ≢ 0 → i < recordCount f → WordsAt (referred (recordAt f i)) (onwardWords i (recordAt f i) (Onward i)) (onwards f)
+  -- ---- where the chains of a record's words go on
+  onward-by : (K : Kind) (i : ℕ) → i < recordCount f → kindOf (word f i kindWord) ≡ K → (k : ℕ) → inList k (referenceWords K) ≡ true → word f i k ≢ 0
+      → Onward (word f i k) ≡ onwardBy f (row K .kind) i k (Onward i)
   unfolding onwards
-  onward-holds i a b = filled-holds onwardWords f (recordCount f - 1) 1 (replicate maxRecords 0) (formed-tree f F) (omega arith) few i (omega (arith, a)) (omega (arith, a))
+  onward-by K i q e k m z = handed-by F (onwardBy f) (replicate maxRecords 0) few (getD-replicate {A = ℕ} maxRecords 0 0 0 (omega arith)) K i q e k m z
 
-  owner-holds : (i : ℕ) → i ≢ 0 → i < recordCount f → WordsAt (referred (recordAt f i)) (ownerWords i (recordAt f i) (Owner i)) (owners f)
-  unfolding owners
-  owner-holds i a b = filled-holds ownerWords f (recordCount f - 1) 1 (replicate maxRecords 0) (formed-tree f F) (omega arith) few i (omega (arith, a)) (omega (arith, a))
+  onward-next : (i : ℕ) → i < recordCount f → word f i nextWord ≢ 0 → Onward (word f i nextWord) ≡ Onward i
+  unfolding opened
+  onward-next i q z = onward-by (kindOf (word f i kindWord)) i q refl nextWord refl z
 
-  goal-next : (i : ℕ) → Stands f goals i → (z : i ≢ 0) → Continues Onward Owner (word f i nextWord) (Onward i) (Owner i)
-  goal-next i s z y =
-      let k = goal-is s z in (
-        goal-onward (k .0) (word f i) i (Onward i) (onwards f) (rw (k .1) at (onward-holds i z (s .below))) y,
-        goal-owner (k .0) (word f i) i (Owner i) (owners f) (rw (k .1) at (owner-holds i z (s .below))) y,
-      )
+  pub goal-next : (i : ℕ) → Stands f goals i → (z : i ≢ 0) → Continues Onward (ownerOf f) (word f i nextWord) (Onward i) (ownerOf f i)
+  goal-next i s z y = (onward-next i (s .below) y, goals-owned F s z refl y)
 
-  arm-parts : (i : ℕ) → Stands f arms i → (z : i ≢ 0)
-      → Continues Onward Owner (word f i nextWord) (Onward i) (Owner i) × Continues Onward Owner (word f i armGoals) (Onward i) (Owner i)
-  unfolding referred onwardWords ownerWords
-  arm-parts i s z =
-      let a = rw (arm-is s z) at (onward-holds i z (s .below)) in
-      let b = rw (arm-is s z) at (owner-holds i z (s .below)) in
-      (λ y. (a .0 y, b .0 y), λ y. (a .1 .0 y, b .1 .0 y))
+  arm-kind : {i : ℕ} → Stands f arms i → i ≢ 0 → kindOf (word f i kindWord) ≡ kArm
+  arm-kind {i} s z = sym (kind-read f i refl) ∙ ap kindIn (arm-is s z)
 
-  switch-parts : (i n x cs : ℕ) → recordAt f i ≡ Switch n x cs → Continues Onward Owner cs (onto (word f i nextWord) (Onward i)) (Owner i)
-  unfolding referred onwardWords ownerWords
-  switch-parts i n x cs e y =
+  pub arm-next : (i : ℕ) → Stands f arms i → (z : i ≢ 0) → Continues Onward (ownerOf f) (word f i nextWord) (Onward i) (ownerOf f i)
+  arm-next i s z y = (onward-next i (s .below) y, Owners.arm-next F i (s .below) (arm-kind s z) y)
+
+  pub arm-goals : (i : ℕ) → Stands f arms i → (z : i ≢ 0) → Continues Onward (ownerOf f) (word f i armGoals) (Onward i) (ownerOf f i)
+  unfolding opened
+  arm-goals i s z y =
+      let k = arm-kind s z in
+      (onward-by kArm i (s .below) k armGoals refl y, Owners.arm-goals F i (s .below) k y)
+
+  pub switch-arms : (i n x cs : ℕ) → recordAt f i ≡ Switch n x cs → Continues Onward (ownerOf f) cs (onto (word f i nextWord) (Onward i)) (ownerOf f i)
+  unfolding opened
+  switch-arms i n x cs e =
       let c = switch-at F refl e in
-      let a = rw e at (onward-holds i (λ z. omega (arith, c .some)) (c .below)) in
-      let b = rw e at (owner-holds i (λ z. omega (arith, c .some)) (c .below)) in
-      (a .1 .0 y ∙ ap (λ k. onto k (Onward i)) (c .w1), b .1 .0 y)
+      let k = sym (kind-read f i refl) ∙ ap kindIn e in
+      rw (c .w3) (λ y. (onward-by (kGoal kSwitch) i (c .below) k switchArms refl y, Owners.switch-arms F i (c .below) k y))
 
-  if-parts : (i n y z a b : ℕ) → recordAt f i ≡ If n y z a b
-      → Continues Onward Owner a (onto (word f i nextWord) (Onward i)) (Owner i) × Continues Onward Owner b (onto (word f i nextWord) (Onward i)) (Owner i)
-  unfolding referred onwardWords ownerWords
-  if-parts i n y z a b e =
+  pub if-then : (i n y z a b : ℕ) → recordAt f i ≡ If n y z a b → Continues Onward (ownerOf f) a (onto (word f i nextWord) (Onward i)) (ownerOf f i)
+  unfolding opened
+  if-then i n y z a b e =
       let c = if-at F refl e in
-      let h = rw e at (onward-holds i (λ z. omega (arith, c .some)) (c .below)) in
-      let k = rw e at (owner-holds i (λ z. omega (arith, c .some)) (c .below)) in
-      let w = ap (λ j. onto j (Onward i)) (c .w1) in
-      (λ q. (h .1 .0 q ∙ w, k .1 .0 q), λ q. (h .1 .1 .0 q ∙ w, k .1 .1 .0 q))
+      let k = sym (kind-read f i refl) ∙ ap kindIn e in
+      rw (c .w4) (λ q. (onward-by (kGoal kIf) i (c .below) k ifThen refl q, Owners.if-then F i (c .below) k q))
 
-  -- ---- procedures in chain order
-  some-record : (p i : ℕ) → p < length (chainRecords f i) → i ≢ 0
-  some-record p i l z = let e = ap length (records-none f z) in omega arith
+  pub if-else : (i n y z a b : ℕ) → recordAt f i ≡ If n y z a b → Continues Onward (ownerOf f) b (onto (word f i nextWord) (Onward i)) (ownerOf f i)
+  unfolding opened
+  if-else i n y z a b e =
+      let c = if-at F refl e in
+      let k = sym (kind-read f i refl) ∙ ap kindIn e in
+      rw (c .w5) (λ q. (onward-by (kGoal kIf) i (c .below) k ifElse refl q, Owners.if-else F i (c .below) k q))
 
-  later-owner : (i k : ℕ) → Stands f procedures i → (z : i ≢ 0) → Owner i ≡ k → word f i nextWord ≢ 0 → Owner (word f i nextWord) ≡ suc k
-  unfolding referred ownerWords
-  later-owner i k s z e y = let h = rw (procedure-is s z) at (owner-holds i z (s .below)) in h .0 y ∙ ap suc e
-
-  -- the p-th of those from record i on, which is number k
-  numbered : (p i k : ℕ) → Stands f procedures i → (i ≢ 0 → Owner i ≡ k) → p < length (chainRecords f i)
-      → (Owner (nth 0 (chainRecords f i) p) ≡ k + p) × (nth 0 (chainRecords f i) p ≢ 0) × Stands f procedures (nth 0 (chainRecords f i) p)
-  unfolding nth
-  numbered zero i k s e l =
-      let z = some-record zero i l in
-      rw (records-step {w = word f i nextWord} F z (s .below) refl) (e z ∙ omega arith, z, s)
-  numbered (suc p) i k s e l =
-      let z = some-record (suc p) i l in
-      let r = records-step {w = word f i nextWord} F z (s .below) refl in
-      let c = ap length r in
-      let h = numbered p (word f i nextWord) (suc k) (procedure-at F refl (procedure-is s z) .to-next .stands) (later-owner i k s z (e z)) (omega arith) in
-      rw r (h .0 ∙ omega arith, h .1, h .2)
-
-  first-owner : word f 0 headerProcedures ≢ 0 → Owner (word f 0 headerProcedures) ≡ 0
-  unfolding owners
-  first-owner z =
-      let s = procedures-stand F in
-      let c = counted F in
-      filled-other ownerWords f (recordCount f - 1) 1 (replicate maxRecords 0) (word f 0 headerProcedures) (first-free f F z (s .below))
-      ∙ getD-replicate maxRecords (word f 0 headerProcedures) 0 0 (omega (arith, s .below))
-
-  procedure-count : length (program f .procedures) ≡ length (chainRecords f (word f 0 headerProcedures))
-  procedure-count = ap length (program-procedures F) ∙ procedures-count F (word f 0 headerProcedures) (procedures-stand F)
-
-  body-starts : (p : ℕ) → p < length (program f .procedures) → Continues Onward Owner (bodyRecord f p) 0 p
-  unfolding referred onwardWords ownerWords
+  -- a body goes on nowhere
+  pub body-starts : (p : ℕ) → p < length (program f .procedures) → Continues Onward (ownerOf f) (word f (procedureRecord f p) procedureGoals) 0 p
+  unfolding opened
   body-starts p l y =
-      let h = numbered p (word f 0 headerProcedures) 0 (procedures-stand F) first-owner (omega (arith, procedure-count)) in
-      let r = procedure-is (h .2) (h .1) in
-      let a = rw r at (onward-holds (nth 0 (chainRecords f (word f 0 headerProcedures)) p) (h .1) (h .2 .below)) in
-      let b = rw r at (owner-holds (nth 0 (chainRecords f (word f 0 headerProcedures)) p) (h .1) (h .2 .below)) in
-      let w = field-some f (nth 0 (chainRecords f (word f 0 headerProcedures)) p) procedureGoals (h .1) in
-      rw (← w) (a .1 .0 (λ z. y (sym w ∙ z)), b .1 .0 (λ z. y (sym w ∙ z)) ∙ h .0 ∙ omega arith)
+      let s = procedure-stands F p l in
+      (onward-by kProcedure (procedureRecord f p) (s .0 .below) (sym (kind-read f (procedureRecord f p) refl) ∙ ap kindIn (procedure-is (s .0) (s .1))) procedureGoals refl y, procedure-first F p l y)
+
+  body-record : (p : ℕ) → p < length (program f .procedures) → word f (procedureRecord f p) procedureGoals ≡ bodyRecord f p
+  unfolding procedureRecord
+  body-record p l = field-some f (procedureRecord f p) procedureGoals (procedure-stands F p l .1)
 
   -- ---- arguments
   abbrev pub Slot : ℕ → ℕ
@@ -190,15 +138,15 @@ module _ {f : List ℕ} (F : Formed f) where
   unfolding tablesOf
   tabled ok = record {
     onward = Onward;
-    owner = Owner;
+    owner = ownerOf f;
     next = λ i s z. refl;
     goal-next = goal-next;
-    arm-next = λ i s z. arm-parts i s z .0;
-    arm-goals = λ i s z. arm-parts i s z .1;
-    switch-arms = switch-parts;
-    if-then = λ i n y z a b e. if-parts i n y z a b e .0;
-    if-else = λ i n y z a b e. if-parts i n y z a b e .1;
-    bodies = body-starts;
+    arm-next = arm-next;
+    arm-goals = arm-goals;
+    switch-arms = switch-arms;
+    if-then = if-then;
+    if-else = if-else;
+    bodies = λ p l. rw (← body-record p l) (body-starts p l);
     region = λ i n x k a b c d e. rw (construct-at F refl e .w2);
     arm-entry = λ i s z. refl;
     slots = λ i n q ys m e d. passed-here ok i n q ys m e .0;

@@ -1,4 +1,4 @@
--- `match_call` meets its contract: the rest of the variables and arguments gives the whole.
+-- The rest of the variables and arguments gives the whole.
 use native.Mathlib.Omega.{arith}
 use borrow.Author.Needs.{needs}
 use Rattle.chains.specs.Formed.{ahead, counted}
@@ -13,19 +13,10 @@ Inv-loop file callee arguments plan₀ x₀ k₀ a₀ plan x k a = Walked file x
 abbrev μ-loop : tie.MeasureT-loop
 μ-loop file callee arguments plan₀ x₀ k₀ a₀ plan x k a = ahead file x
 
-word-at-requires : tie.Need-word-at-requires Inv-loop μ-loop
-word-at-requires c κs = search needs
-
 loop-holds : tie.Need-loop-holds Inv-loop μ-loop
 loop-holds c =
     let p = c .before .before .before .pre in
     walk-first _ (rw (c .word-at .ensures) (p .1 .0)) (p .1 .1)
-
-word-requires : tie.Need-word-requires Inv-loop μ-loop
-word-requires c κs = search needs
-
-word-requires-2 : tie.Need-word-requires-2 Inv-loop μ-loop
-word-requires-2 c κs = search needs
 
 add-k : tie.Need-add-k Inv-loop μ-loop
 add-k c =
@@ -41,9 +32,6 @@ put-match-requires c κs =
     let W = c .before .before .before .before .before .before .loop .inv in
     let p = c .before .before .before .before .before .before .before .before .before .before .pre in
     omega (arith, W .argument .below, counted (p .0) .most)
-
-word-requires-3 : tie.Need-word-requires-3 Inv-loop μ-loop
-word-requires-3 c κs = search needs
 
 loop-less : tie.Need-loop-less Inv-loop μ-loop
 loop-less c =
@@ -76,19 +64,5 @@ returns-2 c = walk-ends (c .before .loop .inv) (c .loop-test .left) (c .before .
 pub match-call-spec : {M : Type 1} → statement M
 match-call-spec =
     tie.close
-    (tie.spec
-    Inv-loop
-    μ-loop
-    word-at-requires
-    loop-holds
-    word-requires
-    word-requires-2
-    add-k
-    returns
-    put-match-requires
-    word-requires-3
-    loop-less
-    loop-again
-    loop-less-2
-    loop-again-2
-    returns-2)
+    (tie.spec Inv-loop μ-loop (search needs) loop-holds (search needs) (search needs) add-k returns put-match-requires (search needs) loop-less
+    loop-again loop-less-2 loop-again-2 returns-2)

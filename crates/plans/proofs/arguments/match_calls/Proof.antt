@@ -1,4 +1,4 @@
--- `match_calls` meets its contract: the pass from record i on is still to do.
+-- The pass from record i on is still to do.
 use Prim.Native.Nat.{_-_}
 use native.Mathlib.Omega.{arith}
 use borrow.Author.Needs.{needs}
@@ -14,9 +14,6 @@ Inv-loop file table plan₀ n i₀ plan i = Pass file (placedAt file) n plan₀ 
 abbrev μ-loop : tie.MeasureT-loop
 μ-loop file table plan₀ n i₀ plan i = n - i
 
-word-requires : tie.Need-word-requires Inv-loop μ-loop
-word-requires c κs = search needs
-
 loop-holds : tie.Need-loop-holds Inv-loop μ-loop
 unfolding recordCount
 loop-holds c = pass-first _ _ (c .word .ensures .0)
@@ -25,9 +22,6 @@ match-record-requires : tie.Need-match-record-requires Inv-loop μ-loop
 match-record-requires c κs =
     let P = c .before .before .loop .inv in
     (c .before .before .before .before .before .before .pre, (P .some, pass-below _ P (c .before .loop-test .taken)))
-
-add-i : tie.Need-add-i Inv-loop μ-loop
-add-i c = search needs
 
 loop-less : tie.Need-loop-less Inv-loop μ-loop
 loop-less c = omega arith
@@ -40,15 +34,4 @@ unfolding placing
 returns c = pass-last _ (c .before .loop .inv) (omega arith)
 
 pub match-calls-spec : {M : Type 1} → statement M
-match-calls-spec =
-    tie.close
-    (tie.spec
-    Inv-loop
-    μ-loop
-    word-requires
-    loop-holds
-    match-record-requires
-    add-i
-    loop-less
-    loop-again
-    returns)
+match-calls-spec = tie.close (tie.spec Inv-loop μ-loop (search needs) loop-holds match-record-requires (search needs) loop-less loop-again returns)

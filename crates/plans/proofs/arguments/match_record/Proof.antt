@@ -1,4 +1,4 @@
--- `match_record` meets its contract: a call's arguments by its callee's window, and nothing at other records.
+-- A call's arguments by its callee's window, and nothing at other records.
 use borrow.Author.Needs.{needs}
 use mathlib.Core.Path.{sym, _∙_}
 use Rattle.chains.specs.Shapes.{to-arguments}
@@ -7,34 +7,10 @@ use Rattle.plans.specs.Turns.{placed-none, callee-window, placed-call}
 use Rattle.plans.proofs.arguments.match_record.Statement.{statement}
 use Rattle.plans.proofs.arguments.match_record.Tie as tie
 
-word-requires : tie.Need-word-requires
-word-requires c κs = search needs
-
 returns : tie.Need-returns
 returns c =
     let a = c .before .before .before .before in
     placed-none (a .args .file .now) (a .args .i) (c .before .word .ensures .0) (c .if1 .taken) (a .args .plan .now)
-
-word-requires-2 : tie.Need-word-requires-2
-word-requires-2 c κs = search needs
-
-start-of-requires : tie.Need-start-of-requires
-start-of-requires c κs = search needs
-
-word-requires-3 : tie.Need-word-requires-3
-word-requires-3 c κs = search needs
-
-mul-match-call : tie.Need-mul-match-call
-mul-match-call c = search needs
-
-sub-match-call : tie.Need-sub-match-call
-sub-match-call c = search needs
-
-part-match-call-start : tie.Need-part-match-call-start
-part-match-call-start c = search needs
-
-part-match-call-end : tie.Need-part-match-call-end
-part-match-call-end c = search needs
 
 match-call-requires : tie.Need-match-call-requires
 match-call-requires c κs =
@@ -56,15 +32,5 @@ returns-2 c =
 pub match-record-spec : {M : Type 1} → statement M
 match-record-spec =
     tie.close
-    (tie.spec
-    word-requires
-    returns
-    word-requires-2
-    start-of-requires
-    word-requires-3
-    mul-match-call
-    sub-match-call
-    part-match-call-start
-    part-match-call-end
-    match-call-requires
-    returns-2)
+    (tie.spec (search needs) returns (search needs) (search needs) (search needs) (search needs) (search needs) (search needs) (search needs)
+    match-call-requires returns-2)

@@ -1,4 +1,4 @@
--- `fill_callees` meets its contract: the procedures below q are still to do.
+-- The procedures below q are still to do.
 use Prim.Native.Nat.{_-_}
 use native.Mathlib.Omega.{arith}
 use mathlib.Core.Path.{ap, _∙_}
@@ -22,21 +22,6 @@ loop-holds c = down-first _ _
 sub-q : tie.Need-sub-q Inv-loop μ-loop
 sub-q c = omega arith
 
-start-of-requires : tie.Need-start-of-requires Inv-loop μ-loop
-start-of-requires c κs = search needs
-
-mul-put-callee : tie.Need-mul-put-callee Inv-loop μ-loop
-mul-put-callee c = search needs
-
-sub-put-callee : tie.Need-sub-put-callee Inv-loop μ-loop
-sub-put-callee c = search needs
-
-part-put-callee-start : tie.Need-part-put-callee-start Inv-loop μ-loop
-part-put-callee-start c = search needs
-
-part-put-callee-end : tie.Need-part-put-callee-end Inv-loop μ-loop
-part-put-callee-end c = search needs
-
 put-callee-requires : tie.Need-put-callee-requires Inv-loop μ-loop
 put-callee-requires c κs =
     omega (arith, c .before .before .before .before .loop .inv .most, c .before .before .before .loop-test .taken)
@@ -57,17 +42,5 @@ returns c = down-last _ (c .before .loop .inv) (omega arith)
 pub fill-callees-spec : {M : Type 1} → statement M
 fill-callees-spec =
     tie.close
-    (tie.spec
-    Inv-loop
-    μ-loop
-    loop-holds
-    sub-q
-    start-of-requires
-    mul-put-callee
-    sub-put-callee
-    part-put-callee-start
-    part-put-callee-end
-    put-callee-requires
-    loop-less
-    loop-again
-    returns)
+    (tie.spec Inv-loop μ-loop loop-holds sub-q (search needs) (search needs) (search needs) (search needs) (search needs) put-callee-requires
+    loop-less loop-again returns)

@@ -1,4 +1,4 @@
--- `fill_plan` meets its contract: what the passes leave is what the definitions say, and those are tables of the file.
+-- What the passes leave is what the definitions say, and those are tables of the file.
 use Prim.Native.Nat.{ℕ, _<_, _≤_}
 use native.Mathlib.Omega.{arith}
 use mathlib.Core.Path.{ap, _∙_}
@@ -10,17 +10,11 @@ use Rattle.plans.specs.Kept.{zeros-every}
 use Rattle.plans.specs.Pictures.{images-length}
 use Rattle.owners.specs.Owners.{owners-fit}
 use Rattle.plans.specs.Turns.{owners-given, filled-plan, filled-images}
-use Rattle.plans.specs.Early.{matched-joinable}
+use Rattle.plans.specs.Early.{plan-fits, matched-joinable}
 use Rattle.plans.specs.Narrow.{filled-narrow}
 use Rattle.plans.specs.Tabling.{filled-tabled, filled-numbered}
 use Rattle.plans.proofs.fill.fill_plan.Statement.{statement}
 use Rattle.plans.proofs.fill.fill_plan.Tie as tie
-
-blank-owners-requires : tie.Need-blank-owners-requires
-blank-owners-requires c κs = search needs
-
-slice-aggregate-list-owners : tie.Need-slice-aggregate-list-owners
-slice-aggregate-list-owners c = search needs
 
 list-owners-requires : tie.Need-list-owners-requires
 list-owners-requires c κs =
@@ -28,10 +22,7 @@ list-owners-requires c κs =
     (F, owners-fit F (c .before .blank-owners .ensures))
 
 fill-onward-requires : tie.Need-fill-onward-requires
-fill-onward-requires c κs = search needs
-
-match-calls-requires : tie.Need-match-calls-requires
-match-calls-requires c κs = search needs
+fill-onward-requires c κs = let p = c .before .before .before .before .before .before .pre in (p .0 .formed, plan-fits (p .0 .formed) (p .1 .0))
 
 join-records-requires : tie.Need-join-records-requires
 join-records-requires c κs =
@@ -39,24 +30,15 @@ join-records-requires c κs =
     let R = a .pre .0 in
     (R .formed, rw (c .before .match-calls .ensures, c .before .before .before .before .fill-onward .ensures) (matched-joinable (R .formed) (R .typed) (a .args .plan .now) (a .pre .1 .0)))
 
-slice-aggregate-fill-sides : tie.Need-slice-aggregate-fill-sides
-slice-aggregate-fill-sides c = search needs
-
 fill-sides-requires : tie.Need-fill-sides-requires
 fill-sides-requires c κs =
     owners-given _ (c .before .before .before .before .before .before .before .before .before .before .before .before .before .before .before .pre .0)
     (c .before .before .before .before .before .before .before .before .before .before .before .list-owners .ensures)
 
-slice-aggregate-fill-images : tie.Need-slice-aggregate-fill-images
-slice-aggregate-fill-images c = search needs
-
 fill-images-requires : tie.Need-fill-images-requires
 fill-images-requires c κs =
     let a = c .before .before .before .before .before .before .before .before .before .before .before .before .before .before .before .before .before .before .before in
     (owners-given _ (a .pre .0) (c .before .before .before .before .before .before .before .before .before .before .before .before .before .before .before .list-owners .ensures), zeros-every (λ p v. v < places) (λ p. omega arith) imageBytes (a .pre .1 .1 .0))
-
-fill-callees-requires : tie.Need-fill-callees-requires
-fill-callees-requires c κs = search needs
 
 returns : tie.Need-returns
 returns c =
@@ -82,16 +64,5 @@ returns c =
 pub fill-plan-spec : {M : Type 1} → statement M
 fill-plan-spec =
     tie.close
-    (tie.spec
-    blank-owners-requires
-    slice-aggregate-list-owners
-    list-owners-requires
-    fill-onward-requires
-    match-calls-requires
-    join-records-requires
-    slice-aggregate-fill-sides
-    fill-sides-requires
-    slice-aggregate-fill-images
-    fill-images-requires
-    fill-callees-requires
-    returns)
+    (tie.spec (search needs) (search needs) list-owners-requires fill-onward-requires (λ c κs. search needs) join-records-requires (search needs)
+    fill-sides-requires (search needs) fill-images-requires (search needs) returns)

@@ -1,4 +1,4 @@
--- `clear` meets its contract: places below r are 0.
+-- Places below r are 0.
 use Prim.Native.Nat.{_-_}
 use native.Mathlib.Omega.{arith}
 use borrow.Author.Needs.{needs}
@@ -16,15 +16,6 @@ abbrev μ-loop : tie.MeasureT-loop
 loop-holds : tie.Need-loop-holds Inv-loop μ-loop
 loop-holds c = cleared-none _ (c .pre)
 
-mul-found : tie.Need-mul-found Inv-loop μ-loop
-mul-found c = search needs
-
-element-write-found : tie.Need-element-write-found Inv-loop μ-loop
-element-write-found c = search needs
-
-add-r : tie.Need-add-r Inv-loop μ-loop
-add-r c = search needs
-
 loop-less : tie.Need-loop-less Inv-loop μ-loop
 loop-less c = omega arith
 
@@ -35,15 +26,4 @@ returns : tie.Need-returns Inv-loop μ-loop
 returns c = cleared-all _ _ (omega arith) (c .before .loop .inv)
 
 pub clear-spec : {M : Type 1} → statement M
-clear-spec =
-    tie.close
-    (tie.spec
-    Inv-loop
-    μ-loop
-    loop-holds
-    mul-found
-    element-write-found
-    add-r
-    loop-less
-    loop-again
-    returns)
+clear-spec = tie.close (tie.spec Inv-loop μ-loop loop-holds (search needs) (search needs) (search needs) loop-less loop-again returns)

@@ -1,4 +1,4 @@
--- `copy_images` meets its contract: the images of regions 1 to r are copied.
+-- The images of regions 1 to r are copied.
 use Prim.Native.Nat.{_+_, _-_, _≤_}
 use native.Mathlib.Omega.{arith}
 use mathlib.Core.Path.{_≡_}
@@ -21,20 +21,11 @@ loop-holds c = (omega arith, copied-none _ _ _)
 add-r : tie.Need-add-r Inv-loop μ-loop
 add-r c = omega arith
 
-mul-images : tie.Need-mul-images Inv-loop μ-loop
-mul-images c = search needs
-
-element-copy-out-images : tie.Need-element-copy-out-images Inv-loop μ-loop
-element-copy-out-images c = search needs
-
 cast-images : tie.Need-cast-images Inv-loop μ-loop
 cast-images c = record { fits = omega (arith, c .before .before .before .pre .1 .1 (c .before .before .loop .r + 1)) }
 
 add-images : tie.Need-add-images Inv-loop μ-loop
 add-images c = omega arith
-
-element-write-images : tie.Need-element-write-images Inv-loop μ-loop
-element-write-images c = search needs
 
 loop-less : tie.Need-loop-less Inv-loop μ-loop
 loop-less c = omega arith
@@ -48,16 +39,4 @@ returns c = copied-last _ _ _ _ _ (c .before .loop .inv .1) (c .before .loop .in
 pub copy-images-spec : {M : Type 1} → statement M
 copy-images-spec =
     tie.close
-    (tie.spec
-    Inv-loop
-    μ-loop
-    loop-holds
-    add-r
-    mul-images
-    element-copy-out-images
-    cast-images
-    add-images
-    element-write-images
-    loop-less
-    loop-again
-    returns)
+    (tie.spec Inv-loop μ-loop loop-holds add-r (search needs) (search needs) cast-images add-images (search needs) loop-less loop-again returns)

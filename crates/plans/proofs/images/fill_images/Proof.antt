@@ -1,5 +1,5 @@
--- `fill_images` meets its contract: the pass from record i on is still to do, `at` counts the images of the calls before it, those of the last stand
--- in `found`, and every byte is 0 or a region's number.
+-- The pass from record i on is still to do, `at` counts the images of the calls before it, those of the last stand in `found`, and every byte is 0 or
+-- a region's number.
 use Prim.Native.Nat.{_-_}
 use native.Mathlib.Omega.{arith}
 use mathlib.Core.Path.{_≡_}
@@ -19,12 +19,6 @@ Inv-loop file table owners images₀ records found₀ last₀ i₀ at₀ images 
 
 abbrev μ-loop : tie.MeasureT-loop
 μ-loop file table owners images₀ records found₀ last₀ i₀ at₀ images found last i at = records - i
-
-word-requires : tie.Need-word-requires Inv-loop μ-loop
-word-requires c κs = search needs
-
-blank-places-requires : tie.Need-blank-places-requires Inv-loop μ-loop
-blank-places-requires c κs = search needs
 
 loop-holds : tie.Need-loop-holds Inv-loop μ-loop
 unfolding recordCount
@@ -62,9 +56,6 @@ add-at c =
     let p = pass-below _ (l .inv .0) (c .before .before .before .before .before .before .loop-test .taken) in
     omega (arith, p, counted (a .pre .0 .formed) .most, l .inv .1, c .before .before .before .before .before .image-count .ensures, before-few f (a .pre .0 .typed) (l .i), count-few f (a .pre .0 .typed) (l .i))
 
-add-i : tie.Need-add-i Inv-loop μ-loop
-add-i c = search needs
-
 loop-less : tie.Need-loop-less Inv-loop μ-loop
 loop-less c = omega arith
 
@@ -86,17 +77,5 @@ returns c = (c .before .loop .inv .3, pass-last _ (c .before .loop .inv .0) (ome
 pub fill-images-spec : {M : Type 1} → statement M
 fill-images-spec =
     tie.close
-    (tie.spec
-    Inv-loop
-    μ-loop
-    word-requires
-    blank-places-requires
-    loop-holds
-    image-count-requires
-    next-images-requires
-    copy-images-requires
-    add-at
-    add-i
-    loop-less
-    loop-again
-    returns)
+    (tie.spec Inv-loop μ-loop (search needs) (search needs) loop-holds image-count-requires next-images-requires copy-images-requires add-at
+    (search needs) loop-less loop-again returns)

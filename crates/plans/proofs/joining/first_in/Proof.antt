@@ -5,9 +5,6 @@ use Rattle.plans.specs.Ways.{links-low, first-behind, first-here}
 use Rattle.plans.proofs.joining.first_in.Statement.{statement}
 use Rattle.plans.proofs.joining.first_in.Tie as tie
 
-links-from-requires : tie.Need-links-from-requires
-links-from-requires c κs = search needs
-
 add-link : tie.Need-add-link
 add-link c =
     let l = links-low (c .before .args .mode) (c .before .args .a) (c .before .pre) in
@@ -30,6 +27,4 @@ returns-2 : tie.Need-returns-2
 returns-2 c = first-here _ _ _ (c .before .before .links-from .ensures) refl (c .if1 .left)
 
 pub first-in-spec : {M : Type 1} → statement M
-first-in-spec =
-    tie.close
-    (tie.spec links-from-requires add-link mul-link element-copy-out-link returns returns-2)
+first-in-spec = tie.close (tie.spec (search needs) add-link mul-link element-copy-out-link returns returns-2)

@@ -1,4 +1,4 @@
--- `join_records` meets its contract: the records below i are still to do.
+-- The records below i are still to do.
 use Prim.Native.Nat.{suc, _-_}
 use native.Mathlib.Omega.{arith}
 use mathlib.Core.Path.{_≡_}
@@ -15,9 +15,6 @@ Inv-loop file plan₀ i₀ plan i = Down (joinedAt file) (recordCount file) plan
 
 abbrev μ-loop : tie.MeasureT-loop
 μ-loop file plan₀ i₀ plan i = i
-
-word-requires : tie.Need-word-requires Inv-loop μ-loop
-word-requires c κs = search needs
 
 loop-holds : tie.Need-loop-holds Inv-loop μ-loop
 unfolding recordCount
@@ -46,15 +43,4 @@ unfolding joining
 returns c = down-last _ (c .before .loop .inv .0) (omega arith)
 
 pub join-records-spec : {M : Type 1} → statement M
-join-records-spec =
-    tie.close
-    (tie.spec
-    Inv-loop
-    μ-loop
-    word-requires
-    loop-holds
-    sub-i
-    join-record-requires
-    loop-less
-    loop-again
-    returns)
+join-records-spec = tie.close (tie.spec Inv-loop μ-loop (search needs) loop-holds sub-i join-record-requires loop-less loop-again returns)

@@ -1,16 +1,10 @@
--- `link_of` meets its contract, one law for each kind of record; a link fits, since a record does.
+-- One law for each kind of record; a link fits, since a record does.
 use native.Mathlib.Omega.{arith}
 use borrow.Author.Needs.{needs}
 use Rattle.plans.specs.Links.{first-below}
 use Rattle.plans.specs.Ways.{link-none, link-call, link-other, link-own, call-leads, argument-leads}
 use Rattle.plans.proofs.joining.link_of.Statement.{statement}
 use Rattle.plans.proofs.joining.link_of.Tie as tie
-
-word-requires : tie.Need-word-requires
-word-requires c κs = search needs
-
-word-requires-2 : tie.Need-word-requires-2
-word-requires-2 c κs = search needs
 
 first-in-requires : tie.Need-first-in-requires
 first-in-requires c κs =
@@ -33,9 +27,6 @@ returns-2 c =
     let a = c .before .before .before .before .args in
     link-none (a .file .now) (a .i) (a .plan .now) (c .before .before .word .ensures .0) (a .mode) (c .before .if1 .left) (c .if2 .taken)
 
-word-requires-3 : tie.Need-word-requires-3
-word-requires-3 c κs = search needs
-
 first-in-requires-2 : tie.Need-first-in-requires-2
 first-in-requires-2 c κs =
     let a = c .before .before .before .before .before in
@@ -47,35 +38,11 @@ mul-link c =
     let l = argument-leads (a .pre .0) (a .args .i) (c .before .before .before .before .word .ensures .0) (c .before .before .if2 .left) (c .before .word3 .ensures .0) in
     omega (arith, first-below (a .pre .1) (a .args .mode) (c .before .word3 .result) l, c .first-in2 .ensures)
 
-add-if3 : tie.Need-add-if3
-add-if3 c = search needs
-
-mul-if3 : tie.Need-mul-if3
-mul-if3 c = search needs
-
-element-copy-out-if3 : tie.Need-element-copy-out-if3
-element-copy-out-if3 c = search needs
-
 returns-3 : tie.Need-returns-3
 returns-3 c =
     let a = c .before .before .before .before .before .before .before .before .args in
     link-other (a .file .now) (a .i) (a .plan .now) (c .before .before .before .before .before .before .word .ensures .0) (a .mode) (c .before .before .before .before .before .if1 .left) (c .before .before .before .before .if2 .left) (c .before .before .before .word3 .ensures .0)
     (c .before .before .first-in2 .ensures) (c .if3 .taken)
-
-add-result : tie.Need-add-result
-add-result c = search needs
-
-mul-result-2 : tie.Need-mul-result-2
-mul-result-2 c = search needs
-
-element-copy-out-result : tie.Need-element-copy-out-result
-element-copy-out-result c = search needs
-
-word-requires-4 : tie.Need-word-requires-4
-word-requires-4 c κs = search needs
-
-mul-result-3 : tie.Need-mul-result-3
-mul-result-3 c = search needs
 
 add-result-2 : tie.Need-add-result-2
 add-result-2 c =
@@ -98,25 +65,6 @@ returns-4 c =
 pub link-of-spec : {M : Type 1} → statement M
 link-of-spec =
     tie.close
-    (tie.spec
-    word-requires
-    word-requires-2
-    first-in-requires
-    mul-result
-    returns
-    returns-2
-    word-requires-3
-    first-in-requires-2
-    mul-link
-    add-if3
-    mul-if3
-    element-copy-out-if3
-    returns-3
-    add-result
-    mul-result-2
-    element-copy-out-result
-    word-requires-4
-    mul-result-3
-    add-result-2
-    add-result-3
+    (tie.spec (search needs) (search needs) first-in-requires mul-result returns returns-2 (search needs) first-in-requires-2 mul-link (search needs)
+    (search needs) (search needs) returns-3 (search needs) (search needs) (search needs) (search needs) (search needs) add-result-2 add-result-3
     returns-4)

@@ -1,76 +1,51 @@
--- `fill_onward` meets its contract: the pass from record i on is still to do.
+-- After i turns the first i records have handed down.
 use Prim.Native.Nat.{_-_, _≤_}
+use mathlib.Core.Path.{_≡_, refl, _∙_}
 use native.Mathlib.Omega.{arith}
-use mathlib.Core.Path.{_≡_, refl, ap, _∙_}
-use lib.ListN.{length}
+use lib.ListN.{length, length-set}
+use Rattle.chains.specs.Formed.{counted}
+use Rattle.owners.specs.Handed.{handedUpTo}
+use Rattle.word_machine.specs.Filling.{onwardBy}
+use Rattle.plans.specs.Onward.{onward-next, onward-last}
 use borrow.Author.Needs.{needs}
-use Rattle.language.specs.File.{recordCount}
-use Rattle.word_machine.specs.Filling.{onwardWords, filled}
-use Rattle.word_machine.specs.FillingLaws.{stores-length}
-use Rattle.plans.specs.Onward.{onward-more, onward-end}
 use Rattle.plans.proofs.onward.fill_onward.Statement.{statement}
 use Rattle.plans.proofs.onward.fill_onward.Tie as tie
 
 abbrev Inv-loop : tie.InvT-loop
-Inv-loop file table₀ count i₀ table i =
-    (1 ≤ i) × (filled onwardWords file (count - i) i table ≡ filled onwardWords file (count - 1) 1 table₀) × (length table ≡ length table₀)
+Inv-loop file table₀ n parts i₀ table i = (table ≡ handedUpTo (onwardBy file) file i table₀) × (i ≤ n) × (length table ≡ length table₀)
 
 abbrev μ-loop : tie.MeasureT-loop
-μ-loop file table₀ count i₀ table i = count - i
-
-word-requires : tie.Need-word-requires Inv-loop μ-loop
-word-requires c κs = search needs
+μ-loop file table₀ n parts i₀ table i = n - i
 
 loop-holds : tie.Need-loop-holds Inv-loop μ-loop
-loop-holds c = (omega arith, refl, refl)
+unfolding handedUpTo
+loop-holds c = (refl, omega arith, refl)
 
-record-at-requires : tie.Need-record-at-requires Inv-loop μ-loop
-record-at-requires c κs = search needs
-
-entry-requires : tie.Need-entry-requires Inv-loop μ-loop
-entry-requires c κs = search needs
-
-onward-step-requires : tie.Need-onward-step-requires Inv-loop μ-loop
-onward-step-requires c κs = search needs
-
-add-i : tie.Need-add-i Inv-loop μ-loop
-add-i c = omega arith
-
-loop-less : tie.Need-loop-less Inv-loop μ-loop
-loop-less c = omega arith
+hand-down-requires : tie.Need-hand-down-requires Inv-loop μ-loop
+hand-down-requires c κs =
+    let a = c .before .before .before .before .before .before .before .before in (
+      a .pre .0,
+      (c .before .before .before .before .part-words .ensures, (omega (arith, c .before .before .before .before .before .record-count .ensures, c .before .before .loop-test .taken), omega (arith, a .pre .1, c .before .before .before .loop .inv .2))),
+    )
 
 loop-again : tie.Need-loop-again Inv-loop μ-loop
 loop-again c =
-    let l = c .before .before .before .before .before .before .before .before .loop in
-    let s = c .before .before .onward-step .ensures in (
-      omega arith,
-      onward-more _ _ (l .i) _ _ (l .table) _ (c .before .before .before .before .before .before .before .loop-test .taken) (c .before .before .before .before .before .before .record-at .ensures) (c .before .before .before .before .entry .ensures) s ∙ l .inv .1,
-      ap length s ∙ stores-length _ _ (l .table) ∙ l .inv .2,
-    )
+    let l = c .before .before .before .before .before .before .loop in
+    (onward-next _ (l .i) _ _ (l .inv .0) (c .before .before .hand-down .ensures), omega arith, c .before .before .hand-down .kept .1 .1 .1 .0 ∙ l .inv .2)
+
+slice-write-table : tie.Need-slice-write-table Inv-loop μ-loop
+slice-write-table c = omega (arith, c .before .before .before .before .before .before .pre .1, counted (c .before .before .before .before .before .before .pre .0) .some, c .before .loop .inv .2)
 
 same-length : tie.Need-same-length Inv-loop μ-loop
-same-length c = c .before .loop .inv .2
+same-length c = let l = c .before .loop in length-set (l .table) 0 0 ∙ l .inv .2
 
 returns : tie.Need-returns Inv-loop μ-loop
-unfolding recordCount
 returns c =
     let l = c .before .loop in
-    let a = c .before .before .before .before .before .args in
-    onward-end _ _ (l .i) (l .table) (c .loop-test .left) ∙ l .inv .1 ∙ ap (λ n. filled onwardWords (a .file .now) (n - 1) 1 (a .table .now)) (c .before .before .word .ensures .0)
+    onward-last _ (l .i) _ _ (c .before .before .before .record-count .ensures) (l .inv .0) (l .inv .1) (c .loop-test .left)
 
 pub fill-onward-spec : {M : Type 1} → statement M
 fill-onward-spec =
     tie.close
-    (tie.spec
-    Inv-loop
-    μ-loop
-    word-requires
-    loop-holds
-    record-at-requires
-    entry-requires
-    onward-step-requires
-    add-i
-    loop-less
-    loop-again
-    same-length
-    returns)
+    (tie.spec Inv-loop μ-loop (λ c κs. search needs) (λ c κs. search needs) loop-holds hand-down-requires (search needs) (search needs) loop-again slice-write-table
+    same-length returns)

@@ -1,4 +1,4 @@
--- `fill_sides` meets its contract: the pass from record i on is still to do, and `at` counts the images of the calls before it.
+-- The pass from record i on is still to do, and `at` counts the images of the calls before it.
 use Prim.Native.Nat.{_-_}
 use native.Mathlib.Omega.{arith}
 use mathlib.Core.Path.{_≡_}
@@ -17,9 +17,6 @@ Inv-loop file table owners plan₀ n i₀ at₀ plan i at = Pass file (sidedAt f
 abbrev μ-loop : tie.MeasureT-loop
 μ-loop file table owners plan₀ n i₀ at₀ plan i at = n - i
 
-word-requires : tie.Need-word-requires Inv-loop μ-loop
-word-requires c κs = search needs
-
 loop-holds : tie.Need-loop-holds Inv-loop μ-loop
 unfolding recordCount
 loop-holds c = (pass-first _ _ (c .word .ensures .0), before-first (c .before .before .before .before .pre .formed))
@@ -33,9 +30,6 @@ add-plan : tie.Need-add-plan Inv-loop μ-loop
 add-plan c =
     let l = pass-below _ (c .before .before .loop .inv .0) (c .before .loop-test .taken) in
     omega (arith, l, counted (c .before .before .before .before .before .before .before .pre .formed) .most)
-
-mul-plan : tie.Need-mul-plan Inv-loop μ-loop
-mul-plan c = search needs
 
 element-write-plan : tie.Need-element-write-plan Inv-loop μ-loop
 element-write-plan c =
@@ -55,9 +49,6 @@ add-at c =
     let p = pass-below _ (l .loop .inv .0) (c .before .before .loop-test .taken) in
     omega (arith, p, counted (a .pre .formed) .most, l .loop .inv .1, c .image-count .ensures, before-few f (a .pre .typed) (l .loop .i), count-few f (a .pre .typed) (l .loop .i))
 
-add-i : tie.Need-add-i Inv-loop μ-loop
-add-i c = search needs
-
 loop-less : tie.Need-loop-less Inv-loop μ-loop
 loop-less c = omega arith
 
@@ -73,18 +64,5 @@ returns c = pass-last _ (c .before .loop .inv .0) (omega arith)
 pub fill-sides-spec : {M : Type 1} → statement M
 fill-sides-spec =
     tie.close
-    (tie.spec
-    Inv-loop
-    μ-loop
-    word-requires
-    loop-holds
-    side-of-requires
-    add-plan
-    mul-plan
-    element-write-plan
-    image-count-requires
-    add-at
-    add-i
-    loop-less
-    loop-again
-    returns)
+    (tie.spec Inv-loop μ-loop (search needs) loop-holds side-of-requires add-plan (search needs) element-write-plan image-count-requires add-at
+    (search needs) loop-less loop-again returns)

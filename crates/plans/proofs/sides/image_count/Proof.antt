@@ -1,33 +1,8 @@
--- `image_count` meets its contract.
 use borrow.Author.Needs.{needs}
 use Rattle.tables.specs.Starts.{window-lent}
 use Rattle.plans.specs.Turns.{count-call, count-none}
 use Rattle.plans.proofs.sides.image_count.Statement.{statement}
 use Rattle.plans.proofs.sides.image_count.Tie as tie
-
-word-requires : tie.Need-word-requires
-word-requires c κs = search needs
-
-word-requires-2 : tie.Need-word-requires-2
-word-requires-2 c κs = search needs
-
-start-of-requires : tie.Need-start-of-requires
-start-of-requires c κs = search needs
-
-mul-word-at : tie.Need-mul-word-at
-mul-word-at c = search needs
-
-sub-word-at : tie.Need-sub-word-at
-sub-word-at c = search needs
-
-part-word-at-start : tie.Need-part-word-at-start
-part-word-at-start c = search needs
-
-part-word-at-end : tie.Need-part-word-at-end
-part-word-at-end c = search needs
-
-word-at-requires : tie.Need-word-at-requires
-word-at-requires c κs = search needs
 
 returns : tie.Need-returns
 returns c =
@@ -44,14 +19,5 @@ returns-2 c =
 pub image-count-spec : {M : Type 1} → statement M
 image-count-spec =
     tie.close
-    (tie.spec
-    word-requires
-    word-requires-2
-    start-of-requires
-    mul-word-at
-    sub-word-at
-    part-word-at-start
-    part-word-at-end
-    word-at-requires
-    returns
+    (tie.spec (search needs) (search needs) (search needs) (search needs) (search needs) (search needs) (search needs) (search needs) returns
     returns-2)

@@ -1,4 +1,4 @@
--- `side_of` meets its contract, one law for each kind of record.
+-- One law for each kind of record.
 use borrow.Author.Needs.{needs}
 use mathlib.Core.Path.{ap, _∙_}
 use Rattle.tables.specs.Starts.{windowIn, window-lent}
@@ -6,37 +6,10 @@ use Rattle.plans.specs.Turns.{side-call, side-construct, side-none}
 use Rattle.plans.proofs.sides.side_of.Statement.{statement}
 use Rattle.plans.proofs.sides.side_of.Tie as tie
 
-word-requires : tie.Need-word-requires
-word-requires c κs = search needs
-
 returns : tie.Need-returns
 returns c =
     let a = c .before .before .before .before .before in
     side-call (a .args .file .now) (a .args .i) (c .before .word .ensures .0) (c .if1 .taken) (a .args .at)
-
-owner-of-requires : tie.Need-owner-of-requires
-owner-of-requires c κs = search needs
-
-start-of-requires : tie.Need-start-of-requires
-start-of-requires c κs = search needs
-
-mul-home : tie.Need-mul-home
-mul-home c = search needs
-
-sub-home : tie.Need-sub-home
-sub-home c = search needs
-
-part-home-start : tie.Need-part-home-start
-part-home-start c = search needs
-
-part-home-end : tie.Need-part-home-end
-part-home-end c = search needs
-
-word-requires-2 : tie.Need-word-requires-2
-word-requires-2 c κs = search needs
-
-home-requires : tie.Need-home-requires
-home-requires c κs = search needs
 
 returns-2 : tie.Need-returns-2
 returns-2 c =
@@ -54,16 +27,5 @@ returns-3 c =
 pub side-of-spec : {M : Type 1} → statement M
 side-of-spec =
     tie.close
-    (tie.spec
-    word-requires
-    returns
-    owner-of-requires
-    start-of-requires
-    mul-home
-    sub-home
-    part-home-start
-    part-home-end
-    word-requires-2
-    home-requires
-    returns-2
-    returns-3)
+    (tie.spec (search needs) returns (search needs) (search needs) (search needs) (search needs) (search needs) (search needs) (search needs)
+    (search needs) returns-2 returns-3)

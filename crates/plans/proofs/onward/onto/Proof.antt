@@ -1,6 +1,6 @@
 use Rattle.plans.specs.Onward.{onto-none, onto-some}
-use Rattle.plans.proofs.steps.onto.Statement.{statement}
-use Rattle.plans.proofs.steps.onto.Tie as tie
+use Rattle.plans.proofs.onward.onto.Statement.{statement}
+use Rattle.plans.proofs.onward.onto.Tie as tie
 
 returns : tie.Need-returns
 returns c = onto-none _ _ (c .if1 .taken)
