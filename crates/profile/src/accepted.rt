@@ -1,6 +1,6 @@
 // An accepted file's profile, in the memory that the runner program lends.
-use crate::parts::print;
 use crate::parts::print_parts;
+use answering::print;
 use plans::CALLEES;
 use plans::IMAGES;
 use plans::PLAN;
