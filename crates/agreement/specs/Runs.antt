@@ -18,7 +18,8 @@ use Rattle.lockstep.specs.Counted.{spent}
 use Rattle.soundness.specs.Lent.{lent-run}
 use Rattle.word_machine.specs.Machine.{lentWords}
 use Rattle.machine.specs.declared.Outcome.{Outcome}
-use Rattle.machine.specs.Joining.{RanAs}
+use Rattle.word_machine.specs.Printing.{front-numbers}
+use Rattle.machine.specs.Joining.{RanAs, as-printed}
 
 -- The file f with l steps lent; r is the answer, px the words lent for printed numbers afterwards.
 pub record AsPlain (f : List ℕ) (l : ℕ) (r : Outcome) (px : List ℕ) : Type 0 where
@@ -42,7 +43,7 @@ as-plain {f} {m} {rs} {fw} {ps} {px} {l} {r} R a =
     let L = lent-run f a (lentWords m rs fw ps l) in
     record {
       within = rw (R .steps) (L .within);
-      prints = rw (R .steps) (R .printed .front ∙ L .plainPrints);
+      prints = rw (R .steps) (front-numbers (as-printed f m rs fw ps l R) ∙ L .plainPrints);
       over = λ e. rw (R .steps) (L .over (sym (R .ending) ∙ e));
       plainOver = λ e. rw (R .steps) (L .plainOver (sym (R .ending) ∙ e));
       clean = λ e. rw (R .steps) (L .clean (sym (R .ending) ∙ e));

@@ -12,7 +12,9 @@ ghost use lib.ListN.{length};
 ghost use Rattle.language.specs.Answers.{annotated, annotatorMemory};
 ghost use Rattle.agreement.specs.Agreement.{LeavesSound};
 
-// Annotates, then checks the bytes that were left, in memory that stands as the annotator leaves it. Whatever the file and the memory, the checker accepts them: the answer is never false.
+// Annotates, then checks the bytes that were left, in memory that stands as the annotator leaves it. Whatever the file and the memory, the checker accepts
+// them: the answer is never false. That alone says nothing of the bytes, a function that looks at none meets it; `LeavesSound` says that the checker's
+// definition accepts them, and what follows of their run.
 pub fn left_is_accepted(file: &[u8], out: &mut [u8]) -> bool
     ensures { λ b. ⌜ b ≡ true ⌝ }
     ensures { λ _. ⌜ LeavesSound (annotated (now (file .entry)) (length (now (out .entry)))) (now (out .exit)) ⌝ }

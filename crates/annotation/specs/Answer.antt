@@ -19,7 +19,7 @@ use Rattle.language.specs.Layout.{size}
 use Rattle.language.specs.Program.{Program}
 use Rattle.language.specs.Records.{programTree}
 use Rattle.language.specs.Annotation.{annotate}
-use Rattle.language.specs.Answers.{Stage, stage, lowest, program, fileOf, roomOk, fileStages, reachedStages, annotatorStages, AnnotatorAnswer, refuses, writes, writesUnless, annotated, annotatorMemory}
+use Rattle.language.specs.Answers.{refusalNumber, Stage, stage, lowest, program, fileOf, roomOk, fileStages, reachedStages, annotatorStages, AnnotatorAnswer, refuses, writes, annotatorNumber, writesUnless, annotated, annotatorMemory}
 use Rattle.records.specs.Verdicts.{formStages, after, lowest-append}
 use Rattle.chains.specs.Layout.{length-of-program}
 use Rattle.rules.specs.Stages.{typingStages}
@@ -32,9 +32,14 @@ unfoldable pub told : AnnotatorAnswer → Annotated
 told (refuses r) = NotAnnotated r
 told (writes g) = Written (length g)
 
--- the answer and the lent memory afterwards
+-- the table's number, 0 where the file is written
+unfoldable pub answerNumber : Annotated → ℕ
+answerNumber (NotAnnotated r) = refusalNumber r
+answerNumber (Written n) = 0
+
+-- the answer, the lent memory afterwards, and the answer's number
 abbrev pub Annotates : AnnotatorAnswer → List ℕ → List ℕ → Annotated → Type 0
-Annotates a before after r = (r ≡ told a) × (after ≡ annotatorMemory a before)
+Annotates a before after r = (r ≡ told a) × (after ≡ annotatorMemory a before) × (answerNumber r ≡ annotatorNumber a)
 
 -- how many of the lent bytes may be written: all of them, or as many as the longest file has
 abbrev pub RoomIn : ℕ → ℕ → Type 0
@@ -71,8 +76,8 @@ module _ (ss ts : List Stage) (g : List ℕ) {v : Verdict} (e : v ≡ lowest ss)
 
 -- ---- a refusal leaves the memory as it was
 pub refusal-told : {a : AnnotatorAnswer} {r : Refusal} (m : List ℕ) → a ≡ refuses r → Annotates a m m (NotAnnotated r)
-unfolding told annotatorMemory
-refusal-told m e = rw e (refl, refl)
+unfolding told annotatorMemory answerNumber annotatorNumber
+refusal-told m e = rw e (refl, refl, refl)
 
 pub answer-moved : {a b : AnnotatorAnswer} (before : List ℕ) {after : List ℕ} {r : Annotated} → a ≡ b → Annotates b before after r → Annotates a before after r
 answer-moved before e h = rw e h
@@ -119,5 +124,5 @@ module _ (f : List ℕ) (lent : ℕ) (n : ℕ) (small : size (programTree (annot
 
     pub file-told : (before : List ℕ) {front after : List ℕ} → recordBytes * n ≤ lent → front ≡ fileOf P → after ≡ frontWritten front before
         → Annotates (roomAnswer f lent) before after (Written (recordBytes * n))
-    unfolding told annotatorMemory
-    file-told before h p e = rw (room-there h) (ap (λ (k : ℕ). Written k) (let q = sized in omega (arith, bytes)), e ∙ ap (λ (g : List ℕ). frontWritten g before) p)
+    unfolding told annotatorMemory answerNumber annotatorNumber
+    file-told before h p e = rw (room-there h) (ap (λ (k : ℕ). Written k) (let q = sized in omega (arith, bytes)), e ∙ ap (λ (g : List ℕ). frontWritten g before) p, refl)

@@ -28,7 +28,6 @@ fn annotator_answer(file: &[u8], out: &mut [u8]) -> usize
     }
 }
 
-// Writes that and nothing else.
 pub fn print_annotated(file: &[u8]) {
     let mut out = lent();
     let n = annotator_answer(file, &mut out);

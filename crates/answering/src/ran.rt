@@ -71,7 +71,6 @@ fn runner_answer(file: &[u8], out: &mut [u8]) -> usize
     accepted_answer(file, out)
 }
 
-// Writes that and nothing else.
 pub fn print_run(file: &[u8]) {
     let mut out = output();
     let n = runner_answer(file, &mut out);

@@ -1,10 +1,11 @@
--- What C-18 changes, to be checked against document 02's words: "Files accepted from then on are exactly the old ones without such procedures", and a
--- file without such procedures is answered as before.
+-- What C-18 changes, to be checked against document 02's words: "Files accepted from then on are exactly the old ones without such procedures", a file
+-- without such procedures is answered as before, and one with such procedures gets 17, "looked at after 5 and before 6".
 use Prim.Native.Nat.{ℕ}
 use mathlib.Core.List.{List, [], _∷_, _++_}
-use mathlib.Core.Logic.{_↔_}
+use mathlib.Core.Bool.{Bool, true, false}
+use mathlib.Core.Logic.{_↔_, _⊎_, inl, inr}
 use mathlib.Core.Path.{_≡_, refl, sym, ap, _∙_}
-use Rattle.sets.specs.Tests.{_&_}
+use Rattle.sets.specs.Tests.{_&_, truth}
 use Rattle.language.specs.declared.Refusal.{Refusal}
 use Rattle.language.specs.declared.Refusal.the-variants.{Unreached, Annotated, Classes, Rules, Room}
 use Rattle.language.specs.declared.Verdict.{Verdict}
@@ -15,7 +16,7 @@ use Rattle.language.specs.Lifetimes.{declaredClassesOk, callClassesOk}
 use Rattle.language.specs.Annotation.{unannotated, annotate}
 use Rattle.language.specs.Checking.{rulesOk}
 use Rattle.language.specs.Machine.{Lent, Run}
-use Rattle.language.specs.Answers.{Stage, stage, lowest, program, fileStages, fileOf, roomOk, reachedStages, annotatorStages, checkerStages, AnnotatorAnswer, writes, writesUnless, annotated, checked, runFor, ran}
+use Rattle.language.specs.Answers.{Stage, stage, lowest, program, fileStages, fileOf, roomOk, reachedStages, annotatorStages, checkerStages, AnnotatorAnswer, refuses, writes, writesUnless, annotated, checked, runFor, ran}
 use Rattle.laws.specs.Stages.{middle-passed, lowest-without, reached-stages, writes-passed}
 use Rattle.call_graph.specs.Reached.{AllReached, ok-reached, reached-ok}
 
@@ -43,6 +44,11 @@ module _ (f : List ℕ) where
 abbrev pub NotRefused : Run → Type 0
 NotRefused r = (q : Refusal) → r .ending ≡ RunRefused q → ⊥
 
+-- the refusal of a file that has such procedures: of numbers 1 to 5, if it gets one, else 17
+abbrev pub soonerOr17 : Verdict → Refusal
+soonerOr17 (Refused r) = r
+soonerOr17 Accepted = Unreached
+
 pub record Changed (f : List ℕ) : Type 0 where
   -- accepted from then on: accepted before, and chains of calls reach every procedure but the entry, which is where they start
   pub annotator : (lent : ℕ) (g : List ℕ) → (annotated f lent ≡ writes g) ↔ ((annotatedBefore f lent ≡ writes g) × AllReached (program f))
@@ -52,6 +58,17 @@ pub record Changed (f : List ℕ) : Type 0 where
   pub annotator-same : AllReached (program f) → (lent : ℕ) → annotated f lent ≡ annotatedBefore f lent
   pub checker-same : AllReached (program f) → checked f ≡ checkedBefore f
   pub runner-same : AllReached (program f) → (l : Lent) → ran f l ≡ ranBefore f l
+  -- where they do not, each program refuses it
+  pub annotator-17 : (AllReached (program f) → ⊥) → (lent : ℕ) → annotated f lent ≡ refuses (soonerOr17 (lowest (fileStages f)))
+  pub checker-17 : (AllReached (program f) → ⊥) → checked f ≡ Refused (soonerOr17 (lowest (fileStages f)))
+  pub runner-17 : (AllReached (program f) → ⊥) → (l : Lent) → ran f l ≡ record { ending = RunRefused (soonerOr17 (lowest (fileStages f))); steps = 0; printed = [] }
+
+-- a stage that is not passed, behind others
+stopped : (ss ts : List Stage) {b : Bool} → b ≡ false → lowest (ss ++ (stage Unreached b ∷ ts)) ≡ Refused (soonerOr17 (lowest ss))
+unfolding lowest
+stopped [] ts e = rw e refl
+stopped (stage q true ∷ ss) ts e = stopped ss ts e
+stopped (stage q false ∷ ss) ts e = refl
 
 module _ (f : List ℕ) where
   -- ---- an answer other than a refusal has passed number 17
@@ -91,6 +108,29 @@ module _ (f : List ℕ) where
   unfolding ran
   runner-reached l h = checker-reached (run-passed (checked f) l h)
 
+  -- ---- number 17 is not passed
+  unreached : (AllReached (program f) → ⊥) → reachedOk (program f) ≡ false
+  unreached n = go (truth (reachedOk (program f)))
+    where
+      go : (reachedOk (program f) ≡ true) ⊎ (reachedOk (program f) ≡ false) → reachedOk (program f) ≡ false
+      go (inl e) = absurd (n (ok-reached (program f) e))
+      go (inr e) = e
+
+  refused-17 : (ss : List Stage) → (AllReached (program f) → ⊥) → lowest (reachedStages f ++ ss) ≡ Refused (soonerOr17 (lowest (fileStages f)))
+  refused-17 ss n = ap lowest (reached-stages f ss) ∙ stopped (fileStages f) ss (unreached n)
+
+  annotator-refuses : (AllReached (program f) → ⊥) → (lent : ℕ) → annotated f lent ≡ refuses (soonerOr17 (lowest (fileStages f)))
+  unfolding annotated annotatorStages writesUnless
+  annotator-refuses n lent = ap (λ (v : Verdict). writesUnless v (fileOf (annotate (program f)))) (refused-17 _ n)
+
+  checker-refuses : (AllReached (program f) → ⊥) → checked f ≡ Refused (soonerOr17 (lowest (fileStages f)))
+  unfolding checked checkerStages
+  checker-refuses n = refused-17 _ n
+
+  runner-refuses : (AllReached (program f) → ⊥) → (l : Lent) → ran f l ≡ record { ending = RunRefused (soonerOr17 (lowest (fileStages f))); steps = 0; printed = [] }
+  unfolding ran runFor
+  runner-refuses n l = ap (λ (v : Verdict). runFor v f l) (checker-refuses n)
+
 -- THE THEOREM
 pub changed : (f : List ℕ) → Changed f
 changed f = record {
@@ -106,4 +146,7 @@ changed f = record {
   annotator-same = annotator-as f;
   checker-same = checker-as f;
   runner-same = runner-as f;
+  annotator-17 = annotator-refuses f;
+  checker-17 = checker-refuses f;
+  runner-17 = runner-refuses f;
 }

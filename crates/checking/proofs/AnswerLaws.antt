@@ -5,10 +5,10 @@ use mathlib.Core.Path.{_≡_, refl, sym, ap, _∙_}
 use Rattle.language.specs.declared.Refusal.{Refusal}
 use Rattle.language.specs.declared.Verdict.{Verdict}
 use Rattle.language.specs.declared.Verdict.the-variants.{Refused, Accepted}
-use Rattle.language.specs.Answers.{lowest, fileStages, reachedStages, checkerStages, checked}
+use Rattle.language.specs.Answers.{lowest, fileStages, reachedStages, checkerStages, checkerNumber, checked}
 use Rattle.records.specs.Verdicts.{formStages, after, lowest-append}
 use Rattle.rules.specs.Stages.{typingStages}
-use Rattle.checking.specs.Answer.{ruleStages}
+use Rattle.checking.specs.Answer.{ruleStages, Checks}
 
 all-stages : (f : List ℕ) → typingStages f ++ ruleStages f ≡ checkerStages f
 unfolding checkerStages reachedStages fileStages formStages
@@ -18,11 +18,14 @@ checked-by : (f : List ℕ) → checked f ≡ after (lowest (typingStages f)) (l
 unfolding checked
 checked-by f = ap lowest (sym (all-stages f)) ∙ lowest-append (typingStages f) (ruleStages f)
 
-module _ (f : List ℕ) {v : Verdict} (e : v ≡ lowest (typingStages f)) where
-  pub checker-refuses : {r : Refusal} → v ≡ Refused r → v ≡ checked f
-  unfolding after
-  checker-refuses g = g ∙ sym (checked-by f ∙ ap (λ (w : Verdict). after w (lowest (ruleStages f))) (sym e ∙ g))
+numbered : (f : List ℕ) {v : Verdict} → v ≡ checked f → Checks f v
+numbered f e = (e, ap checkerNumber e)
 
-  pub checker-goes : {w : Verdict} → v ≡ Accepted → w ≡ lowest (ruleStages f) → w ≡ checked f
+module _ (f : List ℕ) {v : Verdict} (e : v ≡ lowest (typingStages f)) where
+  pub checker-refuses : {r : Refusal} → v ≡ Refused r → Checks f v
   unfolding after
-  checker-goes g h = h ∙ sym (checked-by f ∙ ap (λ (u : Verdict). after u (lowest (ruleStages f))) (sym e ∙ g))
+  checker-refuses g = numbered f (g ∙ sym (checked-by f ∙ ap (λ (w : Verdict). after w (lowest (ruleStages f))) (sym e ∙ g)))
+
+  pub checker-goes : {w : Verdict} → v ≡ Accepted → w ≡ lowest (ruleStages f) → Checks f w
+  unfolding after
+  checker-goes g h = numbered f (h ∙ sym (checked-by f ∙ ap (λ (u : Verdict). after u (lowest (ruleStages f))) (sym e ∙ g)))

@@ -9,7 +9,7 @@ use tables::blank_rows;
 ghost use mathlib.Core.Path.{_≡_};
 ghost use mathlib.Core.Bool.{true};
 ghost use Rattle.language.specs.Typing.{typingOk};
-ghost use Rattle.language.specs.Answers.{lowest, program, checked};
+ghost use Rattle.language.specs.Answers.{lowest, program, checkerNumber, checked};
 ghost use Rattle.chains.specs.Formed.{Formed};
 ghost use Rattle.checking.specs.Answer.{ruleStages};
 
@@ -33,6 +33,7 @@ fn check_rules(file: &[u8]) -> Verdict
 
 pub fn check(file: &[u8]) -> Verdict
     ensures { λ r. ⌜ r ≡ checked (now (file .entry)) ⌝ }
+    ensures { λ r. ⌜ checkerNumber r ≡ checkerNumber (checked (now (file .entry))) ⌝ }
 {
     let answer = check_typing(file);
     let Verdict::Accepted = answer else {

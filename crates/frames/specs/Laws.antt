@@ -12,13 +12,14 @@ use lib.Dec.{T}
 use lib.IntN.{ℤ, pos, negsuc, natAbs, negℤ, subℕ, _+ℤ_, _-ℤ_}
 use lib.Signed.{mag, nonNeg, leZ}
 use lib.ListN.{set}
-use mir.Syntax.{Width, w32, w64}
+use mir.Syntax.{Width, w16, w32, w64}
 use mir.Val.{Fits, SFits, bits, hbits, toZ, ofZ}
 use mir.Facts.{toZ-pos, toZ-neg, toZ-ofZ, sfits-toZ, sfits-widen}
-use Rattle.sets.specs.Tests.{_&_, clash}
+use Rattle.sets.specs.Tests.{_&_, clash, true-and}
 use Rattle.language.specs.Lists.{choose}
 use Rattle.language.specs.Format.{maxVariables}
-use Rattle.language.specs.Numbers.{residue, sumNumber, inRange}
+use Rattle.language.specs.Numbers.{literalNumber, residue, sumNumber, inRange}
+use Rattle.records.specs.Sizes.{wordEnd}
 use Rattle.word_machine.specs.Machine.{sumOfWords, cleared, blocks}
 use Rattle.word_machine.specs.Numbers.{range-fits}
 use Rattle.word_machine.specs.WordLaws.{toZ-high}
@@ -87,10 +88,28 @@ negative-fits (negsuc n) h = h
 abbrev wide : ℤ → ℤ
 wide r = toZ w64 (ofZ w64 (toZ w32 (ofZ w32 r)))
 
+widened : (z r : ℤ) → SFits w32 z → r ≡ z → SFits w64 (toZ w32 (ofZ w32 r)) × (wide r ≡ z)
+widened z r h e =
+    let s : SFits w64 z = sfits-widen tt h in
+    rw (e, toZ-ofZ h) (s, toZ-ofZ s)
+
 pub widens : (a : ℕ) (r : ℤ) → Fits w32 a → r ≡ toZ w32 a → SFits w64 (toZ w32 (ofZ w32 r)) × (wide r ≡ toZ w32 a)
-widens a r h e =
-    let s : SFits w64 (toZ w32 a) = sfits-widen tt (sfits-toZ h) in
-    rw (e, toZ-ofZ (sfits-toZ h)) (s, toZ-ofZ s)
+widens a r h e = widened (toZ w32 a) r (sfits-toZ h) e
+
+-- ---- literals
+pub literal-widens : (v : ℕ) (r : ℤ) → v < wordEnd → r ≡ literalNumber v → SFits w64 (toZ w32 (ofZ w32 r)) × (wide r ≡ literalNumber v)
+unfolding literalNumber
+literal-widens v r h e =
+    let s : SFits w16 (toZ w16 v) = sfits-toZ (record { fits = h }) in
+    widened (toZ w16 v) r (sfits-widen {w = w16} tt s) e
+
+pub literal-range : (v : ℕ) → v < wordEnd → inRange (literalNumber v) ≡ true
+unfolding literalNumber inRange _&_
+literal-range v h =
+    elim (decLt v (2 ^ 15)) [
+      | yes l ↦ rw (toZ-pos w16 l) (le-leb v 2147483647 (omega arith))
+      | no l ↦ rw (toZ-high w16 v (omega (arith, l))) (true-and (le-leb (2 ^ 16 - suc v) 2147483647 (omega arith)) refl)
+    ]
 
 module _ (o a b : ℕ) (r s : ℤ) (ha : Fits w32 a) (hb : Fits w32 b) (er : r ≡ toZ w32 a) (es : s ≡ toZ w32 b) where
   pub sum-added : o ≡ 0 → SFits w64 (wide r +ℤ wide s) × (toZ w64 (ofZ w64 (wide r +ℤ wide s)) ≡ sumOfWords o a b)

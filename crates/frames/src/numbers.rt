@@ -4,14 +4,14 @@ ghost use mathlib.Core.Bool.{true};
 ghost use Prim.Native.Nat.{_<_};
 ghost use mir.Syntax.{w32};
 ghost use mir.Val.{toZ};
-ghost use Rattle.language.specs.Numbers.{residue, inRange, less};
+ghost use Rattle.language.specs.Numbers.{literalNumber, residue, inRange, less};
 ghost use Rattle.records.specs.Sizes.{wordEnd};
 ghost use Rattle.word_machine.specs.Machine.{literalWord, sumOfWords};
 
-// A literal from the half on is negative, and its word has all bits of the high half.
-const LITERAL_HALF: u32 = 32768;
+// A literal from here on is negative, and the last one is -1.
+const NEGATIVE_LITERALS: u32 = 32768;
 
-const HIGH_HALF: u32 = 4294901760;
+const LAST_LITERAL: u32 = 65535;
 
 // A word from here on is negative, and the last one is -1.
 const NEGATIVE_FROM: u32 = 2147483648;
@@ -27,11 +27,22 @@ const GREATEST: i64 = 2147483647;
 const WORDS: i64 = 4294967296;
 
 // "A literal's 16 bits are read as two's complement."
+fn literal_number(v: u32) -> i32
+    requires { ⌜ v < wordEnd ⌝ }
+    ensures { λ r. ⌜ r ≡ literalNumber v ⌝ }
+{
+    if v < NEGATIVE_LITERALS {
+        v as i32
+    } else {
+        -1 - ((LAST_LITERAL - v) as i32)
+    }
+}
+
 pub fn literal_word(v: u32) -> u32
     requires { ⌜ v < wordEnd ⌝ }
     ensures { λ r. ⌜ r ≡ literalWord v ⌝ }
 {
-    if v < LITERAL_HALF { v } else { v + HIGH_HALF }
+    word_of(literal_number(v) as i64)
 }
 
 // The sum or difference of two words' numbers, in full.

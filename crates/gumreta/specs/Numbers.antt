@@ -1,16 +1,15 @@
--- Answers as the numbers that cross the boundary: 0 where the file is written, accepted or run to its end, else document 01's number.
+-- From what `annotate`, `check` and `run` promise to the numbers that cross the boundary.
 use Prim.Native.Nat.{ℕ}
 use native.Mathlib.Omega.{arith}
 use mathlib.Core.List.{List}
 use mathlib.Core.Path.{_≡_, refl, sym, ap, _∙_}
-use lib.ListN.{length}
 use Rattle.language.specs.declared.Refusal.{Refusal}
 use Rattle.language.specs.declared.Verdict.{Verdict}
 use Rattle.language.specs.declared.Verdict.the-variants.{Refused, Accepted}
 use Rattle.language.specs.declared.Stop.{Stop}
 use Rattle.language.specs.declared.Ending.{Ending}
 use Rattle.language.specs.declared.Ending.the-variants.{Refused as RunRefused, Finished, Stopped}
-use Rattle.language.specs.Answers.{refusalNumber, stopNumber, AnnotatorAnswer, refuses, writes, annotatorMemory}
+use Rattle.language.specs.Answers.{refusalNumber, stopNumber, checkerNumber, endingNumber, AnnotatorAnswer, refuses, writes, annotatorNumber, writtenBytes, annotatorMemory}
 use Rattle.annotation.specs.declared.Annotated.{Annotated}
 use Rattle.annotation.specs.declared.Annotated.the-variants.{Refused as NotAnnotated, Written}
 use Rattle.annotation.specs.Answer.{told, Annotates}
@@ -19,24 +18,7 @@ use Rattle.annotation.specs.Answer.{told, Annotates}
 abbrev pub version : ℕ
 version = 40200
 
-unfoldable pub annotatorNumber : AnnotatorAnswer → ℕ
-annotatorNumber (refuses r) = refusalNumber r
-annotatorNumber (writes g) = 0
-
-unfoldable pub writtenBytes : AnnotatorAnswer → ℕ
-writtenBytes (refuses r) = 0
-writtenBytes (writes g) = length g
-
-unfoldable pub checkerNumber : Verdict → ℕ
-checkerNumber (Refused r) = refusalNumber r
-checkerNumber Accepted = 0
-
-unfoldable pub endingNumber : Ending → ℕ
-endingNumber (RunRefused r) = refusalNumber r
-endingNumber Finished = 0
-endingNumber (Stopped c) = stopNumber c
-
--- ---- from what the functions below promise to these numbers
+-- ---- from what the functions below promise to the numbers
 module _ {n : ℕ} {q : Refusal} (k : n ≡ refusalNumber q) where
   pub annotator-refuses : (a : AnnotatorAnswer) (before : List ℕ) {after : List ℕ} {r : Annotated} → Annotates a before after r → r ≡ NotAnnotated q
       → (n ≡ annotatorNumber a) × ((after ≡ annotatorMemory a before) × (0 ≡ writtenBytes a))

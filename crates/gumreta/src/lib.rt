@@ -10,11 +10,11 @@ use lines::stop_number;
 use running::run;
 ghost use mathlib.Core.Path.{_≡_};
 ghost use lib.ListN.{length};
-ghost use Rattle.language.specs.Answers.{annotated, annotatorMemory, checked, ran};
+ghost use Rattle.language.specs.Machine.{printPlaces};
+ghost use Rattle.language.specs.Answers.{checkerNumber, endingNumber, annotatorNumber, writtenBytes, annotated, annotatorMemory, checked, ran};
 ghost use Rattle.word_machine.specs.Machine.{lentWords};
-ghost use Rattle.word_machine.specs.Statement.{Printed};
 ghost use Rattle.running.specs.Answer.{Kept};
-ghost use Rattle.gumreta.specs.Numbers.{version, annotatorNumber, writtenBytes, checkerNumber, endingNumber};
+ghost use Rattle.gumreta.specs.Numbers.{version};
 
 // As GUMRETA_VERSION of c/gumreta.h.
 const VERSION: u64 = 40200;
@@ -84,8 +84,10 @@ pub extern "C" fn gumreta_run(
         (lentWords (now (cells .entry)) (now (regions .entry)) (now (frames .entry)) (now (prints .entry)) steps) .ending) ⌝ }
     ensures { λ _. ⌜ now (done .exit) ≡ ran (now (file .entry))
         (lentWords (now (cells .entry)) (now (regions .entry)) (now (frames .entry)) (now (prints .entry)) steps) .steps ⌝ }
-    ensures { λ _. ⌜ Printed (now (prints .entry)) (now (prints .exit)) (now (printed .exit)) (ran (now (file .entry))
+    ensures { λ _. ⌜ now (printed .exit) ≡ length (ran (now (file .entry))
         (lentWords (now (cells .entry)) (now (regions .entry)) (now (frames .entry)) (now (prints .entry)) steps) .printed) ⌝ }
+    ensures { λ _. ⌜ now (prints .exit) ≡ printPlaces (ran (now (file .entry))
+        (lentWords (now (cells .entry)) (now (regions .entry)) (now (frames .entry)) (now (prints .entry)) steps)) (now (prints .entry)) ⌝ }
     ensures { λ _. ⌜ Kept (now (file .entry)) (now (cells .entry)) (now (regions .entry)) (now (frames .entry)) (now (prints .entry))
         (now (cells .exit)) (now (regions .exit)) (now (frames .exit)) (now (prints .exit)) ⌝ }
 {

@@ -1,28 +1,25 @@
 -- From what `annotate`, `check` and `run` promise, and what the definitions give for a file, to what the code answers.
 use Prim.Native.Nat.{ℕ}
 use native.Mathlib.Omega.{arith}
-use mathlib.Core.List.{List, _++_, append-nil, map}
+use mathlib.Core.List.{List, _++_, append-nil}
 use mathlib.Core.Path.{_≡_, refl, sym, ap, _∙_}
-use lib.ListN.{length, take, drop, drop-of-length-le}
-use mir.Syntax.{w32}
-use mir.Val.{toZ}
+use lib.ListN.{length, drop-of-length-le}
 use Rattle.language.specs.declared.Refusal.{Refusal}
 use Rattle.language.specs.declared.Verdict.{Verdict}
 use Rattle.language.specs.declared.Verdict.the-variants.{Refused as NotAccepted}
 use Rattle.language.specs.declared.Ending.{Ending}
 use Rattle.language.specs.declared.Ending.the-variants.{Refused as NotRun}
 use Rattle.language.specs.Lists.{frontWritten}
-use Rattle.language.specs.Machine.{Lent, Run, runnerLent}
+use Rattle.language.specs.Machine.{Lent, Run, runnerLent, printPlaces}
 use Rattle.language.specs.Answers.{AnnotatorAnswer, refuses, writes, annotated, annotatorBytes, annotatorMemory, checked, ran}
 use Rattle.language.specs.Table.{silent, AllRefuse}
 use Rattle.annotation.specs.declared.Annotated.{Annotated}
 use Rattle.annotation.specs.declared.Annotated.the-variants.{Refused, Written}
 use Rattle.annotation.specs.Answer.{told, Annotates}
 use Rattle.word_machine.specs.Machine.{lentWords}
-use Rattle.word_machine.specs.Statement.{Printed}
 use Rattle.machine.specs.declared.Outcome.{Outcome}
 use Rattle.machine.specs.Joining.{RanAs}
-use Rattle.running.specs.Answer.{Kept}
+use Rattle.running.specs.Answer.{Free, Untouched, Kept}
 use Rattle.hand_sized.specs.declared.Answers.{Answers}
 
 -- ---- the annotator: f is the file g
@@ -39,13 +36,13 @@ module _ (f before : List ℕ) {after : List ℕ} {r : Annotated} {g : List ℕ}
 
   pub refused : {q : Refusal} (n : ℕ) → annotated g n ≡ refuses q → length before ≡ n → (r ≡ Refused q) × (after ≡ before)
   unfolding told annotatorMemory
-  refused n t l = answered n t l
+  refused n t l = let p = answered n t l in (p .0, p .1)
 
 -- ---- the runner
 abbrev pub outcome : Ending → ℕ → ℕ → Outcome
 outcome e n k = record { ending = e; steps = n; printed = k }
 
--- an outcome with nothing printed
+-- .. with nothing printed
 abbrev pub quiet : Ending → ℕ → Outcome
 quiet e n = outcome e n 0
 
@@ -59,26 +56,24 @@ unfolding lentWords
 lent-by m rs fw ps l p q s t = rw (p, q, s, t) refl
 
 -- f is the file g
-module _ {f m rs fw ps px : List ℕ} {l : ℕ} {r : Outcome} {g : List ℕ} (h : RanAs f m rs fw ps l r px) (e : f ≡ g) where
-  as-ran : {R : Run} (L : Lent) → ran g L ≡ R → lentWords m rs fw ps l ≡ L → (r .ending ≡ R .ending) × (r .steps ≡ R .steps) × Printed ps px (r .printed) (R .printed)
+module _ {f m rs fw ps m′ rs′ fw′ px : List ℕ} {l : ℕ} {r : Outcome} {g : List ℕ} (h : RanAs f m rs fw ps l r px) (K : Kept f m rs fw ps m′ rs′ fw′ px) (e : f ≡ g) where
+  as-ran : {R : Run} (L : Lent) → ran g L ≡ R → lentWords m rs fw ps l ≡ L → (r ≡ outcome (R .ending) (R .steps) (length (R .printed))) × (px ≡ printPlaces R ps)
   as-ran {R} L t k =
-      let u : ran f (lentWords m rs fw ps l) ≡ R = ap (λ x. ran x (lentWords m rs fw ps l)) e ∙ ap (λ x. ran g x) k ∙ t in
-      (h .ending ∙ ap (λ x. x .ending) u, h .steps ∙ ap (λ x. x .steps) u, rw u at (h .printed))
+      let u : ran f (lentWords m rs fw ps l) ≡ R = ap (λ x. ran x (lentWords m rs fw ps l)) e ∙ ap (λ x. ran g x) k ∙ t in (
+        same-outcome (h .ending ∙ ap (λ x. x .ending) u) (h .steps ∙ ap (λ x. x .steps) u) (h .printed ∙ ap (λ x. length (x .printed)) u),
+        h .places ∙ ap (λ x. printPlaces x ps) u,
+      )
 
-  pub quietly : {E : Ending} {n : ℕ} (L : Lent) → ran g L ≡ silent E n → lentWords m rs fw ps l ≡ L → (r ≡ quiet E n) × (px ≡ ps)
+  -- a run
+  pub printing : {R : Run} (L : Lent) → ran g L ≡ R → lentWords m rs fw ps l ≡ L
+      → (r ≡ outcome (R .ending) (R .steps) (length (R .printed))) × ((px ≡ printPlaces R ps) × Free m rs fw m′ rs′ fw′)
+  printing L t k = let a = as-ran L t k in (a .0, (a .1, K .free))
+
+  -- a refusal
+  pub not-run : {q : Refusal} (L : Lent) → ran g L ≡ silent (NotRun q) 0 → checked g ≡ NotAccepted q → lentWords m rs fw ps l ≡ L
+      → (r ≡ quiet (NotRun q) 0) × Untouched m rs fw ps m′ rs′ fw′ px
   unfolding silent
-  quietly L t k =
-      let a = as-ran L t k in
-      let z : r .printed ≡ 0 = sym (a .2 .count) in
-      (same-outcome (a .0) (a .1) z, rw z at (a .2 .behind))
-
-  -- with k numbers printed
-  pub printing : {R : Run} (k : ℕ) (L : Lent) → ran g L ≡ R → length (R .printed) ≡ k → lentWords m rs fw ps l ≡ L
-      → (r ≡ outcome (R .ending) (R .steps) k) × ((map (toZ w32) (take k px) ≡ R .printed) × (drop k px ≡ drop k ps))
-  printing k L t n w =
-      let a = as-ran L t w in
-      let z : r .printed ≡ k = sym (a .2 .count) ∙ n in
-      (same-outcome (a .0) (a .1) z, (rw z at (a .2 .front), rw z at (a .2 .behind)))
+  not-run {q} L t c k = (as-ran L t k .0, K .all q (ap checked e ∙ c))
 
 -- ---- all three
 abbrev answers : Annotated → Verdict → Outcome → Answers
@@ -87,24 +82,19 @@ answers a v o = record { annotated = a; checked = v; ran = o }
 abbrev pub refusedBy : Refusal → Answers
 refusedBy q = answers (Refused q) (NotAccepted q) (quiet (NotRun q) 0)
 
--- all lent memory as it was: the annotator's bytes, and the runner's words for cells, regions, frames and prints
-abbrev pub Untouched : (out m rs fw ps out′ m′ rs′ fw′ ps′ : List ℕ) → Type 0
-Untouched out m rs fw ps out′ m′ rs′ fw′ ps′ = (out′ ≡ out) × (m′ ≡ m) × (rs′ ≡ rs) × (fw′ ≡ fw) × (ps′ ≡ ps)
-
--- a file for which the definitions give one refusal gets it from all three, and M holds
-abbrev pub IfAllRefuse : List ℕ → Answers → Type 0 → Type 0
-IfAllRefuse f r M = (q : Refusal) → AllRefuse f q → (r ≡ refusedBy q) × M
+-- a file for which the definitions give one refusal gets it from all three, the annotator's bytes are as they were, and M holds
+abbrev pub IfAllRefuse : List ℕ → Answers → List ℕ → List ℕ → Type 0 → Type 0
+IfAllRefuse f r out out′ M = (q : Refusal) → AllRefuse f q → (r ≡ refusedBy q) × ((out′ ≡ out) × M)
 
 pub all-refused : (f out : List ℕ) {out′ m rs fw ps m′ rs′ fw′ ps′ : List ℕ} {l : ℕ} {a : Annotated} {v : Verdict} {o : Outcome} → length out ≡ annotatorBytes
     → lentWords m rs fw ps l ≡ runnerLent → Annotates (annotated f (length out)) out out′ a → v ≡ checked f → RanAs f m rs fw ps l o ps′
-    → Kept f m rs fw ps m′ rs′ fw′ ps′ → IfAllRefuse f (answers a v o) (Untouched out m rs fw ps out′ m′ rs′ fw′ ps′)
+    → Kept f m rs fw ps m′ rs′ fw′ ps′ → IfAllRefuse f (answers a v o) out out′ (Untouched m rs fw ps m′ rs′ fw′ ps′)
 all-refused f out {a = a} {v = v} {o = o} n k h c r K q t =
     let x = refused f out h refl annotatorBytes (t .0) n in
-    let y = quietly r refl runnerLent (t .2) k in
-    let w = K .all q (t .1) in (
+    let y = not-run r K refl runnerLent (t .2) (t .1) k in (
       ap (λ (z : Annotated). answers z v o) (x .0) ∙ ap (λ (z : Verdict). answers (Refused q) z o) (c ∙ t .1)
           ∙ ap (λ (z : Outcome). answers (Refused q) (NotAccepted q) z) (y .0),
-      (x .1, w .0, w .1, w .2, w .3),
+      (x .1, y .1),
     )
 
 pub all-refuse : {f g : List ℕ} {q : Refusal} → f ≡ g → AllRefuse g q → AllRefuse f q

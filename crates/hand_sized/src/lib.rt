@@ -1,6 +1,7 @@
 // Document 01's table of hand-sized files ("Proved by hand-sized files"), about the code: each function puts a file to `annotate`, `check` or `run`, and its
 // contract states the answer outright. `language`'s Table has the same of the definitions. "The table keeps its cases with the answers that now follow and
-// gains the new U's" (C-14): U and A give a type of constants a region. "The last of the table cases" is a run that stops (C-15).
+// gains the new U's" (C-14): U and A give a type of constants a region. "The last of the table cases" is a run that stops (C-15). After a refusal all lent
+// memory is as it was; after a run the words for cells, regions and frames are free.
 mod ends;
 mod files;
 
@@ -27,11 +28,8 @@ use running::lent::REGIONS;
 use running::lent::STEPS;
 use running::run;
 ghost use mathlib.Core.Path.{_≡_};
-ghost use mathlib.Core.List.{[], _∷_, map};
-ghost use lib.IntN.{pos, negsuc};
-ghost use lib.ListN.{take, drop};
-ghost use mir.Syntax.{w32};
-ghost use mir.Val.{toZ};
+ghost use mathlib.Core.List.{_∷_};
+ghost use lib.ListN.{drop};
 ghost use Rattle.language.specs.declared.Refusal.the-variants.{Header, Form, Typing, Room};
 ghost use Rattle.language.specs.declared.Verdict.the-variants.{Refused, Accepted};
 ghost use Rattle.language.specs.declared.Stop.the-variants.{Steps, Frames, Sums};
@@ -39,7 +37,8 @@ ghost use Rattle.language.specs.declared.Ending.the-variants.{Refused as NotRun
 ghost use Rattle.language.specs.Answers.{refusalNumber, stopNumber};
 ghost use Rattle.language.specs.Table.{newU};
 ghost use Rattle.annotation.specs.declared.Annotated.the-variants.{Refused as NotAnnotated, Written};
-ghost use Rattle.hand_sized.specs.Joined.{outcome, quiet, refusedBy, Untouched, IfAllRefuse};
+ghost use Rattle.running.specs.Answer.{Free, Untouched};
+ghost use Rattle.hand_sized.specs.Joined.{outcome, quiet, refusedBy, IfAllRefuse};
 
 // What the annotator, the checker and the runner answer to one file.
 pub struct Answers {
@@ -111,7 +110,8 @@ pub fn run_a(
     prints: &mut [u32; PRINTS],
 ) -> Outcome
     ensures { λ r. ⌜ r ≡ quiet (NotRun Typing) 0 ⌝ }
-    ensures { λ _. ⌜ now (prints .exit) ≡ now (prints .entry) ⌝ }
+    ensures { λ _. ⌜ Untouched (now (cells .entry)) (now (regions .entry)) (now (frames .entry)) (now (prints .entry))
+        (now (cells .exit)) (now (regions .exit)) (now (frames .exit)) (now (prints .exit)) ⌝ }
 {
     run(&a(), cells, regions, frames, prints, STEPS)
 }
@@ -124,7 +124,8 @@ pub fn run_a_two_steps(
     prints: &mut [u32; PRINTS],
 ) -> Outcome
     ensures { λ r. ⌜ r ≡ quiet (NotRun Typing) 0 ⌝ }
-    ensures { λ _. ⌜ now (prints .exit) ≡ now (prints .entry) ⌝ }
+    ensures { λ _. ⌜ Untouched (now (cells .entry)) (now (regions .entry)) (now (frames .entry)) (now (prints .entry))
+        (now (cells .exit)) (now (regions .exit)) (now (frames .exit)) (now (prints .exit)) ⌝ }
 {
     run(&a(), cells, regions, frames, prints, 2)
 }
@@ -137,7 +138,8 @@ pub fn run_a_no_cells(
     prints: &mut [u32; PRINTS],
 ) -> Outcome
     ensures { λ r. ⌜ r ≡ quiet (NotRun Typing) 0 ⌝ }
-    ensures { λ _. ⌜ now (prints .exit) ≡ now (prints .entry) ⌝ }
+    ensures { λ _. ⌜ Untouched (now (cells .entry)) (now (regions .entry)) (now (frames .entry)) (now (prints .entry))
+        (now (cells .exit)) (now (regions .exit)) (now (frames .exit)) (now (prints .exit)) ⌝ }
 {
     run(&a(), cells, regions, frames, prints, STEPS)
 }
@@ -150,7 +152,8 @@ pub fn run_a_no_frame(
     prints: &mut [u32; PRINTS],
 ) -> Outcome
     ensures { λ r. ⌜ r ≡ quiet (NotRun Typing) 0 ⌝ }
-    ensures { λ _. ⌜ now (prints .exit) ≡ now (prints .entry) ⌝ }
+    ensures { λ _. ⌜ Untouched (now (cells .entry)) (now (regions .entry)) (now (frames .entry)) (now (prints .entry))
+        (now (cells .exit)) (now (regions .exit)) (now (frames .exit)) (now (prints .exit)) ⌝ }
 {
     run(&a(), cells, regions, frames, prints, 0)
 }
@@ -188,6 +191,7 @@ pub fn run_new_u(
 ) -> Outcome
     ensures { λ r. ⌜ r ≡ quiet Finished 1 ⌝ }
     ensures { λ _. ⌜ now (prints .exit) ≡ now (prints .entry) ⌝ }
+    ensures { λ _. ⌜ Free (now (cells .entry)) (now (regions .entry)) (now (frames .entry)) (now (cells .exit)) (now (regions .exit)) (now (frames .exit)) ⌝ }
 {
     run(&new_u(), cells, regions, frames, prints, STEPS)
 }
@@ -202,6 +206,7 @@ pub fn run_new_u_no_steps(
     ensures { λ r. ⌜ r ≡ quiet (Stopped Steps) 0 ⌝ }
     ensures { λ _. ⌜ stopNumber Steps ≡ 10 ⌝ }
     ensures { λ _. ⌜ now (prints .exit) ≡ now (prints .entry) ⌝ }
+    ensures { λ _. ⌜ Free (now (cells .entry)) (now (regions .entry)) (now (frames .entry)) (now (cells .exit)) (now (regions .exit)) (now (frames .exit)) ⌝ }
 {
     run(&new_u(), cells, regions, frames, prints, 0)
 }
@@ -215,6 +220,7 @@ pub fn run_new_u_no_cells(
 ) -> Outcome
     ensures { λ r. ⌜ r ≡ quiet Finished 1 ⌝ }
     ensures { λ _. ⌜ now (prints .exit) ≡ now (prints .entry) ⌝ }
+    ensures { λ _. ⌜ Free (now (cells .entry)) (now (regions .entry)) (now (frames .entry)) (now (cells .exit)) (now (regions .exit)) (now (frames .exit)) ⌝ }
 {
     run(&new_u(), cells, regions, frames, prints, STEPS)
 }
@@ -229,6 +235,7 @@ pub fn run_new_u_no_frame(
     ensures { λ r. ⌜ r ≡ quiet (Stopped Frames) 0 ⌝ }
     ensures { λ _. ⌜ stopNumber Frames ≡ 13 ⌝ }
     ensures { λ _. ⌜ now (prints .exit) ≡ now (prints .entry) ⌝ }
+    ensures { λ _. ⌜ Free (now (cells .entry)) (now (regions .entry)) (now (frames .entry)) (now (cells .exit)) (now (regions .exit)) (now (frames .exit)) ⌝ }
 {
     run(&new_u(), cells, regions, frames, prints, 0)
 }
@@ -242,8 +249,8 @@ pub fn run_over(
 ) -> Outcome
     ensures { λ r. ⌜ r ≡ outcome (Stopped Sums) 21 1 ⌝ }
     ensures { λ _. ⌜ stopNumber Sums ≡ 15 ⌝ }
-    ensures { λ _. ⌜ map (toZ w32) (take 1 (now (prints .exit))) ≡ pos 2147483647 ∷ [] ⌝ }
-    ensures { λ _. ⌜ drop 1 (now (prints .exit)) ≡ drop 1 (now (prints .entry)) ⌝ }
+    ensures { λ _. ⌜ now (prints .exit) ≡ 2147483647 ∷ drop 1 (now (prints .entry)) ⌝ }
+    ensures { λ _. ⌜ Free (now (cells .entry)) (now (regions .entry)) (now (frames .entry)) (now (cells .exit)) (now (regions .exit)) (now (frames .exit)) ⌝ }
 {
     run(&over(), cells, regions, frames, prints, STEPS)
 }
@@ -256,8 +263,8 @@ pub fn run_over_in_21(
     prints: &mut [u32; PRINTS],
 ) -> Outcome
     ensures { λ r. ⌜ r ≡ outcome (Stopped Steps) 21 1 ⌝ }
-    ensures { λ _. ⌜ map (toZ w32) (take 1 (now (prints .exit))) ≡ pos 2147483647 ∷ [] ⌝ }
-    ensures { λ _. ⌜ drop 1 (now (prints .exit)) ≡ drop 1 (now (prints .entry)) ⌝ }
+    ensures { λ _. ⌜ now (prints .exit) ≡ 2147483647 ∷ drop 1 (now (prints .entry)) ⌝ }
+    ensures { λ _. ⌜ Free (now (cells .entry)) (now (regions .entry)) (now (frames .entry)) (now (cells .exit)) (now (regions .exit)) (now (frames .exit)) ⌝ }
 {
     run(&over(), cells, regions, frames, prints, 21)
 }
@@ -270,8 +277,8 @@ pub fn run_under(
     prints: &mut [u32; PRINTS],
 ) -> Outcome
     ensures { λ r. ⌜ r ≡ outcome (Stopped Sums) 21 1 ⌝ }
-    ensures { λ _. ⌜ map (toZ w32) (take 1 (now (prints .exit))) ≡ pos 2147483647 ∷ [] ⌝ }
-    ensures { λ _. ⌜ drop 1 (now (prints .exit)) ≡ drop 1 (now (prints .entry)) ⌝ }
+    ensures { λ _. ⌜ now (prints .exit) ≡ 2147483647 ∷ drop 1 (now (prints .entry)) ⌝ }
+    ensures { λ _. ⌜ Free (now (cells .entry)) (now (regions .entry)) (now (frames .entry)) (now (cells .exit)) (now (regions .exit)) (now (frames .exit)) ⌝ }
 {
     run(&under(), cells, regions, frames, prints, STEPS)
 }
@@ -284,8 +291,8 @@ pub fn run_both_ends(
     prints: &mut [u32; PRINTS],
 ) -> Outcome
     ensures { λ r. ⌜ r ≡ outcome Finished 25 3 ⌝ }
-    ensures { λ _. ⌜ map (toZ w32) (take 3 (now (prints .exit))) ≡ pos 2147483647 ∷ pos 2147483647 ∷ negsuc 2147483647 ∷ [] ⌝ }
-    ensures { λ _. ⌜ drop 3 (now (prints .exit)) ≡ drop 3 (now (prints .entry)) ⌝ }
+    ensures { λ _. ⌜ now (prints .exit) ≡ 2147483647 ∷ 2147483647 ∷ 2147483648 ∷ drop 3 (now (prints .entry)) ⌝ }
+    ensures { λ _. ⌜ Free (now (cells .entry)) (now (regions .entry)) (now (frames .entry)) (now (cells .exit)) (now (regions .exit)) (now (frames .exit)) ⌝ }
 {
     run(&both_ends(), cells, regions, frames, prints, STEPS)
 }
@@ -299,8 +306,8 @@ fn put_to_all(
     frames: &mut [u32; FRAMES],
     prints: &mut [u32; PRINTS],
 ) -> Answers
-    ensures { λ r. ⌜ IfAllRefuse (now (file .entry)) r (Untouched (now (out .entry)) (now (cells .entry)) (now (regions .entry)) (now (frames .entry)) (now (prints .entry))
-        (now (out .exit)) (now (cells .exit)) (now (regions .exit)) (now (frames .exit)) (now (prints .exit))) ⌝ }
+    ensures { λ r. ⌜ IfAllRefuse (now (file .entry)) r (now (out .entry)) (now (out .exit)) (Untouched (now (cells .entry)) (now (regions .entry)) (now (frames .entry)) (now (prints .entry))
+        (now (cells .exit)) (now (regions .exit)) (now (frames .exit)) (now (prints .exit))) ⌝ }
 {
     Answers {
         annotated: annotate(file, out),
@@ -319,8 +326,9 @@ pub fn empty_file(
 ) -> Answers
     ensures { λ r. ⌜ r ≡ refusedBy Header ⌝ }
     ensures { λ _. ⌜ refusalNumber Header ≡ 1 ⌝ }
-    ensures { λ _. ⌜ Untouched (now (out .entry)) (now (cells .entry)) (now (regions .entry)) (now (frames .entry)) (now (prints .entry))
-        (now (out .exit)) (now (cells .exit)) (now (regions .exit)) (now (frames .exit)) (now (prints .exit)) ⌝ }
+    ensures { λ _. ⌜ now (out .exit) ≡ now (out .entry) ⌝ }
+    ensures { λ _. ⌜ Untouched (now (cells .entry)) (now (regions .entry)) (now (frames .entry)) (now (prints .entry))
+        (now (cells .exit)) (now (regions .exit)) (now (frames .exit)) (now (prints .exit)) ⌝ }
 {
     put_to_all(&[], out, cells, regions, frames, prints)
 }
@@ -335,8 +343,9 @@ pub fn unused_word_not_0(
 ) -> Answers
     ensures { λ r. ⌜ r ≡ refusedBy Form ⌝ }
     ensures { λ _. ⌜ refusalNumber Form ≡ 2 ⌝ }
-    ensures { λ _. ⌜ Untouched (now (out .entry)) (now (cells .entry)) (now (regions .entry)) (now (frames .entry)) (now (prints .entry))
-        (now (out .exit)) (now (cells .exit)) (now (regions .exit)) (now (frames .exit)) (now (prints .exit)) ⌝ }
+    ensures { λ _. ⌜ now (out .exit) ≡ now (out .entry) ⌝ }
+    ensures { λ _. ⌜ Untouched (now (cells .entry)) (now (regions .entry)) (now (frames .entry)) (now (prints .entry))
+        (now (cells .exit)) (now (regions .exit)) (now (frames .exit)) (now (prints .exit)) ⌝ }
 {
     put_to_all(&unused_word(), out, cells, regions, frames, prints)
 }
@@ -351,8 +360,9 @@ pub fn word_past_arity(
 ) -> Answers
     ensures { λ r. ⌜ r ≡ refusedBy Typing ⌝ }
     ensures { λ _. ⌜ refusalNumber Typing ≡ 3 ⌝ }
-    ensures { λ _. ⌜ Untouched (now (out .entry)) (now (cells .entry)) (now (regions .entry)) (now (frames .entry)) (now (prints .entry))
-        (now (out .exit)) (now (cells .exit)) (now (regions .exit)) (now (frames .exit)) (now (prints .exit)) ⌝ }
+    ensures { λ _. ⌜ now (out .exit) ≡ now (out .entry) ⌝ }
+    ensures { λ _. ⌜ Untouched (now (cells .entry)) (now (regions .entry)) (now (frames .entry)) (now (prints .entry))
+        (now (cells .exit)) (now (regions .exit)) (now (frames .exit)) (now (prints .exit)) ⌝ }
 {
     put_to_all(&past_arity(), out, cells, regions, frames, prints)
 }

@@ -10,6 +10,7 @@ use mir.Syntax.{w32}
 use mir.Val.{toZ}
 use Rattle.sets.specs.Members.{inList, cons-here, cons-later}
 use Rattle.language.specs.Lists.{put}
+use Rattle.language.specs.Numbers.{residue}
 use Rattle.language.specs.Program.{Four, fourWords, trimOnto, trimmed, argumentsOf}
 use Rattle.language.specs.Frames.{Value, numeral, cellAt, constant}
 use Rattle.language.specs.AcceptedRun.{RegionCell, Memory, withCell}
@@ -18,7 +19,7 @@ use Rattle.laws.specs.Choices.{put-same, put-other}
 
 -- word w stands for a value; n cells are made so far, and `place` has the place of each by its number
 unfoldable pub StandsFor : (ℕ → ℕ) → ℕ → ℕ → Value → Type 0
-StandsFor place n w (numeral z) = toZ w32 w ≡ z
+StandsFor place n w (numeral z) = (w ≡ residue z) × (toZ w32 w ≡ z)
 StandsFor place n w (cellAt j) = (w ≡ place j) × (j < n)
 StandsFor place n w (constant k) = w ≡ constantsFrom + k
 

@@ -43,9 +43,9 @@ frameOf f = f .frame
 unfoldable pub liesIn : List RegionCell → ℕ → ℕ
 liesIn cells c = nth (record { cell = noCell; region = 0 }) cells c .region
 
--- a cell is read in its region; a constant "is built and read in no region" (C-14)
+-- a cell is read in its region; a constant "is built and read in no region" (C-14); a number is nothing that a switch can read
 unfoldable pub readable : Memory → Value → Bool
-readable m (numeral z) = true
+readable m (numeral z) = false
 readable m (cellAt c) = m .alive (liesIn (m .cells) c)
 readable m (constant k) = true
 

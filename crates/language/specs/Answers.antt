@@ -11,7 +11,8 @@ use Rattle.language.specs.declared.Verdict.{Verdict}
 use Rattle.language.specs.declared.Verdict.the-variants.{Refused, Accepted}
 use Rattle.language.specs.declared.Stop.{Stop}
 use Rattle.language.specs.declared.Stop.the-variants.{Steps, Cells, Places, Frames, Prints, Sums}
-use Rattle.language.specs.declared.Ending.the-variants.{Refused as RunRefused}
+use Rattle.language.specs.declared.Ending.{Ending}
+use Rattle.language.specs.declared.Ending.the-variants.{Refused as RunRefused, Finished, Stopped}
 use Rattle.language.specs.Lists.{frontWritten}
 use Rattle.language.specs.Format.{maxRecords}
 use Rattle.language.specs.File.{word, recordCount, headerOk, formOk}
@@ -49,6 +50,16 @@ stopNumber Places = 12
 stopNumber Frames = 13
 stopNumber Prints = 14
 stopNumber Sums = 15
+
+-- the number of an answer: 0 where the file is accepted, or run to its end
+unfoldable pub checkerNumber : Verdict → ℕ
+checkerNumber (Refused r) = refusalNumber r
+checkerNumber Accepted = 0
+
+unfoldable pub endingNumber : Ending → ℕ
+endingNumber (RunRefused r) = refusalNumber r
+endingNumber Finished = 0
+endingNumber (Stopped c) = stopNumber c
 
 -- a test of a file and the refusal that it stands for
 pub data Stage : Type 0 where
@@ -97,6 +108,15 @@ checkerStages f = reachedStages f ++ (stage Classes (declaredClassesOk (program 
 pub data AnnotatorAnswer : Type 0 where
   refuses : Refusal → AnnotatorAnswer
   writes : List ℕ → AnnotatorAnswer
+
+-- its number, 0 where the file is written, and how many bytes are
+unfoldable pub annotatorNumber : AnnotatorAnswer → ℕ
+annotatorNumber (refuses r) = refusalNumber r
+annotatorNumber (writes g) = 0
+
+unfoldable pub writtenBytes : AnnotatorAnswer → ℕ
+writtenBytes (refuses r) = 0
+writtenBytes (writes g) = length g
 
 unfoldable pub writesUnless : Verdict → List ℕ → AnnotatorAnswer
 writesUnless (Refused r) g = refuses r

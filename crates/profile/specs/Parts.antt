@@ -3,7 +3,8 @@ use Prim.Native.Nat.{ℕ, _*_, _≤_, _<_, _^_}
 use native.Mathlib.Omega.{arith}
 use mathlib.Core.Path.{_≡_, refl, _∙_}
 use mathlib.Core.List.{List}
-use lib.ListN.{length}
+use lib.ListN.{length, take}
+use lib.Seq.{length-take-le}
 use Rattle.language.specs.declared.Ending.{Ending}
 use Rattle.language.specs.Machine.{holds}
 use Rattle.language.specs.Output.{endingLine}
@@ -64,6 +65,10 @@ going-on G a b c d e s = record { stands = s; cells = a ∙ G .cells; regions = 
 -- ---- the last line
 pub ending-fits : {b m : List ℕ} {k : ℕ} (a : Ending) (n : ℕ) → n < 2 ^ 64 → endingBytes ≤ length b → Put b 0 (endingLine a n) m k → k ≤ length m
 ending-fits a n h l P = omega (arith, P .behind, ending-length a n h, put-length P, l)
+
+-- ---- a part has room for a line
+pub line-fits : (room : ℕ) (out : List ℕ) → lineBytes ≤ room → room ≤ length out → lineBytes ≤ length (take room out)
+line-fits room out a b = rw (length-take-le room out b) a
 
 -- ---- the entry has a frame
 pub frame-room : (n : ℕ) → framesLent ≡ n → 0 < holds n frameWords

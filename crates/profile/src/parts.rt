@@ -1,7 +1,6 @@
 // The profile, part by part: each is written before the next is worked out. That all parts together are the profile is `profile-whole` of profiling.
+use answering::print;
 use language::Ending;
-use libc::STDERR_FILENO;
-use libc::STDOUT_FILENO;
 use lines::put_ending;
 use plans::CALLEES;
 use plans::PLAN;
@@ -15,13 +14,6 @@ ghost use Rattle.plans.specs.Plan.{tablesIn, Narrow, Numbered};
 ghost use Rattle.running.specs.Lent.{stepsLent};
 ghost use Rattle.profiling.specs.Text.{lineBytes};
 ghost use Rattle.profiling.specs.Moving.{RunStands};
-
-// Writes bytes; where they cannot be written, a message to standard error.
-pub fn print(bytes: &[u8]) {
-    if !io::write_all(STDOUT_FILENO, bytes) {
-        io::write_all(STDERR_FILENO, b"the answer could not be written\n");
-    }
-}
 
 // The last line.
 fn print_ending(out: &mut [u8], ending: Ending, steps: usize)

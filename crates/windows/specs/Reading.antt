@@ -22,10 +22,16 @@ use Rattle.region_graph.specs.Reach.{reach-closed}
 use Rattle.region_graph.specs.Typed.{region-in}
 use Rattle.windows.specs.Targets.{setAt, Between}
 
+-- the edges of the regions in x, and of no others, are read
+pub record ReadJust (read x : Set) : Type 0 where
+  pub all : (n : ℕ) → n ≤ maxRegions → member x n ≡ true → member read n ≡ true
+  pub only : (n : ℕ) → member read n ≡ true → member x n ≡ true
+
 -- ---- the worklist from region r, where `next u` is where u's edges lead
 pub record Reading (next : ℕ → Set) (r : ℕ) (found read : Set) : Type 0 where
   pub start : 1 ≤ r → r ≤ maxRegions → member found r ≡ true
   pub closed : (u t : ℕ) → member read u ≡ true → member (next u) t ≡ true → member found t ≡ true
+  pub only : (u : ℕ) → member read u ≡ true → member found u ≡ true
   pub least : (test : ℕ → Bool) → test r ≡ true → ((u t : ℕ) → test u ≡ true → member (next u) t ≡ true → test t ≡ true)
       → (u : ℕ) → member found u ≡ true → test u ≡ true
 
@@ -35,11 +41,12 @@ module _ {next : ℕ → Set} {r : ℕ} where
   first = record {
     start = single-mk r;
     closed = λ u t m. absurd (clash m (member-empty u));
+    only = λ u m. absurd (clash m (member-empty u));
     least = λ test h onward u m. ap test (sym (single-in r u m)) ∙ h;
   }
 
-  pub starts : {found : Set} → found ≡ single r → Reading next r found emptySet
-  starts e = rw e first
+  pub starts : {found read : Set} → found ≡ single r → read ≡ emptySet → Reading next r found read
+  starts e d = rw (e, d) first
 
   -- u is next: the lowest region that is found and whose edges are not read
   module _ {found read : Set} (h : Reading next r found read) {u : ℕ} (g : u ≡ nextMember (found ∖ read) 0) where
@@ -60,11 +67,15 @@ module _ {next : ℕ → Set} {r : ℕ} where
             let d = difference-mk found read n m p in
             absurd (clash d (next-is (found ∖ read) 0 .none n (member-pos (found ∖ read) n d) (omega (arith, g))))
 
+    pub just-read : places ≤ u → ReadJust read found
+    just-read l = record { all = all-read l; only = h .only }
+
     -- u's edges are read
     turn : u < places → Reading next r (found ∪ next u) (read ∪ single u)
     turn l = record {
       start = λ a b. union-left found _ r (h .start a b);
       closed = λ v t m i. ⊎-elim (λ p. union-left found _ t (h .closed v t p i)) (λ q. union-right found _ t (ap (λ (x : ℕ). member (next x) t) (single-in u v q) ∙ i)) (union-in read _ v m);
+      only = λ v m. ⊎-elim (λ p. union-left found _ v (h .only v p)) (λ q. union-left found _ v (ap (member found) (sym (single-in u v q)) ∙ is-next l .1)) (union-in read _ v m);
       least = λ test o onward v m. ⊎-elim (h .least test o onward v) (onward u v (h .least test o onward u (is-next l .1))) (union-in found _ v m);
     }
 

@@ -8,13 +8,14 @@ ghost use mathlib.Core.Path.{_≡_};
 ghost use mathlib.Core.Bool.{false};
 ghost use Prim.Native.Nat.{_≤_, _<_};
 ghost use lib.ListN.{length};
-ghost use Rattle.sets.specs.Sets.{member, single, _∪_};
+ghost use Rattle.sets.specs.Sets.{member, emptySet, single, _∪_, loaded};
 ghost use Rattle.sets.specs.Members.{setOf};
 ghost use Rattle.language.specs.File.{edges};
 ghost use Rattle.language.specs.Regions.{targetsIn};
 ghost use Rattle.language.specs.Format.{places};
 ghost use Rattle.chains.specs.Formed.{Formed, Stands, edgesAt};
 ghost use Rattle.windows.specs.Targets.{RegionReach, setAt};
+ghost use Rattle.windows.specs.Reading.{ReadJust};
 ghost use Rattle.windows.specs.Closing.{Closing};
 
 // Where the edges of the chain at record start lead.
@@ -32,42 +33,33 @@ pub fn targets_of(file: &[u8], start: usize) -> Set
     found
 }
 
-// What reading a region's edges gives: where they lead, and the regions whose edges have been read.
-struct Edges {
-    targets: Set,
-    read: Set,
-}
-
-// Reads the edges of region u. No region's edges are read twice: u is not among those read before, and is among those that are
-// read now.
-fn read_edges(targets: &[u64], read: Set, u: usize) -> Edges
+// Reads the edges of region u. `read` has the regions whose edges have been read: u is not among them before, and is among them afterwards.
+fn read_edges(targets: &[u64], read: &mut u64, u: usize) -> Set
     requires { ⌜ places ≡ length (now targets) ⌝ }
     requires { ⌜ 1 ≤ u ⌝ }
     requires { ⌜ u < places ⌝ }
-    requires { ⌜ member read u ≡ false ⌝ }
-    ensures { λ e. ⌜ e .targets ≡ setAt (now (targets .entry)) u ⌝ }
-    ensures { λ e. ⌜ e .read ≡ read ∪ single u ⌝ }
+    requires { ⌜ member (loaded (now read)) u ≡ false ⌝ }
+    ensures { λ e. ⌜ e ≡ setAt (now (targets .entry)) u ⌝ }
+    ensures { λ _. ⌜ loaded (now (read .exit)) ≡ loaded (now (read .entry)) ∪ single u ⌝ }
 {
-    Edges {
-        targets: Set::loaded(targets[u]),
-        read: read.union(Set::of(u)),
-    }
+    let before = Set::loaded(*read);
+    *read = before.union(Set::of(u)).stored();
+    Set::loaded(targets[u])
 }
 
 // The regions that edges lead to from region r, with r, by a table of where each region's edges lead: a loop that adds regions
-// until none is new.
-pub fn reach_from(targets: &[u64], r: usize) -> Set
+// until none is new. The edges of each of them are read once, and no others: `read` has none before, and just these afterwards.
+pub fn reach_from(targets: &[u64], r: usize, read: &mut u64) -> Set
     requires { ⌜ places ≡ length (now targets) ⌝ }
+    requires { ⌜ loaded (now read) ≡ emptySet ⌝ }
     ensures { λ x. ⌜ RegionReach (now (targets .entry)) r x ⌝ }
+    ensures { λ x. ⌜ ReadJust (loaded (now (read .exit))) x ⌝ }
 {
     let mut found = Set::of(r);
-    let mut read = Set::EMPTY;
     let mut u = found.after(0);
     while u < PLACES {
-        let edges = read_edges(targets, read, u);
-        found = found.union(edges.targets);
-        read = edges.read;
-        u = found.difference(read).after(0);
+        found = found.union(read_edges(targets, read, u));
+        u = found.difference(Set::loaded(*read)).after(0);
     }
     found
 }
@@ -80,7 +72,8 @@ pub fn list_reaches(targets: &mut [u64], n: usize)
 {
     let mut r = 0;
     while r < n {
-        let reach = reach_from(targets, r + 1);
+        let mut read = 0;
+        let reach = reach_from(targets, r + 1, &mut read);
         targets[r + 1] = reach.stored();
         r += 1;
     }

@@ -17,6 +17,7 @@ use Rattle.language.specs.Frames.{numeral, calleeFrame}
 use Rattle.language.specs.AcceptedRun.{RegionFrame, calleeStands, mappingFrom, calleeRegions}
 use Rattle.language.specs.Answers.{program}
 use Rattle.language.specs.Format.{maxVariables, maxRegions}
+use Rattle.language.specs.Numbers.{residue}
 use Rattle.laws.specs.Numbers.{among-in}
 use Rattle.region_graph.specs.Shared.{region-top}
 use Rattle.chains.specs.Formed.{Formed}
@@ -125,7 +126,7 @@ module _ {f : List ℕ} {T : Tables} (B : Tabled f T) (A : Accepted (program f))
   -- ---- the callee's values and regions
   in-values : (x : ℕ) → 1 ≤ x → x ≤ maxVariables → isVariable (sig f q) x ≡ true
       → Means L (getD fe (valuePlace (suc k) x) 0) (calleeFrame (program f) (e .frame) q zs .values x)
-  unfolding calleeFrame StandsFor
+  unfolding calleeFrame StandsFor residue
   in-values x l h v =
       rw (
         kepte (valuePlace (suc k) x) (inl (omega arith)),
@@ -143,7 +144,7 @@ module _ {f : List ℕ} {T : Tables} (B : Tabled f T) (A : Accepted (program f))
       ))
       (λ a b m n z. let r = callee-range B A N inMode (inl refl) a m in let s = caller-range B A N inMode (inl refl) b n in omega (arith, s .1))
       (rw (cleared-in count (suc (goalPlace (suc k))) fb (valuePlace (suc k) x) (omega arith) (omega (arith, variable-count (sig f q) x v, enough))
-      (omega (arith, few, longc, cleared-length count (suc (goalPlace (suc k))) fb))) refl))
+      (omega (arith, few, longc, cleared-length count (suc (goalPlace (suc k))) fb))) (refl, refl)))
 
   held-image : (r : ℕ) → inList r helds ≡ true → (1 ≤ T .image i r) × (T .image i r ≤ maxRegions)
   held-image r h = region-top _ _ (laws A (e .frame .procedure)) (T .image i r) (N .images r (inl (members-range _ r h .0)) .1)

@@ -5,6 +5,7 @@ pub mod Trimmed
 pub mod Passing
 pub mod Typed
 pub mod Arguments
+pub mod Printing
 pub mod Statement
 pub mod Successors
 pub mod Copies

@@ -42,29 +42,11 @@ use Rattle.word_machine.specs.Tables.{Tables, Tabled}
 use Rattle.word_machine.specs.Machine.{MachineWords, valuePlace, regionPlace, valueOf, went, ifRoom, contentsOf, constructedBy, constructed, constructs, createdBy, makesRegion, dropsRegion, printsWord}
 use Rattle.word_machine.specs.Machine as M
 use Rattle.word_machine.specs.Trimmed.{first-argument, term-functor, term-words}
-use Rattle.word_machine.specs.Statement.{Printed}
+use Rattle.word_machine.specs.Printing.{Printed, printed-more}
 use Rattle.word_machine.specs.Premises.{Number}
 use Rattle.word_machine.specs.Relation.{whereIn, Later, Names, sig, FrameOk, Waiting, MemoryStored}
 use Rattle.word_machine.specs.Stepping.{frame-more, waiting-more, set-frame, set-waiting, name-frame, name-waiting}
-use Rattle.word_machine.specs.Steps.{After, onward, halts, stored-given, given-running, value-means, value-number}
-
--- ---- one number more is printed
-map-one : (g : ℕ → ℤ) (xs : List ℕ) (x : ℕ) → map g (xs ++ (x ∷ [])) ≡ map g xs ++ (g x ∷ [])
-map-one g [] x = refl
-map-one g (y ∷ xs) x = ap (λ l. g y ∷ l) (map-one g xs x)
-
-pub printed-more : {qs ps : List ℕ} {n : ℕ} {zs : List ℤ} → Printed qs ps n zs → n < length ps → (v : ℕ) (z : ℤ) → toZ w32 v ≡ z
-    → Printed qs (set ps n v) (suc n) (zs ++ (z ∷ []))
-printed-more {qs} {ps} {n} {zs} P l v z e = record {
-  count = length-append zs (z ∷ []) ∙ add-one (length zs) ∙ ap suc (P .count);
-  long = length-set ps n v ∙ P .long;
-  room = omega (arith, length-set ps n v);
-  front = ap (map (toZ w32)) (take-suc-set ps n v l) ∙ map-one (toZ w32) (take n ps) v ∙ (rw (P .front, e));
-  behind = drop-set-lt (suc n) ps n v (omega arith) ∙ one ps ∙ ap (drop 1) (P .behind) ∙ sym (one qs);
-}
-  where
-    one : (xs : List ℕ) → drop (suc n) xs ≡ drop 1 (drop n xs)
-    one xs = rw (← add-one n) (sym (drop-drop 1 n xs))
+use Rattle.word_machine.specs.Steps.{After, onward, halts, stored-given, given-running, value-means, value-word}
 
 module _ {f : List ℕ} {T : Tables} (B : Tabled f T) (A : Accepted (program f)) (F : Formed f) (K : Room) (qs : List ℕ) (w : MachineWords) (u : RegionFrame)
     (fs : List RegionFrame) (m : Memory) (ρ χ : ℕ → ℕ) (i : ℕ) (G : FrameOk B (w .frames) (w .top) (whereIn m ρ χ) (T .successor i) u)
@@ -80,8 +62,8 @@ module _ {f : List ℕ} {T : Tables} (B : Tabled f T) (A : Accepted (program f))
         represents = prints (Q .represents) (numberIn (u .frame .values y));
         cell-room = Q .cell-room;
         printed =
-            printed-more (Q .printed) (omega (arith, ltb-true (w .printed) (K .prints) e, Q .print-room)) (valueOf w y) (numberIn (u .frame .values y))
-            (value-number B A F K qs w u fs m ρ χ i G W Q y o n);
+            let v = value-word B A F K qs w u fs m ρ χ i G W Q y o n in
+            printed-more (Q .printed) (omega (arith, ltb-true (w .printed) (K .prints) e, Q .print-room)) (valueOf w y) (numberIn (u .frame .values y)) (v .0) (v .1);
         frame-room = Q .frame-room;
         print-room = omega (arith, Q .print-room, length-set (w .prints) (w .printed) (valueOf w y));
       })
@@ -89,7 +71,7 @@ module _ {f : List ℕ} {T : Tables} (B : Tabled f T) (A : Accepted (program f))
   pub print-after : (y : ℕ) → isVariable (sig f (u .frame .procedure)) y ≡ true → Number (u .frame .values y)
       → After B A F K qs (step (print y)) u fs m (roomOr (ltb (length (m .printed)) (K .prints)) Prints)
       (ifRoom (ltb (w .printed) (K .prints)) Prints (printsWord w (valueOf w y) (T .successor i)))
-  print-after y o n = rw (Q .printed .count) (print-by y o n (ltb (w .printed) (K .prints)) refl)
+  print-after y o n = rw (← Q .printed .count) (print-by y o n (ltb (w .printed) (K .prints)) refl)
 
   -- ---- regions
   later-region : (p : ℕ) → Later (whereIn m ρ χ) (whereIn (withRegion m) (put ρ (suc (m .made)) p) χ)

@@ -3,7 +3,7 @@ use Prim.Native.Nat.{ℕ, suc, _-_, _%_, _^_, _<_}
 use native.Mathlib.Omega.{arith}
 use native.Mathlib.Decide.{decLt}
 use mathlib.Core.Bool.{true}
-use mathlib.Core.Path.{_≡_}
+use mathlib.Core.Path.{_≡_, refl}
 use borrow.Author.Tests.{le-ltb, leb-true}
 use lib.IntN.{ℤ, pos, negsuc}
 use lib.Signed.{mag}
@@ -35,14 +35,18 @@ pub range-word : (z : ℤ) → inRange z ≡ true → toZ w32 (residue z) ≡ z
 range-word (pos n) h = read-pos n (range-fits (pos n) h)
 range-word (negsuc n) h = read-neg n (range-fits (negsuc n) h)
 
-pub literal-word : (v : ℕ) → toZ w32 (literalWord v) ≡ literalNumber v
+literal-read : (v : ℕ) → toZ w32 (literalWord v) ≡ literalNumber v
 unfolding literalWord literalNumber
-literal-word v = elim (decLt v (2 ^ 15)) [
+literal-read v = elim (decLt v (2 ^ 15)) [
   | yes h ↦ rw (toZ-pos w16 h) (read-pos v (omega arith))
   | no h ↦ rw (le-ltb v (2 ^ 15) (omega (arith, h))) (read-neg (2 ^ 16 - suc v) (omega arith))
 ]
 
--- a word that stands for a number is read as that number
-pub number-word : (L : Where) (w : ℕ) (v : Value) → Means L w v → (z : ℤ) → v ≡ numeral z → toZ w32 w ≡ numberIn v
+pub literal-word : (v : ℕ) → (literalWord v ≡ residue (literalNumber v)) × (toZ w32 (literalWord v) ≡ literalNumber v)
+unfolding literalWord
+literal-word v = (refl, literal-read v)
+
+-- a word that stands for a number is that number's, and is read as it
+pub number-word : (L : Where) (w : ℕ) (v : Value) → Means L w v → (z : ℤ) → v ≡ numeral z → (w ≡ residue (numberIn v)) × (toZ w32 w ≡ numberIn v)
 unfolding StandsFor numberIn
 number-word L w v s z e = rw e (rw e at s)

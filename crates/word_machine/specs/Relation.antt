@@ -23,7 +23,7 @@ use Rattle.heap.specs.Standing.{StandsFor, stands-more}
 use Rattle.heap.specs.Represents.{Represents}
 use Rattle.word_machine.specs.Tables.{Tables, slotOf, givenOf, PassingMode, Tabled}
 use Rattle.word_machine.specs.Machine.{regionsFrom, regionsEnd, frameWords, MachineWords, goalPlace, valuePlace, regionPlace, callPlace}
-use Rattle.word_machine.specs.Statement.{Printed}
+use Rattle.word_machine.specs.Printing.{Printed}
 use Rattle.word_machine.specs.Successors.{Todo}
 
 -- where regions and cells are, by their numbers, and how many were made

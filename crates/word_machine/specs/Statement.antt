@@ -1,25 +1,14 @@
 -- The joining theorem, to be read without a proof: for every file that the checker accepts, with any tables of it and any lent words, the run in
 -- words ends as the definition's does, after as many steps, with the same numbers printed; the words behind those are as they were.
-use Prim.Native.Nat.{ℕ, _≤_}
+use Prim.Native.Nat.{ℕ}
 use mathlib.Core.Path.{_≡_}
-use mathlib.Core.List.{List, map}
-use lib.IntN.{ℤ}
-use lib.ListN.{length, take, drop}
-use mir.Syntax.{w32}
-use mir.Val.{toZ}
+use mathlib.Core.List.{List}
 use Rattle.language.specs.declared.Verdict.the-variants.{Accepted}
 use Rattle.language.specs.Machine.{Run}
 use Rattle.language.specs.Answers.{checked, ran}
 use Rattle.word_machine.specs.Tables.{Tables, Tabled}
 use Rattle.word_machine.specs.Machine.{Outcome, lentWords, wordRun}
-
--- the numbers zs are printed: the n first words of ps, which is qs behind them
-pub record Printed (qs ps : List ℕ) (n : ℕ) (zs : List ℤ) : Type 0 where
-  pub count : length zs ≡ n
-  pub long : length ps ≡ length qs
-  pub room : n ≤ length ps
-  pub front : map (toZ w32) (take n ps) ≡ zs
-  pub behind : drop n ps ≡ drop n qs
+use Rattle.word_machine.specs.Printing.{Printed}
 
 -- a run in words gives what a run of the definition does; qs are the words lent for printed numbers
 pub record Gives (qs : List ℕ) (o : Outcome) (r : Run) : Type 0 where

@@ -60,9 +60,13 @@ module _ {f : List ℕ} {T : Tables} (B : Tabled f T) (A : Accepted (program f))
     unfolding valueOf
     value-means y o = let r = variable-top _ _ (laws A (u .frame .procedure)) y o in G .values y (r .0) (r .1) o
 
+    pub value-word : (y : ℕ) → isVariable (sig f (u .frame .procedure)) y ≡ true → Number (u .frame .values y)
+        → (valueOf w y ≡ residue (numberIn (u .frame .values y))) × (toZ w32 (valueOf w y) ≡ numberIn (u .frame .values y))
+    value-word y o n = number-word (whereIn m ρ χ) (valueOf w y) (u .frame .values y) (value-means y o) (n .0) (n .1)
+
     pub value-number : (y : ℕ) → isVariable (sig f (u .frame .procedure)) y ≡ true → Number (u .frame .values y)
         → toZ w32 (valueOf w y) ≡ numberIn (u .frame .values y)
-    value-number y o n = number-word (whereIn m ρ χ) (valueOf w y) (u .frame .values y) (value-means y o) (n .0) (n .1)
+    value-number y o n = value-word y o n .1
 
     pub literal-after : (x v : ℕ) → isVariable (sig f (u .frame .procedure)) x ≡ true
         → After (step (literal x v)) u fs m goes (went (given w x (literalWord v) (T .successor i)))
@@ -73,7 +77,7 @@ module _ {f : List ℕ} {T : Tables} (B : Tabled f T) (A : Accepted (program f))
     sum-by : (x o y z : ℕ) → isVariable (sig f (u .frame .procedure)) x ≡ true → (b : Bool) → inRange (sumOf (u .frame) o y z) ≡ b
         → After (step (sum x o y z)) u fs m (roomOr b Sums) (ifRoom b Sums (given w x (residue (sumOf (u .frame) o y z)) (T .successor i)))
     unfolding Run.take sumIn Standing.StandsFor roomOr ifRoom
-    sum-by x o y z a true r = onward refl (given-running x _ _ a (range-word _ r)) (stored-given x _)
+    sum-by x o y z a true r = onward refl (given-running x _ _ a (refl, range-word _ r)) (stored-given x _)
     sum-by x o y z a false r = halts
 
     pub sum-after : (x o y z : ℕ) → isVariable (sig f (u .frame .procedure)) x ≡ true → isVariable (sig f (u .frame .procedure)) y ≡ true

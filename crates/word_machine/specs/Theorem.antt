@@ -1,6 +1,5 @@
 -- The joining theorem, proved: `joined` is the claim of Statement.
 use Prim.Native.Nat.{ℕ}
-use native.Mathlib.Omega.{arith}
 use mathlib.Core.Path.{_≡_, refl}
 use mathlib.Core.Bool.{Bool, true, false}
 use mathlib.Core.List.{List}
@@ -16,6 +15,7 @@ use Rattle.chains.specs.Formed.{Formed}
 use Rattle.safety.specs.Premises as Premises
 use Rattle.word_machine.specs.Tables.{Tables, Tabled}
 use Rattle.word_machine.specs.Machine.{endedWith, noFrame, runFrom, lentWords, wordRun}
+use Rattle.word_machine.specs.Printing.{none-printed}
 use Rattle.word_machine.specs.Statement.{Gives, JoinedRuns}
 use Rattle.word_machine.specs.WholeRun.{start-gives}
 use Rattle.word_machine.specs.Filling.{tablesOf}
@@ -42,7 +42,7 @@ module _ (f : List ℕ) (e : checked f ≡ Accepted) (T : Tables) (B : Tabled f 
   from-gives false q = record {
     ending = refl;
     steps = refl;
-    printed = record { count = refl; long = refl; room = omega arith; front = refl; behind = refl };
+    printed = none-printed ps;
   }
 
 pub joined : JoinedRuns

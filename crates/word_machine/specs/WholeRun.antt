@@ -16,6 +16,7 @@ use Rattle.language.specs.AcceptedRun as Run
 use Rattle.language.specs.Machine.{Room, holds, roomIn, Outlook, ended, goes, roomOr, outlookFor, outlookIn, outlookAt, outlook}
 use Rattle.language.specs.Machine as D
 use Rattle.language.specs.Answers.{program}
+use Rattle.language.specs.Numbers.{residue}
 use Rattle.laws.specs.Numbers.{among-in}
 use Rattle.records.specs.Records.{recordAt}
 use Rattle.chains.specs.Formed.{Formed}
@@ -27,6 +28,7 @@ use Rattle.heap.specs.Standing.{StandsFor}
 use Rattle.heap.specs.Reading.{starts}
 use Rattle.word_machine.specs.Tables.{Tables, Tabled}
 use Rattle.word_machine.specs.Machine.{frameWords, MachineWords, valuePlace, Went, cleared, blocks, returned, settledFrom, settled, settledIf, steps, stepped, endedWith, afterStep, runOn, startWords, lentWords}
+use Rattle.word_machine.specs.Printing.{none-printed}
 use Rattle.word_machine.specs.Statement.{Gives}
 use Rattle.word_machine.specs.Copies.{return-length, cleared-length, cleared-in, blocks-most, blocks-least}
 use Rattle.word_machine.specs.Relation.{whereIn, sig, FrameOk, none, Running, MemoryStored}
@@ -186,14 +188,14 @@ module _ {f : List ℕ} {T : Tables} (B : Tabled f T) (A : Accepted (program f))
     room = rw k (omega arith)
 
     entry-frame : FrameOk B (cleared 1 (blocks (T .size 0)) fw) 0 (whereIn (start (program f) .memory) (λ r. 0) (λ j. 0)) (T .body 0) (record { frame = entryFrame (program f); stands = λ r. 0 })
-    unfolding entryFrame StandsFor
+    unfolding entryFrame StandsFor residue
     entry-frame =
         let e = B .size 0 entry-some in
         let c = blocks-most (T .size 0) in
         let n : length (sig f 0 .variables) ≤ blocks (T .size 0) = rw e (blocks-least (length (sig f 0 .variables)) (laws A 0 .variables)) in
         record {
           fits = rw (cleared-length (blocks (T .size 0)) 1 fw) (omega (arith, room, some));
-          values = λ x a b v. rw (cleared-in (blocks (T .size 0)) 1 fw (valuePlace 0 x) (omega arith) (omega (arith, variable-count (sig f 0) x v, n)) (omega (arith, room, some, c))) refl;
+          values = λ x a b v. rw (cleared-in (blocks (T .size 0)) 1 fw (valuePlace 0 x) (omega arith) (omega (arith, variable-count (sig f 0) x v, n)) (omega (arith, room, some, c))) (refl, refl);
           regions = λ r a b z. absurd (z refl);
           todo = body-todo B A F 0 entry-some;
         }
@@ -211,7 +213,7 @@ module _ {f : List ℕ} {T : Tables} (B : Tabled f T) (A : Accepted (program f))
     entry-stored = record {
       represents = rw k (starts (program f) (lentWords m rs fw qs l) m rs refl refl);
       cell-room = cell-most;
-      printed = record { count = refl; long = refl; room = omega arith; front = refl; behind = refl };
+      printed = none-printed qs;
       frame-room = rw (cleared-length (blocks (T .size 0)) 1 fw) room;
       print-room = print-words;
     }

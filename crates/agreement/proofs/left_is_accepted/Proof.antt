@@ -43,7 +43,7 @@ same-length-2 : tie.Need-same-length-2
 same-length-2 c = search needs
 
 returns-2 : tie.Need-returns-2
-returns-2 c = not-accepted (sym (c .enum-told3 .given .1) ∙ check-accepts _ (c .before .before .before .before .before .before .before .before .before .before .before .before .before .args .out .now) (c .before .before .before .before .before .before .before .before .before .annotate .ensures) (c .before .before .before .before .before .n .given .1) (c .before .before .check .ensures))
+returns-2 c = not-accepted (sym (c .enum-told3 .given .1) ∙ check-accepts _ (c .before .before .before .before .before .before .before .before .before .before .before .before .before .args .out .now) (c .before .before .before .before .before .before .before .before .before .annotate .ensures) (c .before .before .before .before .before .n .given .1) (c .before .before .check .ensures .0))
 
 same-length-3 : tie.Need-same-length-3
 same-length-3 c = search needs

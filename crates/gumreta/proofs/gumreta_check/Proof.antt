@@ -14,13 +14,13 @@ enum-told : tie.Need-enum-told
 enum-told c = search needs
 
 returns : tie.Need-returns
-returns c = checker-accepts (c .before .before .check .ensures) (c .enum-told .given .1)
+returns c = checker-accepts (c .before .before .check .ensures .0) (c .enum-told .given .1)
 
 refusal-number-requires : tie.Need-refusal-number-requires
 refusal-number-requires c κs = search needs
 
 returns-2 : tie.Need-returns-2
-returns-2 c = checker-refuses (c .refusal-number .ensures) (c .before .before .before .before .check .ensures) (c .before .before .r .given .1)
+returns-2 c = checker-refuses (c .refusal-number .ensures) (c .before .before .before .before .check .ensures .0) (c .before .before .r .given .1)
 
 pub gumreta-check-spec : {M : Type 1} → statement M
 gumreta-check-spec =

@@ -1,6 +1,5 @@
 -- `gumreta_run` meets its contract.
-use mathlib.Core.Path.{ap, _∙_}
-use Rattle.gumreta.specs.Numbers.{endingNumber}
+use mathlib.Core.Path.{_∙_}
 use borrow.Author.Needs.{needs}
 use Rattle.gumreta.proofs.gumreta_run.Statement.{statement}
 use Rattle.gumreta.proofs.gumreta_run.Tie as tie
@@ -24,7 +23,9 @@ same-length-4 : tie.Need-same-length-4
 same-length-4 c = search needs
 
 returns : tie.Need-returns
-returns c = (c .ending-number .ensures ∙ ap endingNumber (c .before .before .before .before .before .before .before .before .before .run .ensures .0 .ending), (c .before .before .before .before .before .before .before .before .before .run .ensures .0 .steps, (c .before .before .before .before .before .before .before .before .before .run .ensures .0 .printed, c .before .before .before .before .before .before .before .before .before .run .ensures .1)))
+returns c =
+    let h = c .before .before .before .before .before .before .before .before .before .run .ensures in
+    (c .ending-number .ensures ∙ h .0 .number, (h .0 .steps, (h .0 .printed, (h .0 .places, h .1))))
 
 pub gumreta-run-spec : {M : Type 1} → statement M
 gumreta-run-spec =

@@ -7,7 +7,7 @@ use Rattle.hand_sized.proofs.check_a.Statement.{statement}
 use Rattle.hand_sized.proofs.check_a.Tie as tie
 
 returns : tie.Need-returns
-returns c = c .check .ensures ∙ ap checked (c .before .before .a .ensures) ∙ table .A-checked
+returns c = c .check .ensures .0 ∙ ap checked (c .before .before .a .ensures) ∙ table .A-checked
 
 pub check-a-spec : {M : Type 1} → statement M
 check-a-spec = tie.close (tie.spec (search needs) (search needs) (search needs) returns)

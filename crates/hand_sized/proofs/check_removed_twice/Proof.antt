@@ -7,7 +7,7 @@ use Rattle.hand_sized.proofs.check_removed_twice.Statement.{statement}
 use Rattle.hand_sized.proofs.check_removed_twice.Tie as tie
 
 returns : tie.Need-returns
-returns c = c .check .ensures ∙ ap checked (c .before .before .removed-twice .ensures) ∙ table .removed-twice
+returns c = c .check .ensures .0 ∙ ap checked (c .before .before .removed-twice .ensures) ∙ table .removed-twice
 
 pub check-removed-twice-spec : {M : Type 1} → statement M
 check-removed-twice-spec = tie.close (tie.spec (search needs) (search needs) (search needs) returns)

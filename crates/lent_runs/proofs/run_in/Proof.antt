@@ -2,6 +2,7 @@
 use mathlib.Core.Path.{sym}
 use lib.Seq.{length-take-le}
 use borrow.Author.Needs.{needs}
+use Rattle.lent_runs.specs.Lent.{printed-within}
 use Rattle.lent_runs.proofs.run_in.Statement.{statement}
 use Rattle.lent_runs.proofs.run_in.Tie as tie
 
@@ -39,7 +40,7 @@ same-length : tie.Need-same-length
 same-length c = search needs
 
 returns : tie.Need-returns
-returns c = search needs
+returns c = printed-within (c .before .before .before .before .before .run .ensures .0)
 
 pub run-in-spec : {M : Type 1} → statement M
 run-in-spec =

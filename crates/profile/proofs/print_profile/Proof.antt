@@ -1,4 +1,5 @@
 -- `print_profile`: a file that is not refused is accepted.
+use native.Mathlib.Omega.{arith}
 use mathlib.Core.Path.{sym, _∙_}
 use borrow.Author.Needs.{needs}
 use Rattle.profile.proofs.print_profile.Statement.{statement}
@@ -29,10 +30,16 @@ enum-told : tie.Need-enum-told
 enum-told c = search needs
 
 print-accepted-requires : tie.Need-print-accepted-requires
-print-accepted-requires c κs = sym (c .before .before .check .ensures) ∙ c .enum-told .given .1
+print-accepted-requires c κs = (sym (c .before .before .before .check .ensures .0) ∙ c .before .enum-told .given .1, (omega arith, omega arith))
 
 returns-2 : tie.Need-returns-2
 returns-2 c = search needs
+
+print-accepted-requires-2 : tie.Need-print-accepted-requires-2
+print-accepted-requires-2 c κs = (sym (c .before .before .before .check .ensures .0) ∙ c .before .enum-told .given .1, (omega arith, omega arith))
+
+returns-3 : tie.Need-returns-3
+returns-3 c = search needs
 
 pub print-profile-spec : {M : Type 1} → statement M
 print-profile-spec =
@@ -47,4 +54,7 @@ print-profile-spec =
     returns
     enum-told
     print-accepted-requires
-    returns-2)
+    returns-2
+    (search needs)
+    print-accepted-requires-2
+    returns-3)

@@ -20,7 +20,7 @@ same-length-4 : tie.Need-same-length-4
 same-length-4 c = search needs
 
 returns : tie.Need-returns
-returns c = λ a. as-plain (c .before .before .before .before .before .before .before .before .run .ensures .0) a
+returns c = let h = c .before .before .before .before .before .before .before .before .run .ensures in ((λ a. as-plain (h .0) a), h)
 
 pub runs-as-plain-spec : {M : Type 1} → statement M
 runs-as-plain-spec =

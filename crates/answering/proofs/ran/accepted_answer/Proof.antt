@@ -2,7 +2,7 @@
 use native.Mathlib.Omega.{arith}
 use borrow.Author.Needs.{needs}
 use Rattle.running.specs.Lent.{lent-is}
-use Rattle.answering.specs.Ran.{prints-run, printed-fit, few-printed}
+use Rattle.answering.specs.Ran.{prints-run, printed-within, printed-fit, few-printed}
 use Rattle.answering.proofs.ran.accepted_answer.Statement.{statement}
 use Rattle.answering.proofs.ran.accepted_answer.Tie as tie
 
@@ -34,7 +34,7 @@ run-accepted-requires : tie.Need-run-accepted-requires
 run-accepted-requires c κs = search needs
 
 array-share-prefix-prints : tie.Need-array-share-prefix-prints
-array-share-prefix-prints c = search needs
+array-share-prefix-prints c = printed-within (c .before .before .before .before .run-accepted .ensures)
 
 slice-aggregate-runner-output : tie.Need-slice-aggregate-runner-output
 slice-aggregate-runner-output c = printed-fit (c .before .before .before .before .before .run-accepted .ensures)

@@ -18,13 +18,13 @@ same-length : tie.Need-same-length
 same-length c = search needs
 
 returns : tie.Need-returns
-returns c = prints-refusal _ (sym (c .before .before .before .before .before .before .before .check .ensures) ∙ c .before .before .before .before .before .r .given .1) (c .before .before .before .before .before .before .before .before .before .before .pre) (c .before .before .put-refusal .ensures)
+returns c = prints-refusal _ (sym (c .before .before .before .before .before .before .before .check .ensures .0) ∙ c .before .before .before .before .before .r .given .1) (c .before .before .before .before .before .before .before .before .before .before .pre) (c .before .before .put-refusal .ensures)
 
 enum-told : tie.Need-enum-told
 enum-told c = search needs
 
 accepted-answer-requires : tie.Need-accepted-answer-requires
-accepted-answer-requires c κs = (sym (c .before .before .before .before .check .ensures) ∙ c .before .before .enum-told .given .1, c .before .before .before .before .before .before .before .pre)
+accepted-answer-requires c κs = (sym (c .before .before .before .before .check .ensures .0) ∙ c .before .before .enum-told .given .1, c .before .before .before .before .before .before .before .pre)
 
 same-length-2 : tie.Need-same-length-2
 same-length-2 c = search needs
@@ -33,7 +33,7 @@ returns-2 : tie.Need-returns-2
 returns-2 c = search needs
 
 accepted-answer-requires-2 : tie.Need-accepted-answer-requires-2
-accepted-answer-requires-2 c κs = (sym (c .before .before .before .before .check .ensures) ∙ c .before .before .enum-told .given .1, c .before .before .before .before .before .before .before .pre)
+accepted-answer-requires-2 c κs = (sym (c .before .before .before .before .check .ensures .0) ∙ c .before .before .enum-told .given .1, c .before .before .before .before .before .before .before .pre)
 
 same-length-3 : tie.Need-same-length-3
 same-length-3 c = search needs

@@ -1,16 +1,21 @@
-use Rattle.word_machine.specs.WordLaws.{literal-low, literal-high}
+use mathlib.Core.Path.{ap, _∙_}
+use mathlib.Core.Bool.{true}
+use Rattle.language.specs.Numbers.{residue, inRange}
+use Rattle.word_machine.specs.Machine.{literalWord}
+use Rattle.frames.specs.Laws.{literal-widens, literal-range}
 use borrow.Author.Needs.{needs}
 use Rattle.frames.proofs.numbers.literal_word.Statement.{statement}
 use Rattle.frames.proofs.numbers.literal_word.Tie as tie
 
-add-result : tie.Need-add-result
-add-result c = search needs
+cast-word-of : tie.Need-cast-word-of
+cast-word-of c = literal-widens _ _ (c .before .pre) (c .literal-number .ensures) .0
+
+word-of-requires : tie.Need-word-of-requires
+word-of-requires c κs = ap inRange (literal-widens _ _ (c .before .pre) (c .literal-number .ensures) .1) ∙ literal-range _ (c .before .pre)
 
 returns : tie.Need-returns
-returns c = literal-low _ (c .if1 .taken)
-
-returns-2 : tie.Need-returns-2
-returns-2 c = literal-high _ (c .if1 .left) (c .before .pre)
+unfolding literalWord
+returns c = c .word-of .ensures ∙ ap residue (literal-widens _ _ (c .before .before .pre) (c .before .literal-number .ensures) .1)
 
 pub literal-word-spec : {M : Type 1} → statement M
-literal-word-spec = tie.close (tie.spec add-result returns returns-2)
+literal-word-spec = tie.close (tie.spec (search needs) cast-word-of word-of-requires returns)

@@ -12,13 +12,13 @@ enum-known-r : tie.Need-enum-known-r
 enum-known-r c = search needs
 
 returns : tie.Need-returns
-returns c = (refused-ran-as _ _ _ _ _ (sym (c .before .before .before .check .ensures) ∙ c .before .r .given .1), refused-kept _ _ _ _)
+returns c = (refused-ran-as _ _ _ _ _ (sym (c .before .before .before .check .ensures .0) ∙ c .before .r .given .1), refused-kept _ _ _ _)
 
 enum-told : tie.Need-enum-told
 enum-told c = search needs
 
 run-accepted-requires : tie.Need-run-accepted-requires
-run-accepted-requires c κs = sym (c .before .before .before .before .before .before .check .ensures) ∙ c .before .before .before .before .enum-told .given .1
+run-accepted-requires c κs = sym (c .before .before .before .before .before .before .check .ensures .0) ∙ c .before .before .before .before .enum-told .given .1
 
 same-length : tie.Need-same-length
 same-length c = search needs
@@ -33,7 +33,7 @@ same-length-4 : tie.Need-same-length-4
 same-length-4 c = search needs
 
 returns-2 : tie.Need-returns-2
-returns-2 c = (c .before .before .before .before .before .before .before .before .run-accepted .ensures, accepted-kept (sym (c .before .before .before .before .before .before .before .before .before .before .before .before .before .before .before .check .ensures) ∙ c .before .before .before .before .before .before .before .before .before .before .before .before .before .enum-told .given .1) _ _ _ _ _ _ _ _)
+returns-2 c = (c .before .before .before .before .before .before .before .before .run-accepted .ensures, accepted-kept (sym (c .before .before .before .before .before .before .before .before .before .before .before .before .before .before .before .check .ensures .0) ∙ c .before .before .before .before .before .before .before .before .before .before .before .before .before .enum-told .given .1) _ _ _ _ _ _ _ _ (search needs, search needs, search needs))
 
 pub run-spec : {M : Type 1} → statement M
 run-spec =
