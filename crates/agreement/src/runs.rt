@@ -5,7 +5,7 @@ ghost use mathlib.Core.Path.{_≡_};
 ghost use Rattle.language.specs.declared.Verdict.the-variants.{Accepted};
 ghost use Rattle.language.specs.Answers.{checked};
 ghost use Rattle.machine.specs.Joining.{RanAs};
-ghost use Rattle.running.specs.Answer.{Kept};
+ghost use Rattle.running.specs.Answer.{LentAfter};
 ghost use Rattle.agreement.specs.Runs.{AsPlain};
 
 // Runs what the checker accepts, in lent memory: as far as the run comes, it prints what the plain run prints, and ends as that does. All that `run` promises
@@ -21,7 +21,7 @@ pub fn runs_as_plain(
     ensures { λ r. ⌜ (checked (now (file .entry)) ≡ Accepted → AsPlain (now (file .entry)) steps r (now (prints .exit))) ⌝ }
     ensures { λ r. ⌜ RanAs (now (file .entry)) (now (cells .entry)) (now (regions .entry)) (now (frames .entry)) (now (prints .entry)) steps
         r (now (prints .exit)) ⌝ }
-    ensures { λ _. ⌜ Kept (now (file .entry)) (now (cells .entry)) (now (regions .entry)) (now (frames .entry)) (now (prints .entry))
+    ensures { λ _. ⌜ LentAfter (now (file .entry)) (now (cells .entry)) (now (regions .entry)) (now (frames .entry)) (now (prints .entry))
         (now (cells .exit)) (now (regions .exit)) (now (frames .exit)) (now (prints .exit)) ⌝ }
 {
     run(file, cells, regions, frames, prints, steps)

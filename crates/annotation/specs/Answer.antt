@@ -22,7 +22,7 @@ use Rattle.language.specs.Annotation.{annotate}
 use Rattle.language.specs.Answers.{refusalNumber, Stage, stage, lowest, program, fileOf, roomOk, fileStages, reachedStages, annotatorStages, AnnotatorAnswer, refuses, writes, annotatorNumber, writesUnless, annotated, annotatorMemory}
 use Rattle.records.specs.Verdicts.{formStages, after, lowest-append}
 use Rattle.chains.specs.Layout.{length-of-program}
-use Rattle.rules.specs.Stages.{typingStages}
+use Rattle.stages.specs.Stages.{typingStages}
 use Rattle.annotation.specs.declared.Annotated.{Annotated}
 use Rattle.annotation.specs.declared.Annotated.the-variants.{Refused as NotAnnotated, Written}
 use Rattle.annotation.specs.Stages.{markStages}

@@ -19,7 +19,7 @@ use Rattle.language.specs.Annotation.{unannotated}
 use Rattle.language.specs.Answers.{Stage, stage, lowest, program}
 use Rattle.laws.specs.Stages.{lowest-passed}
 use Rattle.placement.specs.Whole.{Annotatable}
-use Rattle.rules.specs.Stages.{tableStages}
+use Rattle.stages.specs.Stages.{tableStages}
 
 -- numbers 4 to 7, with 17 behind 5
 abbrev pub markStages : List ℕ → List Stage

@@ -1,6 +1,6 @@
 // The annotator's answer to any bytes.
 use crate::Annotated;
-use crate::stages::check_annotatable;
+use crate::annotatable::check_annotatable;
 use insertion::blank_laid;
 use insertion::lay_annotated;
 use insertion::write;
@@ -11,7 +11,7 @@ use language::format::MAX_RECORDS;
 use language::format::RECORD_BYTES;
 use liveness::POINTS;
 use liveness::blank_points;
-use rules::check_typing;
+use stages::check_typing;
 use tables::ROWS;
 use tables::TABLE;
 use tables::blank_file_table;

@@ -1,7 +1,7 @@
 // The annotator's answer to any bytes: the annotated file at the front of the lent memory, or the lowest number that applies.
+mod annotatable;
 mod answer;
 mod front;
-mod stages;
 
 pub use answer::annotate;
 pub use front::annotated_front;

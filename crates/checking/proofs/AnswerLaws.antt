@@ -7,7 +7,7 @@ use Rattle.language.specs.declared.Verdict.{Verdict}
 use Rattle.language.specs.declared.Verdict.the-variants.{Refused, Accepted}
 use Rattle.language.specs.Answers.{lowest, fileStages, reachedStages, checkerStages, checkerNumber, checked}
 use Rattle.records.specs.Verdicts.{formStages, after, lowest-append}
-use Rattle.rules.specs.Stages.{typingStages}
+use Rattle.stages.specs.Stages.{typingStages}
 use Rattle.checking.specs.Answer.{ruleStages, Checks}
 
 all-stages : (f : List ℕ) → typingStages f ++ ruleStages f ≡ checkerStages f

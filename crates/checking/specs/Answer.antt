@@ -6,7 +6,7 @@ use Rattle.language.specs.declared.Refusal.the-variants.{Rules}
 use Rattle.language.specs.declared.Verdict.{Verdict}
 use Rattle.language.specs.Checking.{rulesOk}
 use Rattle.language.specs.Answers.{Stage, stage, program, checkerNumber, checked}
-use Rattle.rules.specs.Stages.{tableStages}
+use Rattle.stages.specs.Stages.{tableStages}
 
 -- numbers 4, 5, 17, 7 and 8
 abbrev pub ruleStages : List ℕ → List Stage

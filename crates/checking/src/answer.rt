@@ -2,8 +2,8 @@
 use crate::procedures::rules_ok;
 use language::Refusal;
 use language::Verdict;
-use rules::check_classes;
-use rules::check_typing;
+use stages::check_classes;
+use stages::check_typing;
 use tables::blank_file_table;
 use tables::blank_rows;
 ghost use mathlib.Core.Path.{_≡_};

@@ -22,7 +22,7 @@ use mathlib.Core.Bool.{true, false}
 use mathlib.Core.Logic.{inl, inr}
 use Rattle.laws.specs.Choices.{choose-true, choose-false}
 use Rattle.language.specs.Answers.{program}
-use Rattle.declarations.specs.Places.{regionedIn, functorIn}
+use Rattle.declarations.specs.DeclaredPlaces.{regionedIn, functorIn}
 use Rattle.declarations.specs.Declares.{Declares, functor-listed, functor-stands, functors-are, start-stands, typeStart}
 
 -- only a type has regions

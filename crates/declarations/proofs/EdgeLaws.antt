@@ -24,7 +24,7 @@ use Rattle.laws.specs.Tests.{and-stop, and-on, refuse, pass}
 use Rattle.laws.specs.Lists.{all-weaker}
 use Rattle.declarations.specs.Functors.{functorAtRecord, functors-step}
 use Rattle.declarations.proofs.TypeLaws.{few-types}
-use Rattle.declarations.specs.Places.{functorIn}
+use Rattle.declarations.specs.DeclaredPlaces.{functorIn}
 use Rattle.declarations.specs.Declares.{Declares}
 use Rattle.declarations.proofs.DeclaresLaws.{regioned-none, regioned-some}
 use Rattle.declarations.specs.Edges.{goesOn, EdgesMatch, placeAt}

@@ -22,7 +22,7 @@ use Rattle.chains.specs.Records.{chainRecords, records-none, records-step}
 use Rattle.chains.specs.Elements.{procedures-count, variables-count, regions-count}
 use Rattle.chains.specs.Is.{procedure-is}
 use Rattle.chains.specs.Declared.{procedure-at}
-use Rattle.declarations.specs.Places.{procedurePlaces, functorPlaces, filePlaces, placeIn, functorIn, regionPlaces, ownPlaces, variableIn, regionIn}
+use Rattle.declarations.specs.DeclaredPlaces.{procedurePlaces, functorPlaces, filePlaces, placeIn, functorIn, regionPlaces, ownPlaces, variableIn, regionIn}
 use Rattle.declarations.proofs.LookupLaws.{place-past, place-there, place-same, functor-past, functor-there, functor-same}
 use Rattle.declarations.specs.Listing.{Lists}
 use Rattle.declarations.proofs.ListingLaws.{lists-entry, lists-place, ChainLeft, blank-at}

@@ -13,7 +13,7 @@ use Rattle.language.specs.Lists.{nth}
 use Rattle.language.specs.File.{word, recordCount}
 use Rattle.chains.specs.Formed.{Formed}
 use Rattle.chains.specs.Records.{chainRecords, records-none, records-step}
-use Rattle.declarations.specs.Places.{placeIn}
+use Rattle.declarations.specs.DeclaredPlaces.{placeIn}
 use Rattle.declarations.proofs.LookupLaws.{place-past, place-there}
 use Rattle.declarations.specs.Listing.{Lists}
 

@@ -8,7 +8,7 @@ use mathlib.Core.List.{List}
 use lib.ListN.{getD}
 use Rattle.language.specs.Format.{maxFunctors, places, variableType, regionType}
 use Rattle.language.specs.Lists.{choose}
-use Rattle.declarations.specs.Places.{functorIn, functorPlaces, placeIn, variableIn, regionIn}
+use Rattle.declarations.specs.DeclaredPlaces.{functorIn, functorPlaces, placeIn, variableIn, regionIn}
 use mathlib.Core.Bool.{false}
 use lib.Dec.{eqb}
 use Rattle.laws.specs.Tests.{refuse, pass}

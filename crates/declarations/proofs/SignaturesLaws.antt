@@ -20,7 +20,7 @@ use Rattle.chains.specs.Records.{chainRecords}
 use Rattle.chains.specs.Elements.{variables-count, regions-count}
 use Rattle.chains.specs.Is.{procedure-is, variable-is, region-is}
 use Rattle.chains.specs.Declared.{procedure-at, variable-at, region-at}
-use Rattle.declarations.specs.Places.{variableIn, regionIn, regionedIn, functorIn}
+use Rattle.declarations.specs.DeclaredPlaces.{variableIn, regionIn, regionedIn, functorIn}
 use Rattle.declarations.proofs.DeclaresLaws.{regioned-type, type-some, type-none, regioned-none, regioned-some, regioned-functors}
 use Rattle.declarations.specs.Declares.{Declares}
 use Rattle.declarations.specs.Own.{declared, signatureFrom, signatureAt, fewDeclared}

@@ -25,7 +25,7 @@ use Rattle.chains.specs.Lookups.{functors-of, functor-of, procedure-of}
 use Rattle.declarations.specs.Functors.{functorAtRecord, functor-same}
 use Rattle.declarations.specs.Regioned.{regionedStart}
 use Rattle.declarations.specs.Parameters.{ParameterFrom}
-use Rattle.declarations.specs.Places.{regionedIn, functorIn, procedureIn}
+use Rattle.declarations.specs.DeclaredPlaces.{regionedIn, functorIn, procedureIn}
 
 -- the first functor of type ty
 unfoldable pub typeStart : List ℕ → ℕ → ℕ

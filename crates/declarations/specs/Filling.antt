@@ -6,7 +6,7 @@ use lib.ListN.{length, getD}
 use Rattle.language.specs.Format.{maxRecords}
 use Rattle.language.specs.Lists.{nth}
 use Rattle.chains.specs.Records.{chainRecords}
-use Rattle.declarations.specs.Places.{functorPlaces, functorIn}
+use Rattle.declarations.specs.DeclaredPlaces.{functorPlaces, functorIn}
 use Rattle.declarations.specs.Regioned.{regionedStart}
 use Rattle.declarations.specs.Declares.{typeStart}
 

@@ -1,4 +1,4 @@
-pub mod Places
+pub mod DeclaredPlaces
 pub mod Listing
 pub mod Parameters
 pub mod Functors

@@ -21,7 +21,7 @@ use Rattle.chains.specs.Records.{chainRecords, records-some}
 use Rattle.chains.specs.Elements.{variables-count, regions-count}
 use Rattle.chains.specs.Reached.{stands-nth1, among-place, among-past}
 use Rattle.chains.specs.Lookups.{variable-of}
-use Rattle.declarations.specs.Places.{variableIn, regionIn}
+use Rattle.declarations.specs.DeclaredPlaces.{variableIn, regionIn}
 
 pub record Own (f t : List ℕ) : Type 0 where
   pub variables-stand : Stands f variables (variableIn t 1)

@@ -17,7 +17,7 @@ use Rattle.chains.specs.Formed.{Formed, Stands, counted, Onward, variablesAt, a
 use Rattle.chains.specs.Is.{functor-is, variable-is}
 use Rattle.chains.specs.Shapes.{by-number}
 use Rattle.chains.specs.Declared.{variable-at}
-use Rattle.declarations.specs.Places.{filePlaces}
+use Rattle.declarations.specs.DeclaredPlaces.{filePlaces}
 
 -- the types of the variables that take an argument
 unfoldable pub takes : ℕ → ℕ → List ℕ → List ℕ

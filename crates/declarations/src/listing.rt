@@ -28,7 +28,7 @@ ghost use Rattle.language.specs.Typing.{typesOk};
 ghost use Rattle.language.specs.Answers.{program};
 ghost use Rattle.chains.specs.Formed.{Formed, Stands};
 ghost use Rattle.chains.specs.Records.{chainRecords};
-ghost use Rattle.declarations.specs.Places.{filePlaces, functorPlaces, ownPlaces};
+ghost use Rattle.declarations.specs.DeclaredPlaces.{filePlaces, functorPlaces, ownPlaces};
 ghost use Rattle.declarations.specs.Listing.{Lists};
 ghost use Rattle.declarations.specs.Parameters.{linkOf, Linked};
 ghost use Rattle.declarations.specs.Filling.{Functors};

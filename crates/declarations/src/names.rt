@@ -17,7 +17,7 @@ ghost use lib.ListN.{length, getD};
 ghost use Rattle.language.specs.Format.{maxRecords, places};
 ghost use Rattle.language.specs.Typing.{hasType, isRegionOf};
 ghost use Rattle.chains.specs.Formed.{Formed};
-ghost use Rattle.declarations.specs.Places.{placeIn, variableIn, regionIn, procedureIn, functorIn, regionedIn};
+ghost use Rattle.declarations.specs.DeclaredPlaces.{placeIn, variableIn, regionIn, procedureIn, functorIn, regionedIn};
 ghost use Rattle.declarations.specs.Own.{Own, declared};
 
 // Entry n of the `most` from place `at` on.

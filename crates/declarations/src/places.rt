@@ -6,7 +6,7 @@ use language::format::MAX_RECORDS;
 use language::format::PLACES;
 ghost use mathlib.Core.Path.{_≡_};
 ghost use lib.ListN.{replicate};
-ghost use Rattle.declarations.specs.Places.{filePlaces, ownPlaces};
+ghost use Rattle.declarations.specs.DeclaredPlaces.{filePlaces, ownPlaces};
 
 // The file's: at a record's number, for each variable the first in or out variable from there on, and for the first functor of a type with regions that
 // functor; then the procedures; then the functors, MAX_FUNCTORS places a type.

@@ -13,7 +13,7 @@ ghost use lib.ListN.{length};
 ghost use Rattle.language.specs.Machine.{printPlaces};
 ghost use Rattle.language.specs.Answers.{checkerNumber, endingNumber, annotatorNumber, writtenBytes, annotated, annotatorMemory, checked, ran};
 ghost use Rattle.word_machine.specs.Machine.{lentWords};
-ghost use Rattle.running.specs.Answer.{Kept};
+ghost use Rattle.running.specs.Answer.{LentAfter};
 ghost use Rattle.gumreta.specs.Numbers.{version};
 
 // As GUMRETA_VERSION of c/gumreta.h.
@@ -88,7 +88,7 @@ pub extern "C" fn gumreta_run(
         (lentWords (now (cells .entry)) (now (regions .entry)) (now (frames .entry)) (now (prints .entry)) steps) .printed) ⌝ }
     ensures { λ _. ⌜ now (prints .exit) ≡ printPlaces (ran (now (file .entry))
         (lentWords (now (cells .entry)) (now (regions .entry)) (now (frames .entry)) (now (prints .entry)) steps)) (now (prints .entry)) ⌝ }
-    ensures { λ _. ⌜ Kept (now (file .entry)) (now (cells .entry)) (now (regions .entry)) (now (frames .entry)) (now (prints .entry))
+    ensures { λ _. ⌜ LentAfter (now (file .entry)) (now (cells .entry)) (now (regions .entry)) (now (frames .entry)) (now (prints .entry))
         (now (cells .exit)) (now (regions .exit)) (now (frames .exit)) (now (prints .exit)) ⌝ }
 {
     let r = run(

@@ -19,7 +19,7 @@ use Rattle.annotation.specs.Answer.{told, Annotates}
 use Rattle.word_machine.specs.Machine.{lentWords}
 use Rattle.machine.specs.declared.Outcome.{Outcome}
 use Rattle.machine.specs.Joining.{RanAs}
-use Rattle.running.specs.Answer.{Free, Untouched, Kept}
+use Rattle.running.specs.Answer.{Free, Untouched, LentAfter}
 use Rattle.hand_sized.specs.declared.Answers.{Answers}
 
 -- ---- the annotator: f is the file g
@@ -56,7 +56,7 @@ unfolding lentWords
 lent-by m rs fw ps l p q s t = rw (p, q, s, t) refl
 
 -- f is the file g
-module _ {f m rs fw ps m′ rs′ fw′ px : List ℕ} {l : ℕ} {r : Outcome} {g : List ℕ} (h : RanAs f m rs fw ps l r px) (K : Kept f m rs fw ps m′ rs′ fw′ px) (e : f ≡ g) where
+module _ {f m rs fw ps m′ rs′ fw′ px : List ℕ} {l : ℕ} {r : Outcome} {g : List ℕ} (h : RanAs f m rs fw ps l r px) (K : LentAfter f m rs fw ps m′ rs′ fw′ px) (e : f ≡ g) where
   as-ran : {R : Run} (L : Lent) → ran g L ≡ R → lentWords m rs fw ps l ≡ L → (r ≡ outcome (R .ending) (R .steps) (length (R .printed))) × (px ≡ printPlaces R ps)
   as-ran {R} L t k =
       let u : ran f (lentWords m rs fw ps l) ≡ R = ap (λ x. ran x (lentWords m rs fw ps l)) e ∙ ap (λ x. ran g x) k ∙ t in (
@@ -88,7 +88,7 @@ IfAllRefuse f r out out′ M = (q : Refusal) → AllRefuse f q → (r ≡ refuse
 
 pub all-refused : (f out : List ℕ) {out′ m rs fw ps m′ rs′ fw′ ps′ : List ℕ} {l : ℕ} {a : Annotated} {v : Verdict} {o : Outcome} → length out ≡ annotatorBytes
     → lentWords m rs fw ps l ≡ runnerLent → Annotates (annotated f (length out)) out out′ a → v ≡ checked f → RanAs f m rs fw ps l o ps′
-    → Kept f m rs fw ps m′ rs′ fw′ ps′ → IfAllRefuse f (answers a v o) out out′ (Untouched m rs fw ps m′ rs′ fw′ ps′)
+    → LentAfter f m rs fw ps m′ rs′ fw′ ps′ → IfAllRefuse f (answers a v o) out out′ (Untouched m rs fw ps m′ rs′ fw′ ps′)
 all-refused f out {a = a} {v = v} {o = o} n k h c r K q t =
     let x = refused f out h refl annotatorBytes (t .0) n in
     let y = not-run r K refl runnerLent (t .2) (t .1) k in (

@@ -14,7 +14,7 @@ use Rattle.language.specs.Lists.{all, upFrom}
 use Rattle.language.specs.Regions.{regionsOk}
 use Rattle.language.specs.Answers.{program}
 use Rattle.records.specs.Lists.{from-here, from-end}
-use Rattle.tables.specs.Places.{rowWords, rowPlace, rowSize}
+use Rattle.tables.specs.TablePlaces.{rowWords, rowPlace, rowSize}
 use Rattle.chains.specs.Formed.{Formed, counted}
 use Rattle.chains.specs.Shapes.{call-here}
 use Rattle.owners.specs.Everywhere.{recordTest}

@@ -13,7 +13,7 @@ use Rattle.owners.specs.Owner.{ownerOf}
 use Rattle.owners.specs.Everywhere.{recordTest}
 use Rattle.tables.specs.Rows.{readsIn, givesIn, effectIn, Still, StillAt, word-same}
 use Rattle.tables.specs.Filled.{GoalIsStep, Accessed, Effected}
-use Rattle.tables.specs.Places.{givesPlace, needsPlace, readsPlace, rowSize}
+use Rattle.tables.specs.TablePlaces.{givesPlace, needsPlace, readsPlace, rowSize}
 use Rattle.regions.specs.Single.{agrees}
 use Rattle.regions.specs.Effects.{SomeStep, NoStep, EffectAt}
 

@@ -27,7 +27,7 @@ ghost use Rattle.language.specs.Format.{maxRecords};
 ghost use Rattle.language.specs.File.{recordCount};
 ghost use Rattle.language.specs.Regions.{regionsOk};
 ghost use Rattle.language.specs.Answers.{program};
-ghost use Rattle.tables.specs.Places.{rowWords};
+ghost use Rattle.tables.specs.TablePlaces.{rowWords};
 ghost use Rattle.chains.specs.Shapes.{IsCall};
 ghost use Rattle.owners.specs.Everywhere.{recordTest};
 ghost use Rattle.tables.specs.Rows.{effectIn, putEffect};

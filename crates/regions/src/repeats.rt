@@ -1,6 +1,7 @@
 // Calls that repeat one another.
 use chains::word;
 use language::format;
+use records::wide;
 use tables::home;
 ghost use mathlib.Core.Path.{_≡_};
 ghost use mathlib.Core.Bool.{true};
@@ -31,12 +32,6 @@ fn same_homes(file: &[u8], own: &[u64], a: usize, b: usize) -> bool
         y = word(file, y, format::NEXT);
     }
     y == 0
-}
-
-fn wide(q: u16) -> usize
-    ensures { λ r. ⌜ r ≡ q ⌝ }
-{
-    q as usize
 }
 
 // The procedure that record i belongs to.

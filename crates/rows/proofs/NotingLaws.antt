@@ -14,7 +14,7 @@ use Rattle.language.specs.Program.{Step, _then_, step}
 use Rattle.chains.specs.Layout.{all-rows}
 use Rattle.chains.specs.Formed.{Formed, counted, goalsAt}
 use Rattle.chains.specs.Is.{goals-step}
-use Rattle.tables.specs.Places.{rowWords, rowPlace, rowSize}
+use Rattle.tables.specs.TablePlaces.{rowWords, rowPlace, rowSize}
 use Rattle.tables.specs.Rows.{putAccess, Still, StillAt, row-same, access-length, access-word, access-still, access-reads, access-gives, access-mark}
 use Rattle.tables.specs.Filled.{GoalIsStep}
 use Rattle.tables.specs.declared.Access.{Access}

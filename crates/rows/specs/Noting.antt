@@ -17,7 +17,7 @@ use Rattle.tables.specs.Filled.{GoalIsStep, Accessed}
 use Rattle.rows.specs.Ranged.{fresh}
 use Rattle.rows.specs.Fitting.{armArguments}
 use Rattle.walks.specs.Steps.{isStep}
-use Rattle.tables.specs.Places.{markPlace, needsPlace, rowSize}
+use Rattle.tables.specs.TablePlaces.{markPlace, needsPlace, rowSize}
 
 -- the row of record i says that ys are read and xs are given
 pub record RowHas (rows : List ℕ) (i : ℕ) (ys xs : List ℕ) : Type 0 where

@@ -31,7 +31,7 @@ ghost use lib.ListN.{length};
 ghost use Rattle.language.specs.File.{recordCount};
 ghost use Rattle.language.specs.Typing.{typingOk};
 ghost use Rattle.language.specs.Answers.{program};
-ghost use Rattle.tables.specs.Places.{rowWords};
+ghost use Rattle.tables.specs.TablePlaces.{rowWords};
 ghost use Rattle.chains.specs.Formed.{Formed};
 ghost use Rattle.tables.specs.Window.{FileTable};
 ghost use Rattle.tables.specs.Filled.{Accessed};

@@ -25,7 +25,7 @@ abbrev pub Untouched : (m rs fw ps m′ rs′ fw′ ps′ : List ℕ) → Type 0
 Untouched m rs fw ps m′ rs′ fw′ ps′ = (m′ ≡ m) × (rs′ ≡ rs) × (fw′ ≡ fw) × (ps′ ≡ ps)
 
 -- the lent words after a run: a refusal leaves "all lent memory" as it was
-pub record Kept (f m rs fw ps m′ rs′ fw′ ps′ : List ℕ) : Type 0 where
+pub record LentAfter (f m rs fw ps m′ rs′ fw′ ps′ : List ℕ) : Type 0 where
   pub free : Free m rs fw m′ rs′ fw′
   pub all : (v : Refusal) → checked f ≡ Refused v → Untouched m rs fw ps m′ rs′ fw′ ps′
 
@@ -44,12 +44,12 @@ refused-ran-as {f} m rs fw ps l {v} e =
     let g = refused-ran f (lentWords m rs fw ps l) e in
     record { ending = rw g refl; number = rw g refl; steps = rw g refl; printed = rw g refl; places = rw g refl }
 
-pub refused-kept : {f : List ℕ} (m rs fw ps : List ℕ) → Kept f m rs fw ps m rs fw ps
-refused-kept m rs fw ps = record { free = (refl, refl, refl); all = λ v e. (refl, refl, refl, refl) }
+pub refused-leaves : {f : List ℕ} (m rs fw ps : List ℕ) → LentAfter f m rs fw ps m rs fw ps
+refused-leaves m rs fw ps = record { free = (refl, refl, refl); all = λ v e. (refl, refl, refl, refl) }
 
 -- an accepted file is not refused
-pub accepted-kept : {f : List ℕ} → checked f ≡ Accepted → (m rs fw ps m′ rs′ fw′ ps′ : List ℕ) → Free m rs fw m′ rs′ fw′ → Kept f m rs fw ps m′ rs′ fw′ ps′
-accepted-kept e m rs fw ps m′ rs′ fw′ ps′ n = record { free = n; all = λ v z. absurd (other (sym e ∙ z)) }
+pub accepted-leaves : {f : List ℕ} → checked f ≡ Accepted → (m rs fw ps m′ rs′ fw′ ps′ : List ℕ) → Free m rs fw m′ rs′ fw′ → LentAfter f m rs fw ps m′ rs′ fw′ ps′
+accepted-leaves e m rs fw ps m′ rs′ fw′ ps′ n = record { free = n; all = λ v z. absurd (other (sym e ∙ z)) }
   where
     other : {v : Refusal} → Accepted ≡ Refused v → ⊥
     other z = false≢true cc

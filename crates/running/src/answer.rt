@@ -5,7 +5,7 @@ use language::Ending;
 use language::Verdict;
 use machine::Outcome;
 ghost use Rattle.machine.specs.Joining.{RanAs};
-ghost use Rattle.running.specs.Answer.{Kept};
+ghost use Rattle.running.specs.Answer.{LentAfter};
 
 // Refuses as the checker does, with all lent memory as it was; else a run in it. Of an accepted file's run the words lent for cells, regions and
 // frames are free afterwards.
@@ -19,7 +19,7 @@ pub fn run(
 ) -> Outcome
     ensures { λ r. ⌜ RanAs (now (file .entry)) (now (cells .entry)) (now (regions .entry)) (now (frames .entry)) (now (prints .entry)) steps
         r (now (prints .exit)) ⌝ }
-    ensures { λ _. ⌜ Kept (now (file .entry)) (now (cells .entry)) (now (regions .entry)) (now (frames .entry)) (now (prints .entry))
+    ensures { λ _. ⌜ LentAfter (now (file .entry)) (now (cells .entry)) (now (regions .entry)) (now (frames .entry)) (now (prints .entry))
         (now (cells .exit)) (now (regions .exit)) (now (frames .exit)) (now (prints .exit)) ⌝ }
 {
     if let Verdict::Refused(r) = check(file) {

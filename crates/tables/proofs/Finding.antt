@@ -11,7 +11,7 @@ use Rattle.sets.specs.Sets.{emptySet, loaded}
 use Rattle.sets.specs.declared.Set.{Set}
 use Rattle.language.specs.Lists.{choose}
 use Rattle.language.specs.Format.{maxRecords}
-use Rattle.tables.specs.Places.{markPlace, rowPlace}
+use Rattle.tables.specs.TablePlaces.{markPlace, rowPlace}
 use Rattle.tables.specs.Rows.{markIn, rowSet}
 use native.Mathlib.Omega.{arith}
 use native.Mathlib.Decide.{decLt}

@@ -1,4 +1,4 @@
-pub mod Places
+pub mod TablePlaces
 pub mod Window
 pub mod Rows
 pub mod Filled

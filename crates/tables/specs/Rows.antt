@@ -14,7 +14,7 @@ use Rattle.sets.specs.Sets.{emptySet, loaded, stored, loaded-stored}
 use Rattle.sets.specs.declared.Set.{Set}
 use Rattle.language.specs.Lists.{choose}
 use Rattle.language.specs.Format.{maxRecords}
-use Rattle.tables.specs.Places.{rowWords, bearsPlace, endsPlace, givesPlace, markPlace, needsPlace, readsPlace, rowPlace, rowSize}
+use Rattle.tables.specs.TablePlaces.{rowWords, bearsPlace, endsPlace, givesPlace, markPlace, needsPlace, readsPlace, rowPlace, rowSize}
 use Rattle.tables.specs.declared.Access.{Access}
 use Rattle.tables.specs.declared.Effect.{Effect}
 

@@ -21,8 +21,8 @@ use Rattle.language.specs.Lifetimes
 use Rattle.language.specs.Answers.{program}
 use Rattle.chains.specs.Formed.{Stands, variablesAt, goalsAt, edgesAt}
 use Rattle.chains.specs.Records.{chainRecords}
-pub use Rattle.tables.specs.Places.{variablesPlace, regionsPlace, bodyPlace, insPlace, outsPlace, bornPlace, deadPlace, keptPlace, passedPlace, firstPlace}
-use Rattle.tables.specs.Places.{homePlace, reachPlace, edgesPlace}
+pub use Rattle.tables.specs.TablePlaces.{variablesPlace, regionsPlace, bodyPlace, insPlace, outsPlace, bornPlace, deadPlace, keptPlace, passedPlace, firstPlace}
+use Rattle.tables.specs.TablePlaces.{homePlace, reachPlace, edgesPlace}
 
 -- the set at place k
 unfoldable pub setIn : List ℕ → ℕ → Set

@@ -3,7 +3,7 @@ use crate::ROWS;
 use crate::TABLE;
 ghost use mathlib.Core.Path.{_≡_};
 ghost use lib.ListN.{replicate};
-ghost use Rattle.tables.specs.Places.{fileWords, rowWords};
+ghost use Rattle.tables.specs.TablePlaces.{fileWords, rowWords};
 
 pub fn blank_file_table() -> [u64; TABLE]
     ensures { λ r. ⌜ r ≡ replicate fileWords 0 ⌝ }

@@ -16,7 +16,7 @@ ghost use mathlib.Core.Path.{_≡_};
 ghost use Prim.Native.Nat.{_<_};
 ghost use Rattle.tables.specs.Rows.{accessIn, readsIn, givesIn, needsIn, bearsIn, endsIn, markIn, rowSet, putAccess, putEffect, bitOf};
 ghost use Rattle.language.specs.Format.{maxRecords};
-ghost use Rattle.tables.specs.Places.{rowSize};
+ghost use Rattle.tables.specs.TablePlaces.{rowSize};
 
 // The set in word k of the row of record i.
 fn row_set(rows: &[u64; ROWS], i: usize, k: usize) -> Set

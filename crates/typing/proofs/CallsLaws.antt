@@ -18,7 +18,7 @@ use Rattle.language.specs.Answers.{program}
 use Rattle.language.specs.Typing.{hasType, haveTypes, typesOf, parameterTypes, stepOk, goalOk}
 use Rattle.chains.specs.Formed.{Formed, Stands, argumentsAt, arguments-none, variablesAt, variables-none, goalAt}
 use Rattle.chains.specs.Shapes.{IsCall, call-here, argument-here}
-use Rattle.declarations.specs.Places.{procedureIn}
+use Rattle.declarations.specs.DeclaredPlaces.{procedureIn}
 use Rattle.declarations.specs.Parameters.{takes, takenTypes, ParameterFrom, taken-one}
 use Rattle.declarations.specs.Declares.{Declares, procedure-listed, callee-variables}
 

@@ -17,7 +17,7 @@ use Rattle.language.specs.Typing.{isVariable, isRegion, hasType, argumentsOk, f
 use Rattle.chains.specs.Parts.{fourAt}
 use Rattle.chains.specs.Formed.{Formed, goalAt}
 use Rattle.chains.specs.Shapes.{IsLiteral, IsSum, IsAssign, IsConstruct, IsPrint, IsCreate, IsRemove, literal-here, sum-here, assign-here, construct-here, print-here, create-here, remove-here}
-use Rattle.declarations.specs.Places.{variableIn, regionIn, functorIn}
+use Rattle.declarations.specs.DeclaredPlaces.{variableIn, regionIn, functorIn}
 use Rattle.declarations.specs.Functors.{functorAtRecord}
 use Rattle.declarations.specs.Declares.{Declares, functor-listed, functor-here}
 use Rattle.declarations.specs.Own.{Own, declared, variable-none, variable-some, variable-type, region-listed}

@@ -18,7 +18,7 @@ use Rattle.chains.specs.Formed.{Formed, Stands, goalsAt, goalAt, goals-none, ar
 use Rattle.chains.specs.Is.{goals-step}
 use Rattle.chains.specs.Shapes.{IsSwitch, IsIf, switch-here, if-here, arm-here}
 use Rattle.laws.specs.Tests.{and-assoc, and-stop, and-on, refuse, pass}
-use Rattle.declarations.specs.Places.{variableIn, functorIn}
+use Rattle.declarations.specs.DeclaredPlaces.{variableIn, functorIn}
 use Rattle.declarations.specs.Functors.{functorAtRecord, functors-step}
 use Rattle.declarations.specs.Declares.{Declares, functors-here}
 use Rattle.declarations.specs.Own.{Own, declared, variable-none, variable-some, variable-type}

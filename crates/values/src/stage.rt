@@ -26,7 +26,7 @@ ghost use Rattle.language.specs.Program.{procedureAt};
 ghost use Rattle.language.specs.Typing.{typingOk};
 ghost use Rattle.language.specs.Values.{procedureValues, valuesOk};
 ghost use Rattle.language.specs.Answers.{program};
-ghost use Rattle.tables.specs.Places.{rowWords};
+ghost use Rattle.tables.specs.TablePlaces.{rowWords};
 ghost use Rattle.chains.specs.Formed.{Formed};
 ghost use Rattle.tables.specs.Window.{FileTable};
 ghost use Rattle.rows.specs.Noting.{AllNoted, RowsKept};

@@ -14,7 +14,7 @@ use Rattle.language.specs.Answers.{program}
 use Rattle.language.specs.Format.{maxProcedures}
 use Rattle.chains.specs.Layout.{program-size, chain-size, signatureSize, proceduresSize, program-records}
 use Rattle.region_graph.specs.Typed.{procedures-count}
-use Rattle.tables.specs.Places.{fileWords, headSize, windowWords}
+use Rattle.tables.specs.TablePlaces.{fileWords, headSize, windowWords}
 use Rattle.chains.specs.Formed.{Formed, counted}
 
 -- the variables and regions that procedures declare

@@ -12,7 +12,7 @@ use Rattle.language.specs.Lists.{choose}
 use Rattle.language.specs.Program.{Signature, Procedure}
 use Rattle.chains.specs.Formed.{variablesAt, goalsAt, edgesAt}
 use Rattle.tables.specs.Window.{setIn, isNumber, homeIn, reachIn, edgesIn, Window, WindowOf}
-use Rattle.tables.specs.Places.{bodyPlace, bornPlace, deadPlace, edgesPlace, firstPlace, headSize, homePlace, insPlace, keptPlace, outsPlace, passedPlace, reachPlace, regionsPlace, variablesPlace, windowWords}
+use Rattle.tables.specs.TablePlaces.{bodyPlace, bornPlace, deadPlace, edgesPlace, firstPlace, headSize, homePlace, insPlace, keptPlace, outsPlace, passedPlace, reachPlace, regionsPlace, variablesPlace, windowWords}
 
 choose-same : {A : Type 0} (b : Bool) (d : A) {x y : A} → (b ≡ true → x ≡ y) → choose b x d ≡ choose b y d
 unfolding choose

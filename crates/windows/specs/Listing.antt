@@ -17,7 +17,7 @@ use Rattle.language.specs.Answers.{program}
 use Rattle.language.specs.Format.{headerProcedures, nextWord, procedureGoals, procedureRegions, procedureVariables, maxProcedures}
 use Rattle.laws.specs.Tests.{and-assoc, and-yes}
 use Rattle.region_graph.specs.Typed.{noProcedure, signature-typed, procedures-count, regions-few}
-use Rattle.tables.specs.Places.{fileWords, bodyPlace, regionsPlace, variablesPlace, windowWords}
+use Rattle.tables.specs.TablePlaces.{fileWords, bodyPlace, regionsPlace, variablesPlace, windowWords}
 use Rattle.chains.specs.Formed.{Formed, proceduresAt, goalsAt, procedures-none, procedures-stand, program-procedures}
 use Rattle.chains.specs.Elements.{variables-count, regions-count}
 use Rattle.chains.specs.Shapes.{procedure-here}

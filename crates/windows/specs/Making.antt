@@ -28,7 +28,7 @@ use Rattle.chains.specs.Elements.{variables-count, regions-count}
 use Rattle.chains.specs.Reached.{stands-nth1, region-edges}
 use Rattle.chains.specs.Lookups.{variable-of, region-of}
 use Rattle.tables.specs.Window.{setIn, isNumber, homeIn, reachIn, edgesIn, number-none, number-past, number-some, home-some, home-none, reach-some, reach-none, edges-some, edges-none}
-use Rattle.tables.specs.Places.{edgesPlace, homePlace, reachPlace, regionsPlace, variablesPlace}
+use Rattle.tables.specs.TablePlaces.{edgesPlace, homePlace, reachPlace, regionsPlace, variablesPlace}
 use Rattle.windows.specs.Targets.{setAt, TargetTable}
 use Rattle.windows.specs.Parts.{partAt, RegionsListed}
 use Rattle.windows.specs.Classed.{SignatureAt, Reached}

@@ -18,7 +18,7 @@ use Rattle.chains.specs.Shapes.{procedure-here}
 use Rattle.chains.specs.Records.{chainRecords, records-few}
 use Rattle.chains.specs.Elements.{variables-count, regions-count}
 use Rattle.tables.specs.Window.{setIn, Window}
-use Rattle.tables.specs.Places.{bodyPlace, bornPlace, deadPlace, edgesPlace, firstPlace, headSize, homePlace, insPlace, keptPlace, outsPlace, passedPlace, reachPlace, regionsPlace, variablesPlace, windowWords}
+use Rattle.tables.specs.TablePlaces.{bodyPlace, bornPlace, deadPlace, edgesPlace, firstPlace, headSize, homePlace, insPlace, keptPlace, outsPlace, passedPlace, reachPlace, regionsPlace, variablesPlace, windowWords}
 use Rattle.windows.specs.Storing.{set-here, set-else, StoredWords}
 use Rattle.windows.specs.Parts.{partAt, RegionsListed, VariablesListed}
 use Rattle.windows.specs.Closing.{Closing, closing-last}

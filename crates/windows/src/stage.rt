@@ -26,7 +26,7 @@ ghost use Rattle.language.specs.Typing.{typingOk};
 ghost use Rattle.language.specs.Lifetimes.{declaredClassesOk};
 ghost use Rattle.language.specs.Answers.{program};
 ghost use Rattle.language.specs.Format.{places};
-ghost use Rattle.tables.specs.Places.{fileWords, headSize};
+ghost use Rattle.tables.specs.TablePlaces.{fileWords, headSize};
 ghost use Rattle.chains.specs.Formed.{Formed, Stands};
 ghost use Rattle.tables.specs.Window.{FileTable};
 ghost use Rattle.windows.specs.Storing.{StoredWords};

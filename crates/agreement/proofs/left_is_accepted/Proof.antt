@@ -1,7 +1,7 @@
 -- `left_is_accepted` meets its contract.
 use mathlib.Core.Path.{refl, sym, _∙_}
 use lib.Seq.{length-take-le}
-use Rattle.rules.specs.Stages.{not-accepted}
+use Rattle.stages.specs.Stages.{not-accepted}
 use Rattle.agreement.specs.Agreement.{leaves-sound, check-accepts, written-within}
 use borrow.Author.Needs.{needs}
 use Rattle.agreement.proofs.left_is_accepted.Statement.{statement}

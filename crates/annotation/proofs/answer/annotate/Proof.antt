@@ -1,6 +1,6 @@
 -- `annotate` meets its contract.
 use mathlib.Core.Path.{sym, _∙_}
-use Rattle.rules.specs.Stages.{typing-found}
+use Rattle.stages.specs.Stages.{typing-found}
 use Rattle.annotation.specs.Answer.{refusal-told, stage-refuses, stage-goes, answer-moved, all-stages}
 use borrow.Author.Needs.{needs}
 use Rattle.annotation.proofs.answer.annotate.Statement.{statement}

@@ -2,7 +2,7 @@
 use native.Mathlib.Omega.{arith}
 use mathlib.Core.Path.{refl, sym}
 use Rattle.records.specs.Blank.{blank-fits}
-use Rattle.tables.specs.Places.{fileWords, rowWords}
+use Rattle.tables.specs.TablePlaces.{fileWords, rowWords}
 use Rattle.annotation.specs.Stages.{marks-found}
 use Rattle.annotation.specs.Answer.{refusal-told, stage-refuses, stage-goes, answer-moved}
 use borrow.Author.Needs.{needs}

@@ -1,4 +1,4 @@
-use Rattle.rules.specs.Stages.{typing-found}
+use Rattle.stages.specs.Stages.{typing-found}
 use Rattle.checking.proofs.AnswerLaws.{checker-refuses, checker-goes}
 use borrow.Author.Needs.{needs}
 use Rattle.checking.proofs.answer.check.Statement.{statement}

@@ -2,8 +2,8 @@ use borrow.Author.Tests.{not-true, not-false}
 use mathlib.Core.Path.{sym, _∙_}
 use Rattle.language.specs.declared.Refusal.the-variants.{Rules}
 use Rattle.records.specs.Blank.{blank-fits}
-use Rattle.tables.specs.Places.{fileWords, rowWords}
-use Rattle.rules.specs.Stages.{passed-up, refused-here, passed-here}
+use Rattle.tables.specs.TablePlaces.{fileWords, rowWords}
+use Rattle.stages.specs.Stages.{passed-up, refused-here, passed-here}
 use borrow.Author.Needs.{needs}
 use Rattle.checking.proofs.answer.check_rules.Statement.{statement}
 use Rattle.checking.proofs.answer.check_rules.Tie as tie

@@ -2,7 +2,7 @@ use native.Mathlib.Omega.{arith}
 use mathlib.Core.Path.{_∙_}
 use mathlib.Core.Logic.{inl, inr}
 use Rattle.chains.specs.Formed.{procedures-stand, counted}
-use Rattle.declarations.specs.Places.{filePlaces}
+use Rattle.declarations.specs.DeclaredPlaces.{filePlaces}
 use Rattle.declarations.specs.Functors.{stands-same}
 use Rattle.declarations.proofs.ListingLaws.{blank-length, blank-at}
 use Rattle.declarations.proofs.FillingLaws.{functors-zero, procedures-few, file-listed}

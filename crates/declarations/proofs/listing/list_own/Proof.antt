@@ -2,7 +2,7 @@ use native.Mathlib.Omega.{arith}
 use mathlib.Core.Path.{refl}
 use Rattle.chains.specs.Is.{procedure-is}
 use Rattle.chains.specs.Declared.{procedure-at}
-use Rattle.declarations.specs.Places.{ownPlaces}
+use Rattle.declarations.specs.DeclaredPlaces.{ownPlaces}
 use Rattle.declarations.specs.Functors.{stands-same}
 use Rattle.declarations.proofs.ListingLaws.{blank-length}
 use Rattle.declarations.proofs.FillingLaws.{variables-few, regions-few, own-listed}

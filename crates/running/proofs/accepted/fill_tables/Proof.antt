@@ -1,7 +1,7 @@
 -- `fill_tables` meets its contract.
 use borrow.Author.Needs.{needs}
 use Rattle.records.specs.Blank.{blank-fits}
-use Rattle.tables.specs.Places.{fileWords}
+use Rattle.tables.specs.TablePlaces.{fileWords}
 use Rattle.plans.specs.Plan.{calleesWords}
 use Rattle.running.specs.Answer.{accepted-typed}
 use Rattle.running.specs.Planned.{blank-length}

@@ -1,7 +1,7 @@
 -- `run` meets its contract.
 use mathlib.Core.Path.{sym, _∙_}
 use borrow.Author.Needs.{needs}
-use Rattle.running.specs.Answer.{refused-ran-as, refused-kept, accepted-kept}
+use Rattle.running.specs.Answer.{refused-ran-as, refused-leaves, accepted-leaves}
 use Rattle.running.proofs.answer.run.Statement.{statement}
 use Rattle.running.proofs.answer.run.Tie as tie
 
@@ -12,7 +12,7 @@ enum-known-r : tie.Need-enum-known-r
 enum-known-r c = search needs
 
 returns : tie.Need-returns
-returns c = (refused-ran-as _ _ _ _ _ (sym (c .before .before .before .check .ensures .0) ∙ c .before .r .given .1), refused-kept _ _ _ _)
+returns c = (refused-ran-as _ _ _ _ _ (sym (c .before .before .before .check .ensures .0) ∙ c .before .r .given .1), refused-leaves _ _ _ _)
 
 enum-told : tie.Need-enum-told
 enum-told c = search needs
@@ -33,7 +33,7 @@ same-length-4 : tie.Need-same-length-4
 same-length-4 c = search needs
 
 returns-2 : tie.Need-returns-2
-returns-2 c = (c .before .before .before .before .before .before .before .before .run-accepted .ensures, accepted-kept (sym (c .before .before .before .before .before .before .before .before .before .before .before .before .before .before .before .check .ensures .0) ∙ c .before .before .before .before .before .before .before .before .before .before .before .before .before .enum-told .given .1) _ _ _ _ _ _ _ _ (search needs, search needs, search needs))
+returns-2 c = (c .before .before .before .before .before .before .before .before .run-accepted .ensures, accepted-leaves (sym (c .before .before .before .before .before .before .before .before .before .before .before .before .before .before .before .check .ensures .0) ∙ c .before .before .before .before .before .before .before .before .before .before .before .before .before .enum-told .given .1) _ _ _ _ _ _ _ _ (search needs, search needs, search needs))
 
 pub run-spec : {M : Type 1} → statement M
 run-spec =

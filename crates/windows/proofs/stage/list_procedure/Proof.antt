@@ -5,7 +5,7 @@ use Prim.Native.Nat.{_+_, _*_, _≤_}
 use native.Mathlib.Omega.{arith}
 use lib.ListN.{length, length-set}
 use Rattle.chains.specs.Records.{chainRecords}
-use Rattle.tables.specs.Places.{headSize}
+use Rattle.tables.specs.TablePlaces.{headSize}
 use Rattle.windows.specs.Classed.{SignatureAt}
 use Rattle.windows.specs.Procedure.{entered, reached-here, procedure-listed}
 use Rattle.windows.proofs.stage.list_procedure.Statement.{statement}
