@@ -32,8 +32,8 @@ pub record Reading (next : ℕ → Set) (r : ℕ) (found read : Set) : Type 0 wh
   pub start : 1 ≤ r → r ≤ maxRegions → member found r ≡ true
   pub closed : (u t : ℕ) → member read u ≡ true → member (next u) t ≡ true → member found t ≡ true
   pub only : (u : ℕ) → member read u ≡ true → member found u ≡ true
-  pub least : (test : ℕ → Bool) → test r ≡ true → ((u t : ℕ) → test u ≡ true → member (next u) t ≡ true → test t ≡ true)
-      → (u : ℕ) → member found u ≡ true → test u ≡ true
+  pub least : (holds : ℕ → Bool) → holds r ≡ true → ((u t : ℕ) → holds u ≡ true → member (next u) t ≡ true → holds t ≡ true)
+      → (u : ℕ) → member found u ≡ true → holds u ≡ true
 
 module _ {next : ℕ → Set} {r : ℕ} where
   -- no edges are read at first
@@ -42,7 +42,7 @@ module _ {next : ℕ → Set} {r : ℕ} where
     start = single-mk r;
     closed = λ u t m. absurd (clash m (member-empty u));
     only = λ u m. absurd (clash m (member-empty u));
-    least = λ test h onward u m. ap test (sym (single-in r u m)) ∙ h;
+    least = λ holds h onward u m. ap holds (sym (single-in r u m)) ∙ h;
   }
 
   pub starts : {found read : Set} → found ≡ single r → read ≡ emptySet → Reading next r found read
@@ -76,7 +76,7 @@ module _ {next : ℕ → Set} {r : ℕ} where
       start = λ a b. union-left found _ r (h .start a b);
       closed = λ v t m i. ⊎-elim (λ p. union-left found _ t (h .closed v t p i)) (λ q. union-right found _ t (ap (λ (x : ℕ). member (next x) t) (single-in u v q) ∙ i)) (union-in read _ v m);
       only = λ v m. ⊎-elim (λ p. union-left found _ v (h .only v p)) (λ q. union-left found _ v (ap (member found) (sym (single-in u v q)) ∙ is-next l .1)) (union-in read _ v m);
-      least = λ test o onward v m. ⊎-elim (h .least test o onward v) (onward u v (h .least test o onward u (is-next l .1))) (union-in found _ v m);
+      least = λ holds o onward v m. ⊎-elim (h .least holds o onward v) (onward u v (h .least holds o onward u (is-next l .1))) (union-in found _ v m);
     }
 
     -- one more is read

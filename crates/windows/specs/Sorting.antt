@@ -48,18 +48,18 @@ up-rising m n (suc k) l = rising-cons l (up-rising n (suc n) k (omega arith))
 pub of-class : (S : Signature) (c : ℕ) → length (S .regions) ≤ maxRegions → setOf (ofClassIn c (S .regions)) ≡ ofClass S c (declared S)
 unfolding ofClass declared keep ofClassIn regionAt nth1
 of-class S c few =
-    ap setOf (sym (ap (filtered test) listed ∙ filtered-from test c 1 (S .regions) at))
+    ap setOf (sym (ap (filtered classed) listed ∙ filtered-from classed c 1 (S .regions) at))
   where
-    test : ℕ → Bool
-    test r = eqb (regionAt S r .class) c
+    classed : ℕ → Bool
+    classed r = eqb (regionAt S r .class) c
 
     listed : members (setOf (upFrom 1 (length (S .regions)))) ≡ upFrom 1 (length (S .regions))
     listed =
         members-setOf (upFrom 1 (length (S .regions))) (up-rising 0 1 (length (S .regions)) (omega arith))
         (λ n e. let i = upFrom-in 1 (length (S .regions)) n e in omega arith)
 
-    at : (k : ℕ) → test (1 + k) ≡ eqb (nth none (S .regions) k .class) c
-    at k = let z : 1 + k ≡ suc k = omega arith in ap test z
+    at : (k : ℕ) → classed (1 + k) ≡ eqb (nth none (S .regions) k .class) c
+    at k = let z : 1 + k ≡ suc k = omega arith in ap classed z
 
 -- ---- the loop's laws: what is found and what is left make the whole
 pub record Sorting (c : ℕ) (rs₀ : List Region) (found : Set) (n : ℕ) (rs : List Region) : Type 0 where
