@@ -8,7 +8,7 @@ use Rattle.language.specs.declared.Verdict.the-variants.{Refused, Accepted}
 use Rattle.language.specs.Answers.{lowest, fileStages, reachedStages, checkerStages, checkerNumber, checked}
 use Rattle.records.specs.Verdicts.{formStages, after, lowest-append}
 use Rattle.stages.specs.Stages.{typingStages}
-use Rattle.checking.specs.Answer.{ruleStages, Checks}
+use Rattle.checking.specs.Answer.{ruleStages}
 
 all-stages : (f : List ℕ) → typingStages f ++ ruleStages f ≡ checkerStages f
 unfolding checkerStages reachedStages fileStages formStages
@@ -17,6 +17,10 @@ all-stages f = refl
 checked-by : (f : List ℕ) → checked f ≡ after (lowest (typingStages f)) (lowest (ruleStages f))
 unfolding checked
 checked-by f = ap lowest (sym (all-stages f)) ∙ lowest-append (typingStages f) (ruleStages f)
+
+-- the answer, with its number
+abbrev pub Checks : List ℕ → Verdict → Type 0
+Checks f v = (v ≡ checked f) × (checkerNumber v ≡ checkerNumber (checked f))
 
 numbered : (f : List ℕ) {v : Verdict} → v ≡ checked f → Checks f v
 numbered f e = (e, ap checkerNumber e)
