@@ -18,7 +18,7 @@ use Rattle.chains.specs.Is.{arm-is}
 use Rattle.chains.specs.Shapes.{by-number}
 use Rattle.owners.specs.Owner.{ownersOf, ownerOf}
 use Rattle.owners.specs.Owners.{owners-length, listed-owner, goals-owned, switch-owned, if-owned, arm-owned, procedureRecord, procedure-first}
-use Rattle.rows.specs.Noting.{AllNoted, noted-accessed}
+use Rattle.accesses.specs.Noting.{AllNoted, noted-accessed}
 use Rattle.called.specs.Linked.{OwnersIn}
 use Rattle.regions.specs.Here.{Given}
 use Rattle.regions.specs.Rowed.{AfterPass, passed-accessed, passed-effected}

@@ -19,7 +19,7 @@ use Rattle.records.specs.Verdicts.{formStages, formVerdict, after, lowest-appen
 use Rattle.stages.specs.Stages.{regionStages, tableStages}
 use Rattle.tables.specs.Window.{FileTable}
 use Rattle.windows.specs.Listing.{OnlyWindows}
-use Rattle.rows.specs.Noting.{AllNoted, RowsKept}
+use Rattle.accesses.specs.Noting.{AllNoted, RowsKept}
 use Rattle.regions.specs.Rowed.{AfterPass}
 use Rattle.stages.specs.Tabled.{TablesAfter}
 

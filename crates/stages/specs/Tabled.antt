@@ -9,7 +9,7 @@ use Rattle.language.specs.declared.Verdict.{Verdict}
 use Rattle.language.specs.declared.Verdict.the-variants.{Refused}
 use Rattle.tables.specs.Window.{FileTable}
 use Rattle.windows.specs.Listing.{OnlyWindows}
-use Rattle.rows.specs.Noting.{AllNoted, RowsKept}
+use Rattle.accesses.specs.Noting.{AllNoted, RowsKept}
 use Rattle.regions.specs.Rowed.{AfterPass}
 
 -- the rows u of the answer v, where number 4 leaves m: number 5 comes to them only where number 4 is passed, and fills them all where it is passed too

@@ -1,5 +1,5 @@
 // The stages that all programs share, the lower number first.
-mod stages;
+mod lowest;
 
-pub use stages::check_classes;
-pub use stages::check_typing;
+pub use lowest::check_classes;
+pub use lowest::check_typing;

@@ -18,8 +18,8 @@ use Rattle.chains.specs.Formed.{Formed, Stands}
 use Rattle.chains.specs.Parts.{fourAt}
 use Rattle.walks.specs.Carried.{walkWords}
 use Rattle.tables.specs.Filled.{GoalIsStep}
-use Rattle.rows.specs.Fitting.{armArguments}
-use Rattle.rows.specs.Noting.{AllNoted}
+use Rattle.accesses.specs.Fitting.{armArguments}
+use Rattle.accesses.specs.Noting.{AllNoted}
 use Rattle.walks.specs.Closed.{one-at}
 use Rattle.walks.specs.Walk.{outcome, goesOn, step-goes}
 use Rattle.values.specs.Valuing.{Valuation, everyPlace, somePlace, everyIn, someIn, both, valuation, valuer}

@@ -14,7 +14,7 @@ use Rattle.language.specs.Program.{Four, argumentsOf, Functor, Parameter, Step,
 use Rattle.language.specs.Typing.{isVariable, hasType, haveTypes, argumentsOk, signatureOk, stepOk, goalsOk, goalOk, armsOk, procedureOk, typingOk}
 use Rattle.language.specs.Values.{access, accessing}
 use Rattle.language.specs.Format.{maxVariables}
-use Rattle.rows.specs.Ranged.{InRange, Ranged}
+use Rattle.accesses.specs.Ranged.{InRange, Ranged}
 
 -- goals of a procedure that passed
 pub record TypedGoals (P : Program) (gs : Goals) : Type 0 where

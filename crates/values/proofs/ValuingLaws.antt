@@ -10,7 +10,7 @@ use Rattle.sets.specs.Members.{setOf}
 use Rattle.sets.specs.declared.Set.{Set}
 use Rattle.language.specs.Program.{Four, argumentsOf, Step, Goals, done, _then_, Goal, step, switch, ifLess, Arms, noArms, arm, Procedure, Program}
 use Rattle.language.specs.Values.{Valued, faulty, valued, access, reads, gives, requireValues, afterValues, meetValues, giveValues, stepValues, goalsValues, goalValues, armsValues, insOf, outsOf, outsValued, procedureValues}
-use Rattle.rows.specs.Ranged.{Ranged, fresh, fresh-distinct}
+use Rattle.accesses.specs.Ranged.{Ranged, fresh, fresh-distinct}
 use Rattle.values.proofs.Typed.{TypedGoals, ArmsTyped, typed-next, typed-step, typed-arms, typed-then, typed-else, typed-arm}
 use Rattle.walks.specs.Walk.{WalkOutcome, stopped, goesOn, outcome, require, onwards, meet, walkGoals, walkGoal, walkArms}
 use Rattle.values.specs.Valuing.{Valuation, both, giving, valuer}

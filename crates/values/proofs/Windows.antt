@@ -13,7 +13,7 @@ use Rattle.language.specs.Values.{insOf, procedureValues}
 use Rattle.language.specs.Answers.{program}
 use Rattle.chains.specs.Formed.{Stands, goalsAt}
 use Rattle.tables.specs.Window.{insPlace, outsPlace, bodyPlace, setIn, FileTable}
-use Rattle.rows.specs.Fitting.{in-window}
+use Rattle.accesses.specs.Fitting.{in-window}
 use Rattle.values.specs.Valuing.{everyIn, both, valuation}
 use Rattle.values.proofs.ValuingLaws.{procedure-stops, procedure-ends}
 use Rattle.values.specs.Carrying.{GoalsValued}

@@ -9,7 +9,7 @@ use Rattle.sets.specs.Members.{setOf}
 use Rattle.sets.specs.declared.Set.{Set}
 use Rattle.language.specs.Program.{argumentsOf, Program}
 use Rattle.language.specs.Values.{access, reads, gives}
-use Rattle.rows.specs.Ranged.{fresh}
+use Rattle.accesses.specs.Ranged.{fresh}
 use Rattle.walks.specs.Walk.{WalkOutcome, goesOn, require, Walker}
 
 pub record Valuation : Type 0 where

@@ -3,12 +3,12 @@ use crate::carried::carry;
 use crate::carried::every_in;
 use crate::declared::all_local;
 use crate::walk::goals;
+use accesses::list_accesses;
 use chains::chain_length;
 use chains::field;
 use language::format::HEADER_PROCEDURES;
 use language::format::PROCEDURE_VARIABLES;
 use records::word;
-use rows::list_accesses;
 use tables::BODY;
 use tables::INS;
 use tables::OUTS;
@@ -29,7 +29,7 @@ ghost use Rattle.language.specs.Answers.{program};
 ghost use Rattle.tables.specs.TablePlaces.{rowWords};
 ghost use Rattle.chains.specs.Formed.{Formed};
 ghost use Rattle.tables.specs.Window.{FileTable};
-ghost use Rattle.rows.specs.Noting.{AllNoted, RowsKept};
+ghost use Rattle.accesses.specs.Noting.{AllNoted, RowsKept};
 
 // Number 4. Fills the rows of steps and arms, whatever the answer.
 pub fn values_ok(file: &[u8], table: &[u64; TABLE], rows: &mut [u64; ROWS]) -> bool

@@ -24,7 +24,7 @@ ghost use mathlib.Core.Path.{_≡_};
 ghost use Rattle.language.specs.File.{goals, arms, word};
 ghost use Rattle.language.specs.Format.{kindWord, switchKind, ifKind};
 ghost use Rattle.chains.specs.Formed.{Formed, Stands};
-ghost use Rattle.rows.specs.Noting.{AllNoted};
+ghost use Rattle.accesses.specs.Noting.{AllNoted};
 ghost use Rattle.values.specs.Carrying.{GoalsValued, GoalValued, ArmsValued};
 
 // The goals from record start on.

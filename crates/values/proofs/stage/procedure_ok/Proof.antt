@@ -1,6 +1,6 @@
 use native.Mathlib.Omega.{arith}
 use borrow.Author.Tests.{not-true, not-false}
-use Rattle.rows.specs.Fitting.{window-fits}
+use Rattle.accesses.specs.Fitting.{window-fits}
 use Rattle.values.proofs.Windows.{body-stands, valued-stop, valued-end}
 use borrow.Author.Needs.{needs}
 use Rattle.values.proofs.stage.procedure_ok.Statement.{statement}

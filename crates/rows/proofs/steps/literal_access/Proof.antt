@@ -1,6 +1,0 @@
-use borrow.Author.Needs.{needs}
-use Rattle.rows.proofs.steps.literal_access.Statement.{statement}
-use Rattle.rows.proofs.steps.literal_access.Tie as tie
-
-pub literal-access-spec : {M : Type 1} → statement M
-literal-access-spec = tie.close (tie.spec (search needs) (search needs) (search needs) (λ c. cc))

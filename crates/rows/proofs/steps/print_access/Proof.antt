@@ -1,6 +1,0 @@
-use borrow.Author.Needs.{needs}
-use Rattle.rows.proofs.steps.print_access.Statement.{statement}
-use Rattle.rows.proofs.steps.print_access.Tie as tie
-
-pub print-access-spec : {M : Type 1} → statement M
-print-access-spec = tie.close (tie.spec (search needs) (search needs) (search needs) (λ c. cc))
