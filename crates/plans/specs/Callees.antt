@@ -11,7 +11,7 @@ use Rattle.tables.specs.Window.{variablesPlace, bodyPlace, bornPlace, deadPlace
 use Rattle.tables.specs.Starts.{windowIn}
 use Rattle.plans.specs.Plan.{calleeRow, calleeWord, calleeBody, calleeSize, calleeHeld, calleeBorn, calleesWords}
 use Rattle.plans.specs.Passes.{putCallee, calleesOf}
-use Rattle.plans.specs.Down.{StepFinds, found}
+use Rattle.plans.specs.Rising.{StepMeets, met}
 
 -- ---- one procedure
 module _ (own : List ℕ) (q : ℕ) (t : List ℕ) where
@@ -84,8 +84,8 @@ module _ (table t : List ℕ) (h : length t ≡ calleesWords) (q : ℕ) (l : q <
   abbrev own : List ℕ
   own = windowIn table q
 
-  there : (u : List ℕ) × StepFinds step (λ p. p / 4) maxProcedures (λ i o v p. callee-own (windowIn table i) i v p) maxProcedures q t u
-  there = found step (λ p. p / 4) maxProcedures (λ i o v p. callee-own (windowIn table i) i v p) (λ i v. callee-length (windowIn table i) i v) maxProcedures q (omega arith) l t
+  there : (u : List ℕ) × StepMeets step (λ p. p / 4) (λ i v p. callee-own (windowIn table i) i v p) maxProcedures 0 q t u
+  there = met step (λ p. p / 4) (λ i v p. callee-own (windowIn table i) i v p) (λ i v. callee-length (windowIn table i) i v) maxProcedures 0 q (omega arith) (omega arith) t
 
   word-is : (k v : ℕ) → k < calleeRow → ((u : List ℕ) → length u ≡ calleesWords → getD (putCallee own q u) (calleeRow * q + k) 0 ≡ v) → calleeWord (calleesOf table t) q k ≡ v
   unfolding calleesOf

@@ -1,5 +1,6 @@
 -- What a run reads beside the file.
 pub mod Plan
+pub mod Rising
 pub mod Passes
 pub mod Tests
 pub mod Onward

@@ -149,4 +149,4 @@ putCallee own q t =
     (calleeRow * q + calleeHeld) (stored (setIn own deadPlace ∪ setIn own keptPlace))) (calleeRow * q + calleeBorn) (stored (setIn own bornPlace))
 
 unfoldable pub calleesOf : List ℕ → List ℕ → List ℕ
-calleesOf table t = eachDown (λ q. putCallee (windowIn table q) q) maxProcedures t
+calleesOf table t = eachFrom (λ q. putCallee (windowIn table q) q) maxProcedures 0 t

@@ -28,22 +28,11 @@ use Rattle.tables.specs.Starts.{windowIn}
 use Rattle.word_machine.specs.Filling.{onwardBy}
 use Rattle.plans.specs.Plan.{sidesFrom}
 use Rattle.plans.specs.Passes.{TypedAndFilled, eachFrom, isKind, calleeOf, placed, placedAt, placing, joining, imageCount, imagesBefore, imageOf, sideAt, sidedAt, siding, copied, picturedAt, picturing, planOf, imagesOf}
+use Rattle.plans.specs.Rising.{each-more, each-end}
 use Rattle.plans.specs.Tests.{kind-is, kind-yes, kind-no}
 use Rattle.plans.specs.Images.{kind-differs, CallImages, LastCall}
 
--- ---- a pass: record i is next
-module _ (step : ℕ → List ℕ → List ℕ) where
-  each-more : (n i : ℕ) (t : List ℕ) {u : List ℕ} → i < n → u ≡ step i t → eachFrom step (n - (i + 1)) (i + 1) u ≡ eachFrom step (n - i) i t
-  unfolding eachFrom
-  each-more n i t l e =
-      let d : n - i ≡ suc (n - (i + 1)) = omega arith in
-      rw (d, add-one i, e)
-
-  each-end : (n i : ℕ) (t : List ℕ) → n ≤ i → t ≡ eachFrom step (n - i) i t
-  unfolding eachFrom
-  each-end n i t l = let e : n - i ≡ 0 = omega arith in rw e
-
--- record i is next, of n records; t₀ stood at the start
+-- ---- a pass: record i is next, of n records; t₀ stood at the start
 pub record Pass (f : List ℕ) (step : ℕ → List ℕ → List ℕ) (n : ℕ) (t₀ : List ℕ) (i : ℕ) (t : List ℕ) : Type 0 where
   pub some : 0 < i
   pub count : n ≡ recordCount f

@@ -37,10 +37,10 @@ fn put_callee(own: &[u64], q: usize, callees: &mut [u64; CALLEES])
 pub fn fill_callees(table: &[u64], callees: &mut [u64; CALLEES])
     ensures { λ _. ⌜ now (callees .exit) ≡ calleesOf (now (table .entry)) (now (callees .entry)) ⌝ }
 {
-    let mut q = MAX_PROCEDURES;
-    while q > 0 {
-        q -= 1;
+    let mut q = 0;
+    while q < MAX_PROCEDURES {
         let start = start_of(table, q);
         put_callee(&table[start..], q, callees);
+        q += 1;
     }
 }
