@@ -1,4 +1,3 @@
--- `left_is_accepted` meets its contract.
 use mathlib.Core.Path.{refl, sym, _∙_}
 use lib.Seq.{length-take-le}
 use Rattle.stages.specs.Stages.{not-accepted}
@@ -6,18 +5,6 @@ use Rattle.agreement.specs.Agreement.{leaves-sound, check-accepts, writt
 use borrow.Author.Needs.{needs}
 use Rattle.agreement.proofs.left_is_accepted.Statement.{statement}
 use Rattle.agreement.proofs.left_is_accepted.Tie as tie
-
-annotate-requires : tie.Need-annotate-requires
-annotate-requires c κs = search needs
-
-enum-known-n : tie.Need-enum-known-n
-enum-known-n c = search needs
-
-enum-told : tie.Need-enum-told
-enum-told c = search needs
-
-same-length : tie.Need-same-length
-same-length c = search needs
 
 returns : tie.Need-returns
 returns c =
@@ -30,23 +17,8 @@ slice-reshare-prefix-check c = written-within _ (c .before .before .before .befo
 slice-aggregate-check : tie.Need-slice-aggregate-check
 slice-aggregate-check c = sym (length-take-le _ _ (written-within _ (c .before .before .before .before .before .before .before .before .before .before .args .out .now) (c .before .before .before .before .before .before .annotate .ensures) (c .before .before .n .given .1)))
 
-check-requires : tie.Need-check-requires
-check-requires c κs = search needs
-
-enum-told-2 : tie.Need-enum-told-2
-enum-told-2 c = search needs
-
-enum-told-3 : tie.Need-enum-told-3
-enum-told-3 c = search needs
-
-same-length-2 : tie.Need-same-length-2
-same-length-2 c = search needs
-
 returns-2 : tie.Need-returns-2
 returns-2 c = not-accepted (sym (c .enum-told3 .given .1) ∙ check-accepts _ (c .before .before .before .before .before .before .before .before .before .before .before .before .before .args .out .now) (c .before .before .before .before .before .before .before .before .before .annotate .ensures) (c .before .before .before .before .before .n .given .1) (c .before .before .check .ensures .0))
-
-same-length-3 : tie.Need-same-length-3
-same-length-3 c = search needs
 
 returns-3 : tie.Need-returns-3
 returns-3 c =
@@ -56,18 +28,5 @@ returns-3 c =
 pub left-is-accepted-spec : {M : Type 1} → statement M
 left-is-accepted-spec =
     tie.close
-    (tie.spec
-    annotate-requires
-    enum-known-n
-    enum-told
-    same-length
-    returns
-    slice-reshare-prefix-check
-    slice-aggregate-check
-    check-requires
-    enum-told-2
-    enum-told-3
-    same-length-2
-    returns-2
-    same-length-3
-    returns-3)
+    (tie.spec (search needs) (search needs) (search needs) (search needs) returns slice-reshare-prefix-check slice-aggregate-check (search needs)
+    (search needs) (search needs) (search needs) returns-2 (search needs) returns-3)

@@ -1,4 +1,3 @@
--- `annotate_a` meets its contract.
 use mathlib.Core.Path.{refl}
 use borrow.Author.Needs.{needs}
 use Rattle.language.specs.Answers.{refusalNumber}

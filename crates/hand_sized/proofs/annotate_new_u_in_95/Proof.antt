@@ -1,4 +1,3 @@
--- `annotate_new_u_in_95` meets its contract.
 use mathlib.Core.Path.{refl}
 use borrow.Author.Needs.{needs}
 use Rattle.language.specs.Answers.{refusalNumber}

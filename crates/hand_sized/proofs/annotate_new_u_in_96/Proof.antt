@@ -1,4 +1,3 @@
--- `annotate_new_u_in_96` meets its contract.
 use borrow.Author.Needs.{needs}
 use Rattle.language.specs.Table.{table}
 use Rattle.hand_sized.specs.Files.{length-of-new-U}

@@ -1,4 +1,3 @@
--- `empty_file` meets its contract.
 use mathlib.Core.Path.{refl}
 use borrow.Author.Needs.{needs}
 use Rattle.language.specs.Answers.{refusalNumber}

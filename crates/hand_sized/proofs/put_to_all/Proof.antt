@@ -1,4 +1,3 @@
--- `put_to_all` meets its contract.
 use borrow.Author.Needs.{needs}
 use Rattle.language.specs.Machine.{runnerLent}
 use Rattle.hand_sized.specs.Joined.{all-refused, lent-by}

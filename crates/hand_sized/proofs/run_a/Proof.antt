@@ -1,4 +1,3 @@
--- `run_a` meets its contract.
 use borrow.Author.Needs.{needs}
 use Rattle.language.specs.Machine.{runnerLent}
 use Rattle.language.specs.Table.{table}

@@ -1,4 +1,3 @@
--- `run_both_ends` meets its contract.
 use borrow.Author.Needs.{needs}
 use Rattle.language.specs.Numbers.{residue}
 use Rattle.language.specs.Lists.{frontWritten}

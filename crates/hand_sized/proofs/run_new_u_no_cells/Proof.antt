@@ -1,4 +1,3 @@
--- `run_new_u_no_cells` meets its contract.
 use borrow.Author.Needs.{needs}
 use Rattle.language.specs.Lists.{frontWritten}
 use Rattle.language.specs.Machine.{runnerLent, printPlaces}

@@ -1,4 +1,3 @@
--- `run_new_u_no_frame` meets its contract.
 use mathlib.Core.Path.{refl}
 use borrow.Author.Needs.{needs}
 use Rattle.language.specs.Answers.{stopNumber}

@@ -1,4 +1,3 @@
--- `run_over` meets its contract.
 use mathlib.Core.Path.{refl}
 use borrow.Author.Needs.{needs}
 use Rattle.language.specs.Answers.{stopNumber}

@@ -1,4 +1,3 @@
--- `unused_word_not_0` meets its contract.
 use mathlib.Core.Path.{refl}
 use borrow.Author.Needs.{needs}
 use Rattle.language.specs.Answers.{refusalNumber}

@@ -1,4 +1,3 @@
--- `word_past_arity` meets its contract.
 use mathlib.Core.Path.{refl}
 use borrow.Author.Needs.{needs}
 use Rattle.language.specs.Answers.{refusalNumber}

@@ -1,4 +1,4 @@
--- `read_input` meets its contract: what was read fits, and each part stands behind the one before.
+-- What was read fits, and each part stands behind the one before.
 use Prim.Native.Nat.{ℕ, _-_, _≤_}
 use native.Mathlib.Omega.{arith}
 use mathlib.Core.Path.{_≡_, _∙_}

@@ -1,4 +1,4 @@
--- `read_on` meets its contract, and ends: `left` falls.
+-- And ends: `left` falls.
 use Prim.Native.Nat.{_≤_}
 use mathlib.Core.Path.{_≡_, refl, _∙_}
 use lib.ListN.{length, take}

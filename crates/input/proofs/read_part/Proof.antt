@@ -1,4 +1,4 @@
--- `read_part` meets its contract: what stands before stays.
+-- What stands before stays.
 use Prim.Native.Nat.{_-_}
 use lib.ListN.{length}
 use borrow.Rule.Slice.PartMut.{take-put}

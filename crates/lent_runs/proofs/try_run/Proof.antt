@@ -1,4 +1,3 @@
--- `try_run` meets its contract.
 use Prim.Native.Nat.{_≤_}
 use native.Mathlib.Omega.{arith}
 use lib.ListN.{length}
@@ -7,27 +6,6 @@ use lib.Seq.{length-take-le}
 use borrow.Author.Needs.{needs}
 use Rattle.lent_runs.proofs.try_run.Statement.{statement}
 use Rattle.lent_runs.proofs.try_run.Tie as tie
-
-next-lent-requires : tie.Need-next-lent-requires
-next-lent-requires c κs = search needs
-
-next-lent-requires-2 : tie.Need-next-lent-requires-2
-next-lent-requires-2 c κs = search needs
-
-next-lent-requires-3 : tie.Need-next-lent-requires-3
-next-lent-requires-3 c κs = search needs
-
-next-lent-requires-4 : tie.Need-next-lent-requires-4
-next-lent-requires-4 c κs = search needs
-
-next-number-requires : tie.Need-next-number-requires
-next-number-requires c κs = search needs
-
-print-words-requires : tie.Need-print-words-requires
-print-words-requires c κs = search needs
-
-array-borrow-prefix-prints : tie.Need-array-borrow-prefix-prints
-array-borrow-prefix-prints c = search needs
 
 slice-aggregate-try-in : tie.Need-slice-aggregate-try-in
 slice-aggregate-try-in c = sym (length-take-le _ _ (search needs))
@@ -39,20 +17,8 @@ try-in-requires c κs =
     let fits : n .result ≤ length (p .result) = omega (arith, n .ensures, p .ensures) in
     ((c .before .before .before .before .before .before .next-lent .ensures, c .before .before .before .before .before .next-lent2 .ensures, c .before .before .before .before .next-lent3 .ensures), omega (arith, length-take-le (n .result) (p .result) fits, n .ensures))
 
-returns : tie.Need-returns
-returns c = search needs
-
 pub try-run-spec : {M : Type 1} → statement M
 try-run-spec =
     tie.close
-    (tie.spec
-    next-lent-requires
-    next-lent-requires-2
-    next-lent-requires-3
-    next-lent-requires-4
-    next-number-requires
-    print-words-requires
-    array-borrow-prefix-prints
-    slice-aggregate-try-in
-    try-in-requires
-    returns)
+    (tie.spec (search needs) (search needs) (search needs) (search needs) (search needs) (search needs) (search needs) slice-aggregate-try-in
+    try-in-requires (search needs))

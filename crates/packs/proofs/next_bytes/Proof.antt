@@ -1,4 +1,3 @@
--- `next_bytes` meets its contract.
 use Prim.Native.Nat.{ℕ, _≤_}
 use mathlib.Core.List.{List, _++_}
 use mathlib.Core.Path.{sym}

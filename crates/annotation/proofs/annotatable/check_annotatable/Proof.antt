@@ -1,4 +1,3 @@
--- `check_annotatable` meets its contract.
 use borrow.Author.Tests.{not-true, not-false}
 use Rattle.stages.specs.Stages.{not-accepted}
 use Rattle.annotation.specs.Stages.{refused-before, annotated-refused, calls-refused, marks-passed}
@@ -6,23 +5,8 @@ use borrow.Author.Needs.{needs}
 use Rattle.annotation.proofs.annotatable.check_annotatable.Statement.{statement}
 use Rattle.annotation.proofs.annotatable.check_annotatable.Tie as tie
 
-check-classes-requires : tie.Need-check-classes-requires
-check-classes-requires c κs = search needs
-
-enum-known-answer : tie.Need-enum-known-answer
-enum-known-answer c = search needs
-
-lower-requires : tie.Need-lower-requires
-lower-requires c κs = search needs
-
 returns : tie.Need-returns
 returns c = (c .before .before .before .before .before .before .before .before .pre .1 .1 .1, (refused-before _ (c .before .before .before .before .check-classes .ensures .0) (c .before .before .answer .given .1) (c .lower .ensures), not-accepted))
-
-enum-told : tie.Need-enum-told
-enum-told c = search needs
-
-is-unannotated-requires : tie.Need-is-unannotated-requires
-is-unannotated-requires c κs = search needs
 
 returns-2 : tie.Need-returns-2
 returns-2 c = (c .before .before .before .before .before .before .before .before .pre .1 .1 .1, (annotated-refused _ (c .before .before .before .before .check-classes .ensures .0) (c .before .before .enum-told .given .1) (c .before .is-unannotated .ensures) (not-true _ (c .if1 .taken)), not-accepted))
@@ -39,14 +23,5 @@ returns-4 c = (c .before .call-classes-ok .ensures .0, (marks-passed _ (c .befor
 pub check-annotatable-spec : {M : Type 1} → statement M
 check-annotatable-spec =
     tie.close
-    (tie.spec
-    check-classes-requires
-    enum-known-answer
-    lower-requires
-    returns
-    enum-told
-    is-unannotated-requires
-    returns-2
-    call-classes-ok-requires
-    returns-3
-    returns-4)
+    (tie.spec (λ c κs. search needs) (search needs) (λ c κs. search needs) returns (search needs) (λ c κs. search needs) returns-2
+    call-classes-ok-requires returns-3 returns-4)

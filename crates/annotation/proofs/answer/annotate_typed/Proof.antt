@@ -1,4 +1,3 @@
--- `annotate_typed` meets its contract.
 use native.Mathlib.Omega.{arith}
 use mathlib.Core.Path.{refl, sym}
 use Rattle.records.specs.Blank.{blank-fits}
@@ -9,28 +8,13 @@ use borrow.Author.Needs.{needs}
 use Rattle.annotation.proofs.answer.annotate_typed.Statement.{statement}
 use Rattle.annotation.proofs.answer.annotate_typed.Tie as tie
 
-blank-file-table-requires : tie.Need-blank-file-table-requires
-blank-file-table-requires c κs = search needs
-
-blank-rows-requires : tie.Need-blank-rows-requires
-blank-rows-requires c κs = search needs
-
-blank-points-requires : tie.Need-blank-points-requires
-blank-points-requires c κs = search needs
-
 check-annotatable-requires : tie.Need-check-annotatable-requires
 check-annotatable-requires c κs =
     let p = c .before .before .before .before .before .before .before .before .pre in (p .0, (p .1, ((blank-fits fileWords (c .before .before .before .before .before .blank-file-table .ensures), blank-fits rowWords (c .before .before .before .before .blank-rows .ensures)), sym (c .before .before .before .blank-points .ensures))))
 
-enum-known-r : tie.Need-enum-known-r
-enum-known-r c = search needs
-
 returns : tie.Need-returns
 returns c =
     refusal-told _ (stage-refuses _ _ _ (c .before .before .before .check-annotatable .ensures .1 .0) (c .before .r .given .1))
-
-enum-told : tie.Need-enum-told
-enum-told c = search needs
 
 write-annotated-requires : tie.Need-write-annotated-requires
 write-annotated-requires c κs =
@@ -38,9 +22,6 @@ write-annotated-requires c κs =
     let e = c .before .before .before .before .before .before .before .check-annotatable .ensures in
     let g = c .before .before .before .before .before .enum-told .given .1 in
     (record { formed = p .0; prepared = e .1 .1 g; annotatable = marks-found _ (p .1) (e .1 .0) g }, (e .0, (omega arith, λ h. refl)))
-
-same-length : tie.Need-same-length
-same-length c = search needs
 
 returns-2 : tie.Need-returns-2
 returns-2 c =
@@ -53,9 +34,6 @@ write-annotated-requires-2 c κs =
     let g = c .before .before .before .before .before .enum-told .given .1 in
     (record { formed = p .0; prepared = e .1 .1 g; annotatable = marks-found _ (p .1) (e .1 .0) g }, (e .0, (c .before .before .before .before .if1 .left, λ h. absurd (omega arith))))
 
-same-length-2 : tie.Need-same-length-2
-same-length-2 c = search needs
-
 returns-3 : tie.Need-returns-3
 returns-3 c =
     answer-moved _ (stage-goes _ _ _ (c .before .before .before .before .before .before .before .before .before .before .check-annotatable .ensures .1 .0) (c .before .before .before .before .before .before .before .before .enum-told .given .1)) (c .before .before .write-annotated2 .ensures)
@@ -63,17 +41,5 @@ returns-3 c =
 pub annotate-typed-spec : {M : Type 1} → statement M
 annotate-typed-spec =
     tie.close
-    (tie.spec
-    blank-file-table-requires
-    blank-rows-requires
-    blank-points-requires
-    check-annotatable-requires
-    enum-known-r
-    returns
-    enum-told
-    write-annotated-requires
-    same-length
-    returns-2
-    write-annotated-requires-2
-    same-length-2
-    returns-3)
+    (tie.spec (search needs) (search needs) (search needs) check-annotatable-requires (search needs) returns (search needs) write-annotated-requires
+    (search needs) returns-2 write-annotated-requires-2 (search needs) returns-3)

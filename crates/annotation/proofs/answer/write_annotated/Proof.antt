@@ -1,12 +1,8 @@
--- `write_annotated` meets its contract.
 use native.Mathlib.Omega.{arith}
 use Rattle.annotation.specs.Answer.{refusal-told, too-large, too-long, file-told}
 use borrow.Author.Needs.{needs}
 use Rattle.annotation.proofs.answer.write_annotated.Statement.{statement}
 use Rattle.annotation.proofs.answer.write_annotated.Tie as tie
-
-blank-laid-requires : tie.Need-blank-laid-requires
-blank-laid-requires c κs = search needs
 
 lay-annotated-requires : tie.Need-lay-annotated-requires
 lay-annotated-requires c κs =
@@ -16,9 +12,6 @@ returns : tie.Need-returns
 returns c =
     refusal-told _ (too-large _ _ _ (c .before .lay-annotated .ensures .1 .1 .0) (c .before .lay-annotated .ensures .1 .1 .1 .0) (c .if1 .taken))
 
-mul-bytes : tie.Need-mul-bytes
-mul-bytes c = search needs
-
 returns-2 : tie.Need-returns-2
 returns-2 c =
     refusal-told _ (too-long _ _ _ (c .before .before .lay-annotated .ensures .1 .1 .0) (c .before .before .lay-annotated .ensures .1 .1 .1 .0) (c .before .if1 .left) (c .before .before .before .before .before .before .before .before .pre .1 .1) (c .if2 .taken))
@@ -26,9 +19,6 @@ returns-2 c =
 write-requires : tie.Need-write-requires
 write-requires c κs =
     (omega (arith, c .before .before .before .if1 .left), (c .before .before .before .before .lay-annotated .ensures .1 .0, omega (arith, c .before .before .if2 .left, c .before .before .before .before .before .before .before .before .before .before .pre .1 .1 .0)))
-
-same-length : tie.Need-same-length
-same-length c = search needs
 
 returns-3 : tie.Need-returns-3
 returns-3 c =
@@ -38,12 +28,4 @@ returns-3 c =
 pub write-annotated-spec : {M : Type 1} → statement M
 write-annotated-spec =
     tie.close
-    (tie.spec
-    blank-laid-requires
-    lay-annotated-requires
-    returns
-    mul-bytes
-    returns-2
-    write-requires
-    same-length
-    returns-3)
+    (tie.spec (search needs) lay-annotated-requires returns (search needs) returns-2 write-requires (search needs) returns-3)

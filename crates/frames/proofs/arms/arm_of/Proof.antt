@@ -1,4 +1,4 @@
--- `arm_of` meets its contract: the arm is still to be found in the rest of the chain.
+-- The arm is still to be found in the rest of the chain.
 use Prim.Native.Nat.{_<_}
 use mathlib.Core.Path.{_≡_, refl, sym, _∙_}
 use Rattle.language.specs.File.{recordCount}

@@ -1,4 +1,4 @@
--- `regions_in` meets its contract: what is still to be copied is what the members left say.
+-- What is still to be copied is what the members left say.
 use mathlib.Core.Path.{_≡_, refl, sym, ap, subst, _∙_}
 use native.Mathlib.Omega.{arith}
 use lib.ListN.{length, length-set}
@@ -20,20 +20,11 @@ abbrev μ-loop : tie.MeasureT-loop
 loop-holds : tie.Need-loop-holds Inv-loop μ-loop
 loop-holds c = (refl, refl, small-of-bits _ (search needs))
 
-is-empty-requires : tie.Need-is-empty-requires Inv-loop μ-loop
-is-empty-requires c κs = search needs
-
-lowest-requires : tie.Need-lowest-requires Inv-loop μ-loop
-lowest-requires c κs = search needs
-
 image-of-requires : tie.Need-image-of-requires Inv-loop μ-loop
 image-of-requires c κs = omega (arith, c .before .before .before .before .before .before .pre .0 .fits, member-low (c .before .before .before .loop .left) (c .before .before .before .loop .inv .2) _ (c .before .before .is-empty .ensures) (c .before .if1 .taken) _ (c .lowest .ensures))
 
 region-requires : tie.Need-region-requires Inv-loop μ-loop
 region-requires c κs = (rw (c .before .image-of .ensures) (c .before .before .before .before .before .before .before .before .pre .0 .low _), omega (arith, c .before .before .before .before .before .loop .inv .1, c .before .before .before .before .before .before .before .before .pre .1))
-
-add-name-region : tie.Need-add-name-region Inv-loop μ-loop
-add-name-region c = search needs
 
 name-region-requires : tie.Need-name-region-requires Inv-loop μ-loop
 name-region-requires c κs = (omega (arith, member-low (c .before .before .before .before .before .before .before .loop .left) (c .before .before .before .before .before .before .before .loop .inv .2) _ (c .before .before .before .before .before .before .is-empty .ensures) (c .before .before .before .before .before .if1 .taken) _ (c .before .before .before .before .lowest .ensures)), omega (arith, c .before .before .before .before .before .before .before .loop .inv .1, c .before .before .before .before .before .before .before .before .before .before .pre .1))
@@ -52,27 +43,11 @@ loop-again c = (
   subst Small (sym (c .without-lowest .ensures)) (small-difference _ (c .before .before .before .before .before .before .before .before .before .before .before .loop .inv .2)),
 )
 
-same-length : tie.Need-same-length Inv-loop μ-loop
-same-length c = search needs
-
 returns : tie.Need-returns Inv-loop μ-loop
 returns c = in-last _ _ _ (c .before .before .loop .left) (c .before .before .loop .inv .2) _ (c .before .is-empty .ensures) _ (c .if1 .left) ∙ c .before .before .loop .inv .0
 
 pub regions-in-spec : {M : Type 1} → statement M
 regions-in-spec =
     tie.close
-    (tie.spec
-    Inv-loop
-    μ-loop
-    loop-holds
-    is-empty-requires
-    lowest-requires
-    image-of-requires
-    region-requires
-    add-name-region
-    name-region-requires
-    without-lowest-requires
-    loop-less
-    loop-again
-    same-length
-    returns)
+    (tie.spec Inv-loop μ-loop loop-holds (search needs) (search needs) image-of-requires region-requires (search needs) name-region-requires
+    without-lowest-requires loop-less loop-again (search needs) returns)

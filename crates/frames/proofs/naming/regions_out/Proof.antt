@@ -1,4 +1,4 @@
--- `regions_out` meets its contract: what is still to be copied is what the members left say.
+-- What is still to be copied is what the members left say.
 use mathlib.Core.Path.{_≡_, refl, sym, ap, subst, _∙_}
 use native.Mathlib.Omega.{arith}
 use lib.ListN.{length, length-set}
@@ -20,17 +20,8 @@ abbrev μ-loop : tie.MeasureT-loop
 loop-holds : tie.Need-loop-holds Inv-loop μ-loop
 loop-holds c = (refl, refl, small-of-bits _ (search needs))
 
-is-empty-requires : tie.Need-is-empty-requires Inv-loop μ-loop
-is-empty-requires c κs = search needs
-
-lowest-requires : tie.Need-lowest-requires Inv-loop μ-loop
-lowest-requires c κs = search needs
-
 image-of-requires : tie.Need-image-of-requires Inv-loop μ-loop
 image-of-requires c κs = omega (arith, c .before .before .before .before .before .before .pre .0 .fits, member-low (c .before .before .before .loop .left) (c .before .before .before .loop .inv .2) _ (c .before .before .is-empty .ensures) (c .before .if1 .taken) _ (c .lowest .ensures))
-
-add-region : tie.Need-add-region Inv-loop μ-loop
-add-region c = search needs
 
 region-requires : tie.Need-region-requires Inv-loop μ-loop
 region-requires c κs = (omega (arith, member-low (c .before .before .before .before .before .loop .left) (c .before .before .before .before .before .loop .inv .2) _ (c .before .before .before .before .is-empty .ensures) (c .before .before .before .if1 .taken) _ (c .before .before .lowest .ensures)), omega (arith, c .before .before .before .before .before .loop .inv .1, c .before .before .before .before .before .before .before .before .pre .1))
@@ -52,27 +43,11 @@ loop-again c = (
   subst Small (sym (c .without-lowest .ensures)) (small-difference _ (c .before .before .before .before .before .before .before .before .before .before .before .loop .inv .2)),
 )
 
-same-length : tie.Need-same-length Inv-loop μ-loop
-same-length c = search needs
-
 returns : tie.Need-returns Inv-loop μ-loop
 returns c = out-last _ _ _ (c .before .before .loop .left) (c .before .before .loop .inv .2) _ (c .before .is-empty .ensures) _ (c .if1 .left) ∙ c .before .before .loop .inv .0
 
 pub regions-out-spec : {M : Type 1} → statement M
 regions-out-spec =
     tie.close
-    (tie.spec
-    Inv-loop
-    μ-loop
-    loop-holds
-    is-empty-requires
-    lowest-requires
-    image-of-requires
-    add-region
-    region-requires
-    name-region-requires
-    without-lowest-requires
-    loop-less
-    loop-again
-    same-length
-    returns)
+    (tie.spec Inv-loop μ-loop loop-holds (search needs) (search needs) image-of-requires (search needs) region-requires name-region-requires
+    without-lowest-requires loop-less loop-again (search needs) returns)

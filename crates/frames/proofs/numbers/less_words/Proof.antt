@@ -7,12 +7,6 @@ use borrow.Author.Needs.{needs}
 use Rattle.frames.proofs.numbers.less_words.Statement.{statement}
 use Rattle.frames.proofs.numbers.less_words.Tie as tie
 
-signed-requires : tie.Need-signed-requires
-signed-requires c κs = search needs
-
-signed-requires-2 : tie.Need-signed-requires-2
-signed-requires-2 c κs = search needs
-
 returns : tie.Need-returns
 unfolding less
 returns c =
@@ -21,4 +15,4 @@ returns c =
     cc
 
 pub less-words-spec : {M : Type 1} → statement M
-less-words-spec = tie.close (tie.spec signed-requires signed-requires-2 returns)
+less-words-spec = tie.close (tie.spec (search needs) (search needs) returns)

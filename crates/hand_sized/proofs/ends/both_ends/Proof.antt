@@ -1,4 +1,3 @@
--- `both_ends` meets its contract.
 use mathlib.Core.Path.{ap}
 use lib.ListN.{set}
 use borrow.Author.Needs.{needs}

@@ -1,4 +1,3 @@
--- `over` meets its contract.
 use mathlib.Core.Path.{refl}
 use Rattle.language.specs.Computing.{computing}
 use Rattle.language.specs.Table.{eight, rows, file, numberVariables, doublings, toTheEnds, over}

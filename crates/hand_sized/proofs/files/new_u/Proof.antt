@@ -1,4 +1,3 @@
--- `new_u` meets its contract.
 use mathlib.Core.Path.{refl}
 use Rattle.language.specs.Computing.{computing}
 use Rattle.language.specs.Table.{eight, rows, file, newU}

@@ -1,12 +1,8 @@
--- `put_ending` meets its contract.
 use native.Mathlib.Omega.{arith}
 use Rattle.lines.specs.Answers.{word-digits, end-refused, end-finished, end-stopped}
 use borrow.Author.Needs.{needs}
 use Rattle.lines.proofs.answers.put_ending.Statement.{statement}
 use Rattle.lines.proofs.answers.put_ending.Tie as tie
-
-enum-told : tie.Need-enum-told
-enum-told c = search needs
 
 put-line-requires : tie.Need-put-line-requires
 put-line-requires c κs = omega (arith, word-digits (c .before .before .before .before .before .args .steps) (omega arith))
@@ -23,5 +19,5 @@ returns-3 c = end-stopped _ _ _ (c .before .before .before .before .before .endi
 pub put-ending-spec : {M : Type 1} → statement M
 put-ending-spec =
     tie.close
-    (tie.spec (search needs) (search needs) enum-told (search needs) put-line-requires (search needs) (search needs) (search needs) returns
+    (tie.spec (search needs) (search needs) (search needs) (search needs) put-line-requires (search needs) (search needs) (search needs) returns
     (search needs) returns-2 (search needs) returns-3)

@@ -1,4 +1,3 @@
--- `put_line` meets its contract.
 use Rattle.lines.specs.Answers.{put-line}
 use borrow.Author.Needs.{needs}
 use Rattle.lines.proofs.answers.put_line.Statement.{statement}

@@ -1,4 +1,3 @@
--- `put_number` meets its contract.
 use native.Mathlib.Omega.{arith}
 use borrow.Author.Needs.{needs}
 use Rattle.lines.specs.Put.{put-length}

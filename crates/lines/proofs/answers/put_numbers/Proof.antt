@@ -1,4 +1,4 @@
--- `put_numbers` meets its contract: the words before `i` are put, 12 bytes each at most.
+-- The words before `i` are put, 12 bytes each at most.
 use Prim.Native.Nat.{_+_, _*_, _-_, _≤_}
 use native.Mathlib.Omega.{arith}
 use lib.ListN.{length, take}

@@ -1,4 +1,3 @@
--- `refusal_number` meets its contract.
 use Rattle.language.specs.Answers.{refusalNumber}
 use borrow.Author.Needs.{needs}
 use Rattle.lines.proofs.answers.refusal_number.Statement.{statement}

@@ -1,4 +1,3 @@
--- `stop_number` meets its contract.
 use Rattle.language.specs.Answers.{stopNumber}
 use borrow.Author.Needs.{needs}
 use Rattle.lines.proofs.answers.stop_number.Statement.{statement}

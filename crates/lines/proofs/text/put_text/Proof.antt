@@ -1,4 +1,4 @@
--- `put_text` meets its contract: the bytes before `i` are put.
+-- The bytes before `i` are put.
 use Prim.Native.Nat.{_+_, _-_, _≤_}
 use mathlib.Core.Path.{refl}
 use native.Mathlib.Omega.{arith}

@@ -1,4 +1,4 @@
--- `clear` meets its contract: after k turns the first k places are 0, and the others as they were.
+-- After k turns the first k places are 0, and the others as they were.
 use Prim.Native.Nat.{_≤_, _-_}
 use mathlib.Core.Path.{_≡_, ap, _∙_}
 use mathlib.Core.List.{_++_}

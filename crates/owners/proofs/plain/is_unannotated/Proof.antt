@@ -1,4 +1,4 @@
--- `is_unannotated` meets its contract: the invariant and its laws are in Testing.
+-- The invariant and its laws are in Testing.
 use Prim.Native.Nat.{_-_}
 use native.Mathlib.Omega.{arith}
 use Rattle.owners.proofs.Testing.{Left, first, stop-create, stop-remove, next, last}

@@ -7,31 +7,11 @@ use borrow.Author.Needs.{needs}
 use Rattle.profile.proofs.parts.print_ending.Statement.{statement}
 use Rattle.profile.proofs.parts.print_ending.Tie as tie
 
-put-ending-requires : tie.Need-put-ending-requires
-put-ending-requires c κs = search needs
-
 slice-reshare-prefix-print : tie.Need-slice-reshare-prefix-print
 slice-reshare-prefix-print c = ending-fits (c .before .before .before .before .before .args .ending) (c .before .before .before .before .before .args .steps) (omega arith) (omega (arith, c .before .before .before .before .before .pre)) (c .before .before .put-ending .ensures)
 
 slice-aggregate-print : tie.Need-slice-aggregate-print
 slice-aggregate-print c = sym (length-take-le _ _ (ending-fits (c .before .before .before .before .before .before .args .ending) (c .before .before .before .before .before .before .args .steps) (omega arith) (omega (arith, c .before .before .before .before .before .before .pre)) (c .before .before .before .put-ending .ensures)))
 
-print-requires : tie.Need-print-requires
-print-requires c κs = search needs
-
-same-length : tie.Need-same-length
-same-length c = search needs
-
-returns : tie.Need-returns
-returns c = search needs
-
 pub print-ending-spec : {M : Type 1} → statement M
-print-ending-spec =
-    tie.close
-    (tie.spec
-    put-ending-requires
-    slice-reshare-prefix-print
-    slice-aggregate-print
-    print-requires
-    same-length
-    returns)
+print-ending-spec = tie.close (tie.spec (search needs) slice-reshare-prefix-print slice-aggregate-print (search needs) (search needs) (search needs))

@@ -24,17 +24,11 @@ loop-holds c = going-first _ (c .before .before .before .before .before .before 
 advance-requires : tie.Need-advance-requires Inv-loop μ-loop
 advance-requires c κs = (c .before .before .before .before .before .before .before .before .before .before .before .before .before .pre .0, (omega (arith, c .before .before .before .before .before .before .before .before .before .before .before .before .before .pre .1 .0, c .before .before .before .before .before .loop .inv .size), c .before .before .before .before .before .loop .inv .stands))
 
-enum-known-part : tie.Need-enum-known-part Inv-loop μ-loop
-enum-known-part c = search needs
-
 slice-reshare-prefix-print : tie.Need-slice-reshare-prefix-print Inv-loop μ-loop
 slice-reshare-prefix-print c = advanced (c .before .before .before .before .before .before .before .before .before .before .before .before .before .advance .ensures) (c .before .part .given .1) .fits
 
 slice-aggregate-print : tie.Need-slice-aggregate-print Inv-loop μ-loop
 slice-aggregate-print c = sym (length-take-le _ _ (advanced (c .before .before .before .before .before .before .before .before .before .before .before .before .before .before .advance .ensures) (c .before .before .part .given .1) .fits))
-
-print-requires : tie.Need-print-requires Inv-loop μ-loop
-print-requires c κs = search needs
 
 loop-less : tie.Need-loop-less Inv-loop μ-loop
 loop-less c =
@@ -46,17 +40,11 @@ loop-again c =
     going-on (c .before .before .before .before .before .before .before .before .before .before .before .before .before .before .before .before .before .before .before .before .before .loop .inv) (c .before .before .before .before .before .before .before .before .before .before .before .before .before .before .before .advance .kept .1 .1 .1 .1 .1 .0) (c .before .before .before .before .before .before .before .before .before .before .before .before .before .before .before .advance .kept .1 .1 .1 .1 .1 .1 .0) (c .before .before .before .before .before .before .before .before .before .before .before .before .before .before .before .advance .kept .1 .1 .1 .1 .1 .1 .1 .0) (c .before .before .before .before .before .before .before .before .before .before .before .before .before .before .before .advance .kept .1 .1 .1 .1 .1 .1 .1 .1 .0) (c .before .before .before .before .before .before .before .before .before .before .before .before .before .before .before .advance .kept .1 .1 .1 .1 .1 .1 .1 .1 .1 .1 .0)
     (advanced (c .before .before .before .before .before .before .before .before .before .before .before .before .before .before .before .advance .ensures) (c .before .before .before .part .given .1) .stands)
 
-enum-known-part-2 : tie.Need-enum-known-part-2 Inv-loop μ-loop
-enum-known-part-2 c = search needs
-
 slice-reshare-prefix-print-2 : tie.Need-slice-reshare-prefix-print-2 Inv-loop μ-loop
 slice-reshare-prefix-print-2 c = last-fits (c .before .before .before .before .before .before .before .before .before .before .before .before .before .advance .ensures) (c .before .part2 .given .1)
 
 slice-aggregate-print-2 : tie.Need-slice-aggregate-print-2 Inv-loop μ-loop
 slice-aggregate-print-2 c = sym (length-take-le _ _ (last-fits (c .before .before .before .before .before .before .before .before .before .before .before .before .before .before .advance .ensures) (c .before .before .part2 .given .1)))
-
-print-requires-2 : tie.Need-print-requires-2 Inv-loop μ-loop
-print-requires-2 c κs = search needs
 
 print-ending-requires : tie.Need-print-ending-requires Inv-loop μ-loop
 print-ending-requires c κs =
@@ -77,31 +65,9 @@ same-length-4 c = (c .before .before .before .before .before .before .before .be
 same-length-5 : tie.Need-same-length-5 Inv-loop μ-loop
 same-length-5 c = c .before .before .print-ending .kept .0 ∙ (c .before .before .before .before .before .before .before .before .before .before .before .before .before .before .before .before .before .before .before .advance .kept .1 .1 .1 .1 .1 .1 .1 .1 .1 .1 .0 ∙ c .before .before .before .before .before .before .before .before .before .before .before .before .before .before .before .before .before .before .before .before .before .before .before .before .before .loop .inv .size)
 
-returns : tie.Need-returns Inv-loop μ-loop
-returns c = search needs
-
 pub print-parts-spec : {M : Type 1} → statement M
 print-parts-spec =
     tie.close
-    (tie.spec
-    Inv-loop
-    μ-loop
-    loop-holds
-    advance-requires
-    enum-known-part
-    slice-reshare-prefix-print
-    slice-aggregate-print
-    print-requires
-    loop-less
-    loop-again
-    enum-known-part-2
-    slice-reshare-prefix-print-2
-    slice-aggregate-print-2
-    print-requires-2
-    print-ending-requires
-    same-length
-    same-length-2
-    same-length-3
-    same-length-4
-    same-length-5
-    returns)
+    (tie.spec Inv-loop μ-loop loop-holds advance-requires (search needs) slice-reshare-prefix-print slice-aggregate-print (search needs) loop-less
+    loop-again (search needs) slice-reshare-prefix-print-2 slice-aggregate-print-2 (search needs) print-ending-requires same-length same-length-2
+    same-length-3 same-length-4 same-length-5 (search needs))

@@ -1,4 +1,3 @@
--- `advance` meets its contract.
 use Prim.Native.Nat.{_-_}
 use native.Mathlib.Omega.{arith}
 use mathlib.Core.Path.{_∙_}
@@ -25,9 +24,6 @@ sub-loop c = omega (arith, c .loop .inv .fits)
 forward-requires : tie.Need-forward-requires Inv-loop μ-loop
 forward-requires c κs = (c .before .before .before .before .before .before .before .before .before .before .before .before .before .pre .0, c .before .before .before .before .before .loop .inv .stands)
 
-enum-known-moved : tie.Need-enum-known-moved Inv-loop μ-loop
-enum-known-moved c = search needs
-
 note-requires : tie.Need-note-requires Inv-loop μ-loop
 note-requires c κs = omega (arith, c .before .before .before .before .before .before .before .before .before .before .before .before .before .before .before .before .before .before .loop .inv .fits)
 
@@ -38,9 +34,6 @@ loop-again : tie.Need-loop-again Inv-loop μ-loop
 loop-again c =
     under-next (c .before .before .before .before .before .before .before .before .before .before .before .before .before .before .before .before .before .before .before .before .before .loop .inv) (c .before .before .before .before .before .before .before .before .before .before .before .before .before .before .before .forward .kept .1 .1 .1 .1 .1 .0) (c .before .before .before .before .before .before .before .before .before .before .before .before .before .before .before .forward .kept .1 .1 .1 .1 .1 .1 .0) (c .before .before .before .before .before .before .before .before .before .before .before .before .before .before .before .forward .kept .1 .1 .1 .1 .1 .1 .1 .0) (c .before .before .before .before .before .before .before .before .before .before .before .before .before .before .before .forward .kept .1 .1 .1 .1 .1 .1 .1 .1 .0)
     (moved-on (c .before .before .before .before .before .before .before .before .before .before .before .before .before .before .before .forward .ensures) (c .before .before .before .before .before .moved .given .1)) (c .before .before .note .ensures .0) (c .before .before .note .kept .0) (c .before .before .note .ensures .1)
-
-enum-known-moved-2 : tie.Need-enum-known-moved-2 Inv-loop μ-loop
-enum-known-moved-2 c = search needs
 
 same-length : tie.Need-same-length Inv-loop μ-loop
 same-length c = c .before .before .before .before .before .before .before .before .before .before .before .forward .kept .1 .1 .1 .1 .1 .0 ∙ c .before .before .before .before .before .before .before .before .before .before .before .before .before .before .before .before .before .loop .inv .cells
@@ -81,26 +74,5 @@ returns-2 c = under-more (c .before .loop .inv) (c .before .before .before .befo
 pub advance-spec : {M : Type 1} → statement M
 advance-spec =
     tie.close
-    (tie.spec
-    Inv-loop
-    μ-loop
-    loop-holds
-    sub-loop
-    forward-requires
-    enum-known-moved
-    note-requires
-    loop-less
-    loop-again
-    enum-known-moved-2
-    same-length
-    same-length-2
-    same-length-3
-    same-length-4
-    same-length-5
-    returns
-    same-length-6
-    same-length-7
-    same-length-8
-    same-length-9
-    same-length-10
-    returns-2)
+    (tie.spec Inv-loop μ-loop loop-holds sub-loop forward-requires (search needs) note-requires loop-less loop-again (search needs) same-length
+    same-length-2 same-length-3 same-length-4 same-length-5 returns same-length-6 same-length-7 same-length-8 same-length-9 same-length-10 returns-2)

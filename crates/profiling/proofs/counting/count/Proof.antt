@@ -1,38 +1,10 @@
--- `count` meets its contract.
 use Rattle.profiling.specs.Kinds.{count-constant, count-construct, count-create, count-remove, count-same}
 use borrow.Author.Needs.{needs}
 use Rattle.profiling.proofs.counting.count.Statement.{statement}
 use Rattle.profiling.proofs.counting.count.Tie as tie
 
-word-requires : tie.Need-word-requires
-word-requires c κs = search needs
-
-word-requires-2 : tie.Need-word-requires-2
-word-requires-2 c κs = search needs
-
 returns : tie.Need-returns
 returns c h ps e = count-constant _ _ _ _ _ _ _ (c .before .before .before .word .ensures .0) h ps (c .before .before .match .keys1) _ (c .before .word2 .ensures .0) (c .if1 .taken)
-
-add-t15 : tie.Need-add-t15
-add-t15 c = search needs
-
-add-t16 : tie.Need-add-t16
-add-t16 c = search needs
-
-word-requires-3 : tie.Need-word-requires-3
-word-requires-3 c κs = search needs
-
-region-place-requires : tie.Need-region-place-requires
-region-place-requires c κs = search needs
-
-region-size-requires : tie.Need-region-size-requires
-region-size-requires c κs = search needs
-
-less-requires : tie.Need-less-requires
-less-requires c κs = search needs
-
-less-requires-2 : tie.Need-less-requires-2
-less-requires-2 c κs = search needs
 
 returns-2 : tie.Need-returns-2
 returns-2 c h ps e = count-construct _ _ _ _ _ _ _ (c .before .before .before .before .word .ensures .0) h ps (c .before .before .before .match .keys1) _ (c .before .before .word2 .ensures .0) (c .before .if1 .left)
@@ -51,18 +23,5 @@ returns-5 c h ps e = count-same _ _ _ _ _ _ _ (c .before .word .ensures .0) h ps
 pub count-spec : {M : Type 1} → statement M
 count-spec =
     tie.close
-    (tie.spec
-    word-requires
-    word-requires-2
-    returns
-    add-t15
-    add-t16
-    word-requires-3
-    region-place-requires
-    region-size-requires
-    less-requires
-    less-requires-2
-    returns-2
-    returns-3
-    returns-4
-    returns-5)
+    (tie.spec (search needs) (search needs) returns (search needs) (search needs) (search needs) (search needs) (search needs) (search needs)
+    (search needs) returns-2 returns-3 returns-4 returns-5)

@@ -1,28 +1,12 @@
--- `note` meets its contract.
 use native.Mathlib.Omega.{arith}
 use borrow.Author.Needs.{needs}
 use Rattle.profiling.specs.Noting.{notes-same, notes-line}
 use Rattle.profiling.proofs.noting.note.Statement.{statement}
 use Rattle.profiling.proofs.noting.note.Tie as tie
 
-held-at-requires : tie.Need-held-at-requires
-held-at-requires c κs = search needs
-
-held-at-requires-2 : tie.Need-held-at-requires-2
-held-at-requires-2 c κs = search needs
-
-same-held-requires : tie.Need-same-held-requires
-same-held-requires c κs = search needs
-
 returns : tie.Need-returns
 returns c =
     (notes-same _ _ _ _ (c .before .before .before .held-at .ensures) (c .before .before .held-at2 .ensures) _ (c .before .same-held .ensures) (c .if1 .taken) _ _, omega (arith, c .before .before .before .before .before .pre))
-
-put-line-requires : tie.Need-put-line-requires
-put-line-requires c κs = search needs
-
-same-length : tie.Need-same-length
-same-length c = search needs
 
 returns-2 : tie.Need-returns-2
 returns-2 c =
@@ -32,6 +16,4 @@ returns-2 c =
     )
 
 pub note-spec : {M : Type 1} → statement M
-note-spec =
-    tie.close
-    (tie.spec held-at-requires held-at-requires-2 same-held-requires returns put-line-requires same-length returns-2)
+note-spec = tie.close (tie.spec (search needs) (search needs) (search needs) returns (search needs) (search needs) returns-2)

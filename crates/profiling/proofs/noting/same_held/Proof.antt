@@ -1,4 +1,3 @@
--- `same_held` meets its contract.
 use mathlib.Core.Path.{ap}
 use Rattle.profiling.specs.Noting.{held-equal}
 use Rattle.profiling.proofs.noting.same_held.Statement.{statement}

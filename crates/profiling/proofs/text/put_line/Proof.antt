@@ -1,27 +1,8 @@
--- `put_line` meets its contract.
 use native.Mathlib.Omega.{arith}
 use Rattle.profiling.specs.Text.{line-put}
 use borrow.Author.Needs.{needs}
 use Rattle.profiling.proofs.text.put_line.Statement.{statement}
 use Rattle.profiling.proofs.text.put_line.Tie as tie
-
-put-spaced-requires : tie.Need-put-spaced-requires
-put-spaced-requires c κs = search needs
-
-put-spaced-requires-2 : tie.Need-put-spaced-requires-2
-put-spaced-requires-2 c κs = search needs
-
-put-spaced-requires-3 : tie.Need-put-spaced-requires-3
-put-spaced-requires-3 c κs = search needs
-
-put-spaced-requires-4 : tie.Need-put-spaced-requires-4
-put-spaced-requires-4 c κs = search needs
-
-put-last-requires : tie.Need-put-last-requires
-put-last-requires c κs = search needs
-
-same-length : tie.Need-same-length
-same-length c = search needs
 
 returns : tie.Need-returns
 returns c =
@@ -33,13 +14,4 @@ returns c =
     (line-put (c .before .before .before .before .before .before .before .before .before .before .before .before .before .before .before .before .before .before .before .before .before .before .args .l) (a .0) (d .0) (e .0) (f .0) (g .0), omega (arith, a .1, d .1, e .1, f .1, g .1))
 
 pub put-line-spec : {M : Type 1} → statement M
-put-line-spec =
-    tie.close
-    (tie.spec
-    put-spaced-requires
-    put-spaced-requires-2
-    put-spaced-requires-3
-    put-spaced-requires-4
-    put-last-requires
-    same-length
-    returns)
+put-line-spec = tie.close (tie.spec (search needs) (search needs) (search needs) (search needs) (search needs) (search needs) returns)

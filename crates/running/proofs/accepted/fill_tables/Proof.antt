@@ -1,4 +1,3 @@
--- `fill_tables` meets its contract.
 use borrow.Author.Needs.{needs}
 use Rattle.records.specs.Blank.{blank-fits}
 use Rattle.tables.specs.TablePlaces.{fileWords}
@@ -7,12 +6,6 @@ use Rattle.running.specs.Answer.{accepted-typed}
 use Rattle.running.specs.Planned.{blank-length}
 use Rattle.running.proofs.accepted.fill_tables.Statement.{statement}
 use Rattle.running.proofs.accepted.fill_tables.Tie as tie
-
-blank-file-table-requires : tie.Need-blank-file-table-requires
-blank-file-table-requires c κs = search needs
-
-slice-aggregate-list-procedures : tie.Need-slice-aggregate-list-procedures
-slice-aggregate-list-procedures c = search needs
 
 list-procedures-requires : tie.Need-list-procedures-requires
 list-procedures-requires c κs = let a = accepted-typed (c .before .before .before .pre .0) in (a .0, (a .1, blank-fits fileWords (c .before .blank-file-table .ensures)))
@@ -29,11 +22,4 @@ returns c =
     record { accepted = c .before .before .before .before .before .before .before .before .before .before .pre .0; tabled = e .0; narrow = e .1 .0; numbered = e .1 .1 .0 }
 
 pub fill-tables-spec : {M : Type 1} → statement M
-fill-tables-spec =
-    tie.close
-    (tie.spec
-    blank-file-table-requires
-    slice-aggregate-list-procedures
-    list-procedures-requires
-    fill-plan-requires
-    returns)
+fill-tables-spec = tie.close (tie.spec (search needs) (search needs) list-procedures-requires fill-plan-requires returns)

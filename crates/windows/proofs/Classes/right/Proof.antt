@@ -1,4 +1,3 @@
--- `Classes::right` meets its contract.
 use borrow.Author.Needs.{needs}
 use borrow.Author.Tests.{not-true, not-false}
 use Rattle.windows.specs.Classed.{born-wrong, both-right}

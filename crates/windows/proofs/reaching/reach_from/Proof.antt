@@ -1,4 +1,4 @@
--- `reach_from` meets its contract: the invariant and its laws are in Reading.
+-- The invariant and its laws are in Reading.
 use Prim.Native.Nat.{_-_}
 use mathlib.Core.Path.{_≡_, sym, ap, _∙_}
 use borrow.Author.Needs.{needs}

@@ -1,4 +1,3 @@
--- `read_edges` meets its contract.
 use borrow.Author.Needs.{needs}
 use mathlib.Core.Path.{ap, ap₂, _∙_}
 use Rattle.sets.specs.Sets.{_∪_, loaded, loaded-stored}

@@ -1,4 +1,4 @@
--- `targets_of` meets its contract: what is found so far with what the rest leads to is the whole.
+-- What is found so far with what the rest leads to is the whole.
 use mathlib.Core.Path.{_≡_}
 use borrow.Author.Needs.{needs}
 use Rattle.sets.specs.Sets.{_∪_}

@@ -1,4 +1,3 @@
--- `variables_in` meets its contract.
 use Rattle.chains.specs.Is.{chain-next}
 use Rattle.windows.proofs.Variables.{Found, found-one, found-other}
 use Rattle.windows.specs.Modes.{find-first, find-last}

@@ -1,4 +1,3 @@
--- `classes_of` meets its contract.
 use borrow.Author.Needs.{needs}
 use Rattle.windows.specs.Classed.{reached-part, sorted}
 use Rattle.windows.proofs.sorting.classes_of.Statement.{statement}

@@ -1,4 +1,3 @@
--- `put_header` meets its contract.
 use borrow.Author.Needs.{needs}
 use Rattle.windows.specs.Procedure.{header-stored}
 use Rattle.windows.proofs.stage.put_header.Statement.{statement}

@@ -1,4 +1,3 @@
--- `home_reach` meets its contract.
 use borrow.Author.Needs.{needs}
 use Rattle.windows.specs.Parts.{home-none, home-some, home-past}
 use Rattle.windows.proofs.writing.home_reach.Statement.{statement}
