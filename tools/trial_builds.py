@@ -63,13 +63,13 @@ def try_from_nothing(trial, folder):
     here.run('memory of another size', ['run', '--cells', '5', 'examples/gamma.text'], 1, ('stopped 11 after 14 steps: no free cell, all 5 lie',), (BUILT, ANEW))
     version = here.run('the version', ['--version'], 0, ())
     trial.judge('annotator: not proved on this machine' in version and NOTE in version, f'--version: {version!r}')
-    here.edit('rules')
+    here.edit('stages')
     here.run('after an edit of a source', gamma, 0, (ANEW, NOTE, 'finished after 78 steps'))
     here.run('after that', gamma, 0, (NOTE,), (ANEW,))
     with open(os.path.join(folder, 'target', 'unproved', 'libgumreta.so'), 'ab') as out:
         out.write(b'more')
     here.run('with a build that was changed', gamma, 0, (ANEW, NOTE))
-    with open(os.path.join(folder, 'crates', 'rules', 'src', 'lib.rt'), 'a', encoding='utf-8') as out:
+    with open(os.path.join(folder, 'crates', 'stages', 'src', 'lib.rt'), 'a', encoding='utf-8') as out:
         out.write('fn broken( {\n')
     here.run('with a source that is none', gamma, 1, ('gumreta could not be built: ',))
 
