@@ -16,7 +16,7 @@ use Rattle.language.specs.Regions.{targets, targetsIn, targetFor, regionsOf}
 use Rattle.laws.specs.Choices.{choose-map}
 use Rattle.region_graph.specs.Laws.{Home, target}
 use Rattle.region_graph.specs.Typed.{region-in}
-use Rattle.region_graph.specs.Places.{region-of, edges-cons}
+use Rattle.region_graph.specs.EdgePlaces.{region-of, edges-cons}
 use Rattle.region_graph.specs.Procedure.{placesOf, variable-region, region-edges}
 
 -- two lists of one length, related one by one

@@ -2,7 +2,7 @@ pub mod Laws
 pub mod Lookups
 pub mod Typed
 pub mod Reach
-pub mod Places
+pub mod EdgePlaces
 pub mod Procedure
 pub mod Alike
 pub mod Unmapped

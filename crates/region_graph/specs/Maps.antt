@@ -18,7 +18,7 @@ use Rattle.language.specs.Regions.{targets, targetsIn, targetFor, regionsOf}
 use Rattle.laws.specs.Lists
 use Rattle.laws.specs.Lists.{nth-past}
 use Rattle.region_graph.specs.Laws.{target}
-use Rattle.region_graph.specs.Places.{typeFor, region-of, edges-cons, edges-found, choose-first, choose-second, Single, single-cons, places-single}
+use Rattle.region_graph.specs.EdgePlaces.{typeFor, region-of, edges-cons, edges-found, choose-first, choose-second, Single, single-cons, places-single}
 use Rattle.region_graph.specs.Procedure.{placesOf, region-numbers, region-edges}
 pub use Rattle.region_graph.specs.Shared.{none-target}
 use Rattle.region_graph.specs.Alike.{parameterRegions, Paired, paired-nil, paired-cons, Matched, Alike, edges-there}

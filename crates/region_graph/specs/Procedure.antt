@@ -16,7 +16,7 @@ use Rattle.language.specs.Regions.{targets}
 use Rattle.region_graph.specs.Laws.{Declared, Home, target}
 use Rattle.region_graph.specs.Typed.{number-plain, variable-past, region-past, variables-few, regions-few, variable-typed, region-typed, signature-typed}
 use Rattle.region_graph.specs.Reach.{reach-least, reach-nowhere, reach-self, reach-ranged, reach-onward}
-use Rattle.region_graph.specs.Places.{region-of, edges-lead, edge-listed}
+use Rattle.region_graph.specs.EdgePlaces.{region-of, edges-lead, edge-listed}
 
 -- the places of region r's type
 abbrev pub placesOf : List (List Functor) → Signature → ℕ → List Place

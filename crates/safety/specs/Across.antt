@@ -17,7 +17,7 @@ use Rattle.region_graph.specs.Laws.{shared, target, Declared, Called}
 use Rattle.region_graph.specs.Alike.{region-some}
 use Rattle.region_graph.specs.Shared.{target-known, target-reach}
 use Rattle.safety.specs.Signatures.{KnownRegion}
-use Rattle.safety.specs.Places.{cellOn, along, along-in, typesAt, PlacedValue, is-number, is-constant, is-cell, PlacedAll, placed-none, placed-more}
+use Rattle.safety.specs.PlacedValues.{cellOn, along, along-in, typesAt, PlacedValue, is-number, is-constant, is-cell, PlacedAll, placed-none, placed-more}
 
 -- what the values need of a call's mapping m
 pub record Across (C Q : Signature) (ys : List ℕ) (m : ℕ → ℕ) : Type 0 where

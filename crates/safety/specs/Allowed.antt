@@ -25,7 +25,7 @@ use Rattle.safety.specs.Doing.{NextGoal}
 use Rattle.region_graph.specs.Shared.{region-top}
 use Rattle.safety.specs.Signatures.{Fit, laws-of}
 use Rattle.safety.specs.Premises.{Accepted, fit}
-use Rattle.safety.specs.Places.{along, typesAt, is-number, PlacedAll, placed-none, placed-more, InCell, Lies, lies}
+use Rattle.safety.specs.PlacedValues.{along, typesAt, is-number, PlacedAll, placed-none, placed-more, InCell, Lies, lies}
 use Rattle.safety.specs.Variables.{type-in, types-length, targets-along}
 use Rattle.safety.specs.Owners.{Owner}
 use Rattle.safety.specs.Invariant.{Now}

@@ -28,7 +28,7 @@ use Rattle.region_graph.specs.Classes.{kept-in, unshared-in}
 use Rattle.region_graph.specs.Shared.{region-top}
 use Rattle.safety.specs.Signatures.{Fit, dead-unkept, born-shared, dead-shared, start-in, start-dead, start-kept, start-shared, shared-top, ins-reach, laws-of}
 use Rattle.safety.specs.Premises.{Accepted, laws, fit}
-use Rattle.safety.specs.Places.{PlacedAll}
+use Rattle.safety.specs.PlacedValues.{PlacedAll}
 use Rattle.safety.specs.Across.{Across, called-along, ComesAll, enter-all}
 use Rattle.safety.specs.Variables.{AllVariables, Vars, give-placed, placed-each, read-sound, vars-without}
 use Rattle.safety.specs.Owners.{Owner, owner, Covered, Away, Owns, Ownership}

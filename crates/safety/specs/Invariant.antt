@@ -15,7 +15,7 @@ use Rattle.language.specs.AcceptedRun.{RegionFrame, RegionCell, Memory, State}
 use Rattle.region_graph.specs.Laws.{shared, Called}
 use Rattle.safety.specs.Doing.{Doing}
 use Rattle.safety.specs.Premises.{Accepted, laws}
-use Rattle.safety.specs.Places.{Grows}
+use Rattle.safety.specs.PlacedValues.{Grows}
 use Rattle.safety.specs.Variables.{Vars, vars-grown}
 use Rattle.safety.specs.Owners.{Owner, owner, Owns, Ownership}
 

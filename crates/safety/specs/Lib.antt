@@ -2,7 +2,7 @@ pub mod Walks
 pub mod Doing
 pub mod Signatures
 pub mod Premises
-pub mod Places
+pub mod PlacedValues
 pub mod Across
 pub mod Variables
 pub mod Owners

@@ -24,7 +24,7 @@ use Rattle.laws.specs.Choices.{put-other}
 use Rattle.region_graph.specs.Shared.{region-top}
 use Rattle.safety.specs.Walks.{require-in}
 use Rattle.safety.specs.Premises.{Accepted, laws}
-use Rattle.safety.specs.Places.{Grows, PlacedAll, placed-none}
+use Rattle.safety.specs.PlacedValues.{Grows, PlacedAll, placed-none}
 use Rattle.safety.specs.Variables.{Vars, vars-fewer, vars-given, vars-moved, vars-grown, vars-without}
 use Rattle.safety.specs.Owners.{Owner, created, removed}
 use Rattle.safety.specs.Invariant.{Now, stack-stands, stack-grown}

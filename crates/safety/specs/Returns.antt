@@ -23,7 +23,7 @@ use Rattle.safety.specs.Doing.{End}
 use Rattle.region_graph.specs.Classes.{kept-in}
 use Rattle.safety.specs.Signatures.{Fit, born-unkept, born-shared, shared-top, outs-reach, laws-of}
 use Rattle.safety.specs.Premises.{Accepted, laws, fit}
-use Rattle.safety.specs.Places.{PlacedAll}
+use Rattle.safety.specs.PlacedValues.{PlacedAll}
 use Rattle.safety.specs.Across.{Across, called-along, ComesAll, leave-all}
 use Rattle.safety.specs.Variables.{Vars, placed-each, vars-given, vars-moved}
 use Rattle.safety.specs.Owners.{Owner, owner, Covered, Away, Owns, Ownership}

@@ -28,7 +28,7 @@ use Rattle.safety.specs.Walks.{require-in, Joined, join-in}
 use Rattle.safety.specs.Doing.{Doing, segment, NextGoal, ArmTaken, arms-in}
 use Rattle.safety.specs.Signatures.{Fit, laws-of}
 use Rattle.safety.specs.Premises.{Accepted, calling, fit, start-doing}
-use Rattle.safety.specs.Places.{cellOn, grows-more, PlacedValue, is-constant, PlacedAll, placed-none, placed-more, Lies, cell-found}
+use Rattle.safety.specs.PlacedValues.{cellOn, grows-more, PlacedValue, is-constant, PlacedAll, placed-none, placed-more, Lies, cell-found}
 use Rattle.safety.specs.Variables.{AllVariables, type-in, types-variables, read-sound, placed-each, placed-new}
 use Rattle.safety.specs.Owners.{Owner}
 use Rattle.safety.specs.Invariant.{Now, Inv, inv, Fine}

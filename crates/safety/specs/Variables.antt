@@ -24,7 +24,7 @@ use Rattle.laws.specs.Choices.{put-same, put-other}
 use Rattle.laws.specs.Lists.{nth-last}
 use Rattle.region_graph.specs.Laws.{target, Declared}
 use Rattle.region_graph.specs.Shared.{variable-top}
-use Rattle.safety.specs.Places.{cellOn, Grows, grows-more, grows-last, along, typesAt, PlacedValue, is-cell, PlacedAll, placed-none, placed-more, move, move-all}
+use Rattle.safety.specs.PlacedValues.{cellOn, Grows, grows-more, grows-last, along, typesAt, PlacedValue, is-cell, PlacedAll, placed-none, placed-more, move, move-all}
 
 -- each of a list is a variable
 abbrev pub AllVariables : Signature → List ℕ → Type 0

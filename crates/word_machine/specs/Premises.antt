@@ -25,7 +25,7 @@ use Rattle.safety.specs.Walks.{require-in}
 use Rattle.safety.specs.Doing.{NextGoal, next-in, ArmTaken, arms-in}
 use Rattle.safety.specs.Signatures.{laws-of}
 use Rattle.safety.specs.Premises.{Accepted, fit}
-use Rattle.safety.specs.Places.{PlacedValue, is-number, is-constant, is-cell, PlacedAll, placed-none, placed-more, Lies, cell-found}
+use Rattle.safety.specs.PlacedValues.{PlacedValue, is-number, is-constant, is-cell, PlacedAll, placed-none, placed-more, Lies, cell-found}
 use Rattle.safety.specs.Variables.{AllVariables, type-in, types-variables, types-length, read-sound}
 use Rattle.safety.specs.Owners.{Owner}
 use Rattle.safety.specs.Invariant.{Now, Inv, inv}
