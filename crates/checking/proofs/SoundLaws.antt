@@ -1,46 +1,57 @@
--- Which variables are sound: going through the members of a set by `Set::after`, those kept so far, with those kept ahead, are all that are kept.
-use Prim.Native.Nat.{ℕ, _≤_, _<_}
-use mathlib.Core.Bool.{Bool, true, false}
+-- Which variables are sound: as members are taken off a set, those kept so far, with those kept of the rest, are all that are kept.
+use Prim.Native.Nat.{ℕ, _<_}
+use mathlib.Core.Bool.{Bool, true, false, not}
+use borrow.Author.Tests.{not-true, not-false}
 use mathlib.Core.Path.{_≡_, sym, ap, ap₂, _∙_, fun-ext}
 use mathlib.Core.List.{List}
 use Rattle.sets.specs.Sets.{member-empty, emptySet, single, _∪_, _∩_, _∖_, sameSet, same-eq, subset, apart, Small}
-use Rattle.sets.specs.SetLaws.{union-empty, empty-union, union-assoc, apart-mk}
-use Rattle.sets.specs.Members.{nextMember, setOf, filtered, keep}
-use Rattle.sets.specs.Walk.{above, keep-start, keep-end, keep-take, keep-skip}
+use Rattle.sets.specs.SetLaws.{union-empty, empty-union, union-assoc, apart-mk, small-difference}
+use Rattle.sets.specs.Members.{nextMember, keep}
+use Rattle.sets.specs.Lowest.{lowest-falls, keep-empty, keep-take, keep-skip}
+use Rattle.sets.specs.Size.{size}
 use Rattle.sets.specs.declared.Set.{Set}
 use Rattle.laws.specs.MoreSets.{keep-all}
 use Rattle.language.specs.Program.{Signature}
 use Rattle.language.specs.Regions.{reach}
 use Rattle.language.specs.Checking.{soundGiven, soundWithout}
-use Rattle.language.specs.Format.{places}
 use Rattle.tables.specs.Window.{reachIn}
-use Rattle.tables.specs.Walks.{next-ends}
 use Rattle.checking.specs.Sound.{ReachesAll}
 
--- x is the next member, or 65
-pub record Keeping (p : ℕ → Bool) (s found : Set) (x : ℕ) : Type 0 where
-  pub done : ℕ
-  pub next : x ≡ nextMember s done
-  pub whole : found ∪ setOf (filtered p (above s done)) ≡ keep p s
+-- members of s are taken off, the least first, and left are those still to be looked at
+pub record Keeping (p : ℕ → Bool) (s found left : Set) : Type 0 where
+  pub small : Small left
+  pub whole : found ∪ keep p left ≡ keep p s
 
 module _ (p : ℕ → Bool) (s : Set) where
-  pub keep-first : {x : ℕ} → x ≡ nextMember s 0 → Keeping p s emptySet x
-  keep-first e = record { done = 0; next = e; whole = empty-union _ ∙ keep-start p s }
+  pub keep-first : Small s → Keeping p s emptySet s
+  keep-first S = record { small = S; whole = empty-union _ }
 
-  module _ {found : Set} {x : ℕ} (h : Keeping p s found x) where
-    pub keep-one : {u found′ : Set} {x′ : ℕ} → x < places → p x ≡ true → u ≡ single x → found′ ≡ found ∪ u → x′ ≡ nextMember s x → Keeping p s found′ x′
-    keep-one l t e g n =
-        let r = keep-take p s (h .done) x (sym (h .next)) l t in
-        record { done = x; next = n; whole = rw (g, e) (union-assoc found (single x) _ ∙ ap (λ (y : Set). found ∪ y) (sym r) ∙ h .whole) }
+  -- as the code finds that some are left, or none
+  module _ {found left : Set} (h : Keeping p s found left) {b : Bool} (e : b ≡ sameSet left emptySet) where
+    pub keep-last : not b ≡ false → found ≡ keep p s
+    keep-last n = sym (union-empty found) ∙ ap (λ (y : Set). found ∪ y) (sym (keep-empty p left (sym e ∙ not-false b n))) ∙ h .whole
 
-    pub keep-none : {x′ : ℕ} → x < places → p x ≡ false → x′ ≡ nextMember s x → Keeping p s found x′
-    keep-none l t n =
-        let r = keep-skip p s (h .done) x (sym (h .next)) l t in
-        record { done = x; next = n; whole = ap (λ (y : Set). found ∪ y) (sym r) ∙ h .whole }
+    module _ (n : not b ≡ true) where
+      pub some-left : sameSet left emptySet ≡ false
+      some-left = sym e ∙ not-true b n
 
-    pub keep-last : places ≤ x → found ≡ keep p s
-    keep-last l =
-        sym (union-empty found) ∙ ap (λ (y : Set). found ∪ y) (sym (keep-end p s (h .done) (next-ends s (h .done) (h .next) l))) ∙ h .whole
+      module _ {rest : Set} (er : rest ≡ left ∖ single (nextMember left 0)) where
+        pub keep-falls : size rest < size left
+        keep-falls = rw er (lowest-falls left (h .small) some-left)
+
+        small-rest : Small rest
+        small-rest = rw er (small-difference (single (nextMember left 0)) (h .small))
+
+        module _ {x : ℕ} (ex : x ≡ nextMember left 0) where
+          pub keep-one : {u found′ : Set} → p x ≡ true → u ≡ single x → found′ ≡ found ∪ u → Keeping p s found′ rest
+          keep-one t eu g =
+              let r = keep-take p left (h .small) some-left (rw ex at t) in
+              record { small = small-rest; whole = rw (g, eu, ex, er) (union-assoc found (single (nextMember left 0)) _ ∙ ap (λ (y : Set). found ∪ y) (sym r) ∙ h .whole) }
+
+          pub keep-none : p x ≡ false → Keeping p s found rest
+          keep-none t =
+              let r = keep-skip p left (h .small) some-left (rw ex at t) in
+              record { small = small-rest; whole = rw er (ap (λ (y : Set). found ∪ y) (sym r) ∙ h .whole) }
 
 -- ---- the checker's two tests of a variable, by the window
 module _ (t : List ℕ) where

@@ -1,5 +1,4 @@
 // Which variables are sound, by the window of their procedure.
-use language::format::PLACES;
 use sets::Set;
 use tables::reach;
 ghost use mathlib.Core.Path.{_≡_};
@@ -12,12 +11,13 @@ pub fn sound_given(own: &[u64], given: Set, held: Set, sound: Set) -> Set
     ensures { λ r. ⌜ ((S : Signature) → ReachesAll S (now (own .entry)) → r ≡ soundGiven S given held sound) ⌝ }
 {
     let mut found = Set::EMPTY;
-    let mut x = given.after(0);
-    while x < PLACES {
+    let mut left = given;
+    while !left.is_empty() {
+        let x = left.lowest();
         if reach(own, x).is_subset(held) {
             found = found.union(Set::of(x));
         }
-        x = given.after(x);
+        left = left.without_lowest();
     }
     sound.difference(given).union(found)
 }
@@ -36,12 +36,13 @@ fn without_some(own: &[u64], gone: Set, sound: Set) -> Set
     ensures { λ r. ⌜ ((S : Signature) → ReachesAll S (now (own .entry)) → r ≡ soundWithout S gone sound) ⌝ }
 {
     let mut found = Set::EMPTY;
-    let mut x = sound.after(0);
-    while x < PLACES {
+    let mut left = sound;
+    while !left.is_empty() {
+        let x = left.lowest();
         if reach(own, x).intersection(gone).same(Set::EMPTY) {
             found = found.union(Set::of(x));
         }
-        x = sound.after(x);
+        left = left.without_lowest();
     }
     found
 }

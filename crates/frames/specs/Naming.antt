@@ -2,14 +2,14 @@
 -- behind it.
 use Prim.Native.Nat.{ℕ, suc, _+_, _*_, _≤_, _<_}
 use native.Mathlib.Omega.{arith}
-use mathlib.Core.Path.{_≡_, sym, ap, _∙_}
+use mathlib.Core.Path.{_≡_, sym, _∙_}
 use mathlib.Core.Bool.{Bool, true, false, not}
 use mathlib.Core.List.{List}
 use borrow.Author.Tests.{not-true, not-false}
 use lib.ListN.{length, getD, set}
 use Rattle.sets.specs.Sets.{emptySet, single, _∖_, sameSet, Small}
 use Rattle.sets.specs.Members.{members, nextMember}
-use Rattle.sets.specs.Lowest.{lowest-low, members-none, members-lowest}
+use Rattle.sets.specs.Lowest.{lowest-low, members-none, members-lowest, lowest-falls}
 use Rattle.sets.specs.Size.{size}
 use Rattle.sets.specs.declared.Set.{Set}
 use Rattle.language.specs.Format.{maxRegions}
@@ -53,8 +53,7 @@ module _ (s : Set) (S : Small s) (b : Bool) (e : b ≡ sameSet s emptySet) (n : 
   member-low r er = omega (arith, lowest-low s S some-member)
 
   pub members-fall : (t : Set) → t ≡ s ∖ single (nextMember s 0) → size t < size s
-  unfolding size
-  members-fall t et = let z = ap length (members-lowest s S some-member) in rw et (omega arith)
+  members-fall t et = rw et (lowest-falls s S some-member)
 
 module _ (images : List ℕ) (side at : ℕ) (s : Set) (S : Small s) (b : Bool) (e : b ≡ sameSet s emptySet) where
   pub in-last : (fw : List ℕ) → not b ≡ false → fw ≡ namedIn images side at (members s) fw

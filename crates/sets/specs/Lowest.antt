@@ -1,15 +1,17 @@
 -- A loop that takes the least member off until the set is empty goes through the members in order.
 -- Assumes nothing.
 use mathlib.Core.Path.{_≡_, refl, sym, ap, _∙_}
-use mathlib.Core.Bool.{true, false}
+use mathlib.Core.Bool.{Bool, true, false}
 use mathlib.Core.List.{List, [], _∷_}
 use Prim.Native.Nat.{ℕ, _<_, _≤_}
 use native.Mathlib.Decide.{decLt, ℕ-discrete}
 use native.Mathlib.Omega.{arith}
+use lib.ListN.{length}
 use Rattle.sets.specs.Tests.{same-truth, false-of, clash}
-use Rattle.sets.specs.Sets.{member, emptySet, single, _∖_, sameSet, Small, same-eq, member-empty, member-some, member-pos, single-mk, single-in, difference-mk, difference-in}
+use Rattle.sets.specs.Sets.{member, emptySet, single, _∪_, _∖_, sameSet, Small, same-eq, member-empty, member-some, member-pos, single-mk, single-in, difference-mk, difference-in}
 use Rattle.sets.specs.SetLaws.{small-top}
-use Rattle.sets.specs.Members.{members, nextMember, inList, nil-in, members-in, members-mk}
+use Rattle.sets.specs.Members.{consIf, members, nextMember, setOf, filtered, keep, inList, nil-in, members-in, members-mk}
+use Rattle.sets.specs.Size.{size}
 use Rattle.sets.specs.Walk.{above, next-is, above-start, above-next, above-in, above-mk}
 use Rattle.sets.specs.Rising.{Rising, rising-nil, rising-ext, members-rising, above-rising}
 use Rattle.sets.specs.declared.Set.{Set}
@@ -65,3 +67,27 @@ pub members-lowest : (s : Set) → Small s → sameSet s emptySet ≡ false → 
 members-lowest s S e =
     let l = lowest-low s S e in
     sym (above-start s) ∙ above-next s 0 (nextMember s 0) refl l ∙ ap (λ (xs : List ℕ). nextMember s 0 ∷ xs) (rest-members s (nextMember s 0) refl l)
+
+-- the rest is smaller
+pub lowest-falls : (s : Set) → Small s → sameSet s emptySet ≡ false → size (s ∖ single (nextMember s 0)) < size s
+unfolding size
+lowest-falls s S e = let z = ap length (members-lowest s S e) in omega arith
+
+-- ---- what is kept of the members
+module _ (p : ℕ → Bool) (s : Set) where
+  pub keep-empty : sameSet s emptySet ≡ true → keep p s ≡ emptySet
+  unfolding keep filtered setOf
+  keep-empty e = ap (λ (xs : List ℕ). setOf (filtered p xs)) (members-none s e)
+
+  module _ (S : Small s) (e : sameSet s emptySet ≡ false) where
+    lowest-first : keep p s ≡ setOf (consIf (p (nextMember s 0)) (nextMember s 0) (filtered p (members (s ∖ single (nextMember s 0)))))
+    unfolding keep filtered
+    lowest-first = ap (λ (xs : List ℕ). setOf (filtered p xs)) (members-lowest s S e)
+
+    pub keep-take : p (nextMember s 0) ≡ true → keep p s ≡ single (nextMember s 0) ∪ keep p (s ∖ single (nextMember s 0))
+    unfolding keep consIf setOf
+    keep-take t = lowest-first ∙ ap (λ (b : Bool). setOf (consIf b (nextMember s 0) (filtered p (members (s ∖ single (nextMember s 0)))))) t
+
+    pub keep-skip : p (nextMember s 0) ≡ false → keep p s ≡ keep p (s ∖ single (nextMember s 0))
+    unfolding keep consIf
+    keep-skip t = lowest-first ∙ ap (λ (b : Bool). setOf (consIf b (nextMember s 0) (filtered p (members (s ∖ single (nextMember s 0)))))) t

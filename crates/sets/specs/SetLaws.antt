@@ -74,6 +74,11 @@ intersection-right a b = subset-mk (a ∩ b) b (λ n h. intersection-in a b n h 
 pub intersection-most : (a b t : Set) → subset t a ≡ true → subset t b ≡ true → subset t (a ∩ b) ≡ true
 intersection-most a b t p q = subset-mk t (a ∩ b) (λ n h. intersection-mk a b n (subset-in t a p n h) (subset-in t b q n h))
 
+pub intersection-comm : (a b : Set) → a ∩ b ≡ b ∩ a
+intersection-comm a b =
+    subset-antisym (a ∩ b) (b ∩ a) (intersection-most b a (a ∩ b) (intersection-right a b) (intersection-left a b))
+    (intersection-most a b (b ∩ a) (intersection-right b a) (intersection-left b a))
+
 pub difference-left : (a b : Set) → subset (a ∖ b) a ≡ true
 difference-left a b = subset-mk (a ∖ b) a (λ n h. difference-in a b n h .0)
 

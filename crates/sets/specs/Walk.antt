@@ -8,7 +8,7 @@ use native.Mathlib.Decide.{decLt, ℕ-discrete}
 use native.Mathlib.Omega.{arith}
 use Rattle.sets.specs.Tests.{clash}
 use Rattle.sets.specs.Sets.{member, emptySet, single, _∪_}
-use Rattle.sets.specs.Members.{consIf, membersFrom, members, firstOr65, nextMember, setOf, filtered, keep, unionAll, unionOver, image, inList, membersFrom-in, membersFrom-mk}
+use Rattle.sets.specs.Members.{consIf, membersFrom, members, firstOr65, nextMember, unionAll, unionOver, image, inList, membersFrom-in, membersFrom-mk}
 use Rattle.sets.specs.declared.Set.{Set}
 
 -- the members above n, in rising order
@@ -123,27 +123,6 @@ unfolding above
 above-mk s n k e h l = membersFrom-mk s (64 - n) (suc n) k e h (omega arith)
 
 -- ---- loops over the members: what is left to do from n on, at the start, at the end, and at the next member r
-module _ (p : ℕ → Bool) (s : Set) where
-  pub keep-start : setOf (filtered p (above s 0)) ≡ keep p s
-  unfolding keep
-  keep-start = ap (λ (xs : List ℕ). setOf (filtered p xs)) (above-start s)
-
-  pub keep-end : (n : ℕ) → nextMember s n ≡ 65 → setOf (filtered p (above s n)) ≡ emptySet
-  unfolding filtered setOf
-  keep-end n e = ap (λ (xs : List ℕ). setOf (filtered p xs)) (above-end s n e)
-
-  pub keep-take : (n r : ℕ) → nextMember s n ≡ r → r < 65 → p r ≡ true
-      → setOf (filtered p (above s n)) ≡ single r ∪ setOf (filtered p (above s r))
-  unfolding filtered consIf setOf
-  keep-take n r e l t =
-      ap (λ (xs : List ℕ). setOf (filtered p xs)) (above-next s n r e l) ∙ ap (λ (b : Bool). setOf (consIf b r (filtered p (above s r)))) t
-
-  pub keep-skip : (n r : ℕ) → nextMember s n ≡ r → r < 65 → p r ≡ false
-      → setOf (filtered p (above s n)) ≡ setOf (filtered p (above s r))
-  unfolding filtered consIf setOf
-  keep-skip n r e l t =
-      ap (λ (xs : List ℕ). setOf (filtered p xs)) (above-next s n r e l) ∙ ap (λ (b : Bool). setOf (consIf b r (filtered p (above s r)))) t
-
 module _ (f : ℕ → Set) (s : Set) where
   pub unionOver-start : unionAll f (above s 0) ≡ unionOver f s
   unfolding unionOver

@@ -7,6 +7,7 @@ use mathlib.Core.List.{List}
 use lib.ListN.{length, set, length-set}
 use lib.Seq.{getD-set-same, getD-set-other}
 use Rattle.sets.specs.Sets.{member, _∪_, _∩_, stored, loaded, loaded-stored}
+use Rattle.sets.specs.SetLaws.{union-comm, intersection-comm}
 use Rattle.sets.specs.Members.{setOf}
 use Rattle.sets.specs.declared.Set.{Set}
 use Rattle.language.specs.File.{goals, arms, word}
@@ -64,3 +65,7 @@ readable-is f c x h e = h ∙ ap (λ s. member s x) e
 pub joined : (f : List ℕ) (a b c : Valuation) → c ≡ both (a .every ∩ b .every) (a .some ∪ b .some) → outcome true c ≡ valuer (program f) .join a b
 unfolding valuer outcome
 joined f a b c e = ap goesOn e
+
+-- the same whichever is named first
+pub joined-back : (f : List ℕ) (a b c : Valuation) → c ≡ both (b .every ∩ a .every) (b .some ∪ a .some) → outcome true c ≡ valuer (program f) .join a b
+joined-back f a b c e = joined f a b c (e ∙ ap₂ both (intersection-comm (b .every) (a .every)) (union-comm (b .some) (a .some)))

@@ -96,14 +96,14 @@ fn branches(file: &[u8], rows: &[u64; ROWS], carried: &mut [u64; WALK_WORDS], i:
     if !goals(file, rows, carried, first) {
         return false;
     }
+    let second = word(file, i, IF_ELSE);
+    if second == 0 {
+        join(every, some, carried);
+        return true;
+    }
     let e = every_in(carried);
     let s = some_in(carried);
     carry(carried, every, some);
-    let second = word(file, i, IF_ELSE);
-    if second == 0 {
-        join(e, s, carried);
-        return true;
-    }
     if !goals(file, rows, carried, second) {
         return false;
     }

@@ -172,7 +172,7 @@ module _ {f : List ℕ} {i at : ℕ} {a b : List ℕ} {k c : ℕ} (R : RecordRea
         rw o (go-on next (rw o at (begun-part (begun-put (G .begun) m P) (M .laid) (M .next))))
 
 -- ---- all words are done
-number-here : {f : List ℕ} → Formed f → (i : ℕ) → i < recordCount f → word f i kindWord ≡ row (kindOf (word f i kindWord)) .kind
+pub number-here : {f : List ℕ} → Formed f → (i : ℕ) → i < recordCount f → word f i kindWord ≡ row (kindOf (word f i kindWord)) .kind
 number-here {f} F i q =
     let h = header-kind f (F .header) (F .form) in
     elim (decLt 0 i) [

@@ -1,4 +1,5 @@
 // The walk in written order: a chain's records one after the other, each followed by what its words lead to. The records still ahead fall.
+use crate::put::copy_record;
 use crate::put::link;
 use crate::put::put_word;
 use language::format::ARM;
@@ -23,7 +24,8 @@ use language::format::TYPE_FUNCTORS;
 use records::sizes::RECORD_WORDS;
 use records::word;
 ghost use mathlib.Core.Path.{_≡_};
-ghost use Prim.Native.Nat.{_≤_, _<_};
+ghost use mathlib.Core.Bool.{true, false};
+ghost use Prim.Native.Nat.{ℕ, _≤_, _<_};
 ghost use lib.ListN.{length};
 ghost use Rattle.language.specs.Layout.{lay};
 ghost use Rattle.records.specs.Sizes.{recordWords};
@@ -54,6 +56,23 @@ pub fn leads(kind: usize, k: usize) -> bool
     }
 }
 
+// Whether a record of that kind leads to no chain but its own.
+fn is_leaf(kind: usize) -> bool
+    ensures { λ r. ⌜ (r ≡ true → (k : ℕ) → 2 ≤ k → k < recordWords → leadsAt kind k ≡ false) ⌝ }
+{
+    match kind {
+        HEADER => false,
+        TYPE => false,
+        PROCEDURE => false,
+        REGION => false,
+        SWITCH => false,
+        ARM => false,
+        IF => false,
+        CALL => false,
+        _ => true,
+    }
+}
+
 // Writes the chain that starts at record start, from record first on. Returns the place behind it.
 pub fn write_chain(file: &[u8], out: &mut [u8], start: usize, first: usize) -> usize
     requires { ⌜ ChainReady (now file) start first (length (now out)) ⌝ }
@@ -77,6 +96,10 @@ pub fn write_record(file: &[u8], out: &mut [u8], i: usize, on: usize, at: usize)
 {
     let kind = word(file, i, KIND);
     let mut end = at + 1;
+    if is_leaf(kind) {
+        copy_record(file, out, i, at, link(on, end));
+        return end;
+    }
     let mut k = 2;
     while k < RECORD_WORDS {
         let w = word(file, i, k);

@@ -12,7 +12,7 @@ use Rattle.chains.specs.Shapes.{switch-here, if-here, to-arms, to-then, to-else
 use Rattle.walks.specs.Along.{WalkedAlong, along-first, none-walked, along-last, along-stop, along-next, switch-stops, switch-walked, if-unread, if-unread-2, if-then-stops, if-else-stops, if-walked, arms-none-walked, arm-refused, arm-stops, arm-last, arm-rest-stops, arms-walked}
 use Rattle.values.specs.Valuing.{both, valuation, valuer}
 use Rattle.walks.specs.Closed.{goal-closed, arm-closed}
-use Rattle.values.proofs.CarryingLaws.{goal-step, row-arm, readable-is, joined}
+use Rattle.values.proofs.CarryingLaws.{goal-step, row-arm, readable-is, joined, joined-back}
 use borrow.Fn.Kinds.{In, Out}
 use borrow.Fn.PlainCycle.{Measures, is, falls, and}
 use Rattle.values.proofs.walk.arms.Reads as arms
@@ -94,7 +94,7 @@ arms-calls t =
 
 abbrev branches-calls : ℕ → branches-lts.Claims
 branches-calls t =
-    (every-in-reads.Asked, every-in-reads.Learnt, some-in-reads.Asked, some-in-reads.Learnt, word-reads.Asked, word-reads.Learnt, has-reads.Asked, has-reads.Learnt, goals-below t, goals.Post, carry-reads.Asked, carry-reads.Learnt, join-reads.Asked, join-reads.Learnt)
+    (every-in-reads.Asked, every-in-reads.Learnt, some-in-reads.Asked, some-in-reads.Learnt, word-reads.Asked, word-reads.Learnt, has-reads.Asked, has-reads.Learnt, goals-below t, goals.Post, join-reads.Asked, join-reads.Learnt, carry-reads.Asked, carry-reads.Learnt)
 
 abbrev goal-calls : ℕ → goal-lts.Claims
 goal-calls t =
@@ -195,12 +195,11 @@ module _ (t : ℕ) where
       Branches branches-lts.Start
   branches-past-else3 c = let (h2, w2, e1, h, w, si, ei, s) = branches-past-else2 (c .before .before .before .before) in (c .before, c .before .before .before, c .before .before .before .before, h2, w2, e1, h, w, si, ei, s)
 
-  abbrev branches-past-else4 : Branches branches-lts.Else4 → Branches branches-lts.After-word4 × Branches branches-lts.After-carry ×
-      Branches branches-lts.After-some-in2 × Branches branches-lts.After-every-in2 × Branches branches-lts.Else3 × Branches branches-lts.After-goals ×
-      Branches branches-lts.After-word3 × Branches branches-lts.Else2 × Branches branches-lts.After-has2 × Branches branches-lts.After-word2 ×
-      Branches branches-lts.Else1 × Branches branches-lts.After-has × Branches branches-lts.After-word × Branches branches-lts.After-some-in ×
-      Branches branches-lts.After-every-in × Branches branches-lts.Start
-  branches-past-else4 c = let (g, w3, e2, h2, w2, e1, h, w, si, ei, s) = branches-past-else3 (c .before .before .before .before .before .before .before .before) in (c .before, c .before .before, c .before .before .before .before, c .before .before .before .before .before .before, c .before .before .before .before .before .before .before .before, g, w3, e2, h2, w2, e1, h, w, si, ei, s)
+  abbrev branches-past-else4 : Branches branches-lts.Else4 → Branches branches-lts.After-word4 × Branches branches-lts.Else3 ×
+      Branches branches-lts.After-goals × Branches branches-lts.After-word3 × Branches branches-lts.Else2 × Branches branches-lts.After-has2 ×
+      Branches branches-lts.After-word2 × Branches branches-lts.Else1 × Branches branches-lts.After-has × Branches branches-lts.After-word ×
+      Branches branches-lts.After-some-in × Branches branches-lts.After-every-in × Branches branches-lts.Start
+  branches-past-else4 c = let (g, w3, e2, h2, w2, e1, h, w, si, ei, s) = branches-past-else3 (c .before .before) in (c .before, c .before .before, g, w3, e2, h2, w2, e1, h, w, si, ei, s)
 
   branches-word-requires : Branches branches-lts.Need-word-requires
   branches-word-requires c κs = let p = c .before .before .before .before .before .pre .1 in (p .0, (omega arith, if-here (p .0) refl (p .1 .1) .below))
@@ -230,26 +229,24 @@ module _ (t : ℕ) where
       if-then-stops _ _ (s .pre .1 .0) _ (s .pre .1 .1 .1) _ (w .word .ensures .0) (readable-is _ _ _ (h .has .ensures) (ei .every-in .ensures)) (not-false _ (e1 .if1 .left)) (w2 .word2 .ensures .0) (readable-is _ _ _ (h2 .has2 .ensures) (ei .every-in .ensures)) (not-false _ (e2 .if2 .left)) _ _ (c .before .before .before .word3 .ensures .0) (c .before .goals .ensures) _ (not-true _ (c .if3 .taken))
 
   branches-word-requires-4 : Branches branches-lts.Need-word-requires-4
-  branches-word-requires-4 c κs = let (g, w3, e2, h2, w2, e1, h, w, si, ei, s) = branches-past-else3 (c .before .before .before .before .before .before) in
+  branches-word-requires-4 c κs = let (g, w3, e2, h2, w2, e1, h, w, si, ei, s) = branches-past-else3 c in
       let p = s .pre .1 in (p .0, (omega arith, if-here (p .0) refl (p .1 .1) .below))
 
   branches-returns-4 : Branches branches-lts.Need-returns-4
-  branches-returns-4 c =
-      let e3 = c .before .before .before .before .before .before .before .before .before .before in
-      let (g, w3, e2, h2, w2, e1, h, w, si, ei, s) = branches-past-else3 e3 in
-      if-walked _ _ (s .pre .1 .0) _ (s .pre .1 .1 .1) _ (w .word .ensures .0) (readable-is _ _ _ (h .has .ensures) (ei .every-in .ensures)) (not-false _ (e1 .if1 .left)) (w2 .word2 .ensures .0) (readable-is _ _ _ (h2 .has2 .ensures) (ei .every-in .ensures)) (not-false _ (e2 .if2 .left)) _ _ (w3 .word3 .ensures .0) (g .goals .ensures) (not-false _ (e3 .if3 .left)) _ (c .before .before .before .before .carry .ensures ∙ ap₂ both (ei .every-in .ensures) (si .some-in .ensures)) _ _ (c .before .before .before .word4 .ensures .0) (none-walked _ _ _ (c .before .before .if4 .taken)) _ _ _ (ap₂ both (c .before .before .before .before .before .before .before .before .every-in2 .ensures) (c .before .before .before .before .before .before .some-in2 .ensures)) refl (joined _ _ _ _ (c .join .ensures))
+  branches-returns-4 c = let e3 = c .before .before .before .before in let (g, w3, e2, h2, w2, e1, h, w, si, ei, s) = branches-past-else3 e3 in
+      if-walked _ _ (s .pre .1 .0) _ (s .pre .1 .1 .1) _ (w .word .ensures .0) (readable-is _ _ _ (h .has .ensures) (ei .every-in .ensures)) (not-false _ (e1 .if1 .left)) (w2 .word2 .ensures .0) (readable-is _ _ _ (h2 .has2 .ensures) (ei .every-in .ensures)) (not-false _ (e2 .if2 .left)) _ _ (w3 .word3 .ensures .0) (g .goals .ensures) (not-false _ (e3 .if3 .left)) _ (ap₂ both (ei .every-in .ensures) (si .some-in .ensures)) _ _ (c .before .before .before .word4 .ensures .0) (none-walked _ _ _ (c .before .before .if4 .taken)) _ _ _ refl refl (joined-back _ _ _ _ (c .join .ensures))
 
   branches-goals-requires-2 : Branches branches-lts.Need-goals-requires-2
-  branches-goals-requires-2 c κs = let (w4, ca, si2, ei2, e3, g, w3, e2, h2, w2, e1, h, w, si, ei, s) = branches-past-else4 (c .before) in
+  branches-goals-requires-2 c κs = let (w4, e3, g, w3, e2, h2, w2, e1, h, w, si, ei, s) = branches-past-else4 (c .before .before .before .before .before .before .before) in
       let o = to-else (s .pre .1 .0) (s .pre .1 .1 .1) (w4 .word4 .ensures .0) in (omega (arith, o .falls, s .pre .0), (s .pre .1 .0, (s .pre .1 .1 .0, o .stands)))
 
   branches-returns-5 : Branches branches-lts.Need-returns-5
-  branches-returns-5 c = let (w4, ca, si2, ei2, e3, g, w3, e2, h2, w2, e1, h, w, si, ei, s) = branches-past-else4 (c .before .before .before) in
-      if-else-stops _ _ (s .pre .1 .0) _ (s .pre .1 .1 .1) _ (w .word .ensures .0) (readable-is _ _ _ (h .has .ensures) (ei .every-in .ensures)) (not-false _ (e1 .if1 .left)) (w2 .word2 .ensures .0) (readable-is _ _ _ (h2 .has2 .ensures) (ei .every-in .ensures)) (not-false _ (e2 .if2 .left)) _ _ (w3 .word3 .ensures .0) (g .goals .ensures) (not-false _ (e3 .if3 .left)) _ (ca .carry .ensures ∙ ap₂ both (ei .every-in .ensures) (si .some-in .ensures)) _ _ (w4 .word4 .ensures .0) (c .before .goals2 .ensures) _ (not-true _ (c .if5 .taken))
+  branches-returns-5 c = let (w4, e3, g, w3, e2, h2, w2, e1, h, w, si, ei, s) = branches-past-else4 (c .before .before .before .before .before .before .before .before .before) in
+      if-else-stops _ _ (s .pre .1 .0) _ (s .pre .1 .1 .1) _ (w .word .ensures .0) (readable-is _ _ _ (h .has .ensures) (ei .every-in .ensures)) (not-false _ (e1 .if1 .left)) (w2 .word2 .ensures .0) (readable-is _ _ _ (h2 .has2 .ensures) (ei .every-in .ensures)) (not-false _ (e2 .if2 .left)) _ _ (w3 .word3 .ensures .0) (g .goals .ensures) (not-false _ (e3 .if3 .left)) _ (c .before .before .before .carry .ensures ∙ ap₂ both (ei .every-in .ensures) (si .some-in .ensures)) _ _ (w4 .word4 .ensures .0) (c .before .goals2 .ensures) _ (not-true _ (c .if5 .taken))
 
   branches-returns-6 : Branches branches-lts.Need-returns-6
-  branches-returns-6 c = let (w4, ca, si2, ei2, e3, g, w3, e2, h2, w2, e1, h, w, si, ei, s) = branches-past-else4 (c .before .before .before .before .before) in
-      if-walked _ _ (s .pre .1 .0) _ (s .pre .1 .1 .1) _ (w .word .ensures .0) (readable-is _ _ _ (h .has .ensures) (ei .every-in .ensures)) (not-false _ (e1 .if1 .left)) (w2 .word2 .ensures .0) (readable-is _ _ _ (h2 .has2 .ensures) (ei .every-in .ensures)) (not-false _ (e2 .if2 .left)) _ _ (w3 .word3 .ensures .0) (g .goals .ensures) (not-false _ (e3 .if3 .left)) _ (ca .carry .ensures ∙ ap₂ both (ei .every-in .ensures) (si .some-in .ensures)) _ _ (w4 .word4 .ensures .0) (c .before .before .before .goals2 .ensures) _ _ _ (ap₂ both (ei2 .every-in2 .ensures) (si2 .some-in2 .ensures)) (not-false _ (c .before .before .if5 .left)) (joined _ _ _ _ (c .join2 .ensures))
+  branches-returns-6 c = let (w4, e3, g, w3, e2, h2, w2, e1, h, w, si, ei, s) = branches-past-else4 (c .before .before .before .before .before .before .before .before .before .before .before) in
+      if-walked _ _ (s .pre .1 .0) _ (s .pre .1 .1 .1) _ (w .word .ensures .0) (readable-is _ _ _ (h .has .ensures) (ei .every-in .ensures)) (not-false _ (e1 .if1 .left)) (w2 .word2 .ensures .0) (readable-is _ _ _ (h2 .has2 .ensures) (ei .every-in .ensures)) (not-false _ (e2 .if2 .left)) _ _ (w3 .word3 .ensures .0) (g .goals .ensures) (not-false _ (e3 .if3 .left)) _ (c .before .before .before .before .before .carry .ensures ∙ ap₂ both (ei .every-in .ensures) (si .some-in .ensures)) _ _ (w4 .word4 .ensures .0) (c .before .before .before .goals2 .ensures) _ _ _ (ap₂ both (c .before .before .before .before .before .before .before .before .before .every-in2 .ensures) (c .before .before .before .before .before .before .before .some-in2 .ensures)) (not-false _ (c .before .before .if5 .left)) (joined _ _ _ _ (c .join2 .ensures))
 
 module _ (t : ℕ) where
   abbrev Goal : (goal-lts.Claims → In 3 goal-kinds.ps → Out 3 goal-kinds.ps goal-kinds.r → Type 0) → Type 0
@@ -346,9 +343,9 @@ pub +arms+branches+goal+goals+switch-spec : {M : Type 1} → statement M
     (arms-arms-requires t) (arms-returns-6 t) (λ c κs. search needs) (arms-returns-7 t))
     (λ t. branches-lts.spec (branches-calls t) (branches-at t) branches.Post (λ c κs. search needs) (λ c κs. search needs) (branches-word-requires t)
     (λ c κs. search needs) (branches-returns t) (branches-word-requires-2 t) (λ c κs. search needs) (branches-returns-2 t)
-    (branches-word-requires-3 t) (branches-goals-requires t) (branches-returns-3 t) (λ c κs. search needs) (λ c κs. search needs)
-    (λ c κs. search needs) (branches-word-requires-4 t) (λ c κs. search needs) (branches-returns-4 t) (branches-goals-requires-2 t)
-    (branches-returns-5 t) (λ c κs. search needs) (branches-returns-6 t))
+    (branches-word-requires-3 t) (branches-goals-requires t) (branches-returns-3 t) (branches-word-requires-4 t) (λ c κs. search needs)
+    (branches-returns-4 t) (λ c κs. search needs) (λ c κs. search needs) (λ c κs. search needs) (branches-goals-requires-2 t) (branches-returns-5 t)
+    (λ c κs. search needs) (branches-returns-6 t))
     (λ t. goal-lts.spec (goal-calls t) (goal-at t) goal.Post (λ c κs. search needs) (goal-switch-requires t) (goal-branches-requires t)
     (λ c κs. search needs) (goal-returns t) (λ c κs. search needs) (λ c. c .switch .ensures) (λ c. c .branches .ensures) (goal-returns-4 t))
     (λ t. goals-lts.spec (goal-below t, goal.Post, word-reads.Asked, word-reads.Learnt) (goals-at t) goals.Post goals-Inv-loop goals-μ-loop

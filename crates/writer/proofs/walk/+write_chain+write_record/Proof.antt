@@ -9,6 +9,7 @@ use Rattle.chains.specs.Formed.{ahead}
 use Rattle.writer.proofs.LaidLaws.{linked-small}
 use Rattle.writer.proofs.LeadsLaws.{told}
 use Rattle.writer.proofs.ReadyLaws.{Writing, writing-first, writing-record, writing-less, writing-falls, writing-next, writing-last}
+use Rattle.writer.proofs.LeafLaws.{leaf-room, leaf-wrote}
 use Rattle.writer.proofs.Spelling.{Spelling, spelling-first, spelling-room, spelling-falls, spelling-chain, spelling-leads, spelling-plain, done-room, spelling-done}
 use Prim.Native.Nat.{_+_, _-_, _*_, ℕ, _<_}
 use borrow.Fn.Kinds.{In, Out}
@@ -20,8 +21,10 @@ use Rattle.writer.proofs.walk.write_record.Reads as write-record
 use Rattle.writer.proofs.walk.write_record.Kinds as write-record-kinds
 use Rattle.writer.proofs.walk.+write_chain+write_record.Lts-write_record as write-record-lts
 use Rattle.records.proofs.word.Reads as word-reads
+use Rattle.writer.proofs.put.copy_record.Reads as copy-record-reads
 use Rattle.writer.proofs.put.link.Reads as link-reads
 use Rattle.writer.proofs.put.put_word.Reads as put-word-reads
+use Rattle.writer.proofs.walk.is_leaf.Reads as is-leaf-reads
 use Rattle.writer.proofs.walk.leads.Reads as leads-reads
 use Rattle.writer.proofs.walk.+write_chain+write_record.{statement}
 use Rattle.writer.proofs.walk.+write_chain+write_record.Tie.{close}
@@ -69,7 +72,7 @@ write-chain-calls t =
 
 abbrev write-record-calls : ℕ → write-record-lts.Claims
 write-record-calls t =
-    (word-reads.Asked, word-reads.Learnt, leads-reads.Asked, leads-reads.Learnt, link-reads.Asked, link-reads.Learnt, put-word-reads.Asked, put-word-reads.Learnt, write-chain-below t, write-chain.Post)
+    (word-reads.Asked, word-reads.Learnt, is-leaf-reads.Asked, is-leaf-reads.Learnt, link-reads.Asked, link-reads.Learnt, copy-record-reads.Asked, copy-record-reads.Learnt, leads-reads.Asked, leads-reads.Learnt, put-word-reads.Asked, put-word-reads.Learnt, write-chain-below t, write-chain.Post)
 
 module _ (t : ℕ) where
   abbrev WriteChain : (write-chain-lts.Claims → In 2 write-chain-kinds.ps → Out 2 write-chain-kinds.ps write-chain-kinds.r → write-chain-lts.InvT-loop → write-chain-lts.MeasureT-loop → Type 0) → Type 0
@@ -115,61 +118,75 @@ module _ (t : ℕ) where
 
   abbrev write-record-past-in-loop : WriteRecord write-record-lts.In-loop → WriteRecord write-record-lts.At-loop ×
       WriteRecord write-record-lts.After-word × WriteRecord write-record-lts.Start
-  write-record-past-in-loop c = (c .before, c .before .before, c .before .before .before .before .before)
+  write-record-past-in-loop c = (c .before, c .before .before .before .before, c .before .before .before .before .before .before .before)
 
-  abbrev write-record-past-then1 : WriteRecord write-record-lts.Then1 → WriteRecord write-record-lts.After-leads ×
+  abbrev write-record-past-then2 : WriteRecord write-record-lts.Then2 → WriteRecord write-record-lts.After-leads ×
       WriteRecord write-record-lts.After-word2 × WriteRecord write-record-lts.In-loop × WriteRecord write-record-lts.At-loop ×
       WriteRecord write-record-lts.After-word × WriteRecord write-record-lts.Start
-  write-record-past-then1 c = let (al, w, s) = write-record-past-in-loop (c .before .before .before) in (c .before, c .before .before, c .before .before .before, al, w, s)
+  write-record-past-then2 c = let (al, w, s) = write-record-past-in-loop (c .before .before .before) in (c .before, c .before .before, c .before .before .before, al, w, s)
 
-  abbrev write-record-past-else1 : WriteRecord write-record-lts.Else1 → WriteRecord write-record-lts.After-leads ×
+  abbrev write-record-past-else2 : WriteRecord write-record-lts.Else2 → WriteRecord write-record-lts.After-leads ×
       WriteRecord write-record-lts.After-word2 × WriteRecord write-record-lts.In-loop × WriteRecord write-record-lts.At-loop ×
       WriteRecord write-record-lts.After-word × WriteRecord write-record-lts.Start
-  write-record-past-else1 c = let (al, w, s) = write-record-past-in-loop (c .before .before .before) in (c .before, c .before .before, c .before .before .before, al, w, s)
+  write-record-past-else2 c = let (al, w, s) = write-record-past-in-loop (c .before .before .before) in (c .before, c .before .before, c .before .before .before, al, w, s)
 
   abbrev write-record-past-after-loop : WriteRecord write-record-lts.After-loop → WriteRecord write-record-lts.At-loop ×
       WriteRecord write-record-lts.After-word × WriteRecord write-record-lts.Start
-  write-record-past-after-loop c = (c .before, c .before .before, c .before .before .before .before .before)
+  write-record-past-after-loop c = (c .before, c .before .before .before .before, c .before .before .before .before .before .before .before)
+
+  write-record-copy-record-requires : WriteRecord write-record-lts.Need-copy-record-requires
+  write-record-copy-record-requires c κs = let o = leaf-room (c .before .before .before .before .before .before .before .pre .1) in
+      (o .0, linked-small _ _ (c .link .ensures) (o .1))
+
+  write-record-same-length : WriteRecord write-record-lts.Need-same-length
+  write-record-same-length c = c .before .before .copy-record .ensures .same
+
+  write-record-returns : WriteRecord write-record-lts.Need-returns
+  write-record-returns c =
+      let i1 = c .before .before .before .before .before in
+      let w = i1 .before .before in
+      let s = w .before .before .before in
+      leaf-wrote _ (s .pre .1) (w .word .ensures .0) (i1 .before .is-leaf .ensures (i1 .if1 .taken)) _ (c .before .before .before .link .ensures) (c .before .before .copy-record .ensures)
 
   write-record-leads-requires : WriteRecord write-record-lts.Need-leads-requires
   write-record-leads-requires c κs = let (al, w, s) = write-record-past-in-loop (c .before) in
       (omega (arith, al .loop .inv .begun .many), c .before .loop-test .taken)
 
   write-record-put-word-requires : WriteRecord write-record-lts.Need-put-word-requires
-  write-record-put-word-requires c κs = let (l, w2, il, al, w, s) = write-record-past-then1 (c .before .before) in
+  write-record-put-word-requires c κs = let (l, w2, il, al, w, s) = write-record-past-then2 (c .before .before) in
       let m = il .loop-test .taken in
       let o = spelling-room (s .pre .1) (al .loop .inv) m in
-      (o .0, (m, linked-small _ _ (c .link .ensures) (o .1)))
+      (o .0, (m, linked-small _ _ (c .link2 .ensures) (o .1)))
 
   write-record-write-chain-requires : WriteRecord write-record-lts.Need-write-chain-requires
   write-record-write-chain-requires c κs =
       let t1 = c .before .before .before .before .before .before in
-      let (l, w2, il, al, w, s) = write-record-past-then1 t1 in
+      let (l, w2, il, al, w, s) = write-record-past-then2 t1 in
       let R = s .pre .1 in
       let G = al .loop .inv in
       let m = il .loop-test .taken in
-      let e = told _ _ _ (l .leads .ensures) (w .word .ensures .0) (t1 .if1 .taken) in
+      let e = told _ _ _ (l .leads .ensures) (w .word .ensures .0) (t1 .if2 .taken) in
       let g = w2 .word2 .ensures .0 in
       (omega (arith, spelling-falls R G m e g, s .pre .0), spelling-chain R G m e g (c .before .before .before .put-word .ensures))
 
   write-record-loop-again : WriteRecord write-record-lts.Need-loop-again
   write-record-loop-again c =
       let t1 = c .before .before .before .before .before .before .before .before .before in
-      let (l, w2, il, al, w, s) = write-record-past-then1 t1 in
+      let (l, w2, il, al, w, s) = write-record-past-then2 t1 in
       let R = s .pre .1 in
       let G = al .loop .inv in
       let m = il .loop-test .taken in
-      let e = told _ _ _ (l .leads .ensures) (w .word .ensures .0) (t1 .if1 .taken) in
-      spelling-leads R G m e (w2 .word2 .ensures .0) (c .before .before .before .before .before .before .before .link .ensures) (c .before .before .before .before .before .before .put-word .ensures) (c .before .before .write-chain .ensures)
+      let e = told _ _ _ (l .leads .ensures) (w .word .ensures .0) (t1 .if2 .taken) in
+      spelling-leads R G m e (w2 .word2 .ensures .0) (c .before .before .before .before .before .before .before .link2 .ensures) (c .before .before .before .before .before .before .put-word .ensures) (c .before .before .write-chain .ensures)
 
   write-record-put-word-requires-2 : WriteRecord write-record-lts.Need-put-word-requires-2
-  write-record-put-word-requires-2 c κs = let (l, w2, il, al, w, s) = write-record-past-else1 (c .before) in
+  write-record-put-word-requires-2 c κs = let (l, w2, il, al, w, s) = write-record-past-else2 (c .before) in
       let m = il .loop-test .taken in
       (spelling-room (s .pre .1) (al .loop .inv) m .0, (m, w2 .word2 .ensures .1))
 
   write-record-loop-again-2 : WriteRecord write-record-lts.Need-loop-again-2
-  write-record-loop-again-2 c = let e1 = c .before .before .before .before in let (l, w2, il, al, w, s) = write-record-past-else1 e1 in
-      let e = told _ _ _ (l .leads .ensures) (w .word .ensures .0) (e1 .if1 .left) in
+  write-record-loop-again-2 c = let e1 = c .before .before .before .before in let (l, w2, il, al, w, s) = write-record-past-else2 e1 in
+      let e = told _ _ _ (l .leads .ensures) (w .word .ensures .0) (e1 .if2 .left) in
       spelling-plain (s .pre .1) (al .loop .inv) (il .loop-test .taken) e (w2 .word2 .ensures .0) (c .before .before .put-word2 .ensures)
 
   write-record-put-word-requires-3 : WriteRecord write-record-lts.Need-put-word-requires-3
@@ -181,17 +198,17 @@ module _ (t : ℕ) where
       let af = c .before .before .before .before .before .before in
       let (al, w, s) = write-record-past-after-loop af in
       let o = done-room (s .pre .1) (al .loop .inv) (af .loop-test .left) in
-      (omega (arith, o .0, c .before .before .before .put-word3 .ensures .same), (omega arith, linked-small _ _ (c .before .before .before .before .before .link2 .ensures) (o .1)))
+      (omega (arith, o .0, c .before .before .before .put-word3 .ensures .same), (omega arith, linked-small _ _ (c .before .before .before .before .before .link3 .ensures) (o .1)))
 
-  write-record-same-length : WriteRecord write-record-lts.Need-same-length
-  write-record-same-length c = let (al, w, s) = write-record-past-after-loop (c .before .before .before .before .before .before .before .before .before) in
+  write-record-same-length-2 : WriteRecord write-record-lts.Need-same-length-2
+  write-record-same-length-2 c = let (al, w, s) = write-record-past-after-loop (c .before .before .before .before .before .before .before .before .before) in
       c .before .before .put-word4 .ensures .same ∙ c .before .before .before .before .before .before .put-word3 .ensures .same ∙ al .loop .inv .begun .same
 
-  write-record-returns : WriteRecord write-record-lts.Need-returns
-  write-record-returns c =
+  write-record-returns-2 : WriteRecord write-record-lts.Need-returns-2
+  write-record-returns-2 c =
       let af = c .before .before .before .before .before .before .before .before .before in
       let (al, w, s) = write-record-past-after-loop af in
-      spelling-done (s .pre .1) (al .loop .inv) (af .loop-test .left) _ (w .word .ensures .0) (c .before .before .before .before .before .before .before .before .link2 .ensures) (c .before .before .before .before .before .before .put-word3 .ensures) (c .before .before .put-word4 .ensures)
+      spelling-done (s .pre .1) (al .loop .inv) (af .loop-test .left) _ (w .word .ensures .0) (c .before .before .before .before .before .before .before .before .link3 .ensures) (c .before .before .before .before .before .before .put-word3 .ensures) (c .before .before .put-word4 .ensures)
 
 pub +write-chain+write-record-spec : {M : Type 1} → statement M
 +write-chain+write-record-spec =
@@ -200,8 +217,10 @@ pub +write-chain+write-record-spec : {M : Type 1} → statement M
     (λ c. writing-first _ (c .before .before .pre .1)) (λ c κs. search needs) (write-chain-write-record-requires t) (write-chain-loop-less t)
     (write-chain-loop-again t) (write-chain-same-length t) (write-chain-returns t))
     λ t. write-record-lts.spec (write-record-calls t) (write-record-at t) write-record.Post write-record-Inv-loop write-record-μ-loop
-    (λ c κs. search needs) (λ c. omega (arith, c .before .before .before .pre .1 .few)) (λ c. spelling-first _ (c .before .before .before .pre .1))
-    (λ c κs. search needs) (write-record-leads-requires t) (λ c κs. search needs) (write-record-put-word-requires t)
-    (write-record-write-chain-requires t) (λ c. search needs) (λ c. search needs) (write-record-loop-again t) (write-record-put-word-requires-2 t)
-    (λ c. search needs) (λ c. search needs) (write-record-loop-again-2 t) (λ c κs. search needs) (write-record-put-word-requires-3 t)
-    (write-record-put-word-requires-4 t) (write-record-same-length t) (write-record-returns t)
+    (λ c κs. search needs) (λ c. omega (arith, c .before .before .before .pre .1 .few)) (λ c κs. search needs) (λ c κs. search needs)
+    (write-record-copy-record-requires t) (write-record-same-length t) (write-record-returns t)
+    (λ c. spelling-first _ (c .before .before .before .before .before .pre .1)) (λ c κs. search needs) (write-record-leads-requires t)
+    (λ c κs. search needs) (write-record-put-word-requires t) (write-record-write-chain-requires t) (λ c. search needs) (λ c. search needs)
+    (write-record-loop-again t) (write-record-put-word-requires-2 t) (λ c. search needs) (λ c. search needs) (write-record-loop-again-2 t)
+    (λ c κs. search needs) (write-record-put-word-requires-3 t) (write-record-put-word-requires-4 t) (write-record-same-length-2 t)
+    (write-record-returns-2 t)
