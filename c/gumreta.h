@@ -22,7 +22,7 @@ extern "C" {
 enum gumreta_answer {
     GUMRETA_DONE = 0,       /* written, accepted, or run to its end */
     GUMRETA_HEADER = 1,     /* the length or the header is wrong */
-    GUMRETA_FORM = 2,       /* a reference, a kind or an unused word is wrong */
+    GUMRETA_FORM = 2,       /* a reference, a kind or an unused word is wrong; a call, print, if or try in a condition, a test outside one */
     GUMRETA_TYPING = 3,     /* a number out of range, a wrong type, count or order, or a region of a type of constants only */
     GUMRETA_VALUES = 4,     /* a variable read before it has a value, or given one twice */
     GUMRETA_REGIONS = 5,    /* regions that do not fit at an assign, construct, arm or call */
@@ -85,7 +85,7 @@ static inline const char *gumreta_message(uint64_t number)
     switch (number) {
     case GUMRETA_DONE: return "done";
     case GUMRETA_HEADER: return "the length or the header is wrong";
-    case GUMRETA_FORM: return "a reference, a kind or an unused word is wrong";
+    case GUMRETA_FORM: return "a reference, a kind or an unused word is wrong; a call, print, if or try in a condition, a test outside one";
     case GUMRETA_TYPING: return "a number out of range, a wrong type, count or order, or a region of a type of constants only";
     case GUMRETA_VALUES: return "a variable read before it has a value, or given one twice";
     case GUMRETA_REGIONS: return "regions that do not fit at an assign, construct, arm or call";

@@ -14,8 +14,8 @@ syntax match   gumretaName        "\%(\<call\s\+\)\@<=[a-z]\w*"
 syntax keyword gumretaStructure   type procedure end
 syntax keyword gumretaStorage     in out local region at
 syntax keyword gumretaClass       born dead
-syntax keyword gumretaConditional switch arm if else
-syntax keyword gumretaStatement   call print
+syntax keyword gumretaConditional switch arm if try then else
+syntax keyword gumretaStatement   call print test
 syntax keyword gumretaInserted    create remove
 syntax keyword gumretaType        int
 syntax match   gumretaComment     "#.*$" contains=@Spell

@@ -16,10 +16,10 @@ from building import say
 from job_records import Fault, Place
 from sources import PROGRAMS, ROOT
 
-TYPING, RULES, UNREACHED = 3, 8, 17
+FORM, TYPING, RULES, UNREACHED = 2, 3, 8, 17
 CAUSES = {
     1: 'the length is no multiple of 16 or does not fit the header, or the header is wrong',
-    2: 'a reference, a kind or an unused word is wrong',
+    2: 'a reference, a kind or an unused word is wrong; a call, print, if or try in a condition, a test outside one',
     3: 'a number out of range, a wrong type, count or order, or a region of a type of constants only',
     4: 'a variable read before it has a value, or given one twice; an out variable without one; an in or out variable on the entry',
     5: 'regions that do not fit at an assign, a construct, an arm or a call',
@@ -54,6 +54,8 @@ class Stopped(Exception):
 
 def places_of(number, job):
     """Where a refusal's cause stands, as far as the file itself says it."""
+    if number == FORM:
+        return job_files.condition_places(job)
     if number == TYPING:
         return job_files.typing_places(job)
     if number == UNREACHED:

@@ -1,6 +1,7 @@
-"""Where a file that is refused with number 3 is wrong, and what is expected there. The verdict is the program's; this says what it is about."""
-from job_records import (ARGUMENT, ARM, ASSIGN, CALL, CONSTRUCT, EDGE, FUNCTOR, IF, LITERAL, MODES, PRINT, PROCEDURE, REGION, SUM, SWITCH, TYPE,
-                         VARIABLE, Rows)
+"""Where a file that is refused with number 3, or with number 2 for its conditions, is wrong, and what is expected there. The verdict is the program's;
+this says what it is about."""
+from job_records import (ARGUMENT, ARM, ASSIGN, CALL, CONSTRUCT, EDGE, FUNCTOR, IF, LITERAL, MODES, PRINT, PROCEDURE, REGION, SUM, SWITCH, TEST,
+                         REFERENCES, TRY, TYPE, VARIABLE, Rows)
 from job_listing import GOALS
 
 TYPES, FUNCTORS, ARITY, PROCEDURES, VARIABLES, REGIONS = 64, 32, 4, 256, 64, 64
@@ -16,6 +17,34 @@ def trimmed(words):
 
 def counted(n, what):
     return f'{n} {what}' if n == 1 else f'{n} {what}s'
+
+
+class Conditions(Rows):
+    """Goes through a file whose references are right, and notes each goal that breaks number 2's rule on conditions."""
+
+    BARRED = {CALL: 'a call', PRINT: 'a print', IF: 'an if', TRY: 'a try'}
+    RULE = 'a condition holds no call, print, if or try'
+
+    def places(self):
+        self.found = []
+        for p in self.chain(0, self.w[0][1], PROCEDURE):
+            self.goals(p, self.w[p][4], 0)
+        return sorted(self.found)
+
+    def goals(self, owner, first, condition):
+        """`condition` is the record of the try in whose condition the goals stand, or 0."""
+        for i in self.chain(owner, first, *GOALS):
+            kind = self.w[i][0]
+            if condition and kind in self.BARRED:
+                self.found.append((i, f'{self.BARRED[kind]} stands in the condition of the try of record {condition}: {self.RULE}'))
+            elif kind == TEST and not condition:
+                self.found.append((i, 'a test stands in no condition'))
+            elif kind == SWITCH:
+                for j in self.chain(i, self.w[i][3], ARM):
+                    self.goals(j, self.w[j][2], condition)
+            elif kind in (IF, TRY):
+                for word in REFERENCES[kind]:
+                    self.goals(i, self.w[i][word], i if kind == TRY and word == 2 else 0)
 
 
 class Explainer(Rows):
@@ -176,6 +205,9 @@ class Explainer(Rows):
                     self.wants(i, x, 0, 'an if')
                 self.goals(i, words[2])
                 self.goals(i, words[3])
+            elif kind == TRY:
+                for part in words[:3]:
+                    self.goals(i, part)
             else:
                 self.step(i, kind, words)
 
@@ -184,6 +216,9 @@ class Explainer(Rows):
             self.wants(i, words[0], 0, 'a number')
         elif kind == PRINT:
             self.wants(i, words[0], 0, 'a print')
+        elif kind == TEST:
+            for x in words[:2]:
+                self.wants(i, x, 0, 'a test')
         elif kind == SUM:
             for x in (words[0], *words[2:4]):
                 self.wants(i, x, 0, 'a sum')

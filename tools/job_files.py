@@ -95,6 +95,14 @@ def typing_places(job):
     return first_of([job.place(record, text) for record, text in explaining.Explainer(job.data, job.names).places()])
 
 
+def condition_places(job):
+    """What breaks number 2's rule on conditions, where that alone is broken."""
+    try:
+        return first_of([job.place(record, text) for record, text in explaining.Conditions(job.data).places()])
+    except Fault:
+        return []
+
+
 def unreached_places(job):
     """The procedures that number 17 is about."""
     return [job.place(record, f'no chain of calls from the entry reaches "{name}"') for name, record in job_listing.unreached_procedures(job.data, job.names)]

@@ -1,9 +1,9 @@
 """A job file as text: docs/JOBS.md describes the form, job_text.py reads it."""
 from job_records import (ARGUMENT, ARM, ASSIGN, CALL, CLASSES, CONSTRUCT, CREATE, EDGE, FUNCTOR, IF, LITERAL, MODES, PRINT, PROCEDURE, REGION,
-                         REMOVE, SUM, SWITCH, TYPE, VARIABLE, Fault, Rows, reference_words)
+                         REMOVE, SUM, SWITCH, TEST, TRY, TYPE, VARIABLE, Fault, Rows, reference_words)
 
 DEEPEST = 20  # deeper goals are not indented further
-GOALS = (LITERAL, SUM, ASSIGN, CONSTRUCT, SWITCH, IF, CALL, PRINT, CREATE, REMOVE)
+GOALS = (LITERAL, SUM, ASSIGN, CONSTRUCT, SWITCH, IF, CALL, PRINT, CREATE, REMOVE, TRY, TEST)
 
 
 class Lister(Rows):
@@ -103,8 +103,12 @@ class Lister(Rows):
             self.put(f'print {self.value(i, a)}', i)
         elif kind in (CREATE, REMOVE):
             self.put(('create' if kind == CREATE else 'remove') + f' {self.pick(i, self.homes, a)}', i)
+        elif kind == TEST:
+            self.put(f'test {self.value(i, a)} < {self.value(i, b)}', i)
         elif kind == SWITCH:
             self.switch(i, a, b)
+        elif kind == TRY:
+            self.attempt(i, a, b, c)
         else:
             self.branches(i, a, b, c, d)
 
@@ -113,21 +117,30 @@ class Lister(Rows):
         for j in self.chain(i, first, ARM):
             goals, f, *words = self.w[j][2:]
             self.put(f'arm {self.term(j, self.kinds[x], f, words)}', j)
-            self.deep += 1
-            self.goals(j, goals)
-            self.deep -= 1
+            self.part(j, goals)
         self.put('end')
+
+    def part(self, owner, first):
+        self.deep += 1
+        self.goals(owner, first)
+        self.deep -= 1
 
     def branches(self, i, y, z, yes, no):
         self.put(f'if {self.value(i, y)} < {self.value(i, z)}', i)
-        self.deep += 1
-        self.goals(i, yes)
-        self.deep -= 1
+        self.part(i, yes)
+        self.otherwise(i, no)
+
+    def attempt(self, i, condition, yes, no):
+        self.put('try', i)
+        self.part(i, condition)
+        self.put('then')
+        self.part(i, yes)
+        self.otherwise(i, no)
+
+    def otherwise(self, i, no):
         if no:
             self.put('else')
-            self.deep += 1
-            self.goals(i, no)
-            self.deep -= 1
+            self.part(i, no)
         self.put('end')
 
 

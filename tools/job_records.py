@@ -4,7 +4,7 @@ import sys
 
 TYPE, FUNCTOR, PROCEDURE, VARIABLE, REGION, EDGE = 2, 3, 4, 5, 6, 7
 LITERAL, SUM, ASSIGN, CONSTRUCT, SWITCH, ARM, IF, CALL, ARGUMENT, PRINT = 8, 9, 10, 11, 12, 13, 14, 15, 16, 17
-CREATE, REMOVE = 18, 19
+CREATE, REMOVE, TRY, TEST = 18, 19, 20, 21
 MODES = ('local', 'in', 'out')
 CLASSES = ('', 'born', 'dead')
 LIMIT = 4096
@@ -12,7 +12,7 @@ sys.setrecursionlimit(max(sys.getrecursionlimit(), 8 * LIMIT))
 
 
 # the words of a kind that lead to chains, in word order
-REFERENCES = {1: (2,), TYPE: (2,), PROCEDURE: (2, 3, 4), REGION: (4,), SWITCH: (3,), ARM: (2,), IF: (4, 5), CALL: (3,)}
+REFERENCES = {1: (2,), TYPE: (2,), PROCEDURE: (2, 3, 4), REGION: (4,), SWITCH: (3,), ARM: (2,), IF: (4, 5), CALL: (3,), TRY: (2, 3, 4)}
 
 
 def reference_words(row):

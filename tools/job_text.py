@@ -1,6 +1,6 @@
 """The text form of a job file: reading it. docs/JOBS.md describes the form, job_listing.py writes it."""
 from job_records import (ARGUMENT, ARM, ASSIGN, CALL, CLASSES, CONSTRUCT, CREATE, EDGE, FUNCTOR, IF, LITERAL, MODES, PRINT, PROCEDURE, REGION, REMOVE,
-                         SUM, SWITCH, TYPE, VARIABLE, Fault, Names, Node, Place, first_of, in_order, packed)
+                         SUM, SWITCH, TEST, TRY, TYPE, VARIABLE, Fault, Names, Node, Place, first_of, in_order, packed)
 from text_blocks import Block, Blocks
 from text_words import LARGE, NAME, NUMBER, Line, Wrong, near, quoted, suggestion
 
@@ -19,6 +19,7 @@ class Reader:
         self.names = Names()
         self.types, self.procedures, self.functors = self.names.types, self.names.procedures, self.names.functors
         self.declared, self.unclear = {}, {-1}
+        self.condition, self.heeded = 0, True
 
     def wrong(self, fault):
         self.faults.append(fault)
@@ -213,9 +214,17 @@ class Reader:
         made = [self.block(item) if isinstance(item, Block) else self.attempt(self.goal, item) for item in items]
         return [node for node in made if node]
 
+    def stands(self, line, word):
+        """Number 2's rule on conditions; what stands inside a goal that breaks it is not held to it."""
+        if self.heeded and self.condition and word in ('call', 'print', 'if', 'try'):
+            line.fail(word, f'stands in the condition of the try of line {self.condition}: a condition holds no call, print, if or try')
+        if self.heeded and not self.condition and word == 'test':
+            line.fail(word, 'stands in no condition: tests stand between a "try" and its "then"')
+
     def goal(self, line):
         number, word = line.number, line.peek()
-        if word in ('call', 'print', 'create', 'remove'):
+        self.stands(line, word)
+        if word in ('call', 'print', 'test', 'create', 'remove'):
             line.take()
             node = getattr(self, word)(line)
         else:
@@ -231,6 +240,9 @@ class Reader:
 
     def print(self, line):
         return Node(PRINT, self.value(line))
+
+    def test(self, line):
+        return Node(TEST, *self.less(line))
 
     def create(self, line):
         return Node(CREATE, self.index(line, self.regions, line.name(LARGE, 'region'), 'region'))
@@ -266,7 +278,15 @@ class Reader:
         return [self.index(line, self.variables, n, 'variable') for n in names]
 
     def block(self, block):
-        return self.switch(block) if block.word == 'switch' else self.branches(block)
+        before = self.condition, self.heeded
+        try:
+            self.stands(block.line, block.word)
+        except Wrong as fault:
+            self.wrong(fault)
+            self.heeded = False
+        node = {'switch': self.switch, 'if': self.branches, 'try': self.tried}[block.word](block)
+        self.condition, self.heeded = before
+        return node
 
     def switch(self, block):
         x = self.attempt(self.switched, block.line) or -1
@@ -295,23 +315,39 @@ class Reader:
     def branches(self, block):
         values = self.attempt(self.compared, block.line) or (0, 0)
         for line, _ in block.parts[1:]:
-            self.attempt(self.otherwise, line)
+            self.attempt(self.alone, line, 'else')
         yes, no = [self.goals(items) for _, items in block.parts] + [[]] * (2 - len(block.parts))
         return Node(IF, *values, yes, no, line=block.start)
 
-    def otherwise(self, line):
-        line.take('else')
-        if line.peek() == 'if':
-            line.fail('if', 'stands behind an else: it stands on a line of its own, with an "end" of its own')
+    def tried(self, block):
+        for (line, _), word in zip(block.parts, ('try', 'then', 'else')):
+            if line:
+                self.attempt(self.alone, line, word)
+        (_, condition), *rest = block.parts
+        self.heeded = self.heeded and bool(rest) and rest[0][0] is not None  # without a "then" it is not known where the condition ends
+        outside, self.condition = self.condition, block.start
+        goals = self.goals(condition)
+        self.condition = outside
+        yes, no = [self.goals(items) for _, items in rest] + [[]] * (2 - len(rest))
+        return Node(TRY, goals, yes, no, line=block.start)
+
+    def alone(self, line, word):
+        """A word that has its line for itself."""
+        line.take(word)
+        if line.peek() in ('if', 'try'):
+            line.fail(line.peek(), f'stands behind {"an" if word == "else" else "a"} {word}: it stands on a line of its own, with an "end" of its own')
         line.end()
 
     def compared(self, line):
         line.take('if')
+        values = self.less(line)
+        line.end()
+        return values
+
+    def less(self, line):
         y = self.value(line)
         line.take('<')
-        z = self.value(line)
-        line.end()
-        return y, z
+        return y, self.value(line)
 
 
 def assemble(source, text):

@@ -1,4 +1,4 @@
-"""Fifty mistakes that people make in a job's text, each a change of one good text, and what ./job says of it. docs/MISTAKES.md shows them."""
+"""Mistakes that people make in a job's text, each a change of one good text, and what ./job says of it. docs/MISTAKES.md shows them."""
 
 GOOD = '''type rock = sand | shale
 type list = nil | cons(int, list)
@@ -43,6 +43,25 @@ procedure log
     arm cons(H, T)
         print H
         call log(T)
+        call limit(H)
+    end
+end
+
+procedure limit
+    in Depth : int
+    local Most : int
+    local Spare : list at B
+    local None : list at B
+    region B : list, cons.2 -> B
+    try
+        Most = 2
+        None = nil
+        Spare = cons(Depth, None)
+        test Most < Depth
+    then
+        print Most
+    else
+        print Depth
     end
 end
 '''
@@ -58,10 +77,21 @@ MISTAKES = (
     ('a misspelt variable', 'Next = N - One', 'Nxet = N - One', 24),
     ('a region that is not declared', 'local Rest : list at A', 'local Rest : list at B', 19),
     ('no end of an if', '        L = nil\n    end\nend', '        L = nil\nend', 22),
-    ('no end of a switch', '        call log(T)\n    end\nend', '        call log(T)\nend', 38),
+    ('no end of a switch', '        call limit(H)\n    end\nend', '        call limit(H)\nend', 38),
     ('no end of a procedure', '    call log(L)\nend\n', '    call log(L)\n', 4),
     ('an end too many', '        L = nil\n    end\nend', '        L = nil\n    end\n    end\nend', 31),
-    ('an if behind else', '    else\n', '    else if N < Zero\n', 27),
+    ('an if behind else', '    else\n        L', '    else if N < Zero\n        L', 27),
+    ('a misspelt try', '    try\n', '    tyr\n', 54),
+    ('a misspelt test', 'test Most < Depth', 'tset Most < Depth', 58),
+    ('no then of a try', '    then\n', '', 54),
+    ('no end of a try', '        print Depth\n    end\nend', '        print Depth\nend', 54),
+    ('a then in an if', '    if Zero < N\n', '    if Zero < N\n    then\n', 23),
+    ('a print in a condition', '        test Most < Depth\n', '        print Depth\n        test Most < Depth\n', 58),
+    ('a call in a condition', '        test Most < Depth\n', '        call limit(Most)\n        test Most < Depth\n', 58),
+    ('an if in a condition', '        test Most < Depth\n', '        if Most < Depth\n        end\n', 58),
+    ('a try in a condition', '        test Most < Depth\n', '        try\n            test Most < Depth\n        then\n        end\n', 58),
+    ('a test outside a condition', '        print Most\n', '        test Most < Depth\n', 60),
+    ('a test that is greater', 'test Most < Depth', 'test Depth > Most', 58),
     ('greater for less', 'if Zero < N', 'if N > Zero', 22),
     ('a number in a sum', 'Next = N - One', 'Next = N - 1', 24),
     ('a number that is too large', 'N = 3\n', 'N = 40000\n', 8),
@@ -82,6 +112,7 @@ MISTAKES = (
     ('a region without its edge', 'region A : list born, cons.2 -> A', 'region A : list born', 20),
     ('a region of a type of constants', '    region A : list, cons.2 -> A\n    switch L', '    region A : list, cons.2 -> A\n    region R : rock\n    switch L', 38),
     ('an if on a list', 'if Zero < N', 'if Rest < N', 22),
+    ('a test of a list', 'test Most < Depth', 'test Spare < Depth', 58),
     ('a sum of a list', 'Next = N - One', 'Next = N - Rest', 24),
     ('too few arguments of an arm', 'arm cons(H, T)', 'arm cons(H)', 41),
     ('too many arguments of a call', 'call log(L)', 'call log(L, N)', 10),
@@ -93,6 +124,7 @@ MISTAKES = (
     ('a variable read before it has a value', '    N = 3\n', '', 0),
     ('a variable given a value twice', '        One = 1\n', '        One = 1\n        Zero = 1\n', 0),
     ('no value for an out variable on one path', '    else\n        L = nil\n', '', 0),
+    ('an else part that reads what the condition gives', '        print Depth\n', '        print Most\n', 0),
     ('an in variable of the first procedure', 'procedure main\n    local N', 'procedure main\n    in N', 0),
     ('a term in two regions', 'local Rest : list at A\n    region A : list born, cons.2 -> A', 'local Rest : list at B\n    region A : list born, cons.2 -> A\n    region B : list, cons.2 -> B', 0),
     ('an assign between two regions', '    region A : list, cons.2 -> A\n    N = 3\n    call down(N, L)\n',

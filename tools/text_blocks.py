@@ -1,17 +1,17 @@
-"""The blocks of a procedure's lines: its declarations, and its goals with what stands inside each switch and if."""
+"""The blocks of a procedure's lines: its declarations, and its goals with what stands inside each switch, if and try."""
 from text_words import DECLARING, KEYWORDS, Wrong, near, quoted
 
-GOALS = ('switch', 'if', 'call', 'print', 'create', 'remove')
-INSIDE = ('switch', 'arm', 'if', 'else', 'end')
+GOALS = ('switch', 'if', 'try', 'call', 'print', 'test', 'create', 'remove')
+INSIDE = ('switch', 'arm', 'if', 'try', 'then', 'else', 'end')
 
 
 class Block:
-    """A procedure, a switch or an if: its first line, and its parts, each a line (that of the arm, the if or the else) and what stands in it."""
+    """A procedure, a switch, an if or a try: its first line, and its parts, each a line (that of the arm, if, try, then or else) and what stands in it."""
 
     def __init__(self, word, line, named):
         self.word, self.line, self.named, self.start = word, line, named, line.number
         self.parts = [] if word == 'switch' else [(line, [])]
-        self.elses = 0
+        self.thens = self.elses = 0
 
 
 def declares(line):
@@ -51,7 +51,7 @@ class Blocks:
         if word in self.procedures:
             self.fault(line, f'is a procedure; did you mean "call {word}"?')
             return ''
-        meant = 'if' if '<' in line.words else near(word, KEYWORDS)
+        meant = (near(word, ('test',)) or 'if') if '<' in line.words else near(word, KEYWORDS)
         if not meant or meant in DECLARING:
             self.fault(line, f'is no goal: a goal is "X = ..", or starts with {quoted(GOALS)}')
             return ''
@@ -90,27 +90,52 @@ class Blocks:
     def at_if(self, line):
         self.open('if', line)
 
+    def at_try(self, line):
+        self.open('try', line)
+
     def at_arm(self, line):
-        self.leave(line, 'if', 'switch')
+        self.leave(line, ('if', 'try'), ('switch',))
         if self.stack[-1].word == 'switch':
             self.stack[-1].parts.append((line, []))
         else:
             self.fault(line, 'stands in no switch')
 
-    def at_else(self, line):
-        self.leave(line, 'switch', 'if')
+    def at_then(self, line):
+        self.leave(line, ('switch', 'if'), ('try',))
         top = self.stack[-1]
-        if top.word != 'if' or top.elses:
-            self.fault(line, 'stands in no if' if top.word != 'if' else f'is a second one: the if of line {top.start} has an "else" already')
-            return
-        top.elses = 1
-        top.parts.append((line, []))
+        if top.word != 'try':
+            self.fault(line, 'stands in no try' + (', and an if has none: its goals follow it' if top.word == 'if' else ''))
+        elif top.thens or top.elses:
+            self.fault(line, f'stands behind the "{"else" if top.elses else "then"}" of the try of line {top.start}')
+        else:
+            top.thens = 1
+            top.parts.append((line, []))
+
+    def at_else(self, line):
+        self.leave(line, ('switch',), ('if', 'try'))
+        top = self.stack[-1]
+        if top.word not in ('if', 'try'):
+            self.fault(line, 'stands in no if and in no try')
+        elif top.elses:
+            self.fault(line, f'is a second one: the {top.word} of line {top.start} has an "else" already')
+        else:
+            self.lacks_then(top)
+            top.elses = 1
+            top.parts.append((line, []))
+
+    def lacks_then(self, block):
+        """A try whose "then" is missing has an empty then part."""
+        if block.word == 'try' and not block.thens:
+            self.wrong(Wrong(block.start, 'try', 'starts here and has no "then" behind its condition'))
+            block.thens = 1
+            block.parts.append((None, []))
 
     def leave(self, line, inner, outer):
         """A word of an outer block inside an inner one, which has no end then."""
-        if self.stack[-1].word == inner and any(block.word == outer for block in self.stack):
-            self.fault(line, f'stands inside the {inner} of line {self.stack[-1].start}, which has no "end" yet')
-            while self.stack[-1].word == inner:
+        top = self.stack[-1]
+        if top.word in inner and any(block.word in outer for block in self.stack):
+            self.fault(line, f'stands inside the {top.word} of line {top.start}, which has no "end" yet')
+            while self.stack[-1].word in inner:
                 self.stack.pop()
 
     def at_end(self, line):
@@ -119,7 +144,9 @@ class Blocks:
             line.end()
         except Wrong as wrong:
             self.wrong(wrong)
-        self.closed.append((self.stack.pop(), line))
+        block = self.stack.pop()
+        self.lacks_then(block)
+        self.closed.append((block, line))
 
     def unended(self):
         """Whose end is missing: the first that a line further left ends, else the procedure's."""
@@ -127,5 +154,5 @@ class Blocks:
             if line.margin < block.line.margin:
                 self.wrong(Wrong(block.start, block.word, f'starts here and has no "end" of its own: that of line {line.number} stands further left'))
                 return
-        why = 'starts here and has no "end"; every switch and every if needs one of its own too'
+        why = 'starts here and has no "end"; every switch, if and try needs one of its own too'
         self.wrong(Wrong(self.whole.start, self.whole.named, why))

@@ -6,13 +6,15 @@ NAME = re.compile(r'[a-z]\w*$')
 LARGE = re.compile(r'[A-Z]\w*$')
 NUMBER = re.compile(r'-?[0-9]+$')
 TOKEN = re.compile(r'\s*(->|[A-Za-z]\w*|-?[0-9]+|[=|(),:.<+\-])')
-KEYWORDS = ('type', 'procedure', 'local', 'in', 'out', 'region', 'switch', 'arm', 'if', 'else', 'end', 'call', 'print', 'create', 'remove')
+KEYWORDS = ('type', 'procedure', 'local', 'in', 'out', 'region', 'switch', 'arm', 'if', 'try', 'then', 'else', 'end', 'call', 'print',
+            'test', 'create', 'remove')
 DECLARING = ('in', 'out', 'local', 'region')
 # words of other languages
 SYNONYMS = {
     'input': 'in', 'output': 'out', 'var': 'local', 'variable': 'local', 'let': 'local', 'proc': 'procedure', 'function': 'procedure', 'def': 'procedure',
     'case': 'arm', 'when': 'arm', 'match': 'switch', 'endif': 'end', 'done': 'end', 'otherwise': 'else', 'new': 'create', 'free': 'remove',
-    'delete': 'remove', 'write': 'print', 'integer': 'int', 'number': 'int', 'pred': 'procedure', 'data': 'type',
+    'delete': 'remove', 'write': 'print', 'integer': 'int', 'number': 'int', 'pred': 'procedure', 'data': 'type', 'attempt': 'try', 'catch': 'else',
+    'except': 'else', 'assert': 'test', 'check': 'test', 'require': 'test',
 }
 # what stands in a line that is no word of a job, by its first characters
 HINTS = (

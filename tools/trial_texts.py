@@ -1,4 +1,4 @@
-"""Trials of what ./job says of texts: fifty mistakes, and texts damaged at random."""
+"""Trials of what ./job says of texts: mistakes, and texts damaged at random."""
 import glob
 import os
 import random
@@ -15,11 +15,11 @@ from job_records import Fault
 ROOT = os.path.dirname(os.path.dirname(os.path.abspath(__file__)))
 TABLE = os.path.join(ROOT, 'docs', 'MISTAKES.md')
 DAMAGED = 20000
-HEAD = '''# Fifty mistakes
+HEAD = '''# Mistakes
 
-What `./job run` says of mistakes that are made in a job's text. Each is one change of the text at the end of the page;
-the line is that of the changed text. Where a program refuses the job, its verdict comes first, and what the text says
-about it behind it. {lines} of the {all} get a line; numbers 4, 5 and 7 name none yet. `tools/try-commands` holds this
+What `./job run` says of {all} mistakes that are made in a job's text. Each is one change of the text at the end of the
+page; the line is that of the changed text. Where a program refuses the job, its verdict comes first, and what the text
+says about it behind it. {lines} of them get a line; numbers 4, 5 and 7 name none yet. `tools/try-commands` holds this
 page to what is said.
 
 | mistake | what stands there | what is said |

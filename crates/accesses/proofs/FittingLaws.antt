@@ -2,7 +2,7 @@
 use Prim.Native.Nat.{ℕ, _+_, _≤_, _<_}
 use mathlib.Core.Path.{_≡_, refl, sym, ap, _∙_}
 use mathlib.Core.List.{List, []}
-use Rattle.language.specs.Program.{Four, Variable, Step, literal, sum, assign, construct, call, print, create, remove, Goals, _then_, step, Program, signatureOf, parametersOf, fourWords, done, procedureAt}
+use Rattle.language.specs.Program.{Four, Variable, Step, literal, sum, assign, construct, call, print, create, remove, test, Goals, _then_, step, Program, signatureOf, parametersOf, fourWords, done, procedureAt}
 use Rattle.language.specs.Values.{access, accessing}
 use Rattle.tables.specs.declared.Access.{Access}
 use Rattle.accesses.specs.Gathering.{noAccess, readIn, givenIn, fourRead, readAll, fourGiven}
@@ -13,13 +13,13 @@ use native.Mathlib.Omega.{arith}
 use mathlib.Core.Bool.{true}
 use lib.ListN.{length, getD}
 use Rattle.laws.specs.Lists.{nth-past}
-use Rattle.language.specs.Format.{literalKind, sumKind, assignKind, constructKind, armKind, callKind, printKind, createKind, removeKind, goalX, sumY, sumZ, assignY, printY, callProcedure, callArguments, kindWord, termArguments}
-use Rattle.language.specs.File.{GoalKind, kLiteral, kSum, kAssign, kConstruct, kCall, kPrint, kCreate, kRemove, Kind, kArm, kGoal, goals, arms, row, kindOf, word, recordCount}
+use Rattle.language.specs.Format.{literalKind, sumKind, assignKind, constructKind, armKind, callKind, printKind, createKind, removeKind, testKind, goalX, sumY, sumZ, assignY, printY, testY, testZ, callProcedure, callArguments, kindWord, termArguments}
+use Rattle.language.specs.File.{GoalKind, kLiteral, kSum, kAssign, kConstruct, kCall, kPrint, kCreate, kRemove, kTest, Kind, kArm, kGoal, goals, arms, row, kindOf, word, recordCount}
 use Rattle.language.specs.Typing.{typingOk}
 use Rattle.language.specs.Answers.{program}
 use Rattle.chains.specs.Layout.{all-rows, number-is, starts-kind, goals-kind}
 use Rattle.chains.specs.Formed.{Formed, Stands, stands-starts, argumentsAt}
-use Rattle.chains.specs.Shapes.{goal-kind, literal-here, sum-here, assign-here, construct-here, call-here, print-here, create-here, remove-here}
+use Rattle.chains.specs.Shapes.{goal-kind, literal-here, sum-here, assign-here, construct-here, call-here, print-here, create-here, remove-here, test-here}
 use Rattle.tables.specs.Window.{insPlace, outsPlace, setIn, FileTable}
 use Rattle.sets.specs.Sets.{loaded}
 use Rattle.sets.specs.declared.Set.{Set}
@@ -57,6 +57,10 @@ module _ (P : Program) where
   pub remove-access : (r : ℕ) → Accesses P (remove r) noAccess
   unfolding access accessing
   remove-access r = record { gathered = gathers-none }
+
+  pub test-access : (y z : ℕ) → Accesses P (test y z) (readIn (readIn noAccess y) z)
+  unfolding access accessing
+  test-access y z = record { gathered = gathers-read (gathers-read gathers-none y) z }
 
   pub call-access : {q : ℕ} {vs : List Variable} {ys : List ℕ} {a : Access} → vs ≡ signatureOf P q .variables → CallMatches vs ys a → Accesses P (call q ys) a
   unfolding access accessing passing parametersOf
@@ -122,6 +126,10 @@ module _ (f : List ℕ) (i : ℕ) (F : Formed f) {w : ℕ} (e : w ≡ word f i k
   pub remove-fits : {a : Access} → w ≡ removeKind → a ≡ noAccess → AccessFits f i a
   unfolding all-rows
   remove-fits k p = fits-step f i (is-kind (kGoal kRemove) k) (at-step (remove-here F e k .view) (rw p (remove-access (program f) _)))
+
+  pub test-fits : {a : Access} → w ≡ testKind → a ≡ readIn (readIn noAccess (word f i testY)) (word f i testZ) → AccessFits f i a
+  unfolding all-rows
+  test-fits k p = fits-step f i (is-kind (kGoal kTest) k) (at-step (test-here F e k .view) (rw p (test-access (program f) _ _)))
 
   pub call-fits : {q y : ℕ} {a : Access} → w ≡ callKind → q ≡ word f i callProcedure → y ≡ word f i callArguments
       → Accesses (program f) (call q (argumentsAt f y)) a → AccessFits f i a

@@ -7,6 +7,7 @@ use crate::steps::literal_access;
 use crate::steps::no_access;
 use crate::steps::print_access;
 use crate::steps::sum_access;
+use crate::steps::test_access;
 use chains::chain_length;
 use chains::record_count;
 use language::format::ARM;
@@ -20,6 +21,7 @@ use language::format::LITERAL;
 use language::format::PRINT;
 use language::format::REMOVE;
 use language::format::SUM;
+use language::format::TEST;
 use records::word;
 use tables::ROWS;
 use tables::TABLE;
@@ -81,6 +83,7 @@ fn list_access(
         PRINT => put_access(rows, i, print_access(file, i)),
         CREATE => put_access(rows, i, no_access()),
         REMOVE => put_access(rows, i, no_access()),
+        TEST => put_access(rows, i, test_access(file, i)),
         _ => {}
     }
 }

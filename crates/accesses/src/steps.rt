@@ -5,11 +5,13 @@ use language::format::PRINT_Y;
 use language::format::SUM_Y;
 use language::format::SUM_Z;
 use language::format::TERM_ARGUMENTS;
+use language::format::TEST_Y;
+use language::format::TEST_Z;
 use records::word;
 use sets::Set;
 use tables::Access;
 ghost use mathlib.Core.Path.{_≡_};
-ghost use Rattle.language.specs.Format.{goalX, sumY, sumZ, assignY, printY};
+ghost use Rattle.language.specs.Format.{goalX, sumY, sumZ, assignY, printY, testY, testZ};
 ghost use Rattle.language.specs.File.{word};
 ghost use Rattle.chains.specs.Parts.{fourAt};
 ghost use Rattle.accesses.specs.Gathering.{noAccess, readIn, givenIn, fourRead, fourGiven};
@@ -102,4 +104,12 @@ pub fn print_access(file: &[u8], i: usize) -> Access
     ensures { λ r. ⌜ r ≡ readIn noAccess (word (now (file .entry)) i printY) ⌝ }
 {
     read(no_access(), word(file, i, PRINT_Y))
+}
+
+// A test reads y and z.
+pub fn test_access(file: &[u8], i: usize) -> Access
+    ensures { λ r. ⌜ r ≡ readIn (readIn noAccess (word (now (file .entry)) i testY)) (word (now (file .entry)) i testZ) ⌝ }
+{
+    let y = word(file, i, TEST_Y);
+    read(read(no_access(), y), word(file, i, TEST_Z))
 }

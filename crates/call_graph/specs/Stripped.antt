@@ -3,7 +3,7 @@ use Prim.Native.Nat.{ℕ}
 use mathlib.Core.List.{List, _++_}
 use mathlib.Core.Path.{_≡_, refl, ap, ap₂, _∙_}
 use lib.ListN.{length-map}
-use Rattle.language.specs.Program.{Step, literal, sum, assign, construct, call, print, create, remove, Goals, done, _then_, Goal, step, switch, ifLess, Arms, noArms, arm, Program, procedureAt}
+use Rattle.language.specs.Program.{Step, literal, sum, assign, construct, call, print, create, remove, test, Goals, done, _then_, Goal, step, switch, ifLess, try, Arms, noArms, arm, Program, procedureAt}
 use Rattle.language.specs.Annotation.{plainStep}
 use Rattle.language.specs.CallChains.{stepCallees, goalsCallees, goalCallees, armsCallees, callees, reachedOk}
 use Rattle.language.specs.PlainRun.{thenIf, stripGoals, stripGoal, stripArms, stripProcedure, stripped}
@@ -20,6 +20,7 @@ step-callees (call q ys) gs = refl
 step-callees (print y) gs = refl
 step-callees (create r) gs = refl
 step-callees (remove r) gs = refl
+step-callees (test y z) gs = refl
 
 mutual
   unfolding stripGoals goalsCallees
@@ -32,6 +33,7 @@ mutual
   goal-callees (step g) gs = step-callees g gs
   goal-callees (switch x cs) gs = ap (λ (ps : List ℕ). ps ++ goalsCallees gs) (arms-callees cs)
   goal-callees (ifLess y z a b) gs = ap₂ (λ (ps qs : List ℕ). (ps ++ qs) ++ goalsCallees gs) (goals-callees a) (goals-callees b)
+  goal-callees (try c a b) gs = rw (goals-callees c, goals-callees a, goals-callees b)
 
   arms-callees : (cs : Arms) → armsCallees (stripArms cs) ≡ armsCallees cs
   arms-callees noArms = refl

@@ -3,7 +3,7 @@ use Prim.Native.Nat.{ℕ, _-_, _<_}
 use native.Mathlib.Decide.{ℕ-discrete}
 use native.Mathlib.Omega.{arith}
 use mathlib.Core.Bool.{Bool, true, false}
-use mathlib.Core.List.{List, [], _∷_}
+use mathlib.Core.List.{List, [], _∷_, _++_}
 use mathlib.Core.Logic.{_⊎_, inl, inr, ⊎-elim}
 use mathlib.Core.Path.{_≡_, refl, sym, ap, _∙_, fun-ext}
 use borrow.Author.Tests.{eq-eqb, ne-eqb, ltb-true}
@@ -13,8 +13,8 @@ use Rattle.sets.specs.Tests.{neg, truth, clash, false-of, and-true, true-and, n
 use Rattle.sets.specs.Members.{inList, cons-here, cons-in, nil-in}
 use Rattle.language.specs.Lists.{choose}
 use Rattle.language.specs.Format.{kindWord, callProcedure, maxProcedures}
-use Rattle.language.specs.File.{kLiteral, kSum, kAssign, kConstruct, kSwitch, kIf, kCall, kPrint, kCreate, kRemove, Kind, kNone, kHeader, kType, kFunctor, kProcedure, kVariable, kRegion, kEdge, kArm, kArgument, kGoal, kindOf, word, recordCount}
-use Rattle.language.specs.Program.{Goals, done, _then_, Goal, step, switch, ifLess, Arms, noArms, arm, Program, procedureAt, signatureOf}
+use Rattle.language.specs.File.{kLiteral, kSum, kAssign, kConstruct, kSwitch, kIf, kCall, kPrint, kCreate, kRemove, kTry, kTest, Kind, kNone, kHeader, kType, kFunctor, kProcedure, kVariable, kRegion, kEdge, kArm, kArgument, kGoal, kindOf, word, recordCount}
+use Rattle.language.specs.Program.{Goals, done, _then_, Goal, step, switch, ifLess, try, Arms, noArms, arm, Program, procedureAt, signatureOf}
 use Rattle.language.specs.Typing.{stepOk, goalOk, typingOk}
 use Rattle.language.specs.CallChains.{stepCallees, goalsCallees, goalCallees, armsCallees, callees}
 use Rattle.language.specs.Answers.{program}
@@ -26,8 +26,8 @@ use Rattle.call_graph.specs.Chains.{caller-below}
 use Rattle.chains.specs.Layout.{all-rows, number-is}
 use Rattle.chains.specs.Formed.{Formed, goalAt}
 use Rattle.chains.specs.Kinds.{same-read}
-use Rattle.chains.specs.Goals.{literal-at, sum-at, assign-at, construct-at, print-at, create-at, remove-at}
-use Rattle.chains.specs.Parts.{switch-at, if-at, call-at}
+use Rattle.chains.specs.Goals.{literal-at, sum-at, assign-at, construct-at, print-at, create-at, remove-at, test-at}
+use Rattle.chains.specs.Parts.{switch-at, if-at, try-at, call-at}
 use Rattle.chains.specs.Shapes.{goal-number, call-here}
 use Rattle.owners.specs.Owner.{ownerOf}
 use Rattle.owners.specs.Owners.{kind-goals}
@@ -43,6 +43,7 @@ unfoldable spares : ℕ → Goal → Bool
 spares q (step s) = neg (inList q (stepCallees s))
 spares q (switch x cs) = true
 spares q (ifLess y z a b) = true
+spares q (try c a b) = true
 
 -- .. and no goal of a chain, nor of their parts
 module _ (q : ℕ) where
@@ -60,6 +61,12 @@ module _ (q : ℕ) where
     goal-spares (ifLess y z a b) n =
         true-and refl
         (true-and (goals-spare a (λ e. n (append-left q (goalsCallees a) (goalsCallees b) e))) (goals-spare b (λ e. n (append-right q (goalsCallees a) (goalsCallees b) e))))
+    goal-spares (try c a b) n =
+        let m : inList q (goalsCallees c ++ goalsCallees a) ≡ true → ⊥ = λ e. n (append-left q (goalsCallees c ++ goalsCallees a) (goalsCallees b) e) in
+        true-and refl
+        (true-and (goals-spare c (λ e. m (append-left q (goalsCallees c) (goalsCallees a) e)))
+        (true-and (goals-spare a (λ e. m (append-right q (goalsCallees c) (goalsCallees a) e)))
+        (goals-spare b (λ e. n (append-right q (goalsCallees c ++ goalsCallees a) (goalsCallees b) e)))))
 
     arms-spare : (cs : Arms) → (inList q (armsCallees cs) ≡ true → ⊥) → allArms (spares q) cs ≡ true
     arms-spare noArms n = refl
@@ -79,6 +86,11 @@ module _ (q : ℕ) where
     spared-goal (ifLess y z a b) h e =
         let r = and-true (and-true h .1) in
         ⊎-elim (λ c. spared-goals a (r .0) c) (λ c. spared-goals b (r .1) c) (append-in q (goalsCallees a) (goalsCallees b) e)
+    spared-goal (try c a b) h e =
+        let r = and-true (and-true h .1) in
+        let t = and-true (r .1) in
+        ⊎-elim (λ d. ⊎-elim (λ k. spared-goals c (r .0) k) (λ k. spared-goals a (t .0) k) (append-in q (goalsCallees c) (goalsCallees a) d)) (λ d. spared-goals b (t .1) d)
+        (append-in q (goalsCallees c ++ goalsCallees a) (goalsCallees b) e)
 
     spared-arms : (cs : Arms) → allArms (spares q) cs ≡ true → inList q (armsCallees cs) ≡ true → ⊥
     spared-arms noArms h e = nil-in q e
@@ -163,6 +175,8 @@ module _ {f : List ℕ} (F : Formed f) (p q : ℕ) where
   call-kind i (kGoal kPrint) e h = absurd (clash (ap (spares q) (print-at F refl (same-read f i refl e) .goal)) h)
   call-kind i (kGoal kCreate) e h = absurd (clash (ap (spares q) (create-at F refl (same-read f i refl e) .goal)) h)
   call-kind i (kGoal kRemove) e h = absurd (clash (ap (spares q) (remove-at F refl (same-read f i refl e) .goal)) h)
+  call-kind i (kGoal kTry) e h = absurd (clash (ap (spares q) (try-at F refl (same-read f i refl e) .goal)) h)
+  call-kind i (kGoal kTest) e h = absurd (clash (ap (spares q) (test-at F refl (same-read f i refl e) .goal)) h)
 
   failed-call : (i : ℕ) → 0 < i → i < recordCount f → recordTest (sparesIn p q) f i ≡ false → CallOf f p i × (word f i callProcedure ≡ q)
   unfolding all-rows

@@ -4,15 +4,15 @@
 use Prim.Native.Nat.{ℕ, _<_, _+_}
 use mathlib.Core.Path.{_≡_, refl, ap}
 use mathlib.Core.List.{List}
-use Rattle.language.specs.File.{kLiteral, kSum, kAssign, kConstruct, kPrint, kCreate, kRemove, kGoal, goals, word, recordCount}
-use Rattle.language.specs.Program.{four, literal, sum, assign, construct, print, create, remove, _then_, step}
-use Rattle.language.specs.Format.{assignY, goalX, lifetimeRegion, literalValue, nextWord, printY, sumOperation, sumY, sumZ, termArguments, termFunctor}
+use Rattle.language.specs.File.{kLiteral, kSum, kAssign, kConstruct, kPrint, kCreate, kRemove, kTest, kGoal, goals, word, recordCount}
+use Rattle.language.specs.Program.{four, literal, sum, assign, construct, print, create, remove, test, _then_, step}
+use Rattle.language.specs.Format.{assignY, goalX, lifetimeRegion, literalValue, nextWord, printY, sumOperation, sumY, sumZ, termArguments, termFunctor, testY, testZ}
 use Rattle.layout.specs.Table.{all-rows}
 use Rattle.layout.specs.Chains.{real}
 use Rattle.layout.specs.Steps
 use Rattle.records.specs.Records.{recordAt}
 use Rattle.records.specs.declared.Record.{Record}
-use Rattle.records.specs.declared.Record.the-variants.{Literal, Sum, Assign, Construct, Print, Create, Remove}
+use Rattle.records.specs.declared.Record.the-variants.{Literal, Sum, Assign, Construct, Print, Create, Remove, Test}
 use Rattle.chains.specs.Formed.{Formed, Onward, goalsAt, firstGoal, goalAt}
 use Rattle.chains.specs.Kinds.{kindIn, known}
 
@@ -230,6 +230,36 @@ remove-at {f} {i} {next} {region} F e g =
       below = h .below;
       w1 = e1;
       w2 = e2;
+      view = v;
+      goal = ap firstGoal v;
+      to-next = rw e1 (h .next);
+    }
+
+pub record TestAt (f : List ℕ) (i next y z : ℕ) : Type 0 where
+  pub some : 0 < i
+  pub below : i < recordCount f
+  pub w1 : next ≡ word f i nextWord
+  pub w2 : y ≡ word f i testY
+  pub w3 : z ≡ word f i testZ
+  pub view : goalsAt f i ≡ step (test y z) then goalsAt f next
+  pub goal : goalAt f i ≡ step (test y z)
+  pub to-next : Onward f goals i next
+
+pub test-at : {f : List ℕ} {i next y z : ℕ} {r : Record} → Formed f → r ≡ recordAt f i → r ≡ Test next y z
+    → TestAt f i next y z
+unfolding goalsAt goalAt firstGoal all-rows real
+test-at {f} {i} {next} {y} {z} F e g =
+    let h = known {k = (kGoal kTest)} F refl e (ap kindIn g) in
+    let e1 : next ≡ word f i nextWord = cc (h .same) in
+    let e2 : y ≡ word f i testY = cc (h .same) in
+    let e3 : z ≡ word f i testZ = cc (h .same) in
+    let v : goalsAt f i ≡ step (test y z) then goalsAt f next = rw (e1, e2, e3) (Steps.test-step (word f) (recordCount f) (F .form) i (h .some) (h .below) (h .kind)) in
+    record {
+      some = h .some;
+      below = h .below;
+      w1 = e1;
+      w2 = e2;
+      w3 = e3;
       view = v;
       goal = ap firstGoal v;
       to-next = rw e1 (h .next);

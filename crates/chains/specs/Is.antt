@@ -13,7 +13,7 @@ use mir.Val.{hasKey}
 use mir.Facts.{and-yes, or-yes}
 use denote.Enum.Declared.{tagOf}
 use package.types.Run.{OneOf, miss}
-use Rattle.language.specs.File.{GoalKind, kLiteral, kSum, kAssign, kConstruct, kSwitch, kIf, kCall, kPrint, kCreate, kRemove, Kind, kGoal, Chain, nowhere, types, functors, procedures, variables, regions, edges, goals, arms, arguments, row, kindOf, word, recordCount}
+use Rattle.language.specs.File.{GoalKind, kLiteral, kSum, kAssign, kConstruct, kSwitch, kIf, kCall, kPrint, kCreate, kRemove, kTry, kTest, Kind, kGoal, Chain, nowhere, types, functors, procedures, variables, regions, edges, goals, arms, arguments, row, kindOf, word, recordCount}
 use Rattle.language.specs.Program.{Goals, _then_, Goal}
 use Rattle.language.specs.Reading.{inFront}
 use Rattle.language.specs.Format.{argumentVariable, armGoals, edgeFunctor, edgePosition, edgeTarget, functorArity, functorTypes, kindWord, nextWord, procedureGoals, procedureRegions, procedureVariables, regionClass, regionEdges, regionType, termArguments, termFunctor, typeFunctors, variableMode, variableRegion, variableType}
@@ -87,7 +87,7 @@ goals-step {f} {i} F s z e = let k = goals-kind (kind-in s z) in rw e (goal-fron
 -- ---- no constructor of another chain
 -- the numbers by which the code tells the constructors of a chain
 abbrev pub tagsOf : Chain → List ℕ
-tagsOf nowhere = 0 ∷ 19 ∷ []
+tagsOf nowhere = 0 ∷ 21 ∷ []
 tagsOf types = 1 ∷ []
 tagsOf functors = 2 ∷ []
 tagsOf procedures = 3 ∷ []
@@ -96,7 +96,7 @@ tagsOf regions = 5 ∷ []
 tagsOf edges = 6 ∷ []
 tagsOf arms = 12 ∷ []
 tagsOf arguments = 15 ∷ []
-tagsOf goals = 7 ∷ 8 ∷ 9 ∷ 10 ∷ 11 ∷ 13 ∷ 14 ∷ 16 ∷ 17 ∷ 18 ∷ []
+tagsOf goals = 7 ∷ 8 ∷ 9 ∷ 10 ∷ 11 ∷ 13 ∷ 14 ∷ 16 ∷ 17 ∷ 18 ∷ 19 ∷ 20 ∷ []
 
 goal-tags : (g : GoalKind) (w : ℕ → ℕ) → T (hasKey (tagsOf goals) (tagOf the-type (recordAs (kGoal g) w)))
 goal-tags kLiteral w = tt
@@ -109,6 +109,8 @@ goal-tags kCall w = tt
 goal-tags kPrint w = tt
 goal-tags kCreate w = tt
 goal-tags kRemove w = tt
+goal-tags kTry w = tt
+goal-tags kTest w = tt
 
 chain-tags : {c : Chain} {k : Kind} → InChain c k → (w : ℕ → ℕ) → T (hasKey (tagsOf c) (tagOf the-type (recordAs k w)))
 chain-tags none-in w = tt
@@ -151,11 +153,11 @@ module _ {f : List ℕ} {i : ℕ} {r : Record} where
       miss ks (tagOf the-type r) (apart-at ks (tagsOf c) (tagOf the-type r) a (subst (λ x. T (hasKey (tagsOf c) (tagOf the-type x))) (sym e) (chain-tags (kind-in s z) (word f i)))) h
 
   -- the `else` of a `let .. else` on the chain's one constructor
-  pub type-else : Stands f types i → (i ≡ 0 → ⊥) → r ≡ recordAt f i → OneOf (tagsBut 20 0 1) (tagOf the-type r) → ⊥
-  type-else s z e h = never s z e (tagsBut 20 0 1) tt h
+  pub type-else : Stands f types i → (i ≡ 0 → ⊥) → r ≡ recordAt f i → OneOf (tagsBut 22 0 1) (tagOf the-type r) → ⊥
+  type-else s z e h = never s z e (tagsBut 22 0 1) tt h
 
-  pub functor-else : Stands f functors i → (i ≡ 0 → ⊥) → r ≡ recordAt f i → OneOf (tagsBut 20 0 2) (tagOf the-type r) → ⊥
-  functor-else s z e h = never s z e (tagsBut 20 0 2) tt h
+  pub functor-else : Stands f functors i → (i ≡ 0 → ⊥) → r ≡ recordAt f i → OneOf (tagsBut 22 0 2) (tagOf the-type r) → ⊥
+  functor-else s z e h = never s z e (tagsBut 22 0 2) tt h
 
-  pub edge-else : Stands f edges i → (i ≡ 0 → ⊥) → r ≡ recordAt f i → OneOf (tagsBut 20 0 6) (tagOf the-type r) → ⊥
-  edge-else s z e h = never s z e (tagsBut 20 0 6) tt h
+  pub edge-else : Stands f edges i → (i ≡ 0 → ⊥) → r ≡ recordAt f i → OneOf (tagsBut 22 0 6) (tagOf the-type r) → ⊥
+  edge-else s z e h = never s z e (tagsBut 22 0 6) tt h

@@ -4,15 +4,15 @@
 use Prim.Native.Nat.{ℕ, _<_, _+_}
 use mathlib.Core.Path.{_≡_, refl, ap}
 use mathlib.Core.List.{List, _∷_}
-use Rattle.language.specs.File.{kSwitch, kIf, kCall, kArm, kArgument, kGoal, goals, arms, arguments, word, recordCount}
-use Rattle.language.specs.Program.{Four, four, call, _then_, step, switch, ifLess, arm}
-use Rattle.language.specs.Format.{argumentVariable, armGoals, callArguments, callProcedure, goalX, ifElse, ifThen, ifY, ifZ, nextWord, switchArms, termArguments, termFunctor}
+use Rattle.language.specs.File.{kSwitch, kIf, kTry, kCall, kArm, kArgument, kGoal, goals, arms, arguments, word, recordCount}
+use Rattle.language.specs.Program.{Four, four, call, _then_, step, switch, ifLess, try, arm}
+use Rattle.language.specs.Format.{argumentVariable, armGoals, callArguments, callProcedure, goalX, ifElse, ifThen, ifY, ifZ, nextWord, switchArms, termArguments, termFunctor, tryCondition, tryElse, tryThen}
 use Rattle.layout.specs.Table.{all-rows}
-use Rattle.layout.specs.Chains.{real, arm-goals, switch-arms, if-then, if-else, call-arguments}
+use Rattle.layout.specs.Chains.{real, arm-goals, switch-arms, if-then, if-else, try-condition, try-then, try-else, call-arguments}
 use Rattle.layout.specs.Steps
 use Rattle.records.specs.Records.{recordAt}
 use Rattle.records.specs.declared.Record.{Record}
-use Rattle.records.specs.declared.Record.the-variants.{Switch, Arm, If, Call, Argument}
+use Rattle.records.specs.declared.Record.the-variants.{Switch, Arm, If, Try, Call, Argument}
 use Rattle.chains.specs.Formed.{Formed, Onward, goalsAt, firstGoal, goalAt, armsAt, argumentsAt}
 use Rattle.chains.specs.Kinds.{kindIn, known, onward}
 
@@ -131,6 +131,45 @@ if-at {f} {i} {next} {y} {z} {gs} {hs} F e g =
       to-next = rw e1 (h .next);
       to-then = onward F h e4 (if-then (word f) (recordCount f) (F .form) i (h .below) (h .kind));
       to-else = onward F h e5 (if-else (word f) (recordCount f) (F .form) i (h .below) (h .kind));
+    }
+
+pub record TryAt (f : List ℕ) (i next cs gs hs : ℕ) : Type 0 where
+  pub some : 0 < i
+  pub below : i < recordCount f
+  pub w1 : next ≡ word f i nextWord
+  pub w2 : cs ≡ word f i tryCondition
+  pub w3 : gs ≡ word f i tryThen
+  pub w4 : hs ≡ word f i tryElse
+  pub view : goalsAt f i ≡ try (goalsAt f cs) (goalsAt f gs) (goalsAt f hs) then goalsAt f next
+  pub goal : goalAt f i ≡ try (goalsAt f cs) (goalsAt f gs) (goalsAt f hs)
+  pub to-next : Onward f goals i next
+  pub to-condition : Onward f goals i cs
+  pub to-then : Onward f goals i gs
+  pub to-else : Onward f goals i hs
+
+pub try-at : {f : List ℕ} {i next cs gs hs : ℕ} {r : Record} → Formed f → r ≡ recordAt f i → r ≡ Try next cs gs hs
+    → TryAt f i next cs gs hs
+unfolding goalsAt goalAt firstGoal all-rows real
+try-at {f} {i} {next} {cs} {gs} {hs} F e g =
+    let h = known {k = (kGoal kTry)} F refl e (ap kindIn g) in
+    let e1 : next ≡ word f i nextWord = cc (h .same) in
+    let e2 : cs ≡ word f i tryCondition = cc (h .same) in
+    let e3 : gs ≡ word f i tryThen = cc (h .same) in
+    let e4 : hs ≡ word f i tryElse = cc (h .same) in
+    let v : goalsAt f i ≡ try (goalsAt f cs) (goalsAt f gs) (goalsAt f hs) then goalsAt f next = rw (e1, e2, e3, e4) (Steps.try-step (word f) (recordCount f) (F .form) i (h .some) (h .below) (h .kind)) in
+    record {
+      some = h .some;
+      below = h .below;
+      w1 = e1;
+      w2 = e2;
+      w3 = e3;
+      w4 = e4;
+      view = v;
+      goal = ap firstGoal v;
+      to-next = rw e1 (h .next);
+      to-condition = onward F h e2 (try-condition (word f) (recordCount f) (F .form) i (h .below) (h .kind));
+      to-then = onward F h e3 (try-then (word f) (recordCount f) (F .form) i (h .below) (h .kind));
+      to-else = onward F h e4 (try-else (word f) (recordCount f) (F .form) i (h .below) (h .kind));
     }
 
 pub record CallAt (f : List ℕ) (i next q ys : ℕ) : Type 0 where

@@ -6,8 +6,8 @@ use mathlib.Core.Path.{_≡_, refl, sym, ap, _∙_}
 use mathlib.Core.List.{List}
 use mathlib.Core.Logic.{_⊎_, inl, inr}
 use Rattle.language.specs.Format
-use Rattle.language.specs.Format.{kindWord, nextWord, variableKind, literalKind, sumKind, assignKind, constructKind, switchKind, ifKind, callKind, printKind, createKind, removeKind, argumentVariable, armGoals, assignY, callArguments, callProcedure, goalX, ifElse, ifThen, ifY, ifZ, lifetimeRegion, literalValue, printY, sumOperation, sumY, sumZ, switchArms, termArguments, termFunctor}
-use Rattle.language.specs.File.{GoalKind, kLiteral, kSum, kAssign, kConstruct, kSwitch, kIf, kCall, kPrint, kCreate, kRemove, Kind, kNone, kVariable, kGoal, procedures, variables, regions, edges, goals, arms, arguments, row, kindOf, word, recordCount}
+use Rattle.language.specs.Format.{kindWord, nextWord, variableKind, literalKind, sumKind, assignKind, constructKind, switchKind, ifKind, callKind, printKind, createKind, removeKind, tryKind, testKind, argumentVariable, armGoals, assignY, callArguments, callProcedure, goalX, ifElse, ifThen, ifY, ifZ, lifetimeRegion, literalValue, printY, sumOperation, sumY, sumZ, switchArms, termArguments, termFunctor, testY, testZ, tryCondition, tryElse, tryThen}
+use Rattle.language.specs.File.{GoalKind, kLiteral, kSum, kAssign, kConstruct, kSwitch, kIf, kCall, kPrint, kCreate, kRemove, kTry, kTest, Kind, kNone, kVariable, kGoal, procedures, variables, regions, edges, goals, arms, arguments, row, kindOf, word, recordCount}
 use Rattle.language.specs.Program.{Step, _then_, Goal, step}
 use Rattle.layout.specs.Table.{all-rows, number-is, number-kind}
 use Rattle.layout.specs.Chains.{starts-kind, variables-kind, goals-kind}
@@ -15,8 +15,8 @@ use Rattle.records.specs.Records.{recordAs, recordAt}
 use Rattle.chains.specs.Formed.{Formed, Stands, stands-starts, Onward, goalsAt}
 use Rattle.chains.specs.Kinds.{same-read}
 use Rattle.chains.specs.Declared.{ProcedureAt, VariableAt, RegionAt, EdgeAt, procedure-at, variable-at, region-at, edge-at}
-use Rattle.chains.specs.Goals.{LiteralAt, SumAt, AssignAt, ConstructAt, PrintAt, CreateAt, RemoveAt, literal-at, sum-at, assign-at, construct-at, print-at, create-at, remove-at}
-use Rattle.chains.specs.Parts.{SwitchAt, IfAt, CallAt, ArmAt, ArgumentAt, switch-at, if-at, call-at, arm-at, argument-at}
+use Rattle.chains.specs.Goals.{LiteralAt, SumAt, AssignAt, ConstructAt, PrintAt, CreateAt, RemoveAt, TestAt, literal-at, sum-at, assign-at, construct-at, print-at, create-at, remove-at, test-at}
+use Rattle.chains.specs.Parts.{SwitchAt, IfAt, TryAt, CallAt, ArmAt, ArgumentAt, switch-at, if-at, try-at, call-at, arm-at, argument-at}
 use Rattle.chains.specs.Is.{procedure-is, variable-is, region-is, edge-is, arm-is, argument-is}
 
 -- ---- record i is of this kind
@@ -50,6 +50,12 @@ module _ (f : List ℕ) (i : ℕ) where
 
   abbrev pub IsRemove : Type 0
   IsRemove = word f i kindWord ≡ removeKind
+
+  abbrev pub IsTry : Type 0
+  IsTry = word f i kindWord ≡ tryKind
+
+  abbrev pub IsTest : Type 0
+  IsTest = word f i kindWord ≡ testKind
 
 -- ---- a kind and its number
 pub kind-number : (w : ℕ) (k : Kind) → kindOf w ≡ k → (k ≡ kNone → ⊥) → w ≡ row k .kind
@@ -119,6 +125,14 @@ module _ {f : List ℕ} {i : ℕ} (F : Formed f) {w : ℕ} (e : w ≡ word f i k
   unfolding all-rows
   remove-here k = remove-at F refl (by-number f i (kGoal kRemove) e k)
 
+  pub try-here : w ≡ tryKind → TryAt f i (word f i nextWord) (word f i tryCondition) (word f i tryThen) (word f i tryElse)
+  unfolding all-rows
+  try-here k = try-at F refl (by-number f i (kGoal kTry) e k)
+
+  pub test-here : w ≡ testKind → TestAt f i (word f i nextWord) (word f i testY) (word f i testZ)
+  unfolding all-rows
+  test-here k = test-at F refl (by-number f i (kGoal kTest) e k)
+
 -- ---- what stands at a record of each kind of declaration
 module _ {f : List ℕ} {i : ℕ} (F : Formed f) (z : i ≡ 0 → ⊥) where
   pub procedure-here : Stands f procedures i
@@ -136,7 +150,7 @@ module _ {f : List ℕ} {i : ℕ} (F : Formed f) (z : i ≡ 0 → ⊥) where
   pub edge-here : Stands f edges i → EdgeAt f i (word f i nextWord) (word f i Format.edgeFunctor) (word f i Format.edgePosition) (word f i Format.edgeTarget)
   edge-here s = edge-at F refl (edge-is s z)
 
--- ---- where the words of a switch, an if and a call lead
+-- ---- where the words of a switch, an if, a try and a call lead
 module _ {f : List ℕ} {i : ℕ} (F : Formed f) {w : ℕ} where
   pub to-arms : IsSwitch f i → w ≡ word f i Format.switchArms → Onward f arms i w
   to-arms k e = rw e (switch-here F refl k .to-arms)
@@ -146,6 +160,15 @@ module _ {f : List ℕ} {i : ℕ} (F : Formed f) {w : ℕ} where
 
   pub to-else : IsIf f i → w ≡ word f i Format.ifElse → Onward f goals i w
   to-else k e = rw e (if-here F refl k .to-else)
+
+  pub to-condition : IsTry f i → w ≡ word f i Format.tryCondition → Onward f goals i w
+  to-condition k e = rw e (try-here F refl k .to-condition)
+
+  pub to-try-then : IsTry f i → w ≡ word f i Format.tryThen → Onward f goals i w
+  to-try-then k e = rw e (try-here F refl k .to-then)
+
+  pub to-try-else : IsTry f i → w ≡ word f i Format.tryElse → Onward f goals i w
+  to-try-else k e = rw e (try-here F refl k .to-else)
 
   pub to-arguments : IsCall f i → w ≡ word f i Format.callArguments → Onward f arguments i w
   to-arguments k e = rw e (call-here F refl k .to-arguments)
@@ -166,13 +189,13 @@ module _ {f : List ℕ} {i : ℕ} (F : Formed f) (z : i ≡ 0 → ⊥) where
   pub argument-here : Stands f arguments i → ArgumentAt f i (word f i nextWord) (word f i argumentVariable)
   argument-here s = argument-at F refl (argument-is s z)
 
--- ---- any goal: its kind is one of the ten
+-- ---- any goal: its kind is one of the twelve
 pub record GoalAt (f : List ℕ) (i : ℕ) : Type 0 where
   pub goal : Goal
   pub view : goalsAt f i ≡ goal then goalsAt f (word f i nextWord)
   pub to-next : Onward f goals i (word f i nextWord)
 
--- neither a switch nor an if
+-- neither a switch, nor an if, nor a try
 pub record StepAt (f : List ℕ) (i : ℕ) : Type 0 where
   pub one : Step
   pub view : goalsAt f i ≡ step one then goalsAt f (word f i nextWord)
@@ -186,22 +209,24 @@ module _ {u w : ℕ} (e : w ≡ u) where
   not-kind g k n = n (e ∙ goal-number u g k)
 
   none-left : (g : GoalKind) → kindOf u ≡ kGoal g → (w ≡ literalKind → ⊥) → (w ≡ sumKind → ⊥) → (w ≡ assignKind → ⊥) → (w ≡ constructKind → ⊥)
-      → (w ≡ switchKind → ⊥) → (w ≡ ifKind → ⊥) → (w ≡ callKind → ⊥) → (w ≡ printKind → ⊥) → (w ≡ createKind → ⊥) → (w ≡ removeKind → ⊥) → ⊥
+      → (w ≡ switchKind → ⊥) → (w ≡ ifKind → ⊥) → (w ≡ callKind → ⊥) → (w ≡ printKind → ⊥) → (w ≡ createKind → ⊥) → (w ≡ removeKind → ⊥) → (w ≡ tryKind → ⊥) → (w ≡ testKind → ⊥) → ⊥
   unfolding all-rows
-  none-left kLiteral k n8 n9 n10 n11 n12 n14 n15 n17 n18 n19 = not-kind kLiteral k n8
-  none-left kSum k n8 n9 n10 n11 n12 n14 n15 n17 n18 n19 = not-kind kSum k n9
-  none-left kAssign k n8 n9 n10 n11 n12 n14 n15 n17 n18 n19 = not-kind kAssign k n10
-  none-left kConstruct k n8 n9 n10 n11 n12 n14 n15 n17 n18 n19 = not-kind kConstruct k n11
-  none-left kSwitch k n8 n9 n10 n11 n12 n14 n15 n17 n18 n19 = not-kind kSwitch k n12
-  none-left kIf k n8 n9 n10 n11 n12 n14 n15 n17 n18 n19 = not-kind kIf k n14
-  none-left kCall k n8 n9 n10 n11 n12 n14 n15 n17 n18 n19 = not-kind kCall k n15
-  none-left kPrint k n8 n9 n10 n11 n12 n14 n15 n17 n18 n19 = not-kind kPrint k n17
-  none-left kCreate k n8 n9 n10 n11 n12 n14 n15 n17 n18 n19 = not-kind kCreate k n18
-  none-left kRemove k n8 n9 n10 n11 n12 n14 n15 n17 n18 n19 = not-kind kRemove k n19
+  none-left kLiteral k n8 n9 n10 n11 n12 n14 n15 n17 n18 n19 n20 n21 = not-kind kLiteral k n8
+  none-left kSum k n8 n9 n10 n11 n12 n14 n15 n17 n18 n19 n20 n21 = not-kind kSum k n9
+  none-left kAssign k n8 n9 n10 n11 n12 n14 n15 n17 n18 n19 n20 n21 = not-kind kAssign k n10
+  none-left kConstruct k n8 n9 n10 n11 n12 n14 n15 n17 n18 n19 n20 n21 = not-kind kConstruct k n11
+  none-left kSwitch k n8 n9 n10 n11 n12 n14 n15 n17 n18 n19 n20 n21 = not-kind kSwitch k n12
+  none-left kIf k n8 n9 n10 n11 n12 n14 n15 n17 n18 n19 n20 n21 = not-kind kIf k n14
+  none-left kCall k n8 n9 n10 n11 n12 n14 n15 n17 n18 n19 n20 n21 = not-kind kCall k n15
+  none-left kPrint k n8 n9 n10 n11 n12 n14 n15 n17 n18 n19 n20 n21 = not-kind kPrint k n17
+  none-left kCreate k n8 n9 n10 n11 n12 n14 n15 n17 n18 n19 n20 n21 = not-kind kCreate k n18
+  none-left kRemove k n8 n9 n10 n11 n12 n14 n15 n17 n18 n19 n20 n21 = not-kind kRemove k n19
+  none-left kTry k n8 n9 n10 n11 n12 n14 n15 n17 n18 n19 n20 n21 = not-kind kTry k n20
+  none-left kTest k n8 n9 n10 n11 n12 n14 n15 n17 n18 n19 n20 n21 = not-kind kTest k n21
 
--- code that has tested the ten kinds has no other case left
+-- code that has tested the twelve kinds has no other case left
 pub no-goal-left : {f : List ℕ} {i w : ℕ} → Stands f goals i → (i ≡ 0 → ⊥) → w ≡ word f i kindWord → (w ≡ literalKind → ⊥) → (w ≡ sumKind → ⊥) → (w ≡ assignKind → ⊥) → (w ≡ constructKind → ⊥)
-    → (w ≡ switchKind → ⊥) → (w ≡ ifKind → ⊥) → (w ≡ callKind → ⊥) → (w ≡ printKind → ⊥) → (w ≡ createKind → ⊥) → (w ≡ removeKind → ⊥) → ⊥
+    → (w ≡ switchKind → ⊥) → (w ≡ ifKind → ⊥) → (w ≡ callKind → ⊥) → (w ≡ printKind → ⊥) → (w ≡ createKind → ⊥) → (w ≡ removeKind → ⊥) → (w ≡ tryKind → ⊥) → (w ≡ testKind → ⊥) → ⊥
 no-goal-left s z e = let g = goal-kind s z in none-left e (g .0) (g .1)
 
 module _ {f : List ℕ} {i : ℕ} (F : Formed f) where
@@ -216,23 +241,27 @@ module _ {f : List ℕ} {i : ℕ} (F : Formed f) where
   goal-of kPrint k = let h = print-at F refl (same-read f i refl k) in record { goal = _; view = h .view; to-next = h .to-next }
   goal-of kCreate k = let h = create-at F refl (same-read f i refl k) in record { goal = _; view = h .view; to-next = h .to-next }
   goal-of kRemove k = let h = remove-at F refl (same-read f i refl k) in record { goal = _; view = h .view; to-next = h .to-next }
+  goal-of kTry k = let h = try-at F refl (same-read f i refl k) in record { goal = _; view = h .view; to-next = h .to-next }
+  goal-of kTest k = let h = test-at F refl (same-read f i refl k) in record { goal = _; view = h .view; to-next = h .to-next }
 
-  step-of : (g : GoalKind) → kindOf (word f i kindWord) ≡ kGoal g → (IsSwitch f i → ⊥) → (IsIf f i → ⊥) → StepAt f i
+  step-of : (g : GoalKind) → kindOf (word f i kindWord) ≡ kGoal g → (IsSwitch f i → ⊥) → (IsIf f i → ⊥) → (IsTry f i → ⊥) → StepAt f i
   unfolding all-rows
-  step-of kLiteral k p q = record { one = _; view = literal-at F refl (same-read f i refl k) .view }
-  step-of kSum k p q = record { one = _; view = sum-at F refl (same-read f i refl k) .view }
-  step-of kAssign k p q = record { one = _; view = assign-at F refl (same-read f i refl k) .view }
-  step-of kConstruct k p q = record { one = _; view = construct-at F refl (same-read f i refl k) .view }
-  step-of kSwitch k p q = absurd (p (goal-number (word f i kindWord) kSwitch k))
-  step-of kIf k p q = absurd (q (goal-number (word f i kindWord) kIf k))
-  step-of kCall k p q = record { one = _; view = call-at F refl (same-read f i refl k) .view }
-  step-of kPrint k p q = record { one = _; view = print-at F refl (same-read f i refl k) .view }
-  step-of kCreate k p q = record { one = _; view = create-at F refl (same-read f i refl k) .view }
-  step-of kRemove k p q = record { one = _; view = remove-at F refl (same-read f i refl k) .view }
+  step-of kLiteral k p q t = record { one = _; view = literal-at F refl (same-read f i refl k) .view }
+  step-of kSum k p q t = record { one = _; view = sum-at F refl (same-read f i refl k) .view }
+  step-of kAssign k p q t = record { one = _; view = assign-at F refl (same-read f i refl k) .view }
+  step-of kConstruct k p q t = record { one = _; view = construct-at F refl (same-read f i refl k) .view }
+  step-of kSwitch k p q t = absurd (p (goal-number (word f i kindWord) kSwitch k))
+  step-of kIf k p q t = absurd (q (goal-number (word f i kindWord) kIf k))
+  step-of kCall k p q t = record { one = _; view = call-at F refl (same-read f i refl k) .view }
+  step-of kPrint k p q t = record { one = _; view = print-at F refl (same-read f i refl k) .view }
+  step-of kCreate k p q t = record { one = _; view = create-at F refl (same-read f i refl k) .view }
+  step-of kRemove k p q t = record { one = _; view = remove-at F refl (same-read f i refl k) .view }
+  step-of kTry k p q t = absurd (t (goal-number (word f i kindWord) kTry k))
+  step-of kTest k p q t = record { one = _; view = test-at F refl (same-read f i refl k) .view }
 
   module _ (s : Stands f goals i) (z : i ≡ 0 → ⊥) where
     pub goal-here : GoalAt f i
     goal-here = let g = goal-kind s z in goal-of (g .0) (g .1)
 
-    pub step-here : {w : ℕ} → w ≡ word f i kindWord → (w ≡ switchKind → ⊥) → (w ≡ ifKind → ⊥) → StepAt f i
-    step-here e p q = let g = goal-kind s z in step-of (g .0) (g .1) (λ k. p (e ∙ k)) λ k. q (e ∙ k)
+    pub step-here : {w : ℕ} → w ≡ word f i kindWord → (w ≡ switchKind → ⊥) → (w ≡ ifKind → ⊥) → (w ≡ tryKind → ⊥) → StepAt f i
+    step-here e p q t = let g = goal-kind s z in step-of (g .0) (g .1) (λ k. p (e ∙ k)) (λ k. q (e ∙ k)) λ k. t (e ∙ k)

@@ -6,7 +6,7 @@ use Rattle.sets.specs.Tests.{_&_}
 use Rattle.sets.specs.Sets.{member}
 use Rattle.sets.specs.Members.{setOf}
 use Rattle.sets.specs.declared.Set.{Set}
-use Rattle.language.specs.Program.{Four, argumentsOf, Step, Goals, done, _then_, Goal, step, switch, ifLess, Arms, noArms, arm, Signature, Program}
+use Rattle.language.specs.Program.{Four, argumentsOf, Step, Goals, done, _then_, Goal, step, switch, ifLess, try, Arms, noArms, arm, Signature, Program}
 use Rattle.language.specs.Checking.{Carried, broken, carries, requireRule, carryOn, joinArms, soundGiven, checkStep, checkGoals, checkGoal, checkArms}
 use Rattle.walks.specs.Walk.{WalkOutcome, stopped, goesOn, require, onwards, meet, walkGoals, walkGoal, walkArms}
 use Rattle.checking.specs.Checker.{CheckState, asOutcome, checker}
@@ -67,6 +67,11 @@ module _ (P : Program) (S : Signature) where
     goal-agree (ifLess y z bs cs) a =
         required _ (meet (checker P S) (walkGoals (checker P S) bs a) (walkGoals (checker P S) cs a))
         ∙ ap₂ requireRule (ap₂ _&_ (test-is a y) (test-is a z)) (met (walkGoals (checker P S) bs a) (walkGoals (checker P S) cs a) (goals-agree bs a) (goals-agree cs a))
+    goal-agree (try ds bs cs) a =
+        met _ (walkGoals (checker P S) cs a)
+        (on-both (walkGoals (checker P S) ds a) (checkGoals P S ds (a .held) (a .sound)) (λ b. walkGoals (checker P S) bs b) (λ h s. checkGoals P S bs h s)
+        (goals-agree ds a) (λ b. goals-agree bs b))
+        (goals-agree cs a)
 
     arms-agree : (cs : Arms) (a : CheckState) → told (walkArms (checker P S) cs a) ≡ checkArms P S cs (a .held) (a .sound)
     arms-agree noArms a = refl

@@ -11,13 +11,13 @@ use Rattle.language.specs.File.{goals, arms, word}
 use Rattle.language.specs.Program.{Signature, Program, _then_, Goals, Goal, step, signatureOf}
 use Rattle.language.specs.Checking.{soundGiven}
 use Rattle.language.specs.Answers.{program}
-use Rattle.language.specs.Format.{kindWord, nextWord, armGoals, goalX, ifElse, ifKind, ifThen, ifY, ifZ, switchArms, switchKind}
+use Rattle.language.specs.Format.{kindWord, nextWord, armGoals, goalX, ifElse, ifKind, ifThen, ifY, ifZ, switchArms, switchKind, tryCondition, tryElse, tryKind, tryThen}
 use Rattle.chains.specs.Formed.{Formed, Stands, Onward, ahead, goalsAt, goalAt}
 use Rattle.chains.specs.Is.{goals-step}
-use Rattle.chains.specs.Shapes.{IsSwitch, IsIf, goal-here, step-here}
+use Rattle.chains.specs.Shapes.{IsSwitch, IsIf, IsTry, goal-here, step-here}
 use Rattle.chains.specs.Parts.{fourAt}
 use Rattle.walks.specs.Walk.{outcome, goesOn, Walker, walkGoals, chain-stop, chain-next, step-goes}
-use Rattle.walks.specs.Along.{GoalsWalked, none-walked, switch-stops, switch-walked, if-unread, if-unread-2, if-then-stops, if-else-stops, if-walked, arms-none-walked, arm-stops, arm-last, arm-rest-stops, arms-walked}
+use Rattle.walks.specs.Along.{GoalsWalked, none-walked, switch-stops, switch-walked, if-unread, if-unread-2, if-then-stops, if-else-stops, if-walked, condition-stops, try-then-stops, try-else-stops, try-walked, arms-none-walked, arm-stops, arm-last, arm-rest-stops, arms-walked}
 use Rattle.tables.specs.Rows.{givesIn}
 use Rattle.tables.specs.Filled.{Belongs}
 use Rattle.checking.specs.Checker.{CheckState, carrying, checker}
@@ -81,9 +81,9 @@ same-goal : {gs hs ks : Goals} {g h : Goal} → gs ≡ g then hs → gs ≡ h th
 same-goal p q = cc
 
 pub step-checked : {f : List ℕ} (rows own : List ℕ) (i : ℕ) (c : List ℕ) (b : Bool) (c′ : List ℕ) {w : ℕ} → Formed f → Stands f goals i → (z : i ≡ 0 → ⊥)
-    → w ≡ word f i kindWord → (w ≡ switchKind → ⊥) → (w ≡ ifKind → ⊥) → StepChecked rows own i c b c′ → GoalChecked f rows own i c b c′
-step-checked {f} rows own i c b c′ F s z e p r m o q y h =
-    let t = step-here F s z e p r in
+    → w ≡ word f i kindWord → (w ≡ switchKind → ⊥) → (w ≡ ifKind → ⊥) → (w ≡ tryKind → ⊥) → StepChecked rows own i c b c′ → GoalChecked f rows own i c b c′
+step-checked {f} rows own i c b c′ F s z e p r n m o q y h =
+    let t = step-here F s z e p r n in
     let v : goalAt f i ≡ step (t .one) = same-goal (goals-step F s z refl) (t .view) in
     step-goes (walker f q) (state c) (state c′) b v (m f o q (t .one) (y .accessed) (y .owned .effected) (y .window) (record { stands = s; some = z; view = v }) h)
 
@@ -128,6 +128,40 @@ module _ {f : List ℕ} (rows own : List ℕ) {i : ℕ} (c : List ℕ) (F : Form
             if-walked (walker f q) f F i k (state c) j (test-of f c et q x e) p j′ (test-of f c et q x′ e′) p′ (state c₁) a₁ eu (m₁ o q y (λ n. y .owned .owning .to-then i k u eu n ∙ h)) e₁
             (state c₂) (ap₂ carrying eh es) (state c₃) a₂ ev (m₂ o q y (λ n. y .owned .owning .to-else i k v ev n ∙ h)) (state d) r (carrying g s) (ap₂ carrying eg ef) e₂
             (n (program f) (signatureOf (program f) q))
+
+-- ---- a try
+module _ {f : List ℕ} (rows own : List ℕ) {i : ℕ} (c : List ℕ) (F : Formed f) (k : IsTry f i) {u : ℕ} (eu : u ≡ word f i tryCondition) (c₁ : List ℕ) (a₁ : Bool)
+    (m₁ : GoalsChecked f rows own u c a₁ c₁) where
+  in-condition : (o : ℕ → ℕ) (q : ℕ) → Ready f rows own o q → o i ≡ q → GoalsWalked (walker f q) f u (state c) a₁ (state c₁)
+  in-condition o q y h = m₁ o q y (λ n. y .owned .owning .to-condition i k u eu n ∙ h)
+
+  pub condition-broken : (d : List ℕ) → a₁ ≡ false → GoalChecked f rows own i c false d
+  condition-broken d e₁ o q y h = condition-stops (walker f q) f F i k (state c) (state c₁) a₁ eu (in-condition o q y h) (state d) e₁
+
+  module _ (e₁ : a₁ ≡ true) {v : ℕ} (ev : v ≡ word f i tryThen) (c₂ : List ℕ) (a₂ : Bool) (m₂ : GoalsChecked f rows own v c₁ a₂ c₂) where
+    in-then : (o : ℕ → ℕ) (q : ℕ) → Ready f rows own o q → o i ≡ q → GoalsWalked (walker f q) f v (state c₁) a₂ (state c₂)
+    in-then o q y h = m₂ o q y (λ n. y .owned .owning .to-try-then i k v ev n ∙ h)
+
+    pub try-then-broken : (d : List ℕ) → a₂ ≡ false → GoalChecked f rows own i c false d
+    try-then-broken d e₂ o q y h =
+        try-then-stops (walker f q) f F i k (state c) (state c₁) a₁ eu (in-condition o q y h) e₁ (state c₂) a₂ ev (in-then o q y h) (state d) e₂
+
+    module _ (e₂ : a₂ ≡ true) {w : ℕ} (ew : w ≡ word f i tryElse) (c₃ : List ℕ) (eh : heldIn c₃ ≡ heldIn c) (es : soundIn c₃ ≡ soundIn c) (c₄ : List ℕ) (a₃ : Bool)
+        (m₃ : GoalsChecked f rows own w c₃ a₃ c₄) where
+      in-else : (o : ℕ → ℕ) (q : ℕ) → Ready f rows own o q → o i ≡ q → GoalsWalked (walker f q) f w (state c₃) a₃ (state c₄)
+      in-else o q y h = m₃ o q y (λ n. y .owned .owning .to-try-else i k w ew n ∙ h)
+
+      pub try-else-broken : (d : List ℕ) → a₃ ≡ false → GoalChecked f rows own i c false d
+      try-else-broken d e₃ o q y h =
+          try-else-stops (walker f q) f F i k (state c) (state c₁) a₁ eu (in-condition o q y h) e₁ (state c₂) a₂ ev (in-then o q y h) e₂
+          (state c₃) (ap₂ carrying eh es) (state c₄) a₃ ew (in-else o q y h) (state d) e₃
+
+      pub try-done : (r : Bool) (d : List ℕ) {g s : Set} → a₃ ≡ true → g ≡ heldIn c₂ → s ≡ soundIn c₂
+          → ((P : Program) (S : Signature) → outcome r (state d) ≡ checker P S .join (carrying g s) (state c₄)) → GoalChecked f rows own i c r d
+      try-done r d {g} {s} e₃ eg ef n o q y h =
+          try-walked (walker f q) f F i k (state c) (state c₁) a₁ eu (in-condition o q y h) e₁ (state c₂) a₂ ev (in-then o q y h) e₂
+          (state c₃) (ap₂ carrying eh es) (state c₄) a₃ ew (in-else o q y h) (state d) r (carrying g s) (ap₂ carrying eg ef) e₃
+          (n (program f) (signatureOf (program f) q))
 
 -- ---- arms
 pub arms-none-checked : (f rows own : List ℕ) (i : ℕ) (c : List ℕ) → i ≡ 0 → ArmsChecked f rows own i c true c

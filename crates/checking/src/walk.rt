@@ -18,13 +18,17 @@ use language::format::KIND;
 use language::format::NEXT;
 use language::format::SWITCH;
 use language::format::SWITCH_ARMS;
+use language::format::TRY;
+use language::format::TRY_CONDITION;
+use language::format::TRY_ELSE;
+use language::format::TRY_THEN;
 use tables::ROWS;
 use walks::WALK_WORDS;
 use walks::is_step;
 ghost use mathlib.Core.Path.{_≡_};
 ghost use Rattle.language.specs.File;
 ghost use Rattle.chains.specs.Formed.{Formed, Stands};
-ghost use Rattle.chains.specs.Shapes.{IsSwitch, IsIf};
+ghost use Rattle.chains.specs.Shapes.{IsSwitch, IsIf, IsTry};
 ghost use Rattle.checking.specs.Ready.{GoalsChecked, GoalChecked, ArmsChecked};
 
 // After the goals from record start on.
@@ -65,6 +69,7 @@ fn goal(
     match kind {
         SWITCH => switch(file, rows, own, carried, i),
         IF => branches(file, rows, own, carried, i),
+        TRY => attempt(file, rows, own, carried, i),
         _ => {
             if !is_step(kind) {
                 return false;
@@ -125,6 +130,41 @@ fn branches(
         return join(h, s, carried);
     }
     if !goals(file, rows, own, carried, no) {
+        return false;
+    }
+    join(h, s, carried)
+}
+
+// After the condition and the then part of a try, or after its else part, which starts from what was carried before the try.
+fn attempt(
+    file: &[u8],
+    rows: &[u64; ROWS],
+    own: &[u64],
+    carried: &mut [u64; WALK_WORDS],
+    i: usize,
+) -> bool
+    requires { ⌜ Formed (now file) ⌝ }
+    requires { ⌜ IsTry (now file) i ⌝ }
+    ensures { λ b. ⌜ GoalChecked (now (file .entry)) (now (rows .entry)) (now (own .entry)) i (now (carried .entry)) b (now (carried .exit)) ⌝ }
+{
+    let held = held_in(carried);
+    let sound = sound_in(carried);
+    let condition = word(file, i, TRY_CONDITION);
+    if !goals(file, rows, own, carried, condition) {
+        return false;
+    }
+    let yes = word(file, i, TRY_THEN);
+    if !goals(file, rows, own, carried, yes) {
+        return false;
+    }
+    let h = held_in(carried);
+    let s = sound_in(carried);
+    carry(carried, held, sound);
+    let otherwise = word(file, i, TRY_ELSE);
+    if otherwise == 0 {
+        return join(h, s, carried);
+    }
+    if !goals(file, rows, own, carried, otherwise) {
         return false;
     }
     join(h, s, carried)

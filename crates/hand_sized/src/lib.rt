@@ -4,6 +4,7 @@
 // memory is as it was; after a run the words for cells, regions and frames are free.
 mod ends;
 mod files;
+mod tries;
 
 use annotation::Annotated;
 use annotation::annotate;
@@ -27,6 +28,10 @@ use running::lent::PRINTS;
 use running::lent::REGIONS;
 use running::lent::STEPS;
 use running::run;
+pub use tries::run_at_the_end_in_one_place;
+pub use tries::run_comes_back;
+pub use tries::run_waits_in_one_place;
+pub use tries::run_waits_in_two_places;
 ghost use mathlib.Core.Path.{_≡_};
 ghost use mathlib.Core.List.{_∷_};
 ghost use lib.ListN.{drop};

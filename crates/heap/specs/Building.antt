@@ -1,5 +1,5 @@
 -- A construct: the answer is the definition's, and the words stand for the memory with one cell more.
-use Prim.Native.Nat.{ℕ, suc, _<_}
+use Prim.Native.Nat.{ℕ, suc, _≤_, _<_}
 use mathlib.Core.Path.{_≡_, refl, sym, ap, _∙_}
 use mathlib.Core.Bool.{true}
 use mathlib.Core.List.{List, [], _∷_, _++_}
@@ -22,11 +22,11 @@ use Rattle.memory.specs.declared.Made.the-variants.{At, NoRoom}
 use Rattle.memory.specs.Memory.{cellWords, cellNext, cellWord, first, built, builtCells, builtRegions}
 use Rattle.heap.specs.Labels.{Labels, busy, having, Vacant, vacant-busy}
 use Rattle.heap.specs.Words.{argumentWords, wordsOf, arguments-same, FilledCell}
-use Rattle.heap.specs.Counts.{cellsIn, within, held-built, in-built, in-other}
+use Rattle.heap.specs.Counts.{cellsIn, within, earlier-front, earlier-all, held-built, in-built, in-other}
 use Rattle.heap.specs.Labelled.{Labelled}
 use Rattle.heap.specs.LabelledBuild as B
-use Rattle.heap.specs.Standing.{StandEach, built-length, each-built}
-use Rattle.heap.specs.Represents.{numbered, Spot, Represents, Builds, stops-11, builds}
+use Rattle.heap.specs.Standing.{StandEach, built-length, each-more}
+use Rattle.heap.specs.Represents.{numbered, Spot, SpotOf, Represents, Builds, stops-11, builds}
 
 -- region r is alive; the words of c stand for the values vs
 module _ {k : Room} {h : Heap} {m rs : List ℕ} {M : Memory} {ρ χ : ℕ → ℕ} (R : Represents k h m rs M ρ χ) (r : ℕ) (er : M .alive r ≡ true)
@@ -73,38 +73,35 @@ module _ {k : Room} {h : Heap} {m rs : List ℕ} {M : Memory} {ρ χ : ℕ → �
     ]
 
     -- values keep their words
-    each-kept : (ws : List ℕ) (vs : List Value) → StandEach χ n ws vs → StandEach χ1 (length cells1) ws vs
-    unfolding withCell
-    each-kept = each-built M new χ x
+    each-kept : (j : ℕ) → j ≤ n → (ws : List ℕ) (vs : List Value) → StandEach χ j ws vs → StandEach χ1 j ws vs
+    each-kept j l = each-more χ χ1 j j (λ i h. put-other χ n x i (λ z. omega arith)) (omega arith)
 
-    moved : {y p : ℕ} {e : Cell} → Spot (R .own) m χ n y p e → Spot own1 m′ χ1 (length cells1) y p e
-    moved {y} {e = e} s =
+    moved : {j y p t : ℕ} {e : Cell} → j ≤ n → Spot (R .own) m χ j y p t e → Spot own1 m′ χ1 j y p t e
+    moved {j} {y} {e = e} l s =
         let ne : x ≢ y = λ z. vacant-busy vacant (ap (R .own) z ∙ s .label) in
         let o : (i : ℕ) → i < cellNext → cellWord m′ y i ≡ cellWord m y i = λ i l. others y i (omega arith) (λ z. ne (sym z)) in
         record {
-          height = s .height;
           label = put-other (R .own) x (busy (ρ r) size) y ne ∙ s .label;
           says = record {
             functor = o 0 (omega arith) ∙ s .says .functor;
-            contents = rw (arguments-same m m′ y o) (each-kept (argumentWords m y) (e .contents) (s .says .contents));
+            contents = rw (arguments-same m m′ y o) (each-kept j l (argumentWords m y) (e .contents) (s .says .contents));
           };
         }
 
-    new-spot : Spot own1 m′ χ1 (length cells1) x (ρ r) (new .cell)
+    new-spot : Spot own1 m′ χ1 n x (ρ r) size (new .cell)
     new-spot = record {
-      height = size;
       label = put-same (R .own) x (busy (ρ r) size);
-      says = record { functor = full .functor; contents = rw (full .arguments) (each-kept (wordsOf c) vs ws) };
+      says = record { functor = full .functor; contents = rw (full .arguments) (each-kept n (omega arith) (wordsOf c) vs ws) };
     }
 
-    built-spots : (j : ℕ) → j < length cells1 → M .alive (numbered cells1 j .region) ≡ true
-        → Spot own1 m′ χ1 (length cells1) (χ1 j) (ρ (numbered cells1 j .region)) (numbered cells1 j .cell)
+    built-spots : (j : ℕ) → j < length cells1 → M .alive (numbered cells1 j .region) ≡ true → SpotOf own1 m′ ρ χ1 cells1 j
     built-spots j l e = elim (ℕ-discrete n j) [
-      | yes z ↦ rw (← z) (rw (nth-last (record { cell = noCell; region = 0 }) (M .cells) new, put-same χ n x) new-spot)
+      | yes z ↦ rw (← z) (rw (nth-last (record { cell = noCell; region = 0 }) (M .cells) new, put-same χ n x, earlier-all r (M .cells) (new ∷ [])) new-spot)
       | no ne ↦
           let l′ : j < n = omega (arith, longer, ne) in
           let q = nth-front (record { cell = noCell; region = 0 }) (M .cells) (new ∷ []) j l′ in
-          rw (q, put-other χ n x j ne) (moved (R .spots j l′ (rw q at e)))
+          let a = earlier-front (numbered (M .cells) j .region) j (M .cells) (new ∷ []) (omega arith) in
+          rw (q, put-other χ n x j ne, a) (moved (omega arith) (R .spots j l′ (rw q at e)))
     ]
 
     new-made : all (within (M .made)) (new ∷ []) ≡ true

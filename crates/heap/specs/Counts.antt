@@ -8,9 +8,10 @@ use native.Mathlib.Omega.{arith}
 use native.Mathlib.Nat.{zero-add}
 use native.Mathlib.Decide.{ℕ-discrete}
 use lib.Dec.{eqb, leb}
+use lib.ListN.{length}
 use borrow.Author.Tests.{eq-eqb, ne-eqb, leb-true}
 use Rattle.sets.specs.Tests.{and-true}
-use Rattle.language.specs.Lists.{all, one, put, upFrom}
+use Rattle.language.specs.Lists.{nth, all, one, put, upFrom}
 use Rattle.language.specs.AcceptedRun.{RegionCell}
 use Rattle.language.specs.Machine.{cellsHeld, countAlive}
 use Rattle.laws.specs.Choices.{put-same, put-other}
@@ -19,6 +20,30 @@ use Rattle.laws.specs.Choices.{put-same, put-other}
 pub cellsIn : ℕ → List RegionCell → ℕ
 cellsIn r [] = 0
 cellsIn r (c ∷ cs) = one (eqb (c .region) r) + cellsIn r cs
+
+-- .. among the first j
+pub earlier : ℕ → ℕ → List RegionCell → ℕ
+earlier r zero cs = 0
+earlier r (suc j) [] = 0
+earlier r (suc j) (c ∷ cs) = one (eqb (c .region) r) + earlier r j cs
+
+pub earlier-front : (r j : ℕ) (cs ds : List RegionCell) → j ≤ length cs → earlier r j (cs ++ ds) ≡ earlier r j cs
+unfolding earlier
+earlier-front r zero cs ds l = refl
+earlier-front r (suc j) [] ds l = absurd (omega arith)
+earlier-front r (suc j) (c ∷ cs) ds l = ap (λ n. one (eqb (c .region) r) + n) (earlier-front r j cs ds (omega arith))
+
+pub earlier-all : (r : ℕ) (cs ds : List RegionCell) → earlier r (length cs) (cs ++ ds) ≡ cellsIn r cs
+unfolding earlier cellsIn
+earlier-all r [] ds = refl
+earlier-all r (c ∷ cs) ds = ap (λ n. one (eqb (c .region) r) + n) (earlier-all r cs ds)
+
+-- a region's cell has fewer of them before it than there are
+pub earlier-less : (r j : ℕ) (d : RegionCell) (cs : List RegionCell) → j < length cs → nth d cs j .region ≡ r → earlier r j cs < cellsIn r cs
+unfolding earlier cellsIn nth one
+earlier-less r j d [] l e = absurd (omega arith)
+earlier-less r zero d (c ∷ cs) l e = rw (eq-eqb (c .region) r e) (omega arith)
+earlier-less r (suc j) d (c ∷ cs) l e = omega (arith, earlier-less r j d cs (omega arith) e)
 
 -- cell c lies in one of the first n regions
 abbrev pub within : ℕ → RegionCell → Bool

@@ -21,7 +21,7 @@ use Rattle.heap.specs.Labels.{Labels, having, Vacant, vacant-busy}
 use Rattle.heap.specs.Counts.{cellsIn, within, held-same, in-new, alive-same, alive-more}
 use Rattle.heap.specs.Labelled.{Labelled}
 use Rattle.heap.specs.LabelledCreate as C
-use Rattle.heap.specs.Represents.{numbered, Spot, Represents, Creates, stops-12, creates}
+use Rattle.heap.specs.Represents.{numbered, SpotOf, Represents, Creates, stops-12, creates}
 
 module _ {k : Room} {h : Heap} {m rs : List ℕ} {M : Memory} {ρ χ : ℕ → ℕ} (R : Represents k h m rs M ρ χ) where
   -- the new region's number
@@ -93,8 +93,7 @@ module _ {k : Room} {h : Heap} {m rs : List ℕ} {M : Memory} {ρ χ : ℕ → �
       ]
     ]
 
-    created-spots : (j : ℕ) → j < length (M .cells) → put (M .alive) n true (numbered (M .cells) j .region) ≡ true
-        → Spot (R .own) m χ (length (M .cells)) (χ j) (ρ1 (numbered (M .cells) j .region)) (numbered (M .cells) j .cell)
+    created-spots : (j : ℕ) → j < length (M .cells) → put (M .alive) n true (numbered (M .cells) j .region) ≡ true → SpotOf (R .own) m ρ1 χ (M .cells) j
     created-spots j l e =
         let w = leb-true (numbered (M .cells) j .region) (M .made) (all-nth (within (M .made)) _ (M .cells) j (R .made) l) in
         let o = sym (alive-old (numbered (M .cells) j .region) w) ∙ e in

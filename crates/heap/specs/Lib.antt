@@ -7,9 +7,14 @@ pub mod Labelled
 pub mod LabelledCreate
 pub mod LabelledBuild
 pub mod LabelledRemove
+pub mod LabelledBack
 pub mod Standing
 pub mod Represents
 pub mod Reading
 pub mod Creating
 pub mod Building
 pub mod Removing
+pub mod Undoing
+pub mod Logged
+pub mod Conditions
+pub mod UndoExample

@@ -17,8 +17,8 @@ use Rattle.memory.specs.declared.Heap.{Heap}
 use Rattle.memory.specs.Memory.{cellWords, regionWords, unused, emptyHeap}
 use Rattle.heap.specs.Labels.{fresh}
 use Rattle.heap.specs.Labelled.{start-labelled, cell-low}
-use Rattle.heap.specs.Standing.{StandsFor}
-use Rattle.heap.specs.Represents.{numbered, Represents, Reads, Spot}
+use Rattle.heap.specs.Standing.{StandsFor, each-more}
+use Rattle.heap.specs.Represents.{numbered, Represents, Reads, SpotOf}
 
 -- ---- whatever stands in the lent words, an empty heap in them stands for the memory of a run's start
 module _ (P : Program) (l : Lent) (m rs : List ℕ) (ec : l .cellWords ≡ length m) (er : l .regionWords ≡ length rs) where
@@ -49,14 +49,17 @@ module _ {k : Room} {h : Heap} {m rs : List ℕ} {M : Memory} {ρ χ : ℕ → �
   ]
 
   -- ---- "a switch reads where X's cell lies": the words at X's word say what X's cell has, and X's word is a place, below all constants
-  abbrev spot : (j : ℕ) → M .alive (numbered (M .cells) j .region) ≡ true
-      → Spot (R .own) m χ (length (M .cells)) (χ j) (ρ (numbered (M .cells) j .region)) (numbered (M .cells) j .cell)
+  abbrev spot : (j : ℕ) → M .alive (numbered (M .cells) j .region) ≡ true → SpotOf (R .own) m ρ χ (M .cells) j
   spot j e = R .spots j (cell-made j e) e
 
   pub reads : (w j : ℕ) → StandsFor χ (length (M .cells)) w (cellAt j) → readable M (cellAt j) ≡ true
       → Reads m χ (length (M .cells)) w (cellIn (map cellOf (M .cells)) (cellAt j))
   unfolding StandsFor readable liesIn cellIn cellOf
-  reads w j s e = rw (s .0, nth-map cellOf (record { cell = noCell; region = 0 }) (M .cells) j) (spot j e .says)
+  reads w j s e = rw (s .0, nth-map cellOf (record { cell = noCell; region = 0 }) (M .cells) j)
+      (record {
+        functor = spot j e .says .functor;
+        contents = each-more χ χ j (length (M .cells)) (λ i l. refl) (omega (arith, cell-made j e)) _ _ (spot j e .says .contents);
+      })
 
   pub place-low : (w j : ℕ) → StandsFor χ (length (M .cells)) w (cellAt j) → readable M (cellAt j) ≡ true → w < k .cells
   unfolding StandsFor readable liesIn

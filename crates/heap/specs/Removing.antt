@@ -59,10 +59,9 @@ module _ {k : Room} {h : Heap} {m rs : List ℕ} {M : Memory} {ρ χ : ℕ → �
   other-place : (q : ℕ) → alive1 q ≡ true → ρ r ≢ ρ q
   other-place q e z = let o = put-false (M .alive) r q e in o .0 (R .apart r q er (o .1) z)
 
-  stays : {y p : ℕ} {c : Cell} → ρ r ≢ p → Spot (R .own) m χ (length (M .cells)) y p c → Spot own1 (removedCells h m rs (ρ r)) χ (length (M .cells)) y p c
-  stays {y} ne s = record {
-    height = s .height;
-    label = ap (joined (ρ r) (R .labelled .freeCells)) (s .label) ∙ joined-out (ρ r) (R .labelled .freeCells) (s .height) (λ z. ne (sym z));
+  stays : {j y p t : ℕ} {c : Cell} → ρ r ≢ p → Spot (R .own) m χ j y p t c → Spot own1 (removedCells h m rs (ρ r)) χ j y p t c
+  stays {y = y} {t = t} ne s = record {
+    label = ap (joined (ρ r) (R .labelled .freeCells)) (s .label) ∙ joined-out (ρ r) (R .labelled .freeCells) t (λ z. ne (sym z));
     says = record {
       functor = remove-words h m rs (ρ r) y 0 (omega arith) ∙ s .says .functor;
       contents = rw (arguments-same m (removedCells h m rs (ρ r)) y (remove-words h m rs (ρ r) y)) (s .says .contents);

@@ -15,7 +15,7 @@ use Rattle.memory.specs.declared.Made.the-variants.{At, NoRoom}
 use Rattle.memory.specs.Memory.{cellWord}
 use Rattle.heap.specs.Labels.{Labels, busy, having}
 use Rattle.heap.specs.Words.{argumentWords}
-use Rattle.heap.specs.Counts.{cellsIn, within}
+use Rattle.heap.specs.Counts.{cellsIn, earlier, within}
 use Rattle.heap.specs.Labelled.{Labelled}
 use Rattle.heap.specs.Standing.{StandEach}
 
@@ -28,11 +28,15 @@ pub record Reads (m : List ℕ) (χ : ℕ → ℕ) (n w : ℕ) (c : Cell) : Type
   pub functor : cellWord m w 0 ≡ c .functor
   pub contents : StandEach χ n (argumentWords m w) (c .contents)
 
--- cell c stands at place x, in the region at place p
-pub record Spot (own : Labels) (m : List ℕ) (χ : ℕ → ℕ) (n x p : ℕ) (c : Cell) : Type 0 where
-  pub height : ℕ
-  pub label : own x ≡ busy p height
+-- cell c stands at place x, in the region at place p, with t cells of the region behind it
+pub record Spot (own : Labels) (m : List ℕ) (χ : ℕ → ℕ) (n x p t : ℕ) (c : Cell) : Type 0 where
+  pub label : own x ≡ busy p t
   pub says : Reads m χ n x c
+
+-- .. the cell numbered j: behind it stand those made before it, and its arguments were made before it
+abbrev pub SpotOf : Labels → List ℕ → (ℕ → ℕ) → (ℕ → ℕ) → List RegionCell → ℕ → Type 0
+SpotOf own m ρ χ cells j =
+    Spot own m χ j (χ j) (ρ (numbered cells j .region)) (earlier (numbered cells j .region) j cells) (numbered cells j .cell)
 
 -- heap h with cell words m and region words rs stands for memory M in room k: ρ has the places of regions by number, χ those of cells
 pub record Represents (k : Room) (h : Heap) (m rs : List ℕ) (M : Memory) (ρ χ : ℕ → ℕ) : Type 0 where
@@ -45,8 +49,7 @@ pub record Represents (k : Room) (h : Heap) (m rs : List ℕ) (M : Memory) (ρ �
   pub made : all (within (M .made)) (M .cells) ≡ true
   pub lives : (r : ℕ) → M .alive r ≡ true → reg (ρ r) ≡ having (cellsIn r (M .cells))
   pub apart : (r q : ℕ) → M .alive r ≡ true → M .alive q ≡ true → ρ r ≡ ρ q → r ≡ q
-  pub spots : (j : ℕ) → j < length (M .cells) → M .alive (numbered (M .cells) j .region) ≡ true
-      → Spot own m χ (length (M .cells)) (χ j) (ρ (numbered (M .cells) j .region)) (numbered (M .cells) j .cell)
+  pub spots : (j : ℕ) → j < length (M .cells) → M .alive (numbered (M .cells) j .region) ≡ true → SpotOf own m ρ χ (M .cells) j
 
 -- ---- what is proved of it: `starts`, `reads`, `place-low` and `prints` in Reading, `create-ok`, `build-ok` and `remove-ok` in the modules of their names
 -- a create stops exactly if no region fits, and then nothing changes; else the new region's number has the new place

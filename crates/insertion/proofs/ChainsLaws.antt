@@ -11,7 +11,7 @@ use Rattle.language.specs.File.{kCreate, kRemove, Kind, kGoal, goals, kindOf, w
 use Rattle.language.specs.Tree.{Tree, end, node, Words}
 use Rattle.language.specs.Layout.{reference, lay}
 use Rattle.language.specs.Records.{stepTree, goalsTree, goalTree}
-use Rattle.language.specs.Program.{Step, literal, sum, assign, construct, call, print, create, remove, Goals, done, _then_, Goal, step, switch, ifLess, _before_, Signature, Program}
+use Rattle.language.specs.Program.{Step, literal, sum, assign, construct, call, print, create, remove, test, Goals, done, _then_, Goal, step, switch, ifLess, try, _before_, Signature, Program}
 use Rattle.language.specs.Lifetimes.{wanted, live}
 use Rattle.language.specs.Annotation.{creates, removes, createdFor}
 use Rattle.placement.specs.Local.{removesTo, heldPast, localGoals, localGoal}
@@ -89,8 +89,10 @@ goal-rehung (step (call q ys)) u t = refl
 goal-rehung (step (print y)) u t = refl
 goal-rehung (step (create r)) u t = refl
 goal-rehung (step (remove r)) u t = refl
+goal-rehung (step (test y z)) u t = refl
 goal-rehung (switch x cs) u t = refl
 goal-rehung (ifLess y z a b) u t = refl
+goal-rehung (try c a b) u t = refl
 
 pub goal-goes : (g : Goal) (t : Tree) → GoesOn 1 (goalTree g t)
 unfolding goalTree stepTree linked reference
@@ -102,8 +104,10 @@ goal-goes (step (call q ys)) t c = refl
 goal-goes (step (print y)) t c = refl
 goal-goes (step (create r)) t c = refl
 goal-goes (step (remove r)) t c = refl
+goal-goes (step (test y z)) t c = refl
 goal-goes (switch x cs) t c = refl
 goal-goes (ifLess y z a b) t c = refl
+goal-goes (try k a b) t c = refl
 
 pub done-goes : GoesOn 0 (goalsTree done)
 unfolding goalsTree linked reference
@@ -149,6 +153,7 @@ module _ (P : Program) (S : Signature) where
   local-goes (step s) after hs c = created-goes (members (createdFor P S s after)) (step s) _ hs c
   local-goes (switch x cs) after hs c = refl
   local-goes (ifLess y z a b) after hs c = refl
+  local-goes (try k a b) after hs c = refl
 
   pub chain-goes : {f : List ℕ} → Formed f → (w : ℕ) (after : Set) → Stands f goals w → GoesOn w (goalsTree (localGoals P S (goalsAt f w) after))
   unfolding localGoals linked

@@ -14,7 +14,7 @@ use Rattle.language.specs.Annotation.{createdFor}
 use Rattle.language.specs.Answers.{program}
 use Rattle.placement.specs.Local.{heldPast}
 use Rattle.chains.specs.Formed.{Formed, Stands, goalAt, firstGoal}
-use Rattle.chains.specs.Shapes.{IsSwitch, IsIf, step-here}
+use Rattle.chains.specs.Shapes.{IsSwitch, IsIf, IsTry, step-here}
 use Rattle.tables.specs.Rows.{needsIn, bearsIn, endsIn}
 use Rattle.tables.specs.Filled.{GoalIsStep}
 use Rattle.liveness.specs.Counts.{goalCount}
@@ -44,7 +44,7 @@ step-count : {g : Goal} {s : Step} → g ≡ step s → goalCount g ≡ 1
 unfolding goalCount
 step-count e = rw e refl
 
-module _ {f : List ℕ} (rows t : List ℕ) {i : ℕ} (at : ℕ) (F : Formed f) (st : Stands f goals i) (z : i ≡ 0 → ⊥) (p : IsSwitch f i → ⊥) (q : IsIf f i → ⊥) where
+module _ {f : List ℕ} (rows t : List ℕ) {i : ℕ} (at : ℕ) (F : Formed f) (st : Stands f goals i) (z : i ≡ 0 → ⊥) (p : IsSwitch f i → ⊥) (q : IsIf f i → ⊥) (x : IsTry f i → ⊥) where
   pub step-laid : {a b d e : List ℕ} {c m n r u next mid : ℕ} {cs rs : Set} → cs ≡ createdIn rows t i at → rs ≡ removedIn rows t i at cs → next ≡ word f i nextWord
       → Lays a b c m (marks createKind (members cs) 1 c) → mid ≡ moreOf (members rs) next → Lays b d m n (frontTo f i mid m)
       → Lays d e n r (marks removeKind (members rs) next n) → (at < pointWords → u ≡ at + 2) → GoalLaid f rows t i at a e c r u
@@ -54,7 +54,7 @@ module _ {f : List ℕ} (rows t : List ℕ) {i : ℕ} (at : ℕ) (F : Formed f) 
     λ w v after R g W.
         let P = program f in
         let S = signatureOf P v in
-        let H = step-here F st z refl p q in
+        let H = step-here F st z refl p q x in
         let s = H .one in
         let view : goalAt f i ≡ step s = ap firstGoal (H .view) in
         let at-step : GoalIsStep f i s = record { stands = st; some = z; view = view } in

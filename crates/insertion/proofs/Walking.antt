@@ -5,36 +5,36 @@ use native.Mathlib.Decide.{ℕ-discrete}
 use mathlib.Core.List.{List}
 use mathlib.Core.Path.{_≡_, refl, ap, sym, _∙_}
 use Rattle.sets.specs.Sets.{_∖_}
-use Rattle.sets.specs.Members.{members}
 use Rattle.sets.specs.declared.Set.{Set}
-use Rattle.language.specs.Format.{removeKind, nextWord, goalX, switchArms, ifY, ifZ, ifThen, ifElse, armGoals, termFunctor}
-use Rattle.language.specs.File.{kSwitch, kIf, kGoal, goals, arms, word}
+use Rattle.language.specs.Format.{nextWord, goalX, switchArms, ifY, ifZ, ifThen, ifElse, tryCondition, tryThen, tryElse, armGoals, termFunctor}
+use Rattle.language.specs.File.{kSwitch, kIf, kTry, kGoal, goals, arms, word}
 use Rattle.language.specs.Tree.{plain, leads}
 use Rattle.language.specs.Layout.{reference}
 use Rattle.language.specs.Records.{zeros, goalsTree, goalTree, armsTree}
-use Rattle.language.specs.Program.{_then_, switch, ifLess, arm, signatureOf}
+use Rattle.language.specs.Program.{_before_, _then_, switch, ifLess, try, arm, signatureOf}
 use Rattle.language.specs.Lifetimes.{wanted, live}
 use Rattle.language.specs.Answers.{program}
-use Rattle.placement.specs.Local.{localGoal, localArms}
+use Rattle.placement.specs.Local.{removesTo, localGoals, localGoal, localArms}
 use Rattle.chains.specs.Formed.{Formed, Stands, goalsAt, goalAt, armsAt, goals-none, arms-none}
 use Rattle.chains.specs.Is.{chain-next, goals-step}
 use Rattle.chains.specs.Parts.{fourAt}
-use Rattle.chains.specs.Shapes.{IsSwitch, IsIf, switch-here, if-here, arm-here}
+use Rattle.chains.specs.Shapes.{IsSwitch, IsIf, IsTry, switch-here, if-here, try-here, arm-here}
 use Rattle.liveness.specs.Points.{pointWords, points, armsPoints}
 use Rattle.liveness.specs.Counts.{goalsCount, goalCount, armsCount}
 use Rattle.liveness.specs.Table.{beforeAt, afterAt}
 use Rattle.writer.specs.Laid.{linked}
 use Rattle.writer.specs.Skips.{Behind}
 use Rattle.laying.specs.Lays.{Lays, GoesOn, lays-end}
-use Rattle.laying.specs.Marks.{marks}
 use Rattle.insertion.specs.Chains.{Fronts}
 use Rattle.insertion.proofs.ChainsLaws.{fronts-head, chain-goes, lays-part}
 use Rattle.insertion.specs.Wants.{WantedFrom}
-use Rattle.insertion.proofs.WantsLaws.{goal-wants, start-wants, switch-wants, branches-want, arms-want}
-use Rattle.laying.specs.Heads.{SwitchStored, IfStored, ArmStored, switch-head, if-head, arm-front}
+use Rattle.insertion.proofs.WantsLaws.{goal-wants, start-wants, switch-wants, branches-want, try-wants, arms-want}
+use Rattle.laying.specs.Heads.{SwitchStored, IfStored, TryStored, ArmStored, switch-head, if-head, try-head, arm-front}
 use Rattle.insertion.specs.Cursor.{recordIn, pointIn}
 use Rattle.insertion.specs.Along.{LaidAlong}
 use Rattle.insertion.proofs.AlongLaws.{along-next, along-on}
+use Rattle.insertion.specs.Starts.{firstOf, StartLaid}
+use Rattle.insertion.proofs.StartsLaws.{first-none, first-some}
 use Rattle.insertion.specs.Done.{partOf, GoalsLaid, GoalLaid, PartLaid, ArmsLaid}
 
 -- ---- a turn along a chain: a goal with parts, then the steps behind it
@@ -59,18 +59,37 @@ removed-is {f} t {i} at whole F st q after {rs} p n ea W = go (ℕ-discrete i 0)
     go (yes z) = p z ∙ ap (λ s. beforeAt t whole ∖ s) ea ∙ rw (goals-none f z) refl
     go (no z) = n z ∙ ap (λ s. beforeAt t whole ∖ s) (start-wants (program f) (signatureOf (program f) q) t at after (goals-step F st z refl) W)
 
-pub part-laid : {f : List ℕ} (rows t : List ℕ) {i : ℕ} (at whole : ℕ) {a b d : List ℕ} {c m r p : ℕ} {rs : Set} → Formed f → Stands f goals i
-    → (i ≡ 0 → rs ≡ beforeAt t whole ∖ afterAt t whole) → ((i ≡ 0 → ⊥) → rs ≡ beforeAt t whole ∖ beforeAt t at)
-    → Lays a b c m (marks removeKind (members rs) i c) → GoalsLaid f rows t i at b d m r p → PartLaid f rows t i at a d c r p whole
+pub part-laid : {f : List ℕ} (rows t : List ℕ) {i : ℕ} (at whole : ℕ) {a b d : List ℕ} {c m r p : ℕ} → Formed f → Stands f goals i → StartLaid t whole i i at a b c m
+    → GoalsLaid f rows t i at b d m r p → PartLaid f rows t i at a d c r p whole
 unfolding partOf
-part-laid {f} rows t {i} at whole F st x y k G = (
-  G .0 ∙ k .same,
+part-laid {f} rows t {i} at whole F st O G = (
+  G .0 ∙ O .laid .same,
   λ o q after R B ea W.
       let P = program f in
       let S = signatureOf P q in
       let g = G .1 o q after R B W in
-      (lays-part P S (goalsAt f i) after (beforeAt t whole) i (removed-is t at whole F st q after x y ea W) (chain-goes P S F i after st) k (g .0), g .1),
+      (lays-part P S (goalsAt f i) after (beforeAt t whole) i (removed-is t at whole F st q after (O .last) (O .more) ea W) (chain-goes P S F i after st) (O .laid) (g .0), g .1),
 )
+
+-- ---- a condition
+-- where it has no goals, the first of the then part comes next
+condition-removed : {f : List ℕ} (t : List ℕ) {x y w : ℕ} (at whole : ℕ) {on : ℕ} {a b : List ℕ} {c m : ℕ} → Formed f → Stands f goals x → Stands f goals y → (q : ℕ) (after : Set)
+    → w ≡ firstOf x y → (O : StartLaid t whole w on at a b c m) → afterAt t whole ≡ wanted (signatureOf (program f) q) after
+    → WantedFrom (signatureOf (program f) q) t at (points (program f) (goalsAt f x) (live (program f) (goalsAt f y) after))
+    → WantedFrom (signatureOf (program f) q) t (at + 2 * goalsCount (goalsAt f x)) (points (program f) (goalsAt f y) after)
+    → O .removed ≡ beforeAt t whole ∖ wanted (signatureOf (program f) q) (live (program f) (goalsAt f x) (live (program f) (goalsAt f y) after))
+unfolding live goalsCount
+condition-removed {f} t {x} {y} {w} at whole F sx sy q after ew O ea Y W = go (ℕ-discrete x 0)
+  where
+    go : Dec (x ≡ 0) → O .removed ≡ beforeAt t whole ∖ wanted (signatureOf (program f) q) (live (program f) (goalsAt f x) (live (program f) (goalsAt f y) after))
+    go (yes z) =
+        let e : w ≡ y = ew ∙ sym (first-none y z) in
+        let n : at + 2 * goalsCount (goalsAt f x) ≡ at = rw (goals-none f z) (omega arith) in
+        removed-is t at whole F sy q after (λ k. O .last (e ∙ k)) (λ k. O .more (λ l. k (sym e ∙ l))) ea (rw n at W) ∙ rw (goals-none f z) refl
+    go (no z) =
+        let e : w ≡ x = ew ∙ sym (first-some x y z) in
+        O .more (λ l. z (sym e ∙ l))
+        ∙ ap (λ s. beforeAt t whole ∖ s) (start-wants (program f) (signatureOf (program f) q) t at (live (program f) (goalsAt f y) after) (goals-step F sx z refl) Y)
 
 -- ---- a switch
 module _ {f : List ℕ} (rows t : List ℕ) (i at : ℕ) (F : Formed f) where
@@ -118,6 +137,41 @@ module _ {f : List ℕ} (rows t : List ℕ) (i at : ℕ) (F : Formed f) where
         (if-head B (goalsTree yes-part) (goalsTree no-part) (L .0) (M .0) H) in
         let n : goalCount (goalAt f i) ≡ suc (goalsCount (goalsAt f x) + goalsCount (goalsAt f y)) = ap goalCount g in
         (rw (g, sym (X .before-is)) K, omega (arith, M .1, w, n)),
+  )
+
+  -- ---- a try
+  pub try-laid : {a b d e g h : List ℕ} {c s u l m n r v p j x y z w : ℕ} → IsTry f i → Behind c 1 s → x ≡ word f i tryCondition → y ≡ word f i tryThen
+      → w ≡ firstOf x y → (at < pointWords → u ≡ at + 2) → StartLaid t at w x u a b s l → GoalsLaid f rows t x u b d l m v → GoalsLaid f rows t y v d e m n p
+      → z ≡ word f i tryElse → PartLaid f rows t z p e g n r j at → TryStored f i g h c s m n r → GoalLaid f rows t i at a h c r j
+  unfolding localGoal goalTree goalCount partOf
+  try-laid {a} {b} {d} {e} {g} {h} {c} {s} {u} {l} {m} {n} {r} {v} {p} {j} {x} {y} {z} {w} k B ex ey ew eu O C A ez D H = (
+    H .stored .same ∙ D .0 ∙ A .0 ∙ C .0 ∙ O .laid .same,
+    λ o q after R b W.
+        let P = program f in
+        let S = signatureOf P q in
+        let E = try-here F refl k in
+        let G : goalAt f i ≡ try (goalsAt f x) (goalsAt f y) (goalsAt f z) = rw (ex, ey, ez) (E .goal) in
+        let X = goal-wants P S t at (try (goalsAt f x) (goalsAt f y) (goalsAt f z)) after (rw G at W) in
+        let Y = try-wants P S t (at + 2) after refl (X .parts) in
+        let sx : Stands f goals x = rw ex (E .to-condition .stands) in
+        let sy : Stands f goals y = rw ey (E .to-then .stands) in
+        let Z : WantedFrom S t u (points P (goalsAt f x) (live P (goalsAt f y) after)) = rw (eu (X .short)) (Y .0) in
+        let L = C .1 o q (live P (goalsAt f y) after) R (λ k′. R .owning .to-condition i k x ex k′ ∙ b) Z in
+        let ev : v ≡ at + 2 + 2 * goalsCount (goalsAt f x) = omega (arith, L .1, eu (X .short)) in
+        let M = A .1 o q after R (λ k′. R .owning .to-try-then i k y ey k′ ∙ b) (rw ev (Y .1 .0)) in
+        let ep : p ≡ at + 2 + 2 * goalsCount (goalsAt f x) + 2 * goalsCount (goalsAt f y) = omega (arith, M .1, ev) in
+        let N = D .1 o q after R (λ k′. R .owning .to-try-else i k z ez k′ ∙ b) (X .after-is) (rw ep (Y .1 .1)) in
+        let er = condition-removed t u at F sx sy q after ew O (X .after-is) Z (rw (eu (X .short)) (Y .1 .0)) in
+        let condition = removesTo S (beforeAt t at) (live P (goalsAt f x) (live P (goalsAt f y) after)) before localGoals P S (goalsAt f x) (live P (goalsAt f y) after) in
+        let yes-part = localGoals P S (goalsAt f y) after in
+        let no-part = partOf f t at q z after in
+        let K : Fronts a h c r (try condition yes-part no-part then _) (word f i nextWord) =
+        fronts-head (try condition yes-part no-part) (kGoal kTry) (word f i nextWord)
+        (leads (goalsTree condition) (leads (goalsTree yes-part) (leads (goalsTree no-part) (zeros 3)))) (λ k′. refl)
+        (try-head B (goalsTree condition) (goalsTree yes-part) (goalsTree no-part)
+        (lays-part P S (goalsAt f x) (live P (goalsAt f y) after) (beforeAt t at) x er (chain-goes P S F x (live P (goalsAt f y) after) sx) (O .laid) (L .0)) (M .0) (N .0) H) in
+        let f′ : goalCount (goalAt f i) ≡ suc (goalsCount (goalsAt f x) + (goalsCount (goalsAt f y) + goalsCount (goalsAt f z))) = ap goalCount G in
+        (rw (G, sym (X .before-is)) K, omega (arith, N .1, ep, f′)),
   )
 
 -- ---- arms

@@ -8,7 +8,7 @@ use lib.ListN.{length, getD, set, length-append, length-set, length-drop}
 use lib.Seq.{getD-set-same, getD-set-other}
 use Rattle.sets.specs.Sets.{stored, loaded, loaded-stored}
 use Rattle.sets.specs.declared.Set.{Set}
-use Rattle.language.specs.Program.{Four, Goals, _then_, Goal, switch, ifLess, Arms, arm, Signature, Program}
+use Rattle.language.specs.Program.{Four, Goals, _then_, Goal, switch, ifLess, try, Arms, arm, Signature, Program}
 use Rattle.language.specs.Lifetimes.{wanted, live, liveGoal}
 use Rattle.tables.specs.Window.{Window}
 use Rattle.liveness.specs.Points.{Point, point, points, partPoints, goalPoints, armsPoints, words, pointWords}
@@ -68,6 +68,17 @@ module _ (P : Program) (S : Signature) (t : List ℕ) (at : ℕ) where
   branches-want {a = a} {b = b} after e h =
       let k : WantedFrom S t at (points P a after ++ points P b after) = rw e at h in
       (wants-front S t at (points P a after) (points P b after) k, wants-behind S t at (points P a after) (points P b after) k (points-count P a after))
+
+  pub try-wants : {g : Goal} {c a b : Goals} (after : Set) → g ≡ try c a b → WantedFrom S t at (partPoints P g after)
+      → WantedFrom S t at (points P c (live P a after)) × (WantedFrom S t (at + 2 * goalsCount c) (points P a after)
+      × WantedFrom S t (at + 2 * goalsCount c + 2 * goalsCount a) (points P b after))
+  unfolding partPoints
+  try-wants {c = c} {a = a} {b = b} after e h =
+      let k : WantedFrom S t at (points P c (live P a after) ++ (points P a after ++ points P b after)) = rw e at h in
+      let m = wants-behind S t at (points P c (live P a after)) (points P a after ++ points P b after) k (points-count P c (live P a after)) in (
+        wants-front S t at (points P c (live P a after)) (points P a after ++ points P b after) k,
+        (wants-front S t (at + 2 * goalsCount c) (points P a after) (points P b after) m, wants-behind S t (at + 2 * goalsCount c) (points P a after) (points P b after) m (points-count P a after)),
+      )
 
   pub arms-want : {ds cs : Arms} {f : ℕ} {ys : Four} {gs : Goals} (after : Set) → ds ≡ arm f ys gs cs → WantedFrom S t at (armsPoints P ds after)
       → WantedFrom S t at (points P gs after) × WantedFrom S t (at + 2 * goalsCount gs) (armsPoints P cs after)

@@ -11,7 +11,7 @@ use Rattle.language.specs.Program.{signatureOf}
 use Rattle.language.specs.Answers.{program}
 use Rattle.placement.specs.Local.{localGoals}
 use Rattle.chains.specs.Formed.{Stands, ahead, goalsAt}
-use Rattle.chains.specs.Shapes.{IsSwitch, IsIf}
+use Rattle.chains.specs.Shapes.{IsSwitch, IsIf, IsTry}
 use Rattle.liveness.specs.Points.{points}
 use Rattle.liveness.specs.Counts.{goalsCount}
 use Rattle.tables.specs.Filled.{Owned, Belongs}
@@ -21,7 +21,7 @@ use Rattle.insertion.specs.Wants.{WantedFrom}
 
 -- the goal at record i has parts, where there is one
 abbrev pub HasParts : List ℕ → ℕ → Type 0
-HasParts f i = (i ≡ 0 → ⊥) → (IsSwitch f i → ⊥) → IsIf f i
+HasParts f i = (i ≡ 0 → ⊥) → (IsSwitch f i → ⊥) → (IsIf f i → ⊥) → IsTry f i
 
 -- the goals from record start on were to be laid from place first on; what is left are those from record i on, from place c on
 module _ (f rows t : List ℕ) (start at₀ : ℕ) (a b : List ℕ) (first i at c : ℕ) where

@@ -4,6 +4,7 @@ pub mod Cursor
 pub mod Done
 pub mod Along
 pub mod Steps
+pub mod Starts
 pub mod Bodies
 pub mod Procedures
 pub mod Whole

@@ -4,6 +4,7 @@ mod cursor;
 mod placed;
 mod points;
 mod procedures;
+mod starts;
 mod step;
 mod walk;
 mod wanted;

@@ -14,6 +14,7 @@ use language::format::MAX_BYTES;
 use language::format::NEXT;
 use language::format::REMOVE;
 use language::format::SWITCH;
+use language::format::TRY;
 use laying::follows;
 use laying::lay_marks;
 use laying::lay_record;
@@ -28,7 +29,7 @@ use tables::needs_at;
 ghost use mathlib.Core.Path.{_≡_};
 ghost use Rattle.language.specs.File;
 ghost use Rattle.chains.specs.Formed.{Formed, Stands};
-ghost use Rattle.chains.specs.Shapes.{IsSwitch, IsIf};
+ghost use Rattle.chains.specs.Shapes.{IsSwitch, IsIf, IsTry};
 ghost use Rattle.insertion.specs.Done.{LaysGoal};
 ghost use Rattle.insertion.specs.Along.{LaysAlong, HasParts};
 ghost use Rattle.insertion.specs.Steps.{createdIn, removedIn};
@@ -68,7 +69,7 @@ fn step(
 )
     requires { ⌜ Formed (now (now file)) ⌝ }
     requires { ⌜ Stands (now (now file)) File.goals i × (i ≡ 0 → ⊥) ⌝ }
-    requires { ⌜ (IsSwitch (now (now file)) i → ⊥) × (IsIf (now (now file)) i → ⊥) ⌝ }
+    requires { ⌜ (IsSwitch (now (now file)) i → ⊥) × ((IsIf (now (now file)) i → ⊥) × (IsTry (now (now file)) i → ⊥)) ⌝ }
     ensures { λ _. ⌜ LaysGoal (now (now (file .entry))) (now (rows .entry)) (now (points .entry)) i (now (out .entry)) (now (out .exit)) (now (at .entry)) (now (at .exit)) ⌝ }
 {
     let point = point_in(at);
@@ -100,6 +101,7 @@ pub fn steps(
         match word(*file, i, KIND) {
             SWITCH => return i,
             IF => return i,
+            TRY => return i,
             _ => step(file, rows, points, out, at, i),
         }
         i = word(*file, i, NEXT);

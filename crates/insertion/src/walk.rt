@@ -4,29 +4,33 @@ use crate::CURSOR;
 use crate::cursor::point_in;
 use crate::cursor::put;
 use crate::cursor::record_in;
-use crate::points::left_over;
 use crate::points::past;
+use crate::starts::either;
+use crate::starts::start_part;
 use crate::step::steps;
 use chains::word;
 use language::format::ARM_GOALS;
+use language::format::IF;
 use language::format::IF_ELSE;
 use language::format::IF_THEN;
 use language::format::KIND;
 use language::format::MAX_BYTES;
 use language::format::NEXT;
-use language::format::REMOVE;
 use language::format::SWITCH;
 use language::format::SWITCH_ARMS;
-use laying::lay_marks;
+use language::format::TRY_CONDITION;
+use language::format::TRY_ELSE;
+use language::format::TRY_THEN;
 use laying::store_arm;
 use laying::store_if;
 use laying::store_switch;
+use laying::store_try;
 use liveness::POINTS;
 use tables::ROWS;
 use writer::behind;
 ghost use Rattle.language.specs.File;
 ghost use Rattle.chains.specs.Formed.{Formed, Stands};
-ghost use Rattle.chains.specs.Shapes.{IsSwitch, IsIf};
+ghost use Rattle.chains.specs.Shapes.{IsSwitch, IsIf, IsTry};
 ghost use Rattle.insertion.specs.Done.{LaysGoals, LaysGoal, LaysPart, LaysArms};
 ghost use Rattle.insertion.specs.Along.{HasParts};
 
@@ -45,10 +49,10 @@ pub fn goals(
 {
     let mut i = start;
     while i != 0 {
-        if word(*file, i, KIND) == SWITCH {
-            switch(file, rows, points, out, at, i);
-        } else {
-            branches(file, rows, points, out, at, i);
+        match word(*file, i, KIND) {
+            SWITCH => switch(file, rows, points, out, at, i),
+            IF => branches(file, rows, points, out, at, i),
+            _ => attempt(file, rows, points, out, at, i),
         }
         let next = word(*file, i, NEXT);
         i = steps(file, rows, points, out, at, next);
@@ -102,7 +106,38 @@ fn branches(
     store_if(*file, out, i, first, start, middle, record_in(at));
 }
 
-// A part of the goal whose point is at `whole`: removes, then the goals from record start on. A part of steps alone is no call back into the walk.
+// A try: its condition, its then part, its else part, then its own record in front of them. The condition starts with the removes of what only the
+// else part needs, and ends with what the then part starts from.
+fn attempt(
+    file: &&[u8],
+    rows: &[u64; ROWS],
+    points: &[u64; POINTS],
+    out: &mut [u8; MAX_BYTES],
+    at: &mut [usize; CURSOR],
+    i: usize,
+)
+    requires { ⌜ Formed (now (now file)) ⌝ }
+    requires { ⌜ IsTry (now (now file)) i ⌝ }
+    ensures { λ _. ⌜ LaysGoal (now (now (file .entry))) (now (rows .entry)) (now (points .entry)) i (now (out .entry)) (now (out .exit)) (now (at .entry)) (now (at .exit)) ⌝ }
+{
+    let first = record_in(at);
+    let whole = point_in(at);
+    let start = behind(first);
+    put(at, start, past(whole));
+    let condition = word(*file, i, TRY_CONDITION);
+    let then = word(*file, i, TRY_THEN);
+    start_part(points, out, at, whole, either(condition, then), condition);
+    chain(file, rows, points, out, at, condition);
+    let yes = record_in(at);
+    chain(file, rows, points, out, at, then);
+    let no = record_in(at);
+    let other = word(*file, i, TRY_ELSE);
+    part(file, rows, points, out, at, other, whole);
+    store_try(*file, out, i, first, start, yes, no, record_in(at));
+}
+
+// A part of the goal whose point is at `whole`: removes, then the goals from record start on. (They are laid as `chain` lays them, and not by it: a
+// level of switches then takes 16 bytes less of the stack.)
 fn part(
     file: &&[u8],
     rows: &[u64; ROWS],
@@ -116,10 +151,26 @@ fn part(
     requires { ⌜ Stands (now (now file)) File.goals start ⌝ }
     ensures { λ _. ⌜ LaysPart (now (now (file .entry))) (now (rows .entry)) (now (points .entry)) start (now (out .entry)) (now (out .exit)) (now (at .entry)) (now (at .exit)) whole ⌝ }
 {
-    let point = point_in(at);
-    let removed = left_over(points, whole, start, point);
-    let record = lay_marks(out, REMOVE, removed, start, record_in(at));
-    put(at, record, point);
+    start_part(points, out, at, whole, start, start);
+    let i = steps(file, rows, points, out, at, start);
+    if i != 0 {
+        goals(file, rows, points, out, at, i);
+    }
+}
+
+// The goals from record start on. Steps alone are no call back into the walk.
+fn chain(
+    file: &&[u8],
+    rows: &[u64; ROWS],
+    points: &[u64; POINTS],
+    out: &mut [u8; MAX_BYTES],
+    at: &mut [usize; CURSOR],
+    start: usize,
+)
+    requires { ⌜ Formed (now (now file)) ⌝ }
+    requires { ⌜ Stands (now (now file)) File.goals start ⌝ }
+    ensures { λ _. ⌜ LaysGoals (now (now (file .entry))) (now (rows .entry)) (now (points .entry)) start (now (out .entry)) (now (out .exit)) (now (at .entry)) (now (at .exit)) ⌝ }
+{
     let i = steps(file, rows, points, out, at, start);
     if i != 0 {
         goals(file, rows, points, out, at, i);

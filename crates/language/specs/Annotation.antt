@@ -7,7 +7,7 @@ use Rattle.sets.specs.Sets.{_∪_, _∩_, _∖_}
 use Rattle.sets.specs.Members.{members}
 use Rattle.sets.specs.declared.Set.{Set}
 use Rattle.language.specs.Lists.{all}
-use Rattle.language.specs.Program.{Four, Step, literal, sum, assign, construct, call, print, create, remove, Goals, done, _then_, Goal, step, switch, ifLess, Arms, noArms, arm, _before_, Signature, Procedure, Program}
+use Rattle.language.specs.Program.{Four, Step, literal, sum, assign, construct, call, print, create, remove, test, Goals, done, _then_, Goal, step, switch, ifLess, try, Arms, noArms, arm, _before_, Signature, Procedure, Program}
 use Rattle.language.specs.Values.{outsOf}
 use Rattle.language.specs.Lifetimes.{startHeld, wanted, liveStep, live, liveGoal, effect, heldAfter}
 
@@ -21,6 +21,7 @@ plainStep (call q ys) = true
 plainStep (print y) = true
 plainStep (create r) = false
 plainStep (remove r) = false
+plainStep (test y z) = true
 
 -- Number 6: "annotator: a create or remove in the input"
 unfoldable mutual
@@ -32,6 +33,7 @@ unfoldable mutual
   plainGoal (step g) = plainStep g
   plainGoal (switch x cs) = plainArms cs
   plainGoal (ifLess y z a b) = plainGoals a & plainGoals b
+  plainGoal (try c a b) = plainGoals c & plainGoals a & plainGoals b
 
   pub plainArms : Arms → Bool
   plainArms noArms = true
@@ -72,6 +74,9 @@ removing held want = record { goals = removes (members (held ∖ want)); held = 
 unfoldable pub placedIf : ℕ → ℕ → Placed → Placed → Placed
 placedIf y z a b = record { goals = ifLess y z (a .goals) (b .goals) then done; held = a .held }
 
+unfoldable pub placedTry : Placed → Placed → Placed → Placed
+placedTry c a b = record { goals = try (c .goals) (a .goals) (b .goals) then done; held = a .held }
+
 unfoldable pub placedSwitch : ℕ → PlacedArms → Placed
 placedSwitch x cs = record { goals = switch x (cs .arms) then done; held = cs .held }
 
@@ -104,6 +109,10 @@ module _ (P : Program) (S : Signature) where
     placeGoal (step g) after held = placeStep g after held
     placeGoal (switch x cs) after held = placedSwitch x (placeArms cs after held)
     placeGoal (ifLess y z a b) after held = placedIf y z (placeGoals a after held) (placeGoals b after held)
+    -- "Creates and removes go into condition and parts as into arms" (C-20): the then part finds what the condition ends with
+    placeGoal (try c a b) after held =
+        let condition = placeGoals c (live P a after) held in
+        placedTry condition (placeGoals a after (condition .held)) (placeGoals b after held)
 
     pub placeArms : Arms → Set → Set → PlacedArms
     placeArms noArms after held = record { arms = noArms; held = held }

@@ -21,6 +21,7 @@ use Rattle.language.specs.Layout.{size, written}
 use Rattle.language.specs.Program.{Program}
 use Rattle.language.specs.Reading.{programOf}
 use Rattle.language.specs.Records.{programTree}
+use Rattle.language.specs.Conditions.{conditionsOk}
 use Rattle.language.specs.Typing.{typingOk}
 use Rattle.language.specs.Values.{valuesOk}
 use Rattle.language.specs.Regions.{regionsOk}
@@ -79,7 +80,8 @@ program f = programOf (treeOf f)
 -- the stages of every program, in the table's order
 unfoldable pub fileStages : List ℕ → List Stage
 fileStages f =
-    stage Header (headerOk f) ∷ stage Form (formOk (word f) (recordCount f)) ∷ stage Typing (typingOk (program f)) ∷ stage Values (valuesOk (program f))
+    stage Header (headerOk f) ∷ stage Form (formOk (word f) (recordCount f)) ∷ stage Form (conditionsOk (program f))
+    ∷ stage Typing (typingOk (program f)) ∷ stage Values (valuesOk (program f))
     ∷ stage Regions (regionsOk (program f)) ∷ []
 
 -- number 17 is "looked at after 5 and before 6" (C-18): the stages of the programs that refuse procedures which no chain of calls reaches

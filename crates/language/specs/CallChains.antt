@@ -8,7 +8,7 @@ use Rattle.sets.specs.Tests.{_&_}
 use Rattle.sets.specs.Members.{inList, filtered}
 use Rattle.language.specs.Lists.{all, upFrom}
 use Rattle.language.specs.Format.{entryProcedure}
-use Rattle.language.specs.Program.{Step, literal, sum, assign, construct, call, print, create, remove, Goals, done, _then_, Goal, step, switch, ifLess, Arms, noArms, arm, Program, procedureAt}
+use Rattle.language.specs.Program.{Step, literal, sum, assign, construct, call, print, create, remove, test, Goals, done, _then_, Goal, step, switch, ifLess, try, Arms, noArms, arm, Program, procedureAt}
 
 -- the procedures that a step calls, that goals call, that arms do: the calls of the text, in arms that no run takes too
 unfoldable pub stepCallees : Step → List ℕ
@@ -20,6 +20,7 @@ stepCallees (call q ys) = q ∷ []
 stepCallees (print y) = []
 stepCallees (create r) = []
 stepCallees (remove r) = []
+stepCallees (test y z) = []
 
 unfoldable mutual
   pub goalsCallees : Goals → List ℕ
@@ -30,6 +31,7 @@ unfoldable mutual
   goalCallees (step g) = stepCallees g
   goalCallees (switch x cs) = armsCallees cs
   goalCallees (ifLess y z a b) = goalsCallees a ++ goalsCallees b
+  goalCallees (try c a b) = goalsCallees c ++ goalsCallees a ++ goalsCallees b
 
   pub armsCallees : Arms → List ℕ
   armsCallees noArms = []

@@ -9,7 +9,7 @@ use Rattle.sets.specs.Sets.{member, _∪_, _∩_, _∖_, sameSet, subset, apart
 use Rattle.sets.specs.Members.{setOf, keep}
 use Rattle.sets.specs.declared.Set.{Set}
 use Rattle.language.specs.Lists.{all}
-use Rattle.language.specs.Program.{argumentsOf, Step, Goals, done, _then_, Goal, step, switch, ifLess, Arms, noArms, arm, Signature, Procedure, Program}
+use Rattle.language.specs.Program.{argumentsOf, Step, Goals, done, _then_, Goal, step, switch, ifLess, try, Arms, noArms, arm, Signature, Procedure, Program}
 use Rattle.language.specs.Values.{insOf, outsOf, reads, gives}
 use Rattle.language.specs.Regions.{reach}
 use Rattle.language.specs.Lifetimes.{born, kept, startHeld, effect, heldAfter}
@@ -68,6 +68,10 @@ module _ (P : Program) (S : Signature) where
     checkGoal (switch x cs) held sound = requireRule (member sound x) (checkArms cs held sound)
     checkGoal (ifLess y z a b) held sound =
         requireRule (member sound y & member sound z) (joinArms (checkGoals a held sound) (checkGoals b held sound))
+    -- "The else part starts from what .. was held and was sound before the try, the then part from what the condition ends with"; "both parts
+    -- end alike" (C-20)
+    checkGoal (try c a b) held sound =
+        joinArms (carryOn (checkGoals c held sound) (λ h s. checkGoals a h s)) (checkGoals b held sound)
 
     -- number 3 sees to it that there is an arm
     pub checkArms : Arms → Set → Set → Carried

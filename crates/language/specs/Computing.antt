@@ -12,6 +12,7 @@ use Rattle.language.specs.Layout as Layout
 use Rattle.language.specs.Program as Program
 use Rattle.language.specs.Reading as Reading
 use Rattle.language.specs.Records as Records
+use Rattle.language.specs.Conditions as Conditions
 use Rattle.language.specs.Typing as Typing
 use Rattle.language.specs.Values as Values
 use Rattle.language.specs.Regions as Regions
@@ -62,6 +63,10 @@ unfoldable pub recordsOpen : Unit {0}
 unfolding Records.zeros Records.fourPlain Records.chainOf Records.functorWords Records.typeWords Records.variableWords Records.edgeWords Records.regionWords Records.argumentWords Records.stepTree Records.goalsTree Records.goalTree Records.armsTree Records.procedureWords Records.headed Records.programTree
 recordsOpen = tt
 
+unfoldable pub conditionsOpen : Unit {0}
+unfolding Conditions.stepStands Conditions.goalsStand Conditions.goalStands Conditions.armsStand Conditions.conditionsOk
+conditionsOpen = tt
+
 unfoldable pub typingOpen : Unit {0}
 unfolding Typing.typesIn Typing.placeIf Typing.isVariable Typing.isRegion Typing.hasType Typing.isRegionOf Typing.haveTypes Typing.argumentsOk Typing.isType Typing.regioned Typing.functorOk Typing.typeOk Typing.typesOk Typing.placesIn Typing.placesFrom Typing.variableOk Typing.edgesOk Typing.regionOk Typing.signatureOk Typing.typesOf Typing.parameterTypes Typing.functorsFor Typing.stepOk Typing.goalsOk Typing.goalOk Typing.armsOk Typing.procedureOk Typing.typingOk
 typingOpen = tt
@@ -83,7 +88,7 @@ unfolding Lifetimes.inputs Lifetimes.outputs Lifetimes.ofClass Lifetimes.declare
 lifetimesOpen = tt
 
 unfoldable pub annotationOpen : Unit {0}
-unfolding Annotation.plainStep Annotation.plainGoals Annotation.plainGoal Annotation.plainArms Annotation.unannotated Annotation.creates Annotation.removes Annotation.goingOn Annotation.removing Annotation.placedIf Annotation.placedSwitch Annotation.placedArm Annotation.createdFor Annotation.placeStep Annotation.placeGoals Annotation.placeGoal Annotation.placeArms Annotation.annotateProcedure Annotation.annotate
+unfolding Annotation.plainStep Annotation.plainGoals Annotation.plainGoal Annotation.plainArms Annotation.unannotated Annotation.creates Annotation.removes Annotation.goingOn Annotation.removing Annotation.placedIf Annotation.placedTry Annotation.placedSwitch Annotation.placedArm Annotation.createdFor Annotation.placeStep Annotation.placeGoals Annotation.placeGoal Annotation.placeArms Annotation.annotateProcedure Annotation.annotate
 annotationOpen = tt
 
 unfoldable pub checkingOpen : Unit {0}
@@ -91,19 +96,19 @@ unfolding Checking.requireRule Checking.carryOn Checking.joinArms Checking.sound
 checkingOpen = tt
 
 unfoldable pub framesOpen : Unit {0}
-unfolding Frames.numberIn Frames.giveEach Frames.withGoals Frames.giving Frames.literalIn Frames.sumOf Frames.sumIn Frames.assignIn Frames.cellFor Frames.builtValue Frames.buildIn Frames.fitsStep Frames.fits Frames.overAhead Frames.staysAtSum Frames.branchIn Frames.pick Frames.enterArm Frames.noCell Frames.cellIn Frames.openCell Frames.calleeFrame Frames.returning Frames.entryFrame Frames.settle
+unfolding Frames.numberIn Frames.giveEach Frames.withGoals Frames.giving Frames.literalIn Frames.sumOf Frames.sumIn Frames.assignIn Frames.cellFor Frames.builtValue Frames.buildIn Frames.fitsStep Frames.fits Frames.overAhead Frames.staysAtSum Frames.ahead Frames.lessIn Frames.branchIn Frames.pick Frames.enterArm Frames.noCell Frames.cellIn Frames.openCell Frames.calleeFrame Frames.returning Frames.entryFrame Frames.settle
 framesOpen = tt
 
 unfoldable pub plainRunOpen : Unit {0}
-unfolding PlainRun.thenIf PlainRun.stripGoals PlainRun.stripGoal PlainRun.stripArms PlainRun.stripProcedure PlainRun.stripped PlainRun.builtCells PlainRun.plainState PlainRun.plainStart PlainRun.plainTake PlainRun.plainNext PlainRun.plainFrom PlainRun.plainStepOf PlainRun.plainSteps
+unfolding PlainRun.thenIf PlainRun.stripGoals PlainRun.stripGoal PlainRun.stripArms PlainRun.stripProcedure PlainRun.stripped PlainRun.builtCells PlainRun.wholeFrame PlainRun.plainState PlainRun.plainWithin PlainRun.plainStateIn PlainRun.plainFailed PlainRun.plainStart PlainRun.plainTake PlainRun.plainNext PlainRun.plainFrom PlainRun.plainStepOf PlainRun.plainSteps
 plainRunOpen = tt
 
 unfoldable pub acceptedRunOpen : Unit {0}
-unfolding AcceptedRun.cellOf AcceptedRun.frameOf AcceptedRun.liesIn AcceptedRun.readable AcceptedRun.withCell AcceptedRun.withBuilt AcceptedRun.withPrinted AcceptedRun.withRegion AcceptedRun.withoutRegion AcceptedRun.standEach AcceptedRun.withFrame AcceptedRun.calleeStands AcceptedRun.returnStands AcceptedRun.mappingFrom AcceptedRun.calleeRegions AcceptedRun.returningRegions AcceptedRun.state AcceptedRun.start AcceptedRun.regionFor AcceptedRun.allowed AcceptedRun.take AcceptedRun.next AcceptedRun.stepFrom AcceptedRun.stepOf AcceptedRun.steps
+unfolding AcceptedRun.cellOf AcceptedRun.frameOf AcceptedRun.liesIn AcceptedRun.readable AcceptedRun.withCell AcceptedRun.withBuilt AcceptedRun.withPrinted AcceptedRun.withRegion AcceptedRun.withoutRegion AcceptedRun.restored AcceptedRun.standEach AcceptedRun.withFrame AcceptedRun.whole AcceptedRun.calleeStands AcceptedRun.returnStands AcceptedRun.mappingFrom AcceptedRun.calleeRegions AcceptedRun.returningRegions AcceptedRun.state AcceptedRun.within AcceptedRun.stateIn AcceptedRun.failed AcceptedRun.start AcceptedRun.regionFor AcceptedRun.allowed AcceptedRun.take AcceptedRun.next AcceptedRun.stepFrom AcceptedRun.stepOf AcceptedRun.steps
 acceptedRunOpen = tt
 
 unfoldable pub machineOpen : Unit {0}
-unfolding Machine.runnerLent Machine.holds Machine.roomIn Machine.cellsHeld Machine.countAlive Machine.regionsHeld Machine.roomOr Machine.outlookFor Machine.outlookIn Machine.outlookAt Machine.outlook Machine.endedWith Machine.runOn Machine.runFrom Machine.run Machine.printPlaces
+unfolding Machine.runnerLent Machine.holds Machine.roomIn Machine.cellsHeld Machine.countAlive Machine.regionsHeld Machine.countedIn Machine.counted Machine.roomOr Machine.outlookFor Machine.outlookIn Machine.outlookAt Machine.outlook Machine.endedWith Machine.runOn Machine.runFrom Machine.run Machine.printPlaces
 machineOpen = tt
 
 unfoldable pub answersOpen : Unit {0}
@@ -115,5 +120,5 @@ unfolding Output.digitsOnto Output.decimal Output.signedDecimal Output.line Outp
 outputOpen = tt
 
 unfoldable pub computing : Unit {0}
-unfolding setsOpen listsOpen numbersOpen fileOpen treeOpen layoutOpen programOpen readingOpen recordsOpen typingOpen valuesOpen regionsOpen callChainsOpen lifetimesOpen annotationOpen checkingOpen framesOpen plainRunOpen acceptedRunOpen machineOpen answersOpen outputOpen
+unfolding setsOpen listsOpen numbersOpen fileOpen treeOpen layoutOpen programOpen readingOpen recordsOpen conditionsOpen typingOpen valuesOpen regionsOpen callChainsOpen lifetimesOpen annotationOpen checkingOpen framesOpen plainRunOpen acceptedRunOpen machineOpen answersOpen outputOpen
 computing = tt

@@ -6,7 +6,7 @@ use lib.Dec.{eqb, leb, ltb}
 use lib.ListN.{length, getD}
 use Rattle.sets.specs.Tests.{_&_, _or_}
 use Rattle.language.specs.Lists.{nth, all, upFrom, count}
-use Rattle.language.specs.Format.{headerKind, typeKind, functorKind, procedureKind, variableKind, regionKind, edgeKind, literalKind, sumKind, assignKind, constructKind, switchKind, armKind, ifKind, callKind, argumentKind, printKind, createKind, removeKind, recordBytes, maxBytes}
+use Rattle.language.specs.Format.{headerKind, typeKind, functorKind, procedureKind, variableKind, regionKind, edgeKind, literalKind, sumKind, assignKind, constructKind, switchKind, armKind, ifKind, callKind, argumentKind, printKind, createKind, removeKind, tryKind, testKind, recordBytes, maxBytes}
 
 -- "records of 16 bytes, each eight 16-bit words w0 to w7, low byte first": word k of record i
 unfoldable pub word : List ℕ → ℕ → ℕ → ℕ
@@ -18,7 +18,7 @@ recordCount f = word f 0 3
 
 -- "In other records w0 is the kind": first the kinds of a goal chain, then all
 pub data GoalKind : Type 0 where
-  kLiteral kSum kAssign kConstruct kSwitch kIf kCall kPrint kCreate kRemove : GoalKind
+  kLiteral kSum kAssign kConstruct kSwitch kIf kCall kPrint kCreate kRemove kTry kTest : GoalKind
 
 pub data Kind : Type 0 where
   kNone kHeader kType kFunctor kProcedure kVariable kRegion kEdge kArm kArgument : Kind
@@ -72,10 +72,12 @@ row kArgument = rowIn argumentKind arguments (number ∷ [])
 row (kGoal kPrint) = rowIn printKind goals (number ∷ [])
 row (kGoal kCreate) = rowIn createKind goals (number ∷ [])
 row (kGoal kRemove) = rowIn removeKind goals (number ∷ [])
+row (kGoal kTry) = rowIn tryKind goals (first goals ∷ first goals ∷ first goals ∷ [])
+row (kGoal kTest) = rowIn testKind goals (number ∷ number ∷ [])
 
 -- the kinds in the order of their numbers; kNone stands for every other number
 unfoldable pub kinds : List Kind
-kinds = kNone ∷ kHeader ∷ kType ∷ kFunctor ∷ kProcedure ∷ kVariable ∷ kRegion ∷ kEdge ∷ kGoal kLiteral ∷ kGoal kSum ∷ kGoal kAssign ∷ kGoal kConstruct ∷ kGoal kSwitch ∷ kArm ∷ kGoal kIf ∷ kGoal kCall ∷ kArgument ∷ kGoal kPrint ∷ kGoal kCreate ∷ kGoal kRemove ∷ []
+kinds = kNone ∷ kHeader ∷ kType ∷ kFunctor ∷ kProcedure ∷ kVariable ∷ kRegion ∷ kEdge ∷ kGoal kLiteral ∷ kGoal kSum ∷ kGoal kAssign ∷ kGoal kConstruct ∷ kGoal kSwitch ∷ kArm ∷ kGoal kIf ∷ kGoal kCall ∷ kArgument ∷ kGoal kPrint ∷ kGoal kCreate ∷ kGoal kRemove ∷ kGoal kTry ∷ kGoal kTest ∷ []
 
 unfoldable pub kindOf : ℕ → Kind
 kindOf n = nth kNone kinds n

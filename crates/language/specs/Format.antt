@@ -59,6 +59,13 @@ createKind = 18
 abbrev pub removeKind : ℕ
 removeKind = 19
 
+-- "Add kind 20, try .. and kind 21, test" (C-20)
+abbrev pub tryKind : ℕ
+tryKind = 20
+
+abbrev pub testKind : ℕ
+testKind = 21
+
 -- the places of a record's words
 -- every record
 abbrev pub kindWord : ℕ
@@ -174,6 +181,22 @@ ifThen = 4
 
 abbrev pub ifElse : ℕ
 ifElse = 5
+
+-- try: "w2 condition, w3 then, w4 else"; test: "w2 Y, w3 Z" (C-20)
+abbrev pub tryCondition : ℕ
+tryCondition = 2
+
+abbrev pub tryThen : ℕ
+tryThen = 3
+
+abbrev pub tryElse : ℕ
+tryElse = 4
+
+abbrev pub testY : ℕ
+testY = 2
+
+abbrev pub testZ : ℕ
+testZ = 3
 
 -- call and argument
 abbrev pub callProcedure : ℕ

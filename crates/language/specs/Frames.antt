@@ -7,7 +7,7 @@ use lib.IntN.{ℤ, pos}
 use Rattle.sets.specs.Tests.{neg}
 use Rattle.language.specs.Lists.{nth, choose, put}
 use Rattle.language.specs.Numbers.{literalNumber, sumNumber, inRange, less}
-use Rattle.language.specs.Program.{argumentsOf, Step, literal, sum, assign, construct, call, print, create, remove, Goals, done, _then_, Goal, step, switch, ifLess, Arms, noArms, arm, _before_, Program, procedureAt, signatureOf, parametersOf, inMode, outMode, argumentsIn, variablesIn}
+use Rattle.language.specs.Program.{argumentsOf, Step, literal, sum, assign, construct, call, print, create, remove, test, Goals, done, _then_, Goal, step, switch, ifLess, try, Arms, noArms, arm, _before_, Program, procedureAt, signatureOf, parametersOf, inMode, outMode, argumentsIn, variablesIn}
 
 -- "a value in demand 3's runs being a number, a cell or a constant" (C-14): a constant is its functor
 pub data Value : Type 0 where
@@ -21,6 +21,18 @@ pub record Frame : Type 0 where
   pub arguments : List ℕ
   pub goals : Goals
   pub values : ℕ → Value
+
+-- "When a test fails, the else part begins with variables, regions and cells exactly as before the condition" (C-20). An open condition has
+-- the goals that follow it, the then part and the rest, and what a failing test goes on with: the frame, at the else part, and the memory,
+-- both as they were. "Conditions hold no call .. or try": only the newest frame has one, and one at most
+pub data Condition (F M : Type 0) : Type 0 where
+  closed : Condition F M
+  opened : Goals → F → M → Condition F M
+
+-- all goals still to do, where gs are those of the newest frame
+unfoldable pub ahead : {F M : Type 0} → Condition F M → Goals → Goals
+ahead closed gs = gs
+ahead (opened a e n) gs = gs before a
 
 -- "A cell has a functor and its arguments' values"
 pub record Cell : Type 0 where
@@ -81,11 +93,13 @@ fitsStep (call q ys) f = true
 fitsStep (print y) f = true
 fitsStep (create r) f = true
 fitsStep (remove r) f = true
+fitsStep (test y z) f = true
 
 unfoldable pub fits : Goal → Frame → Bool
 fits (step g) f = fitsStep g f
 fits (switch x cs) f = true
 fits (ifLess y z a b) f = true
+fits (try c a b) f = true
 
 -- "Both runs of demand 3 stay at that goal, not ended": the newest frame's next goal is a sum out of range
 unfoldable pub overAhead : Goals → Frame → Bool
@@ -96,9 +110,13 @@ unfoldable pub staysAtSum : List Frame → Bool
 staysAtSum [] = false
 staysAtSum (f ∷ fs) = overAhead (f .goals) f
 
+-- Y < Z
+unfoldable pub lessIn : Frame → ℕ → ℕ → Bool
+lessIn f y z = less (numberIn (f .values y)) (numberIn (f .values z))
+
 -- "that arm's goals, or those of an if's part, go before the rest"
 unfoldable pub branchIn : Frame → ℕ → ℕ → Goals → Goals → Frame
-branchIn f y z a b = withGoals f (choose (less (numberIn (f .values y)) (numberIn (f .values z))) a b before f .goals)
+branchIn f y z a b = withGoals f (choose (lessIn f y z) a b before f .goals)
 
 -- "A switch gives its arm's arguments the values in X's cell": the arm of a functor, if there is one
 pub data Picked : Type 0 where

@@ -7,6 +7,7 @@ pub mod Layout
 pub mod Program
 pub mod Reading
 pub mod Records
+pub mod Conditions
 pub mod Typing
 pub mod Values
 pub mod Regions
@@ -24,3 +25,4 @@ pub mod Computing
 pub mod Table
 pub mod Examples
 pub mod Unreached
+pub mod Conditional

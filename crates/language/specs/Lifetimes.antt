@@ -10,7 +10,7 @@ use Rattle.sets.specs.Members.{setOf, keep, image, every}
 use Rattle.sets.specs.declared.Set.{Set}
 use Rattle.language.specs.Lists.{all, upFrom}
 use Rattle.language.specs.Format.{bornClass, deadClass}
-use Rattle.language.specs.Program.{argumentsOf, Step, literal, sum, assign, construct, call, print, create, remove, Goals, done, _then_, Goal, step, switch, ifLess, Arms, noArms, arm, Signature, Procedure, Program, regionOf, regionAt, signatureOf}
+use Rattle.language.specs.Program.{argumentsOf, Step, literal, sum, assign, construct, call, print, create, remove, test, Goals, done, _then_, Goal, step, switch, ifLess, try, Arms, noArms, arm, Signature, Procedure, Program, regionOf, regionAt, signatureOf}
 use Rattle.language.specs.Values.{insOf, outsOf, reads, gives}
 use Rattle.language.specs.Regions.{reachAll, Mapping, mapping, imageIn}
 
@@ -67,6 +67,9 @@ module _ (P : Program) where
     liveGoal (step g) after = liveStep g after
     liveGoal (switch x cs) after = single x ∪ liveArms cs after
     liveGoal (ifLess y z a b) after = (single y ∪ single z) ∪ (live a after ∪ live b after)
+    -- "Live before the try is what the else part needs, or the condition and then part in turn; inside the condition the else part doesn't
+    -- count" (C-20)
+    liveGoal (try c a b) after = live c (live a after) ∪ live b after
 
     pub liveArms : Arms → Set → Set
     liveArms noArms after = emptySet
@@ -107,6 +110,7 @@ module _ (P : Program) (S : Signature) where
   effect (print y) = noEffect
   effect (create r) = record { needs = emptySet; bears = single r; ends = emptySet; unshared = true }
   effect (remove r) = record { needs = single r; bears = emptySet; ends = single r; unshared = true }
+  effect (test y z) = noEffect
 
   -- held after a step that is met with `held` held
   unfoldable pub heldAfter : Step → Set → Set
@@ -126,6 +130,7 @@ module _ (P : Program) (S : Signature) where
     goalClasses (step g) after = stepClasses g after
     goalClasses (switch x cs) after = armsClasses cs after
     goalClasses (ifLess y z a b) after = goalsClasses a after & goalsClasses b after
+    goalClasses (try c a b) after = goalsClasses c (live P a after) & goalsClasses a after & goalsClasses b after
 
     pub armsClasses : Arms → Set → Bool
     armsClasses noArms after = true

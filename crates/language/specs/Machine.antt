@@ -12,8 +12,8 @@ use Rattle.language.specs.declared.Ending.{Ending}
 use Rattle.language.specs.declared.Ending.the-variants.{Finished, Stopped}
 use Rattle.language.specs.Lists.{one, upFrom, frontWritten, isNone}
 use Rattle.language.specs.Numbers.{residue}
-use Rattle.language.specs.Program.{argumentsOf, literal, sum, assign, construct, call, print, create, remove, Goals, done, _then_, Goal, step, switch, ifLess, Program}
-use Rattle.language.specs.Frames.{fitsStep}
+use Rattle.language.specs.Program.{argumentsOf, literal, sum, assign, construct, call, print, create, remove, test, Goals, done, _then_, Goal, step, switch, ifLess, try, Program}
+use Rattle.language.specs.Frames.{Condition, closed, opened, fitsStep}
 use Rattle.language.specs.AcceptedRun.{RegionFrame, RegionCell, Memory, State, start, stepOf}
 
 -- what is lent: words of memory for each sort, and steps
@@ -55,6 +55,15 @@ countAlive alive (k ∷ ks) = one (alive k) + countAlive alive ks
 unfoldable pub regionsHeld : Memory → ℕ
 regionsHeld m = countAlive (m .alive) (upFrom 1 (m .made))
 
+-- "A removal in a condition frees nothing before the then part begins, and until then its cells and place count as held" (C-20): the memory as it
+-- counts, in a condition with the regions that were alive before it and all that it made
+unfoldable pub countedIn : Condition RegionFrame Memory → Memory → Memory
+countedIn closed m = m
+countedIn (opened a e n) m = record { cells = m .cells; made = m .made; alive = λ k. n .alive k or ltb (n .made) k; printed = m .printed }
+
+unfoldable pub counted : State → Memory
+counted s = countedIn (s .condition) (s .memory)
+
 -- what can be said before a step: the run has ended, the step can be done, or there is a cause to stop
 pub data Outlook : Type 0 where
   ended : Outlook
@@ -73,13 +82,15 @@ outlookFor k (step (literal x v)) f s = goes
 outlookFor k (step (sum x o y z)) f s = roomOr (fitsStep (sum x o y z) (f .frame)) Sums
 outlookFor k (step (assign x y)) f s = goes
 outlookFor k (step (construct x t ys)) f s =
-    roomOr (isNone (argumentsOf ys) or ltb (cellsHeld (s .memory .alive) (s .memory .cells)) (k .cells)) Cells
+    roomOr (isNone (argumentsOf ys) or ltb (cellsHeld (counted s .alive) (counted s .cells)) (k .cells)) Cells
 outlookFor k (step (call q ys)) f s = roomOr (ltb (length (s .frames)) (k .frames)) Frames
 outlookFor k (step (print y)) f s = roomOr (ltb (length (s .memory .printed)) (k .prints)) Prints
-outlookFor k (step (create r)) f s = roomOr (ltb (regionsHeld (s .memory)) (k .regions)) Places
+outlookFor k (step (create r)) f s = roomOr (ltb (regionsHeld (counted s)) (k .regions)) Places
 outlookFor k (step (remove r)) f s = goes
+outlookFor k (step (test y z)) f s = goes
 outlookFor k (switch x cs) f s = goes
 outlookFor k (ifLess y z a b) f s = goes
+outlookFor k (try c a b) f s = goes
 
 -- .. before the next goal of the newest frame; a run without a frame has ended
 unfoldable pub outlookIn : Room → Goals → RegionFrame → State → Outlook

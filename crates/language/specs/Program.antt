@@ -38,6 +38,7 @@ pub data Step : Type 0 where
   print : ℕ → Step
   create : ℕ → Step
   remove : ℕ → Step
+  test : ℕ → ℕ → Step  -- "fails unless Y < Z" (C-20)
 
 infixr 20 _then_
 mutual
@@ -49,6 +50,7 @@ mutual
     step : Step → Goal
     switch : ℕ → Arms → Goal
     ifLess : ℕ → ℕ → Goals → Goals → Goal
+    try : Goals → Goals → Goals → Goal  -- "w2 condition, w3 then, w4 else" (C-20)
 
   -- an arm: its functor, its arguments, its goals
   pub data Arms : Type 0 where

@@ -2,9 +2,9 @@
 use Prim.Native.Nat.{ℕ, zero, suc}
 use mathlib.Core.List.{List, [], _∷_}
 use Rattle.language.specs.Lists.{nth}
-use Rattle.language.specs.File.{GoalKind, kLiteral, kSum, kAssign, kConstruct, kSwitch, kIf, kCall, kPrint, kCreate, kRemove, Kind, kNone, kHeader, kType, kFunctor, kProcedure, kVariable, kRegion, kEdge, kArm, kArgument, kGoal}
+use Rattle.language.specs.File.{GoalKind, kLiteral, kSum, kAssign, kConstruct, kSwitch, kIf, kCall, kPrint, kCreate, kRemove, kTry, kTest, Kind, kNone, kHeader, kType, kFunctor, kProcedure, kVariable, kRegion, kEdge, kArm, kArgument, kGoal}
 use Rattle.language.specs.Tree.{Tree, end, node, Words, noWords, plain, leads}
-use Rattle.language.specs.Program.{four, Functor, Variable, Edge, Region, literal, sum, assign, construct, call, print, create, remove, Goals, done, _then_, Goal, step, switch, ifLess, Arms, noArms, arm, Procedure, Program}
+use Rattle.language.specs.Program.{four, Functor, Variable, Edge, Region, literal, sum, assign, construct, call, print, create, remove, test, Goals, done, _then_, Goal, step, switch, ifLess, try, Arms, noArms, arm, Procedure, Program}
 
 -- word k, or what it leads to, counted from w2
 unfoldable pub wordAt : ℕ → Words → ℕ
@@ -81,6 +81,8 @@ module _ (ps : List Part) where
   goalOf kPrint = step (print (num 0))
   goalOf kCreate = step (create (num 0))
   goalOf kRemove = step (remove (num 0))
+  goalOf kTry = try (sub 0 .asGoals) (sub 1 .asGoals) (sub 2 .asGoals)
+  goalOf kTest = step (test (num 0) (num 1))
 
   -- the sense of a record in front of a chain
   unfoldable pub inFront : Kind → Sense → Sense

@@ -1,10 +1,10 @@
 -- The records of a program, as a tree: what `programOf` reads back.
 use Prim.Native.Nat.{ℕ, zero, suc, _+_}
 use mathlib.Core.List.{List, [], _∷_}
-use Rattle.language.specs.File.{kLiteral, kSum, kAssign, kConstruct, kSwitch, kIf, kCall, kPrint, kCreate, kRemove, Kind, kHeader, kType, kFunctor, kProcedure, kVariable, kRegion, kEdge, kArm, kArgument, kGoal}
+use Rattle.language.specs.File.{kLiteral, kSum, kAssign, kConstruct, kSwitch, kIf, kCall, kPrint, kCreate, kRemove, kTry, kTest, Kind, kHeader, kType, kFunctor, kProcedure, kVariable, kRegion, kEdge, kArm, kArgument, kGoal}
 use Rattle.language.specs.Tree.{Tree, end, node, Words, noWords, plain, leads}
 use Rattle.language.specs.Layout.{size}
-use Rattle.language.specs.Program.{Four, four, Functor, Variable, Edge, Region, Step, literal, sum, assign, construct, call, print, create, remove, Goals, done, _then_, Goal, step, switch, ifLess, Arms, noArms, arm, Signature, Procedure, Program}
+use Rattle.language.specs.Program.{Four, four, Functor, Variable, Edge, Region, Step, literal, sum, assign, construct, call, print, create, remove, test, Goals, done, _then_, Goal, step, switch, ifLess, try, Arms, noArms, arm, Signature, Procedure, Program}
 
 -- n unused words
 unfoldable pub zeros : ℕ → Words
@@ -47,6 +47,7 @@ stepTree (call q ys) next = node (kGoal kCall) next (plain q (leads (chainOf kAr
 stepTree (print y) next = node (kGoal kPrint) next (plain y (zeros 5))
 stepTree (create r) next = node (kGoal kCreate) next (plain r (zeros 5))
 stepTree (remove r) next = node (kGoal kRemove) next (plain r (zeros 5))
+stepTree (test y z) next = node (kGoal kTest) next (plain y (plain z (zeros 4)))
 
 unfoldable mutual
   pub goalsTree : Goals → Tree
@@ -57,6 +58,7 @@ unfoldable mutual
   goalTree (step s) next = stepTree s next
   goalTree (switch x cs) next = node (kGoal kSwitch) next (plain x (leads (armsTree cs) (zeros 4)))
   goalTree (ifLess y z a b) next = node (kGoal kIf) next (plain y (plain z (leads (goalsTree a) (leads (goalsTree b) (zeros 2)))))
+  goalTree (try c a b) next = node (kGoal kTry) next (leads (goalsTree c) (leads (goalsTree a) (leads (goalsTree b) (zeros 3))))
 
   pub armsTree : Arms → Tree
   armsTree noArms = end

@@ -9,7 +9,7 @@ use Rattle.sets.specs.Sets.{single, _∪_}
 use Rattle.sets.specs.Members.{setOf, unionOver}
 use Rattle.sets.specs.declared.Set.{Set}
 use Rattle.language.specs.Lists.{all, choose, put}
-use Rattle.language.specs.Program.{Four, argumentsOf, Edge, Step, literal, sum, assign, construct, call, print, create, remove, Goals, done, _then_, Goal, step, switch, ifLess, Arms, noArms, arm, Signature, Procedure, Program, regionOf, regionAt, signatureOf, parametersOf, parameterVariables}
+use Rattle.language.specs.Program.{Four, argumentsOf, Edge, Step, literal, sum, assign, construct, call, print, create, remove, test, Goals, done, _then_, Goal, step, switch, ifLess, try, Arms, noArms, arm, Signature, Procedure, Program, regionOf, regionAt, signatureOf, parametersOf, parameterVariables}
 
 -- where the edges of a region lead, in rising order of functor and position
 unfoldable pub targetsIn : List Edge → List ℕ
@@ -122,6 +122,7 @@ module _ (P : Program) (S : Signature) where
   stepRegions (print y) = true
   stepRegions (create r) = true
   stepRegions (remove r) = true
+  stepRegions (test y z) = true
 
   unfoldable mutual
     pub goalsRegions : Goals → Bool
@@ -132,6 +133,7 @@ module _ (P : Program) (S : Signature) where
     goalRegions (step g) = stepRegions g
     goalRegions (switch x cs) = armsRegions cs (regionOf S x)
     goalRegions (ifLess y z a b) = goalsRegions a & goalsRegions b
+    goalRegions (try c a b) = goalsRegions c & goalsRegions a & goalsRegions b
 
     -- the arms of a switch on a variable in region r
     pub armsRegions : Arms → ℕ → Bool

@@ -7,7 +7,7 @@ use lib.ListN.{length, take, drop}
 use Rattle.sets.specs.Tests.{_&_, neg}
 use Rattle.language.specs.Lists.{all, among, choose}
 use Rattle.language.specs.Format.{maxTypes, maxFunctors, maxArity, maxProcedures, maxVariables, maxRegions}
-use Rattle.language.specs.Program.{Four, fourWords, argumentsOf, Functor, Variable, Edge, Region, Step, literal, sum, assign, construct, call, print, create, remove, Goals, done, _then_, Goal, step, switch, ifLess, Arms, noArms, arm, Signature, Procedure, Program, typeOf, regionAt, signatureOf, functorsOf, functorAt, parametersOf, parameterVariables}
+use Rattle.language.specs.Program.{Four, fourWords, argumentsOf, Functor, Variable, Edge, Region, Step, literal, sum, assign, construct, call, print, create, remove, test, Goals, done, _then_, Goal, step, switch, ifLess, try, Arms, noArms, arm, Signature, Procedure, Program, typeOf, regionAt, signatureOf, functorsOf, functorAt, parametersOf, parameterVariables}
 
 -- the types of a functor's arguments
 unfoldable pub typesIn : Functor → List ℕ
@@ -115,7 +115,7 @@ module _ (P : Program) (S : Signature) where
   unfoldable pub functorsFor : ℕ → List Functor
   functorsFor x = functorsOf (P .types) (typeOf S x)
 
-  -- "Literals, sums, ifs and prints take variables of type 0 only; an assign's two have one type."
+  -- "Literals, sums, ifs and prints take variables of type 0 only; an assign's two have one type." A test's are "both of type 0" (C-20).
   -- "A call's arguments match the callee's in and out variables in chain order."
   unfoldable pub stepOk : Step → Bool
   stepOk (literal x v) = hasType S 0 x
@@ -126,6 +126,7 @@ module _ (P : Program) (S : Signature) where
   stepOk (print y) = hasType S 0 y
   stepOk (create r) = isRegion S r
   stepOk (remove r) = isRegion S r
+  stepOk (test y z) = hasType S 0 y & hasType S 0 z
 
   unfoldable mutual
     pub goalsOk : Goals → Bool
@@ -136,6 +137,7 @@ module _ (P : Program) (S : Signature) where
     goalOk (step s) = stepOk s
     goalOk (switch x cs) = isVariable S x & leb 1 (typeOf S x) & armsOk cs (functorsFor x) 0
     goalOk (ifLess y z a b) = hasType S 0 y & hasType S 0 z & goalsOk a & goalsOk b
+    goalOk (try c a b) = goalsOk c & goalsOk a & goalsOk b
 
     -- "A switch has one arm for each functor of X's type, in rising order": the functors from number n on
     pub armsOk : Arms → List Functor → ℕ → Bool

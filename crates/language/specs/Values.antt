@@ -8,7 +8,7 @@ use Rattle.sets.specs.Sets.{member, _∪_, _∩_, subset, apart}
 use Rattle.sets.specs.Members.{setOf}
 use Rattle.sets.specs.declared.Set.{Set}
 use Rattle.language.specs.Lists.{all, count, isNone}
-use Rattle.language.specs.Program.{argumentsOf, Step, literal, sum, assign, construct, call, print, create, remove, Goals, done, _then_, Goal, step, switch, ifLess, Arms, noArms, arm, Signature, Procedure, Program, signatureOf, parametersOf, inMode, outMode, argumentsIn, variablesIn}
+use Rattle.language.specs.Program.{argumentsOf, Step, literal, sum, assign, construct, call, print, create, remove, test, Goals, done, _then_, Goal, step, switch, ifLess, try, Arms, noArms, arm, Signature, Procedure, Program, signatureOf, parametersOf, inMode, outMode, argumentsIn, variablesIn}
 
 -- a procedure's in and out variables
 unfoldable pub insOf : Signature → Set
@@ -35,6 +35,7 @@ module _ (P : Program) where
   access (print y) = accessing (y ∷ []) []
   access (create r) = accessing [] []
   access (remove r) = accessing [] []
+  access (test y z) = accessing (y ∷ z ∷ []) []
 
   unfoldable pub reads : Step → Set
   reads g = setOf (access g .read)
@@ -84,6 +85,8 @@ module _ (P : Program) where
     goalValues (step g) e s = stepValues g e s
     goalValues (switch x cs) e s = requireValues (member e x) (armsValues cs e s)
     goalValues (ifLess y z a b) e s = requireValues (member e y & member e z) (meetValues (goalsValues a e s) (goalsValues b e s))
+    -- "The else part starts from what had a value .. before the try, the then part from what the condition ends with" (C-20)
+    goalValues (try c a b) e s = meetValues (afterValues (goalsValues c e s) (λ d t. goalsValues a d t)) (goalsValues b e s)
 
     -- number 3 sees to it that there is an arm
     pub armsValues : Arms → Set → Set → Valued

@@ -39,6 +39,10 @@ pub const CREATE: usize = 18;
 
 pub const REMOVE: usize = 19;
 
+pub const TRY: usize = 20;
+
+pub const TEST: usize = 21;
+
 // The places of a record's words.
 // every record
 pub const KIND: usize = 0;
@@ -108,6 +112,16 @@ pub const IF_Z: usize = 3;
 pub const IF_THEN: usize = 4;
 
 pub const IF_ELSE: usize = 5;
+// try and test
+pub const TRY_CONDITION: usize = 2;
+
+pub const TRY_THEN: usize = 3;
+
+pub const TRY_ELSE: usize = 4;
+
+pub const TEST_Y: usize = 2;
+
+pub const TEST_Z: usize = 3;
 // call and argument
 pub const CALL_PROCEDURE: usize = 2;
 

@@ -3,8 +3,9 @@ use Prim.Native.Nat.{ℕ}
 use mathlib.Core.Bool.{Bool, true, false}
 use mathlib.Core.List.{[]}
 use mathlib.Core.Path.{_≡_, refl, sym, ap, _∙_}
-use Rattle.language.specs.Program.{Goals, done, _then_, Goal, step, switch, ifLess, Arms, noArms, arm, _before_, Program, procedureAt, signatureOf}
+use Rattle.language.specs.Program.{Goals, done, _then_, Goal, step, switch, ifLess, try, Arms, noArms, arm, _before_, Program, procedureAt, signatureOf}
 use Rattle.language.specs.Annotation.{plainStep}
+use Rattle.language.specs.Frames.{Condition, closed, opened, ahead}
 use Rattle.language.specs.PlainRun.{thenIf, stripGoals, stripGoal, stripProcedure, stripped}
 use Rattle.laws.specs.Lists.{nth-map}
 
@@ -28,11 +29,23 @@ unfolding stripGoal _before_
 goal-before (step g) gs hs = thenIf-before (plainStep g) (step g) gs hs
 goal-before (switch x cs) gs hs = refl
 goal-before (ifLess y z a b) gs hs = refl
+goal-before (try c a b) gs hs = refl
 
 pub strip-before : (gs hs : Goals) → stripGoals (gs before hs) ≡ stripGoals gs before stripGoals hs
 unfolding stripGoals _before_
 strip-before done hs = refl
 strip-before (g then gs) hs = ap (stripGoal g) (strip-before gs hs) ∙ sym (goal-before g (stripGoals gs) (stripGoals hs))
+
+-- ---- the goals that follow an open condition (C-20)
+pub ahead-then : {F M : Type 0} (c : Condition F M) (g : Goal) (gs : Goals) → ahead c (g then gs) ≡ g then ahead c gs
+unfolding ahead _before_
+ahead-then closed g gs = refl
+ahead-then (opened a e n) g gs = refl
+
+pub ahead-before : {F M : Type 0} (c : Condition F M) (gs hs : Goals) → ahead c (gs before hs) ≡ gs before ahead c hs
+unfolding ahead
+ahead-before closed gs hs = refl
+ahead-before (opened a e n) gs hs = before-assoc gs hs a
 
 unfoldable pub someArm : Arms → Bool
 someArm noArms = false

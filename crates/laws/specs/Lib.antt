@@ -9,3 +9,4 @@ pub mod Goals
 pub mod Stages
 pub mod Typed
 pub mod Runs
+pub mod Conditions

@@ -9,6 +9,7 @@ use Rattle.language.specs.declared.Refusal.the-variants.{Unreached}
 use Rattle.language.specs.declared.Verdict.{Verdict}
 use Rattle.language.specs.declared.Verdict.the-variants.{Refused, Accepted}
 use Rattle.language.specs.File.{word, recordCount, headerOk, formOk}
+use Rattle.language.specs.Conditions.{conditionsOk}
 use Rattle.language.specs.Typing.{typingOk}
 use Rattle.language.specs.Values.{valuesOk}
 use Rattle.language.specs.Regions.{regionsOk}
@@ -71,6 +72,7 @@ last-refused q b (stage r false ∷ ss) p e = absurd (false≢true (p .0))
 pub record Read (f : List ℕ) : Type 0 where
   pub header : headerOk f ≡ true
   pub form : formOk (word f) (recordCount f) ≡ true
+  pub conditions : conditionsOk (program f) ≡ true
   pub typing : typingOk (program f) ≡ true
   pub values : valuesOk (program f) ≡ true
   pub regions : regionsOk (program f) ≡ true
@@ -78,13 +80,20 @@ pub record Read (f : List ℕ) : Type 0 where
 pub passed-read : (f : List ℕ) (ss : List Stage) → Passed (fileStages f ++ ss) → Read f × Passed ss
 unfolding fileStages
 passed-read f ss p = (
-  record { header = p .0; form = p .1 .0; typing = p .1 .1 .0; values = p .1 .1 .1 .0; regions = p .1 .1 .1 .1 .0 },
-  p .1 .1 .1 .1 .1,
+  record {
+    header = p .0;
+    form = p .1 .0;
+    conditions = p .1 .1 .0;
+    typing = p .1 .1 .1 .0;
+    values = p .1 .1 .1 .1 .0;
+    regions = p .1 .1 .1 .1 .1 .0;
+  },
+  p .1 .1 .1 .1 .1 .1,
 )
 
 pub read-passed : (f : List ℕ) (ss : List Stage) → Read f → Passed ss → Passed (fileStages f ++ ss)
 unfolding fileStages
-read-passed f ss r p = (r .header, (r .form, (r .typing, (r .values, (r .regions, p)))))
+read-passed f ss r p = (r .header, (r .form, (r .conditions, (r .typing, (r .values, (r .regions, p))))))
 
 -- ---- and 17
 pub reached-stages : (f : List ℕ) (ss : List Stage) → reachedStages f ++ ss ≡ fileStages f ++ (stage Unreached (reachedOk (program f)) ∷ ss)

@@ -3,11 +3,11 @@ use Prim.Native.Nat.{ℕ, suc, _≤_, _+_}
 use native.Mathlib.Omega.{arith}
 use mathlib.Core.List.{List, [], _∷_}
 use mathlib.Core.Path.{_≡_, sym}
-use Rattle.language.specs.Format.{maxRecords, switchKind, ifKind, armKind, procedureKind, nextWord, goalX, ifY, ifZ, termFunctor, termArguments}
+use Rattle.language.specs.Format.{maxRecords, switchKind, ifKind, armKind, nextWord, goalX, ifY, ifZ, termFunctor, termArguments}
 use Rattle.writer.specs.Skips.{Behind}
 use Rattle.laying.specs.Lays.{Lays, Stored, RefersTo, Spans}
 use Rattle.language.specs.File.{word}
-use Rattle.laying.specs.Heads.{ArmStored, IfStored, ProcedureStored, SwitchStored}
+use Rattle.laying.specs.Heads.{ArmStored, IfStored, SwitchStored, ThreeStored}
 
 -- the record alone
 pub lays-one : {a b : List ℕ} {c m : ℕ} {v : List ℕ} (w : List ℕ) → Behind c 1 m → Stored a b c v → (m ≤ maxRecords → m ≡ suc c → v ≡ w) → Lays a b c m (w ∷ [])
@@ -38,7 +38,7 @@ module _ (f : List ℕ) (i : ℕ) {e w x : ℕ} (ew : w ≡ word f i nextWord) (
       → Stored a b c (armKind ∷ x ∷ l ∷ functor ∷ a1 ∷ a2 ∷ a3 ∷ a4 ∷ []) → ArmStored f i a b c s e
   arm-stored q ef e1 e2 e3 e4 o = record { next = _; link = _; refers = refers-next; spans = q; stored = rw (ef, e1, e2, e3, e4) at o }
 
-  pub procedure-stored : {a b : List ℕ} {c s m n j k l : ℕ} → Spans s m j → Spans m n k → Spans n e l → Stored a b c (procedureKind ∷ x ∷ j ∷ k ∷ l ∷ 0 ∷ 0 ∷ 0 ∷ [])
-      → ProcedureStored f i a b c s m n e
-  procedure-stored p q u o =
-      record { next = _; first-link = _; second-link = _; third-link = _; refers = refers-next; first-spans = p; second-spans = q; third-spans = u; stored = o }
+  pub three-stored : (k : ℕ) {a b : List ℕ} {c s m n j l o : ℕ} → Spans s m j → Spans m n l → Spans n e o → Stored a b c (k ∷ x ∷ j ∷ l ∷ o ∷ 0 ∷ 0 ∷ 0 ∷ [])
+      → ThreeStored f i a b c k s m n e
+  three-stored k p q u v =
+      record { next = _; first-link = _; second-link = _; third-link = _; refers = refers-next; first-spans = p; second-spans = q; third-spans = u; stored = v }

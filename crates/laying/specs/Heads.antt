@@ -1,12 +1,12 @@
--- Records whose words lead to what was laid behind them: a switch, an if, an arm, a procedure, the header.
+-- Records whose words lead to what was laid behind them: a switch, an if, a try, an arm, a procedure, the header.
 use Prim.Native.Nat.{ℕ, zero, suc, _+_, _≤_, _<_}
 use native.Mathlib.Omega.{arith}
 use native.Mathlib.Decide.{decLt}
 use mathlib.Core.List.{List, [], _∷_}
 use mathlib.Core.Path.{ap₂, sym}
 use lib.ListN.{length}
-use Rattle.language.specs.Format.{maxRecords, switchKind, ifKind, armKind, procedureKind, nextWord, goalX, ifY, ifZ, termFunctor, termArguments}
-use Rattle.language.specs.File.{kSwitch, kIf, kProcedure, kArm, kGoal, word}
+use Rattle.language.specs.Format.{maxRecords, switchKind, ifKind, tryKind, armKind, procedureKind, nextWord, goalX, ifY, ifZ, termFunctor, termArguments}
+use Rattle.language.specs.File.{kSwitch, kIf, kTry, kProcedure, Kind, kArm, kGoal, row, word}
 use Rattle.language.specs.Tree.{Tree, node, noWords, plain, leads}
 use Rattle.language.specs.Layout.{wordList, lay, layWords}
 use Rattle.language.specs.Records.{zeros, fourPlain}
@@ -59,8 +59,8 @@ module _ (f : List ℕ) (i : ℕ) (a b : List ℕ) (c : ℕ) where
     pub spans : Spans s e link
     pub stored : Stored a b c (armKind ∷ next ∷ link ∷ termWords f i)
 
-  -- a procedure whose variables, regions and goals were laid from s to m, to n, to e
-  pub record ProcedureStored (s m n e : ℕ) : Type 0 where
+  -- a record of kind k with three parts that were laid from s to m, to n, to e
+  pub record ThreeStored (k s m n e : ℕ) : Type 0 where
     pub next : ℕ
     pub first-link : ℕ
     pub second-link : ℕ
@@ -69,7 +69,14 @@ module _ (f : List ℕ) (i : ℕ) (a b : List ℕ) (c : ℕ) where
     pub first-spans : Spans s m first-link
     pub second-spans : Spans m n second-link
     pub third-spans : Spans n e third-link
-    pub stored : Stored a b c (procedureKind ∷ next ∷ first-link ∷ second-link ∷ third-link ∷ 0 ∷ 0 ∷ 0 ∷ [])
+    pub stored : Stored a b c (k ∷ next ∷ first-link ∷ second-link ∷ third-link ∷ 0 ∷ 0 ∷ 0 ∷ [])
+
+  -- a procedure's are its variables, regions and goals; a try's its condition, then and else part
+  abbrev pub ProcedureStored : ℕ → ℕ → ℕ → ℕ → Type 0
+  ProcedureStored s m n e = ThreeStored procedureKind s m n e
+
+  abbrev pub TryStored : ℕ → ℕ → ℕ → ℕ → Type 0
+  TryStored s m n e = ThreeStored tryKind s m n e
 
 -- ---- laid
 module _ {f : List ℕ} {i : ℕ} {a b d : List ℕ} {c s e : ℕ} (B : Behind c 1 s) where
@@ -104,11 +111,11 @@ module _ {f : List ℕ} {i : ℕ} {a b d g : List ℕ} {c s m e : ℕ} (B : Behi
       (λ l n. ap₂ (λ x y. armKind ∷ x ∷ y ∷ termWords f i) (H .refers .is l) (lays-span t (H .spans) L l .0))
 
 module _ {f : List ℕ} {i : ℕ} {a b d g h : List ℕ} {c s m n e : ℕ} (B : Behind c 1 s) where
-  pub procedure-head : (t u v : Tree) → Lays a b s m (lay t s) → Lays b d m n (lay u m) → Lays d g n e (lay v n) → ProcedureStored f i g h c s m n e
-      → Lays a h c e (headOf kProcedure (word f i nextWord) (leads t (leads u (leads v (zeros 3)))) c)
-  unfolding all-rows wordList zeros
-  procedure-head t u v L K J H =
-      lays-head kProcedure (word f i nextWord) (leads t (leads u (leads v (zeros 3)))) B
+  three-head : (k : Kind) (t u v : Tree) → Lays a b s m (lay t s) → Lays b d m n (lay u m) → Lays d g n e (lay v n) → ThreeStored f i g h c (row k .kind) s m n e
+      → Lays a h c e (headOf k (word f i nextWord) (leads t (leads u (leads v (zeros 3)))) c)
+  unfolding wordList zeros
+  three-head k t u v L K J H =
+      lays-head k (word f i nextWord) (leads t (leads u (leads v (zeros 3)))) B
       (lays-leads t (leads u (leads v (zeros 3))) L (lays-leads u (leads v (zeros 3)) K (lays-leads v (zeros 3) J (lays-zeros g e 3)))) (H .stored)
       (λ l o.
       let z = lays-low J l in
@@ -116,5 +123,14 @@ module _ {f : List ℕ} {i : ℕ} {a b d g h : List ℕ} {c s m n e : ℕ} (B : 
       let q = lays-span u (H .second-spans) K z in
       let r = lays-span v (H .third-spans) J l in
       rw (sym (p .1), sym (q .1))
-      (ap₂ (λ x w. procedureKind ∷ x ∷ w) (H .refers .is l)
+      (ap₂ (λ x w. row k .kind ∷ x ∷ w) (H .refers .is l)
       (ap₂ (λ x w. x ∷ w) (p .0) (ap₂ (λ x y. x ∷ y ∷ 0 ∷ 0 ∷ 0 ∷ []) (q .0) (r .0)))))
+
+  module _ (t u v : Tree) (L : Lays a b s m (lay t s)) (K : Lays b d m n (lay u m)) (J : Lays d g n e (lay v n)) where
+    pub procedure-head : ProcedureStored f i g h c s m n e → Lays a h c e (headOf kProcedure (word f i nextWord) (leads t (leads u (leads v (zeros 3)))) c)
+    unfolding all-rows
+    procedure-head H = three-head kProcedure t u v L K J H
+
+    pub try-head : TryStored f i g h c s m n e → Lays a h c e (headOf (kGoal kTry) (word f i nextWord) (leads t (leads u (leads v (zeros 3)))) c)
+    unfolding all-rows
+    try-head H = three-head (kGoal kTry) t u v L K J H

@@ -2,6 +2,7 @@
 use crate::place::refer;
 use crate::place::span;
 use crate::place::store;
+use chains::word;
 use language::format::ARM;
 use language::format::GOAL_X;
 use language::format::IF;
@@ -12,11 +13,16 @@ use language::format::PROCEDURE;
 use language::format::SWITCH;
 use language::format::TERM_ARGUMENTS;
 use language::format::TERM_FUNCTOR;
-use records::word;
-ghost use Rattle.laying.specs.Heads.{SwitchStored, IfStored, ArmStored, ProcedureStored};
+use language::format::TRY;
+ghost use Prim.Native.Nat.{_<_};
+ghost use Rattle.language.specs.File.{recordCount};
+ghost use Rattle.chains.specs.Formed.{Formed};
+ghost use Rattle.laying.specs.Heads.{SwitchStored, IfStored, TryStored, ArmStored, ProcedureStored};
 
 // Stores the switch of record i as record at; its arms were laid from start to end.
 pub fn store_switch(file: &[u8], out: &mut [u8], i: usize, at: usize, start: usize, end: usize)
+    requires { ⌜ Formed (now file) ⌝ }
+    requires { ⌜ i < recordCount (now file) ⌝ }
     ensures { λ _. ⌜ SwitchStored (now (file .entry)) i (now (out .entry)) (now (out .exit)) at start end ⌝ }
 {
     let next = refer(word(file, i, NEXT), end);
@@ -35,6 +41,8 @@ pub fn store_if(
     middle: usize,
     end: usize,
 )
+    requires { ⌜ Formed (now file) ⌝ }
+    requires { ⌜ i < recordCount (now file) ⌝ }
     ensures { λ _. ⌜ IfStored (now (file .entry)) i (now (out .entry)) (now (out .exit)) at start middle end ⌝ }
 {
     let next = refer(word(file, i, NEXT), end);
@@ -45,8 +53,32 @@ pub fn store_if(
     store(out, at, IF, next, y, z, yes, no, 0, 0);
 }
 
+// The same for a try, whose condition, then and else part were laid from start to yes, from there to no, from there to end.
+pub fn store_try(
+    file: &[u8],
+    out: &mut [u8],
+    i: usize,
+    at: usize,
+    start: usize,
+    yes: usize,
+    no: usize,
+    end: usize,
+)
+    requires { ⌜ Formed (now file) ⌝ }
+    requires { ⌜ i < recordCount (now file) ⌝ }
+    ensures { λ _. ⌜ TryStored (now (file .entry)) i (now (out .entry)) (now (out .exit)) at start yes no end ⌝ }
+{
+    let next = refer(word(file, i, NEXT), end);
+    let w2 = span(start, yes);
+    let w3 = span(yes, no);
+    let w4 = span(no, end);
+    store(out, at, TRY, next, w2, w3, w4, 0, 0, 0);
+}
+
 // The same for an arm, whose goals were laid from start to end.
 pub fn store_arm(file: &[u8], out: &mut [u8], i: usize, at: usize, start: usize, end: usize)
+    requires { ⌜ Formed (now file) ⌝ }
+    requires { ⌜ i < recordCount (now file) ⌝ }
     ensures { λ _. ⌜ ArmStored (now (file .entry)) i (now (out .entry)) (now (out .exit)) at start end ⌝ }
 {
     let next = refer(word(file, i, NEXT), end);
@@ -70,6 +102,8 @@ pub fn store_procedure(
     body: usize,
     end: usize,
 )
+    requires { ⌜ Formed (now file) ⌝ }
+    requires { ⌜ i < recordCount (now file) ⌝ }
     ensures { λ _. ⌜ ProcedureStored (now (file .entry)) i (now (out .entry)) (now (out .exit)) at start regions body end ⌝ }
 {
     let next = refer(word(file, i, NEXT), end);

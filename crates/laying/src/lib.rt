@@ -10,6 +10,7 @@ pub use heads::store_arm;
 pub use heads::store_if;
 pub use heads::store_procedure;
 pub use heads::store_switch;
+pub use heads::store_try;
 pub use marks::follows;
 pub use marks::lay_marks;
 pub use place::refer;

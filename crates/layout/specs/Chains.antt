@@ -4,7 +4,7 @@ use native.Mathlib.Omega.{arith}
 use mathlib.Core.Path.{_≡_, refl, ap, _∙_}
 use mathlib.Core.Bool.{Bool, true, false, false≢true}
 use mathlib.Core.Logic.{inl, inr}
-use Rattle.language.specs.File.{GoalKind, kLiteral, kSum, kAssign, kConstruct, kSwitch, kIf, kCall, kPrint, kCreate, kRemove, Kind, kNone, kHeader, kType, kFunctor, kProcedure, kVariable, kRegion, kEdge, kArm, kArgument, kGoal, Chain, nowhere, types, functors, procedures, variables, regions, edges, goals, arms, arguments, row, kindOf, formOk}
+use Rattle.language.specs.File.{GoalKind, kLiteral, kSum, kAssign, kConstruct, kSwitch, kIf, kCall, kPrint, kCreate, kRemove, kTry, kTest, Kind, kNone, kHeader, kType, kFunctor, kProcedure, kVariable, kRegion, kEdge, kArm, kArgument, kGoal, Chain, nowhere, types, functors, procedures, variables, regions, edges, goals, arms, arguments, row, kindOf, formOk}
 use Rattle.layout.specs.Table.{all-rows}
 use Rattle.layout.specs.Passing.{Starts, Leads, Used, next-leads, record-used}
 
@@ -44,6 +44,8 @@ row-in (kGoal kCall) = goal-in
 row-in (kGoal kPrint) = goal-in
 row-in (kGoal kCreate) = goal-in
 row-in (kGoal kRemove) = goal-in
+row-in (kGoal kTry) = goal-in
+row-in (kGoal kTest) = goal-in
 
 -- a kind that stands in the chain c is one of its kinds: match the result
 pub chain-kind : (c : Chain) (k : Kind) → row k .chain ≡ c → InChain c k
@@ -112,6 +114,8 @@ same-chain (kGoal kCall) e = refl
 same-chain (kGoal kPrint) e = refl
 same-chain (kGoal kCreate) e = refl
 same-chain (kGoal kRemove) e = refl
+same-chain (kGoal kTry) e = refl
+same-chain (kGoal kTest) e = refl
 
 -- a chain of the sort c at record i: its kind there
 pub starts-kind : (W : ℕ → ℕ → ℕ) (n i : ℕ) (c : Chain) → 0 < i → Starts W n c i → (i < n) × InChain c (kindOf (W i 0))
@@ -162,6 +166,18 @@ module _ (W : ℕ → ℕ → ℕ) (n : ℕ) (P : formOk W n ≡ true) (i : ℕ)
   pub if-else : kindOf (W i 0) ≡ kGoal kIf → Leads W n i goals (W i 5)
   unfolding all-rows
   if-else e = used (kGoal kIf) e .1 .0
+
+  pub try-condition : kindOf (W i 0) ≡ kGoal kTry → Leads W n i goals (W i 2)
+  unfolding all-rows
+  try-condition e = used (kGoal kTry) e .0
+
+  pub try-then : kindOf (W i 0) ≡ kGoal kTry → Leads W n i goals (W i 3)
+  unfolding all-rows
+  try-then e = used (kGoal kTry) e .1 .0
+
+  pub try-else : kindOf (W i 0) ≡ kGoal kTry → Leads W n i goals (W i 4)
+  unfolding all-rows
+  try-else e = used (kGoal kTry) e .1 .1 .0
 
   pub call-arguments : kindOf (W i 0) ≡ kGoal kCall → Leads W n i arguments (W i 3)
   unfolding all-rows

@@ -10,6 +10,7 @@ use borrow.Author.Tests.{eqb-true, leb-true}
 use Rattle.sets.specs.Tests.{and-true}
 use Rattle.language.specs.Lists.{nth}
 use Rattle.language.specs.File.{Kind, kHeader, nowhere, types, procedures, row, kinds, kindOf, word, recordCount, headerOk, formOk}
+use Rattle.language.specs.Conditions.{conditionsOk}
 use Rattle.language.specs.Tree.{Tree, node, plain, leads, readWords, readRecord, readChain, readTree, treeOf}
 use Rattle.language.specs.Layout.{size, written}
 use Rattle.language.specs.Reading.{chainAt, each, readType, readProcedure, programOf}
@@ -117,6 +118,9 @@ module _ (f : List ℕ) (H : headerOk f ≡ true) (F : formOk (word f) (recordCo
   pub program-again : program (written (treeOf f)) ≡ program f
   unfolding program
   program-again = ap programOf tree-again
+
+  pub conditions-again : conditionsOk (program f) ≡ true → conditionsOk (program (written (treeOf f))) ≡ true
+  conditions-again e = ap conditionsOk program-again ∙ e
 
   -- ---- the program, as its two chains
   pub program-read : program f ≡ record { types = each readType (typesFrom f); procedures = each readProcedure (proceduresFrom f) }

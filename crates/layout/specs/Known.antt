@@ -10,7 +10,7 @@ use lib.Dec.{eqb}
 use borrow.Author.Tests.{eqb-true}
 use Rattle.sets.specs.Tests.{_&_, and-true}
 use Rattle.language.specs.Lists.{one, count}
-use Rattle.language.specs.File.{kLiteral, kSum, kAssign, kConstruct, kSwitch, kIf, kCall, kPrint, kCreate, kRemove, Kind, kNone, kHeader, kType, kFunctor, kProcedure, kVariable, kRegion, kEdge, kArm, kArgument, kGoal, Chain, Use, number, unused, first, row, kindOf, kindAt, leading, references, formOk}
+use Rattle.language.specs.File.{kLiteral, kSum, kAssign, kConstruct, kSwitch, kIf, kCall, kPrint, kCreate, kRemove, kTry, kTest, Kind, kNone, kHeader, kType, kFunctor, kProcedure, kVariable, kRegion, kEdge, kArm, kArgument, kGoal, Chain, Use, number, unused, first, row, kindOf, kindAt, leading, references, formOk}
 use Rattle.layout.specs.Table.{all-rows, number-kind}
 use Rattle.layout.specs.Lists.{hit, count-none, count-cons, hits, hits-suc, hits-zero}
 use Rattle.layout.specs.Passing.{Leads, Used, once, next-leads, record-used}
@@ -46,6 +46,8 @@ row-real (kGoal kCall) r = refl
 row-real (kGoal kPrint) r = refl
 row-real (kGoal kCreate) r = refl
 row-real (kGoal kRemove) r = refl
+row-real (kGoal kTry) r = refl
+row-real (kGoal kTest) r = refl
 
 one-is : (b : Bool) → 0 < one b → b ≡ true
 unfolding one

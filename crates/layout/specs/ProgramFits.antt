@@ -4,7 +4,7 @@ use mathlib.Core.List.{List, [], _∷_}
 use mathlib.Core.Path.{_≡_, refl}
 use Rattle.language.specs.File.{Kind, kType, kFunctor, kProcedure, kVariable, kRegion, kEdge, kArgument, Chain, nowhere, types, functors, procedures, variables, regions, edges, goals, arms, arguments, Use, number, padded, row}
 use Rattle.language.specs.Tree.{Tree, Words}
-use Rattle.language.specs.Program.{Four, four, Functor, Variable, Edge, Region, Step, literal, sum, assign, construct, call, print, create, remove, Goals, done, _then_, Goal, step, switch, ifLess, Arms, noArms, arm, Procedure, Program}
+use Rattle.language.specs.Program.{Four, four, Functor, Variable, Edge, Region, Step, literal, sum, assign, construct, call, print, create, remove, test, Goals, done, _then_, Goal, step, switch, ifLess, try, Arms, noArms, arm, Procedure, Program}
 use Rattle.language.specs.Records.{zeros, fourPlain, chainOf, functorWords, typeWords, variableWords, edgeWords, regionWords, argumentWords, stepTree, goalsTree, goalTree, armsTree, procedureWords, programTree}
 use Rattle.layout.specs.Table.{all-rows}
 use Rattle.layout.specs.Fits.{Fits, fits-end, fits-node, FitsWords, fits-none, fits-number, fits-unused, fits-first}
@@ -60,6 +60,7 @@ step-fits (call q ys) next h =
 step-fits (print y) next h = fits-node refl h (fits-number (zeros-fit 5))
 step-fits (create r) next h = fits-node refl h (fits-number (zeros-fit 5))
 step-fits (remove r) next h = fits-node refl h (fits-number (zeros-fit 5))
+step-fits (test y z) next h = fits-node refl h (fits-number (fits-number (zeros-fit 4)))
 
 mutual
   unfolding goalsTree all-rows
@@ -72,6 +73,7 @@ mutual
   goal-fits (step s) next h = step-fits s next h
   goal-fits (switch x cs) next h = fits-node refl h (fits-number (fits-first (arms-fit cs) (zeros-fit 4)))
   goal-fits (ifLess y z a b) next h = fits-node refl h (fits-number (fits-number (fits-first (goals-fit a) (fits-first (goals-fit b) (zeros-fit 2)))))
+  goal-fits (try c a b) next h = fits-node refl h (fits-first (goals-fit c) (fits-first (goals-fit a) (fits-first (goals-fit b) (zeros-fit 3))))
 
   arms-fit : (cs : Arms) → Fits arms (armsTree cs)
   arms-fit noArms = fits-end

@@ -6,9 +6,10 @@ use mathlib.Core.Bool.{true}
 use lib.ListN.{length}
 use Rattle.language.specs.Lists.{nth}
 use Rattle.language.specs.File.{Kind, kType, kFunctor, kProcedure, kVariable, kRegion, kEdge, kArm, kArgument, word, recordCount, headerOk, formOk}
+use Rattle.language.specs.Conditions.{conditionsOk}
 use Rattle.language.specs.Tree.{Tree, node, Words, noWords, plain, leads, treeOf}
 use Rattle.language.specs.Layout.{size, written}
-use Rattle.language.specs.Program.{Four, four, Functor, Variable, Edge, Region, Step, literal, sum, assign, construct, call, print, create, remove, Goals, done, _then_, Goal, step, switch, ifLess, Arms, noArms, arm, Procedure, Program}
+use Rattle.language.specs.Program.{Four, four, Functor, Variable, Edge, Region, Step, literal, sum, assign, construct, call, print, create, remove, test, Goals, done, _then_, Goal, step, switch, ifLess, try, Arms, noArms, arm, Procedure, Program}
 use Rattle.language.specs.Reading.{wordAt, chainAt, each, readFunctor, readType, readVariable, readEdge, readRegion, noSense, numberIn, senseIn, num, sub, goalOf, inFront, senseOf, readProcedure, programOf}
 use Rattle.language.specs.Records.{zeros, fourPlain, chainOf, functorWords, typeWords, variableWords, edgeWords, regionWords, argumentWords, stepTree, goalsTree, goalTree, armsTree, procedureWords, headed, programTree}
 use Rattle.language.specs.Answers.{program}
@@ -67,6 +68,7 @@ step-back (call q ys) next gs h = rw (h, arguments-back ys)
 step-back (print y) next gs h = rw h
 step-back (create r) next gs h = rw h
 step-back (remove r) next gs h = rw h
+step-back (test y z) next gs h = rw h
 
 arm-words : (f : ℕ) (ys : Four) (gs : Goals) (cs : Arms) (t next : Tree) → senseOf t .asGoals ≡ gs → senseOf next .asArms ≡ cs
     → senseOf (node kArm next (leads t (plain f (fourPlain ys noWords)))) .asArms ≡ arm f ys gs cs
@@ -84,6 +86,7 @@ mutual
   goal-back (step s) next gs h = step-back s next gs h
   goal-back (switch x cs) next gs h = rw (h, arms-back cs)
   goal-back (ifLess y z a b) next gs h = rw (h, goals-back a, goals-back b)
+  goal-back (try c a b) next gs h = rw (h, goals-back c, goals-back a, goals-back b)
 
   arms-back : (cs : Arms) → senseOf (armsTree cs) .asArms ≡ cs
   arms-back noArms = refl
@@ -124,3 +127,6 @@ module _ (P : Program) where
   pub program-written : program (written (programTree P)) ≡ P
   unfolding program
   program-written = ap programOf tree-of-program ∙ program-back P
+
+  pub conditions-of-program : conditionsOk (program (written (programTree P))) ≡ conditionsOk P
+  conditions-of-program = ap conditionsOk program-written

@@ -6,7 +6,7 @@ use mathlib.Core.List.{List, [], _∷_}
 use mathlib.Core.Path.{_≡_, refl, ap, ap₂, sym, subst, _∙_}
 use mathlib.Core.Bool.{true}
 use Rattle.language.specs.Lists.{nth}
-use Rattle.language.specs.File.{kLiteral, kSum, kAssign, kConstruct, kSwitch, kIf, kCall, kPrint, kCreate, kRemove, Kind, kNone, kHeader, kType, kFunctor, kProcedure, kVariable, kRegion, kEdge, kArm, kArgument, kGoal, Chain, nowhere, types, functors, procedures, variables, regions, edges, goals, arms, arguments, Use, number, unused, first, row, word, recordCount, headerOk, formOk}
+use Rattle.language.specs.File.{kLiteral, kSum, kAssign, kConstruct, kSwitch, kIf, kCall, kPrint, kCreate, kRemove, kTry, kTest, Kind, kNone, kHeader, kType, kFunctor, kProcedure, kVariable, kRegion, kEdge, kArm, kArgument, kGoal, Chain, nowhere, types, functors, procedures, variables, regions, edges, goals, arms, arguments, Use, number, unused, first, row, word, recordCount, headerOk, formOk}
 use Rattle.language.specs.Tree.{Tree, end, node, Words, noWords, plain, leads, treeOf}
 use Rattle.language.specs.Layout.{size}
 use Rattle.language.specs.Reading.{wordAt, chainAt, each, readFunctor, readType, readVariable, readEdge, readRegion, noSense, numberIn, senseIn, num, sub, goalOf, inFront, senseOf, partsOf, readProcedure, programOf}
@@ -122,6 +122,8 @@ module _ (t : Tree) (ws : Words) where
   node-same (kGoal kPrint) h s w = cc (h, num-at ws 0, w)
   node-same (kGoal kCreate) h s w = cc (h, num-at ws 0, w)
   node-same (kGoal kRemove) h s w = cc (h, num-at ws 0, w)
+  node-same (kGoal kTry) h s w = cc (h, s .0, s .1 .0, s .1 .1 .0, sub-at ws 0, sub-at ws 1, sub-at ws 2, w)
+  node-same (kGoal kTest) h s w = cc (h, num-at ws 0, num-at ws 1, w)
 
 respelled : {us : List Use} {ws : Words} → FitsWords us ws → spelling ws us ≡ ws
 unfolding spelling

@@ -7,7 +7,7 @@ use lib.ListN.{length}
 use Rattle.language.specs.File.{Kind, kType, kProcedure, kVariable, kRegion, kEdge, kArgument}
 use Rattle.language.specs.Tree.{Tree, Words, noWords}
 use Rattle.language.specs.Layout.{size, sizeWords}
-use Rattle.language.specs.Program.{Four, four, Variable, Edge, Region, Step, literal, sum, assign, construct, call, print, create, remove, Goals, done, _then_, Goal, step, switch, ifLess, Arms, noArms, arm, _before_, Signature, Procedure, Program}
+use Rattle.language.specs.Program.{Four, four, Variable, Edge, Region, Step, literal, sum, assign, construct, call, print, create, remove, test, Goals, done, _then_, Goal, step, switch, ifLess, try, Arms, noArms, arm, _before_, Signature, Procedure, Program}
 use Rattle.language.specs.Records.{zeros, fourPlain, chainOf, typeWords, variableWords, edgeWords, regionWords, argumentWords, stepTree, goalsTree, goalTree, armsTree, procedureWords, programTree}
 use Rattle.layout.specs.Written.{headed-size}
 
@@ -54,6 +54,7 @@ stepSize (call q ys) = suc (length ys)
 stepSize (print y) = 1
 stepSize (create r) = 1
 stepSize (remove r) = 1
+stepSize (test y z) = 1
 
 pub step-size : (s : Step) (next : Tree) → size (stepTree s next) ≡ stepSize s + size next
 unfolding stepTree stepSize zeros size
@@ -65,6 +66,7 @@ step-size (call q ys) next = omega (arith, arguments-size ys)
 step-size (print y) next = omega arith
 step-size (create r) next = omega arith
 step-size (remove r) next = omega arith
+step-size (test y z) next = omega arith
 
 unfoldable mutual
   pub goalsSize : Goals → ℕ
@@ -75,6 +77,7 @@ unfoldable mutual
   goalSize (step s) = stepSize s
   goalSize (switch x cs) = suc (armsSize cs)
   goalSize (ifLess y z a b) = suc (goalsSize a + goalsSize b)
+  goalSize (try c a b) = suc (goalsSize c + (goalsSize a + goalsSize b))
 
   pub armsSize : Arms → ℕ
   armsSize noArms = 0
@@ -91,6 +94,7 @@ mutual
   goal-size (step s) next = step-size s next
   goal-size (switch x cs) next = omega (arith, arms-size cs)
   goal-size (ifLess y z a b) next = omega (arith, goals-size a, goals-size b)
+  goal-size (try c a b) next = omega (arith, goals-size c, goals-size a, goals-size b)
 
   pub arms-size : (cs : Arms) → size (armsTree cs) ≡ armsSize cs
   arms-size noArms = refl

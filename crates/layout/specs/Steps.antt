@@ -4,9 +4,9 @@ use mathlib.Core.List.{List, [], _∷_}
 use mathlib.Core.Path.{_≡_, ap}
 use mathlib.Core.Bool.{true}
 use Rattle.language.specs.Lists.{nth}
-use Rattle.language.specs.File.{kLiteral, kSum, kAssign, kConstruct, kSwitch, kIf, kCall, kPrint, kCreate, kRemove, Kind, kType, kFunctor, kProcedure, kVariable, kRegion, kEdge, kArm, kArgument, kGoal, row, kindOf, word, recordCount, headerOk, formOk}
+use Rattle.language.specs.File.{kLiteral, kSum, kAssign, kConstruct, kSwitch, kIf, kCall, kPrint, kCreate, kRemove, kTry, kTest, Kind, kType, kFunctor, kProcedure, kVariable, kRegion, kEdge, kArm, kArgument, kGoal, row, kindOf, word, recordCount, headerOk, formOk}
 use Rattle.language.specs.Tree.{Words, readWords, readRecord, readChain}
-use Rattle.language.specs.Program.{four, Functor, Variable, Edge, Region, literal, sum, assign, construct, call, print, create, remove, Goals, done, _then_, step, switch, ifLess, Arms, noArms, arm, Procedure}
+use Rattle.language.specs.Program.{four, Functor, Variable, Edge, Region, literal, sum, assign, construct, call, print, create, remove, test, Goals, done, _then_, step, switch, ifLess, try, Arms, noArms, arm, Procedure}
 use Rattle.language.specs.Reading.{wordAt, chainAt, each, readFunctor, readType, readVariable, readEdge, readRegion, noSense, numberIn, senseIn, num, sub, goalOf, inFront, senseOf, partsOf, readProcedure}
 use Rattle.language.specs.Answers.{program}
 use Rattle.layout.specs.Table.{all-rows}
@@ -191,6 +191,15 @@ module _ (W : ℕ → ℕ → ℕ) (n : ℕ) (P : formOk W n ≡ true) (i : ℕ)
   pub remove-step : kindOf (W i 0) ≡ kGoal kRemove → goalsAt W n i ≡ step (remove (W i 2)) then goalsAt W n (W i 1)
   unfolding parts
   remove-step e = ap (λ s. s .asGoals) (sense-step (kGoal kRemove) e)
+
+  pub try-step : kindOf (W i 0) ≡ kGoal kTry
+      → goalsAt W n i ≡ try (goalsAt W n (W i 2)) (goalsAt W n (W i 3)) (goalsAt W n (W i 4)) then goalsAt W n (W i 1)
+  unfolding parts
+  try-step e = ap (λ s. s .asGoals) (sense-step (kGoal kTry) e)
+
+  pub test-step : kindOf (W i 0) ≡ kGoal kTest → goalsAt W n i ≡ step (test (W i 2) (W i 3)) then goalsAt W n (W i 1)
+  unfolding parts
+  test-step e = ap (λ s. s .asGoals) (sense-step (kGoal kTest) e)
 
 -- ---- the program of bytes that pass numbers 1 and 2
 module _ (f : List ℕ) (H : headerOk f ≡ true) (F : formOk (word f) (recordCount f) ≡ true) where

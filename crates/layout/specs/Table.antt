@@ -8,7 +8,7 @@ use mathlib.Core.Logic.{_⊎_, inl, inr}
 use lib.ListN.{length}
 use borrow.Author.Tests.{eqb-true, eq-eqb}
 use Rattle.language.specs.Lists.{nth}
-use Rattle.language.specs.File.{kLiteral, kSum, kAssign, kConstruct, kSwitch, kIf, kCall, kPrint, kCreate, kRemove, Kind, kNone, kHeader, kType, kFunctor, kProcedure, kVariable, kRegion, kEdge, kArm, kArgument, kGoal, Chain, nowhere, types, functors, procedures, variables, regions, edges, goals, arms, arguments, padded, rowIn, row, kinds, kindOf, code, standsIn}
+use Rattle.language.specs.File.{kLiteral, kSum, kAssign, kConstruct, kSwitch, kIf, kCall, kPrint, kCreate, kRemove, kTry, kTest, Kind, kNone, kHeader, kType, kFunctor, kProcedure, kVariable, kRegion, kEdge, kArm, kArgument, kGoal, Chain, nowhere, types, functors, procedures, variables, regions, edges, goals, arms, arguments, padded, rowIn, row, kinds, kindOf, code, standsIn}
 
 unfoldable pub all-rows : Unit {0}
 unfolding row rowIn padded
@@ -37,6 +37,8 @@ kind-number (kGoal kCall) = refl
 kind-number (kGoal kPrint) = refl
 kind-number (kGoal kCreate) = refl
 kind-number (kGoal kRemove) = refl
+kind-number (kGoal kTry) = refl
+kind-number (kGoal kTest) = refl
 
 -- a word that is a kind's number stands for that kind
 pub number-is : (k : Kind) (w : ℕ) → w ≡ row k .kind → kindOf w ≡ k
@@ -56,7 +58,7 @@ listed (k ∷ ks) b (suc n) h = elim (listed ks (suc b) n (h .1)) [ inl e ↦ in
 numbered : Numbered 0 kinds
 unfolding kinds all-rows
 numbered =
-    (refl, (refl, (refl, (refl, (refl, (refl, (refl, (refl, (refl, (refl, (refl, (refl, (refl, (refl, (refl, (refl, (refl, (refl, (refl, (refl, tt))))))))))))))))))))
+    (refl, (refl, (refl, (refl, (refl, (refl, (refl, (refl, (refl, (refl, (refl, (refl, (refl, (refl, (refl, (refl, (refl, (refl, (refl, (refl, (refl, (refl, tt))))))))))))))))))))))
 
 -- a number that stands for a kind is that kind's
 pub number-kind : (n : ℕ) → (kindOf n ≡ kNone) ⊎ (n ≡ row (kindOf n) .kind)
@@ -110,3 +112,5 @@ row-length (kGoal kCall) = refl
 row-length (kGoal kPrint) = refl
 row-length (kGoal kCreate) = refl
 row-length (kGoal kRemove) = refl
+row-length (kGoal kTry) = refl
+row-length (kGoal kTest) = refl

@@ -3,7 +3,7 @@ use Prim.Native.Nat.{ℕ, zero, suc, _+_, _≤_}
 use native.Mathlib.Omega.{arith}
 use mathlib.Core.List.{List, [], _∷_}
 use Rattle.language.specs.Lists.{nth}
-use Rattle.language.specs.File.{GoalKind, kLiteral, kSum, kAssign, kConstruct, kSwitch, kIf, kCall, kPrint, kCreate, kRemove, Kind, kNone, kHeader, kType, kFunctor, kProcedure, kVariable, kRegion, kEdge, kArm, kArgument, kGoal}
+use Rattle.language.specs.File.{GoalKind, kLiteral, kSum, kAssign, kConstruct, kSwitch, kIf, kCall, kPrint, kCreate, kRemove, kTry, kTest, Kind, kNone, kHeader, kType, kFunctor, kProcedure, kVariable, kRegion, kEdge, kArm, kArgument, kGoal}
 use Rattle.language.specs.Tree.{Tree, end, node, Words, noWords, plain, leads}
 use Rattle.language.specs.Layout.{size, sizeWords}
 use Rattle.language.specs.Reading.{Sense, Part, numeral, chain, noSense, senseIn, sub, goalOf, inFront, senseOf, partsOf}
@@ -35,6 +35,15 @@ subs-spread (chain s ∷ ps) zero = omega (arith, sub-spread ps 0)
 subs-spread (numeral n ∷ ps) (suc k) = subs-spread ps k
 subs-spread (chain s ∷ ps) (suc k) = omega (arith, subs-spread ps k)
 
+-- three
+parts-spread : (ps : List Part) (k : ℕ) → spread (sub ps k) + spread (sub ps (suc k)) + spread (sub ps (suc (suc k))) ≤ spreads ps
+unfolding spread spreads sub senseIn nth noSense goalsCount
+parts-spread [] k = omega arith
+parts-spread (numeral n ∷ ps) zero = omega (arith, subs-spread ps 0)
+parts-spread (chain s ∷ ps) zero = omega (arith, subs-spread ps 0)
+parts-spread (numeral n ∷ ps) (suc k) = parts-spread ps k
+parts-spread (chain s ∷ ps) (suc k) = omega (arith, parts-spread ps k)
+
 goal-spread : (ps : List Part) (g : GoalKind) → goalCount (goalOf ps g) ≤ suc (spreads ps)
 unfolding goalOf goalsCount spread
 goal-spread ps kLiteral = omega arith
@@ -47,6 +56,8 @@ goal-spread ps kCall = omega arith
 goal-spread ps kPrint = omega arith
 goal-spread ps kCreate = omega arith
 goal-spread ps kRemove = omega arith
+goal-spread ps kTry = omega (arith, parts-spread ps 0)
+goal-spread ps kTest = omega arith
 
 front-spread : (ps : List Part) (k : Kind) (s : Sense) → spread (inFront ps k s) ≤ suc (spreads ps + spread s)
 unfolding inFront spread goalsCount

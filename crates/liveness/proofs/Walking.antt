@@ -9,14 +9,14 @@ use Rattle.sets.specs.Sets.{emptySet, single, _∪_, _∖_}
 use Rattle.sets.specs.Members.{setOf}
 use Rattle.sets.specs.declared.Set.{Set}
 use Rattle.language.specs.File.{goals, arms, word, recordCount}
-use Rattle.language.specs.Format.{nextWord, goalX, switchArms, ifY, ifZ, ifThen, ifElse, armGoals}
-use Rattle.language.specs.Program.{argumentsOf, Step, Goals, _then_, Goal, step, switch, ifLess, Arms, arm, Signature, Program, signatureOf}
+use Rattle.language.specs.Format.{nextWord, goalX, switchArms, ifY, ifZ, ifThen, ifElse, tryCondition, tryThen, tryElse, armGoals}
+use Rattle.language.specs.Program.{argumentsOf, Step, Goals, _then_, Goal, step, switch, ifLess, try, Arms, arm, Signature, Program, signatureOf}
 use Rattle.language.specs.Lifetimes.{liveStep, live, liveGoal, liveArms, stepClasses, goalsClasses, goalClasses, armsClasses}
 use Rattle.language.specs.Answers.{program}
 use Rattle.chains.specs.Formed.{Formed, Stands, Onward, goalsAt, goalAt, firstGoal, armsAt, goals-none, arms-none}
-use Rattle.chains.specs.Parts.{SwitchAt, IfAt, fourAt}
+use Rattle.chains.specs.Parts.{SwitchAt, IfAt, TryAt, fourAt}
 use Rattle.chains.specs.Is.{chain-next, goals-step}
-use Rattle.chains.specs.Shapes.{IsSwitch, IsIf, StepAt, step-here, switch-here, if-here, arm-here}
+use Rattle.chains.specs.Shapes.{IsSwitch, IsIf, IsTry, StepAt, step-here, switch-here, if-here, try-here, arm-here}
 use Rattle.tables.specs.Filled.{GoalIsStep, Accessed}
 use Rattle.liveness.specs.Points.{Point, point, points, partPoints, goalPoints, armsPoints, pointWords}
 use Rattle.liveness.specs.Table.{Fills}
@@ -81,6 +81,15 @@ module _ (P : Program) where
   unfolding partPoints
   if-parts after e = rw e refl
 
+  try-live : {g : Goal} {cs gs hs : Goals} (after : Set) → g ≡ try cs gs hs → live P cs (live P gs after) ∪ live P hs after ≡ liveGoal P g after
+  unfolding liveGoal
+  try-live after e = rw e refl
+
+  try-parts : {g : Goal} {cs gs hs : Goals} (after : Set) → g ≡ try cs gs hs
+      → partPoints P g after ≡ points P cs (live P gs after) ++ (points P gs after ++ points P hs after)
+  unfolding partPoints
+  try-parts after e = rw e refl
+
   -- number 7
   module _ (S : Signature) where
     then-classes : {gs hs : Goals} {g : Goal} (after : Set) {l : Set} (x : Bool) {y r : Bool} → gs ≡ g then hs → l ≡ live P hs after
@@ -102,6 +111,14 @@ module _ (P : Program) where
     unfolding goalClasses
     if-classes {gs = gs} {hs = hs} after x e m n =
         n ∙ ap (λ (y : Bool). y & goalsClasses P S gs after) m ∙ later-first x (goalsClasses P S gs after) (goalsClasses P S hs after) ∙ rw e refl
+
+    try-classes : {g : Goal} {cs gs hs : Goals} (after : Set) (x : Bool) {k m r : Bool} → g ≡ try cs gs hs → k ≡ (x & goalsClasses P S hs after)
+        → m ≡ (k & goalsClasses P S gs after) → r ≡ (m & goalsClasses P S cs (live P gs after)) → r ≡ (x & goalClasses P S g after)
+    unfolding goalClasses
+    try-classes {cs = cs} {gs = gs} {hs = hs} after x e p q n =
+        n ∙ ap (λ (y : Bool). y & goalsClasses P S cs (live P gs after))
+        (q ∙ ap (λ (y : Bool). y & goalsClasses P S gs after) p ∙ later-first x (goalsClasses P S gs after) (goalsClasses P S hs after))
+        ∙ later-first x (goalsClasses P S cs (live P gs after)) (goalsClasses P S gs after & goalsClasses P S hs after) ∙ rw e refl
 
     arms-classes : {ds cs : Arms} {n : ℕ} {ys : _} {gs : Goals} (after : Set) (x : Bool) {k r : Bool} → ds ≡ arm n ys gs cs
         → k ≡ (x & armsClasses P S cs after) → r ≡ (k & goalsClasses P S gs after) → r ≡ (x & armsClasses P S ds after)
@@ -140,6 +157,22 @@ module _ (f : List ℕ) (i : ℕ) where
     pub to-else : Onward f goals i (word f i ifElse)
     to-else = if-at .to-else
 
+  module _ (F : Formed f) (k : IsTry f i) where
+    try-at : TryAt f i (word f i nextWord) (word f i tryCondition) (word f i tryThen) (word f i tryElse)
+    try-at = try-here F refl k
+
+    pub try-there : i < recordCount f
+    try-there = try-at .below
+
+    pub to-condition : Onward f goals i (word f i tryCondition)
+    to-condition = try-at .to-condition
+
+    pub to-try-then : Onward f goals i (word f i tryThen)
+    to-try-then = try-at .to-then
+
+    pub to-try-else : Onward f goals i (word f i tryElse)
+    to-try-else = try-at .to-else
+
 -- ---- over the records
 module _ (f rows : List ℕ) where
   -- ---- a chain
@@ -168,9 +201,9 @@ module _ (f rows : List ℕ) where
       }
 
   -- ---- a step
-  module _ (i : ℕ) (F : Formed f) (S : Stands f goals i) (z : i ≡ 0 → ⊥) (p : IsSwitch f i → ⊥) (q : IsIf f i → ⊥) where
+  module _ (i : ℕ) (F : Formed f) (S : Stands f goals i) (z : i ≡ 0 → ⊥) (p : IsSwitch f i → ⊥) (q : IsIf f i → ⊥) (r : IsTry f i → ⊥) where
     step-at : StepAt f i
-    step-at = step-here F S z refl p q
+    step-at = step-here F S z refl p q r
 
     step-goal : goalAt f i ≡ step (step-at .one)
     unfolding goalAt firstGoal
@@ -243,6 +276,32 @@ module _ (f rows : List ℕ) where
               n .classes-is
               ∙ if-classes (program f) (signatureOf (program f) q) after x (if-at f i F k .goal)
               (h .classes-are o q y (λ z. y .ready .owning .to-else i k _ refl z ∙ b)) (j′ .classes-are o q y (λ z. y .ready .owning .to-then i k _ refl z ∙ b));
+        }
+
+  -- ---- a try
+  module _ (i : ℕ) (F : Formed f) (k : IsTry f i) where
+    -- the points of the else part stand behind those of the then part, and these behind those of the condition
+    pub try-done : {after now : Set} {end : ℕ} {x : Bool} {t c u c′ d v d′ v′ e u′ w : List ℕ} {other one r : Set} → now ≡ after
+        → GoalsFrom f rows w (word f i tryElse) after end x t c u → other ≡ liveIn c → Carries c′ (wantsOf c) now (placeIn c) (classesIn c)
+        → GoalsDone f rows (word f i tryThen) c′ u d v → GoalsDone f rows (word f i tryCondition) d v d′ v′ → one ≡ liveIn d′ → r ≡ one ∪ other
+        → Noted d′ v′ e u′ r now (classesIn d′) → GoalFrom f rows w i after end x t e u′
+    try-done {after} {now} {x = x} {r = r} ea h eo g j m ep p n =
+        let j′ = part-from (word f i tryThen) ea (carries-on (h .wants-is) g) j in
+        let m′ = part-from (word f i tryCondition) refl (record { live-is = j′ .live-is; place-is = refl; classes-is = refl; wants-is = j′ .wants-is }) m in
+        let l : r ≡ liveGoal (program f) (goalAt f i) after =
+        p ∙ cc (h .live-is, eo, ep, m′ .live-is) ∙ try-live (program f) after (try-at f i F k .goal) in
+        record {
+          live-is = n .live-is ∙ l;
+          wants-is = n .wants-is ∙ m′ .wants-is;
+          fills =
+              own-point (program f) (goalAt f i) after _ (try-parts (program f) after (try-at f i F k .goal)) l
+              (fills-more (fills-more (h .fills) (j′ .fills)) (m′ .fills)) (rw ea at (n .fills));
+          classes-are = λ o q y b.
+              n .classes-is
+              ∙ try-classes (program f) (signatureOf (program f) q) after x (try-at f i F k .goal)
+              (h .classes-are o q y (λ z. y .ready .owning .to-try-else i k _ refl z ∙ b))
+              (j′ .classes-are o q y (λ z. y .ready .owning .to-try-then i k _ refl z ∙ b))
+              (m′ .classes-are o q y (λ z. y .ready .owning .to-condition i k _ refl z ∙ b));
         }
 
   -- ---- arms

@@ -1,10 +1,11 @@
 -- How many points goals have.
 use Prim.Native.Nat.{ℕ, suc, _+_}
 use native.Mathlib.Omega.{arith}
+use mathlib.Core.List.{_++_}
 use mathlib.Core.Path.{_≡_, refl}
 use lib.ListN.{length, length-append}
 use Rattle.sets.specs.declared.Set.{Set}
-use Rattle.language.specs.Program.{Goals, done, _then_, Goal, step, switch, ifLess, Arms, noArms, arm, Program}
+use Rattle.language.specs.Program.{Goals, done, _then_, Goal, step, switch, ifLess, try, Arms, noArms, arm, Program}
 use Rattle.language.specs.Lifetimes.{live}
 use Rattle.liveness.specs.Points.{points, partPoints, armsPoints}
 
@@ -18,6 +19,7 @@ unfoldable mutual
   goalCount (step s) = 1
   goalCount (switch x cs) = suc (armsCount cs)
   goalCount (ifLess y z a b) = suc (goalsCount a + goalsCount b)
+  goalCount (try c a b) = suc (goalsCount c + (goalsCount a + goalsCount b))
 
   pub armsCount : Arms → ℕ
   armsCount noArms = 0
@@ -37,6 +39,15 @@ module _ (P : Program) where
     parts-count (step s) after = refl
     parts-count (switch x cs) after = omega (arith, arms-count cs after)
     parts-count (ifLess y z a b) after = omega (arith, length-append (points P a after) (points P b after), points-count a after, points-count b after)
+    parts-count (try c a b) after =
+        omega (
+          arith,
+          length-append (points P c (live P a after)) (points P a after ++ points P b after),
+          length-append (points P a after) (points P b after),
+          points-count c (live P a after),
+          points-count a after,
+          points-count b after,
+        )
 
     pub arms-count : (cs : Arms) (after : Set) → length (armsPoints P cs after) ≡ armsCount cs
     arms-count noArms after = refl

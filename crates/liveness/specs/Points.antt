@@ -7,7 +7,7 @@ use lib.ListN.{length}
 use Rattle.sets.specs.Sets.{stored}
 use Rattle.sets.specs.declared.Set.{Set}
 use Rattle.language.specs.Format.{maxRecords}
-use Rattle.language.specs.Program.{Goals, done, _then_, Goal, step, switch, ifLess, Arms, noArms, arm, Program}
+use Rattle.language.specs.Program.{Goals, done, _then_, Goal, step, switch, ifLess, try, Arms, noArms, arm, Program}
 use Rattle.language.specs.Lifetimes.{live, liveGoal}
 
 -- two words a point, one for each goal
@@ -29,11 +29,12 @@ module _ (P : Program) where
     points done after = []
     points (g then gs) after = point (liveGoal P g (live P gs after)) (live P gs after) ∷ (partPoints g (live P gs after) ++ points gs after)
 
-    -- each part is followed by what follows the goal
+    -- each part is followed by what follows the goal, a condition by the then part
     pub partPoints : Goal → Set → List Point
     partPoints (step g) after = []
     partPoints (switch x cs) after = armsPoints cs after
     partPoints (ifLess y z a b) after = points a after ++ points b after
+    partPoints (try c a b) after = points c (live P a after) ++ (points a after ++ points b after)
 
     pub armsPoints : Arms → Set → List Point
     armsPoints noArms after = []

@@ -58,7 +58,7 @@ pub fn list_live(
     let mut carried = at_end();
     list_wants(own, &mut carried);
     put_live(&mut carried, outs);
-    goals(file, rows, body, &mut carried, table);
+    goals(&file, rows, body, &mut carried, table);
     Filled {
         live: live_in(&carried),
         start: place_in(&carried),

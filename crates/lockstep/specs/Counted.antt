@@ -3,7 +3,7 @@ use mathlib.Core.Path.{_≡_}
 use mathlib.Core.Bool.{Bool, true, false}
 use mathlib.Core.List.{List, [], _∷_}
 use Prim.Native.Nat.{ℕ, zero, suc, _+_}
-use Rattle.language.specs.Program.{Goals, done, _then_, Goal, step, switch, ifLess, Program}
+use Rattle.language.specs.Program.{Goals, done, _then_, Goal, step, switch, ifLess, try, Program}
 use Rattle.language.specs.Annotation.{plainStep}
 use Rattle.language.specs.AcceptedRun.{RegionFrame, State, allowed, steps}
 
@@ -12,6 +12,7 @@ unfoldable pub isPlain : Goal → Bool
 isPlain (step g) = plainStep g
 isPlain (switch x cs) = true
 isPlain (ifLess y z a b) = true
+isPlain (try c a b) = true
 
 -- the first of some goals, if there is one
 unfoldable pub firstGoal : Goals → List Goal
@@ -42,7 +43,7 @@ module _ (P : Program) where
   unfoldable pub spends : State → ℕ
   spends s = priceOf (nextGoal s)
 
-  -- how many of the first n steps were spent on creates and removes
+  -- how many of the first n steps were spent on creates and removes: one that a failing test undoes is counted, "its step stays spent on it" (C-20)
   unfoldable pub spent : ℕ → ℕ
   spent zero = 0
   spent (suc n) = spends (steps P n) + spent n

@@ -11,7 +11,7 @@ use Rattle.language.specs.PlainRun.{stripped, plainSteps}
 use Rattle.language.specs.AcceptedRun.{frameOf, steps}
 use Rattle.language.specs.Computing.{computing}
 use Rattle.lockstep.specs.Counted.{isPlain, firstGoal, nextIn, nextGoal, price, priceOf, spends, spent}
-use Rattle.lockstep.specs.Erase.{eraseFrame, eraseFrames, erase}
+use Rattle.lockstep.specs.Erase.{eraseFrame, eraseCondition, eraseFrames, erase}
 
 -- a type with one functor, of one argument; a procedure whose variable 1 has it, with a region
 unfoldable entryOf : Goals → Program
@@ -41,7 +41,7 @@ small-ended = (refl, refl, refl)
 
 -- the plain run's frame goes with its last goal, before the remove
 small-erased : (erase small (steps small 3) .frames ≡ []) × (erase small (steps small 3) .printed ≡ pos 0 ∷ [])
-unfolding computing entryOf small eraseFrame eraseFrames erase
+unfolding computing entryOf small eraseFrame eraseCondition eraseFrames erase
 small-erased = (refl, refl)
 
 -- A sum out of range: create, then 32,767 in variable 2, doubled until it is too much. After 18 steps, 1 of them spent, the run is at the seventeenth sum;

@@ -6,14 +6,15 @@ use mathlib.Core.List.{List, [], _∷_, map}
 use mathlib.Core.Logic.{_↔_}
 use Prim.Native.Nat.{ℕ, zero, suc, _+_, _-_, _≤_}
 use native.Mathlib.Omega.{arith}
-use Rattle.language.specs.Program.{Goal, Program}
-use Rattle.language.specs.Frames.{staysAtSum}
-use Rattle.language.specs.PlainRun.{stripped, plainState, plainStepOf, plainSteps}
+use lib.IntN.{ℤ}
+use Rattle.language.specs.Program.{Goals, done, _then_, Goal, Program}
+use Rattle.language.specs.Frames.{Frame, Cell, Condition, closed, opened, staysAtSum}
+use Rattle.language.specs.PlainRun.{stripped, plainState, plainWithin, plainStateIn, plainStepOf, plainSteps}
 use Rattle.language.specs.AcceptedRun.{RegionFrame, Memory, frameOf, stepOf, steps}
 use Rattle.laws.specs.Runs as Runs
 use Rattle.lockstep.specs.Counted.{isPlain, price, priceOf, nextGoal, spends, spent, Safe}
-use Rattle.lockstep.specs.Erase.{eraseFrame, eraseFrames, erase, erase-start}
-use Rattle.lockstep.specs.Ready.{ready-steps, toDo}
+use Rattle.lockstep.specs.Erase.{eraseFrame, eraseCondition, eraseFrames, erase, erase-start}
+use Rattle.lockstep.specs.Ready.{ready-steps, toDoIn}
 use Rattle.lockstep.specs.Turn.{StepTurn, quiet, plain, turn, over-erased, seen-end, sum-spends, sum-frames, seen-sum}
 
 -- ---- counting
@@ -41,10 +42,18 @@ module _ (P : Program) where
   unfolding spent
   after-plain n z = let i = spent-most n in omega arith
 
-  erased-printed : (fs : List RegionFrame) (m : Memory) → eraseFrames P fs m .printed ≡ m .printed
-  unfolding eraseFrames plainState
-  erased-printed [] m = refl
-  erased-printed (f ∷ fs) m = refl
+  within-printed : (c : Condition Frame (List Cell)) (gs : Goals) (f : Frame) (fs : List Frame) (cells : List Cell) (printed : List ℤ)
+      → plainWithin P c gs f fs cells printed .printed ≡ printed
+  unfolding plainWithin plainState
+  within-printed closed gs f fs cells printed = refl
+  within-printed (opened a e n) done f fs cells printed = refl
+  within-printed (opened a e n) (g then gs) f fs cells printed = refl
+
+module _ (P : Program) where
+  erased-printed : (c : Condition RegionFrame Memory) (fs : List RegionFrame) (m : Memory) → eraseFrames P c fs m .printed ≡ m .printed
+  unfolding eraseFrames plainStateIn
+  erased-printed c [] m = refl
+  erased-printed c (f ∷ fs) m = within-printed (stripped P) (eraseCondition c) _ _ _ _ (m .printed)
 
 module _ (P : Program) (safe : Safe P) where
   turns : (n : ℕ) → StepTurn P (steps P n)
@@ -64,13 +73,13 @@ module _ (P : Program) (safe : Safe P) where
   -- 2. the numbers printed
   pub prints : (n : ℕ) → steps P n .memory .printed ≡ plainSteps (stripped P) (n - spent P n) .printed
   unfolding erase
-  prints n = sym (erased-printed P (steps P n .frames) (steps P n .memory)) ∙ ap (λ t. t .printed) (lock n)
+  prints n = sym (erased-printed P (steps P n .condition) (steps P n .frames) (steps P n .memory)) ∙ ap (λ t. t .printed) (lock n)
 
   -- from each state some creates and removes lead to one where none comes next: the goals still to do fall
   abbrev Settles : ℕ → Type 0
   Settles n = (m : ℕ) × (m - spent P m ≡ n - spent P n) × (spends P (steps P m) ≡ 0)
 
-  settles : (t n : ℕ) → toDo (steps P n .frames) ≤ t → Settles n
+  settles : (t n : ℕ) → toDoIn (steps P n) ≤ t → Settles n
   unfolding steps
   settles zero n l = go (turns n)
     where
@@ -79,7 +88,7 @@ module _ (P : Program) (safe : Safe P) where
       go (plain z e) = (n, refl, z)
   settles (suc t) n l = go (turns n) (λ q. settles t (suc n) q)
     where
-      go : StepTurn P (steps P n) → (toDo (stepOf P (steps P n) .frames) ≤ t → Settles (suc n)) → Settles n
+      go : StepTurn P (steps P n) → (toDoIn (stepOf P (steps P n)) ≤ t → Settles (suc n)) → Settles n
       go (quiet z e d) later = let s = later (omega arith) in (s .0, s .1 ∙ after-quiet P n z, s .2)
       go (plain z e) later = (n, refl, z)
 
@@ -89,7 +98,7 @@ module _ (P : Program) (safe : Safe P) where
   each zero = (0, refl)
   each (suc k) =
       let o = each k in
-      let s = settles (toDo (steps P (o .0) .frames)) (o .0) (omega arith) in
+      let s = settles (toDoIn (steps P (o .0))) (o .0) (omega arith) in
       (suc (s .0), after-plain P (s .0) (s .2) ∙ ap suc (s .1 ∙ o .1))
 
   -- 4. once the run has ended after n steps, the plain run has after the plain ones of them ..
@@ -99,7 +108,7 @@ module _ (P : Program) (safe : Safe P) where
   -- .. and once the plain run has ended there, the run ends after creates and removes alone
   pub plainEnded : (n : ℕ) → plainSteps (stripped P) (n - spent P n) .frames ≡ [] → (m : ℕ) × (m - spent P m ≡ n - spent P n) × (steps P m .frames ≡ [])
   plainEnded n e =
-      let s = settles (toDo (steps P n .frames)) n (omega arith) in (
+      let s = settles (toDoIn (steps P n)) n (omega arith) in (
         s .0,
         s .1,
         seen-end P (steps P (s .0)) (ready-steps P (s .0)) (s .2)
@@ -137,7 +146,7 @@ module _ (P : Program) (safe : Safe P) where
   -- .. at which the plain run is there, at that the run is after creates and removes alone ..
   pub plainSum : (n : ℕ) → PlainAtSum (n - spent P n) → (m : ℕ) × (m - spent P m ≡ n - spent P n) × AtSum m
   plainSum n o =
-      let s = settles (toDo (steps P n .frames)) n (omega arith) in
+      let s = settles (toDoIn (steps P n)) n (omega arith) in
       let l = ap (λ t. t .frames) (lock (s .0)) ∙ ap (λ k. plainSteps (stripped P) k .frames) (s .1) in
       (s .0, s .1, sym (seen-sum P (steps P (s .0)) (ready-steps P (s .0)) (s .2)) ∙ ap staysAtSum l ∙ o)
 

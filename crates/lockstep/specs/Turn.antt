@@ -8,17 +8,17 @@ use native.Mathlib.Omega.{arith}
 use lib.IntN.{ℤ}
 use Rattle.sets.specs.Tests.{neg, neg-true, true-neg, truth, clash}
 use Rattle.language.specs.Program.{Goals, _then_, Goal, Program}
-use Rattle.language.specs.Frames.{Frame, Cell, withGoals, fits, overAhead, staysAtSum, settle}
-use Rattle.language.specs.PlainRun.{thenIf, stripGoals, stripped, PlainState, plainState, plainTake, plainFrom, plainStepOf}
+use Rattle.language.specs.Frames.{Frame, Condition, closed, opened, Cell, withGoals, fits, overAhead, staysAtSum, settle}
+use Rattle.language.specs.PlainRun.{thenIf, stripGoals, stripped, PlainState, plainState, plainWithin, plainStateIn, plainTake, plainFrom, plainStepOf}
 use Rattle.language.specs.AcceptedRun.{RegionFrame, State, cellOf, frameOf, withFrame, allowed, stepFrom, stepOf}
 use Rattle.laws.specs.Runs.{taken, stays-at-sum, plain-taken, plain-sum-stays}
 use Rattle.lockstep.specs.Counted.{Free, isPlain, nextIn, nextGoal, price, priceOf, spends}
 use Rattle.lockstep.specs.Strip.{strippedGoal, strip-goal, fits-stripped, quiet-fits}
-use Rattle.lockstep.specs.Erase.{eraseFrame, eraseFrames, erase, erase-take, Same}
-use Rattle.lockstep.specs.Ready.{EndedOrNext, over, ready, toDo, rest, ready-spends, falls}
+use Rattle.lockstep.specs.Erase.{eraseFrame, eraseCondition, eraseFrames, erase, erase-take, Same}
+use Rattle.lockstep.specs.Ready.{EndedOrNext, over, ready, toDoIn, rest, ready-spends, falls}
 
 pub data StepTurn (P : Program) (s : State) : Type 0 where
-  quiet : spends P s ≡ 1 → erase P (stepOf P s) ≡ erase P s → suc (toDo (stepOf P s .frames)) ≡ toDo (s .frames) → StepTurn P s
+  quiet : spends P s ≡ 1 → erase P (stepOf P s) ≡ erase P s → suc (toDoIn (stepOf P s)) ≡ toDoIn s → StepTurn P s
   plain : spends P s ≡ 0 → erase P (stepOf P s) ≡ plainStepOf (stripped P) (erase P s) → StepTurn P s
 
 -- ---- the plain run's step from a newest frame with goals
@@ -29,14 +29,19 @@ settle-then goalsIn into [] f g gs = refl
 settle-then goalsIn into (e ∷ fs) f g gs = refl
 
 module _ (P : Program) (f : Frame) (fs : List Frame) (cells : List Cell) (printed : List ℤ) (g : Goal) (gs : Goals) where
-  plain-frames : plainState P (withGoals f (g then gs)) fs cells printed .frames ≡ withGoals f (g then gs) ∷ fs
-  unfolding plainState withGoals
-  plain-frames = settle-then _ _ fs _ g gs
+  plain-in : (c : Condition Frame (List Cell)) → plainStateIn P c (withGoals f (g then gs)) fs cells printed
+      ≡ record { frames = withGoals f (g then gs) ∷ fs; cells = cells; printed = printed; condition = c }
+  unfolding plainStateIn plainWithin plainState withGoals
+  plain-in closed = rw settle-then
+  plain-in (opened a e n) = refl
 
-  plain-next : fits g (withGoals f (g then gs)) ≡ true
-      → plainStepOf P (plainState P (withGoals f (g then gs)) fs cells printed) ≡ plainTake P g (withGoals f gs) fs cells printed
-  unfolding plainStepOf plainState plainFrom withGoals
-  plain-next n = rw settle-then (plain-taken P _ fs _ g gs n)
+  plain-frames : (c : Condition Frame (List Cell)) → plainStateIn P c (withGoals f (g then gs)) fs cells printed .frames ≡ withGoals f (g then gs) ∷ fs
+  plain-frames c = ap (λ t. t .frames) (plain-in c)
+
+  plain-next : (c : Condition Frame (List Cell)) → fits g (withGoals f (g then gs)) ≡ true
+      → plainStepOf P (plainStateIn P c (withGoals f (g then gs)) fs cells printed) ≡ plainTake P c g (withGoals f gs) fs cells printed
+  unfolding plainStepOf plainFrom withGoals
+  plain-next c n = ap (plainStepOf P) (plain-in c) ∙ plain-taken P _ fs _ g gs n
 
 module _ (P : Program) (s : State) where
   -- ---- an ended run
@@ -52,7 +57,7 @@ module _ (P : Program) (s : State) where
   -- ---- a run with a next goal
   module _ (f : RegionFrame) (fs : List RegionFrame) (g : Goal) (gs : Goals) (e : s .frames ≡ f ∷ fs) (h : f .frame .goals ≡ (g then gs)) where
     abbrev Seen : Goals → PlainState
-    Seen hs = plainState (stripped P) (withGoals (f .frame) hs) (map eraseFrame fs) (map cellOf (s .memory .cells)) (s .memory .printed)
+    Seen hs = plainStateIn (stripped P) (eraseCondition (s .condition)) (withGoals (f .frame) hs) (map eraseFrame fs) (map cellOf (s .memory .cells)) (s .memory .printed)
 
     erased : erase P s ≡ Seen (thenIf (isPlain g) (strippedGoal g) (stripGoals gs))
     unfolding erase eraseFrames eraseFrame
@@ -70,21 +75,21 @@ module _ (P : Program) (s : State) where
     plain-stays : isPlain g ≡ true → staysAtSum (erase P s .frames) ≡ neg (fits g (f .frame))
     unfolding staysAtSum overAhead withGoals
     plain-stays p =
-        ap (λ t. staysAtSum (t .frames)) (erased-plain p) ∙ ap staysAtSum (plain-frames (stripped P) (f .frame) _ _ _ _ _)
+        ap (λ t. staysAtSum (t .frames)) (erased-plain p) ∙ ap staysAtSum (plain-frames (stripped P) (f .frame) _ _ _ _ _ _)
         ∙ ap neg (fits-stripped g (f .frame) _)
 
     stays : staysAtSum (map frameOf (s .frames)) ≡ neg (fits g (f .frame))
     unfolding staysAtSum overAhead frameOf
     stays = rw (e, h)
 
-    ready-turn : (b : Bool) → isPlain g ≡ b → Same P b g (rest f gs) fs (s .memory) → allowed P g f (s .memory) ≡ true → StepTurn P s
+    ready-turn : (b : Bool) → isPlain g ≡ b → Same P b (s .condition) g (rest f gs) fs (s .memory) → allowed P g f (s .memory) ≡ true → StepTurn P s
     unfolding price eraseFrame withFrame withGoals
     ready-turn true p t a = go (truth (fits g (f .frame)))
       where
         go : (fits g (f .frame) ≡ true) ⊎ (fits g (f .frame) ≡ false) → StepTurn P s
         go (inl n) =
             plain (ready-spends P s f fs g gs e h ∙ ap price p)
-            (ap (erase P) (taken P s f fs g gs e h n a) ∙ t ∙ sym (plain-next (stripped P) (f .frame) _ _ _ _ _ (fits-stripped g (f .frame) _ ∙ n))
+            (ap (erase P) (taken P s f fs g gs e h n a) ∙ t ∙ sym (plain-next (stripped P) (f .frame) _ _ _ _ _ _ (fits-stripped g (f .frame) _ ∙ n))
             ∙ ap (plainStepOf (stripped P)) (sym (erased-plain p)))
         go (inr n) =
             plain (ready-spends P s f fs g gs e h ∙ ap price p)
@@ -95,7 +100,7 @@ module _ (P : Program) (s : State) where
 
     ready-seen : (b : Bool) → isPlain g ≡ b → spends P s ≡ 0 → erase P s .frames ≡ [] → s .frames ≡ []
     unfolding price
-    ready-seen true p z q = cc (ap (λ t. t .frames) (erased-plain p) ∙ plain-frames (stripped P) (f .frame) _ _ _ _ _)
+    ready-seen true p z q = cc (ap (λ t. t .frames) (erased-plain p) ∙ plain-frames (stripped P) (f .frame) _ _ _ _ _ _)
     ready-seen false p z q = absurd (omega (arith, ready-spends P s f fs g gs e h ∙ ap price p))
 
     -- a sum out of range is plain, and the plain run sees the same frames
@@ -106,13 +111,13 @@ module _ (P : Program) (s : State) where
     ready-frames : isPlain g ≡ true → erase P s .frames ≡ map eraseFrame (s .frames)
     unfolding eraseFrame thenIf
     ready-frames p =
-        ap (λ t. t .frames) (erased-plain p) ∙ plain-frames (stripped P) (f .frame) _ _ _ _ _
+        ap (λ t. t .frames) (erased-plain p) ∙ plain-frames (stripped P) (f .frame) _ _ _ _ _ _
         ∙ ap (λ gs. withGoals (f .frame) gs ∷ map eraseFrame fs) (sym (ap stripGoals h ∙ strip-goal g gs ∙ ap (λ b. thenIf b (strippedGoal g) (stripGoals gs)) p))
         ∙ ap (map eraseFrame) (sym e)
 
   pub turn : EndedOrNext (s .frames) → Free P s → StepTurn P s
   turn (over e) free = over-turn e
-  turn (ready f fs g gs e h) free = ready-turn f fs g gs e h (isPlain g) refl (erase-take P g _ fs _) (free f fs g gs e h)
+  turn (ready f fs g gs e h) free = ready-turn f fs g gs e h (isPlain g) refl (erase-take P (s .condition) g _ fs _) (free f fs g gs e h)
 
   -- where the plain run sees the end and no create or remove comes next, the run has ended
   pub seen-end : EndedOrNext (s .frames) → spends P s ≡ 0 → erase P s .frames ≡ [] → s .frames ≡ []

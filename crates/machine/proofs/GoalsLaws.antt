@@ -16,6 +16,7 @@ use Rattle.memory.specs.declared.Heap.{Heap}
 use Rattle.memory.specs.declared.Made.{Made}
 use Rattle.memory.specs.declared.Made.the-variants.{At, NoRoom}
 use Rattle.memory.specs.Memory.{created, createdRegions, removed, removedCells, removedRegions}
+use Rattle.word_machine.specs.Tables.{onto}
 use Rattle.word_machine.specs.Machine.{regionsFrom, sumOfWords}
 use Rattle.machine.specs.GoalWords.{regionFor, placed}
 
@@ -32,6 +33,10 @@ sum-as v o p y z a b e eo ey ez = rw (e, eo, ey, ez)
 -- a number is in range as it is read back from 64 bits
 pub range-as : (b : Bool) (v : ℤ) → SFits w64 v → b ≡ inRange (toZ w64 (ofZ w64 v)) → b ≡ inRange v
 range-as b v h e = e ∙ ap inRange (toZ-ofZ h)
+
+-- a test passes
+pub passes-as : (b : Bool) (y z p q : ℕ) → b ≡ less (toZ w32 y) (toZ w32 z) → y ≡ p → z ≡ q → b ≡ less (toZ w32 p) (toZ w32 q)
+passes-as b y z p q e ey ez = rw (← ey, ← ez) e
 
 -- an if's part, by what its test says
 module _ (b : Bool) (y z u v x a c : ℕ) (e : b ≡ less (toZ w32 y) (toZ w32 z)) (ey : y ≡ u) (ez : z ≡ v) where
@@ -61,3 +66,7 @@ region-as f i k p a fw e z = rw (e, z)
 pub remove-as : (h g : Heap) (m rs m₁ rs₁ : List ℕ) (p q : ℕ) → (g ≡ removed h rs p) × (m₁ ≡ removedCells h m rs p) × (rs₁ ≡ removedRegions h rs p) → p ≡ q
     → (g ≡ removed h rs q) × (m₁ ≡ removedCells h m rs q) × (rs₁ ≡ removedRegions h rs q)
 remove-as h g m rs m₁ rs₁ p q e z = rw (← z) e
+
+-- the first goal of a part, or what comes after
+pub onto-as : (r a b c d : ℕ) → r ≡ onto a b → a ≡ c → b ≡ d → r ≡ onto c d
+onto-as r a b c d e ea eb = rw (← ea, ← eb) e

@@ -6,3 +6,6 @@ mod CallsLaws
 mod StepsLaws
 mod HeapsLaws
 mod RunsLaws
+mod TryingLaws
+mod LimitsLaws
+mod TriesLaws

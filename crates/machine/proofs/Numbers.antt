@@ -8,7 +8,7 @@ use lib.Dec.{eqb}
 use lib.ListN.{getD}
 use Rattle.language.specs.Lists.{choose}
 use Rattle.language.specs.File.{arms, word}
-use Rattle.language.specs.Format.{nextWord, termFunctor, maxVariables, maxRegions, kindWord, literalKind, sumKind, assignKind, constructKind, switchKind, ifKind, printKind, createKind, removeKind, goalX, sumY, sumZ, assignY, ifY, ifZ, printY, lifetimeRegion, termArguments}
+use Rattle.language.specs.Format.{nextWord, termFunctor, maxVariables, maxRegions, kindWord, literalKind, sumKind, assignKind, constructKind, switchKind, ifKind, printKind, createKind, removeKind, testKind, goalX, sumY, sumZ, assignY, ifY, ifZ, printY, testY, testZ, lifetimeRegion, termArguments}
 use Rattle.chains.specs.Formed.{Formed, Stands, stands-none}
 use Rattle.chains.specs.Is.{arm-is, chain-next}
 use Rattle.chains.specs.Records.{chainRecords, climb, records-none, records-step}
@@ -16,7 +16,7 @@ use Rattle.plans.specs.Plan.{Numbered, sidesFrom}
 use Rattle.word_machine.specs.Machine.{armOf}
 use Rattle.machine.specs.GoalWords.{Low, LowIfAny}
 use Rattle.machine.specs.Steps.{construct-record, create-record, remove-record}
-use Rattle.machine.proofs.StepsLaws.{literal-record, sum-record, assign-record, switch-record, if-record, print-record}
+use Rattle.machine.proofs.StepsLaws.{literal-record, sum-record, assign-record, switch-record, if-record, print-record, test-record}
 
 each : (f : List ℕ) (i : ℕ) → word f i termArguments ≤ maxVariables → word f i (termArguments + 1) ≤ maxVariables → word f i (termArguments + 2) ≤ maxVariables
     → word f i (termArguments + 3) ≤ maxVariables → Low f i
@@ -46,6 +46,9 @@ module _ {f plan : List ℕ} (N : Numbered f plan) (i : ℕ) {w : ℕ} (e : w �
 
   pub if-low : w ≡ ifKind → (word f i ifY ≤ maxVariables) × (word f i ifZ ≤ maxVariables)
   if-low k = N .less i _ _ _ _ _ (if-record f i w e k)
+
+  pub test-low : w ≡ testKind → (word f i testY ≤ maxVariables) × (word f i testZ ≤ maxVariables)
+  test-low k = N .test i _ _ _ (test-record f i w e k)
 
   pub print-low : w ≡ printKind → word f i printY ≤ maxVariables
   print-low k = N .print i _ _ (print-record f i w e k)

@@ -1,5 +1,5 @@
 -- Laws of `specs/Runs` that only proofs cite.
-use Prim.Native.Nat.{ℕ, zero, suc, _-_, _≤_, _<_}
+use Prim.Native.Nat.{ℕ, zero, suc, _+_, _-_, _≤_, _<_}
 use native.Mathlib.Omega.{arith}
 use mathlib.Core.Path.{_≡_, refl, sym, ap, _∙_, subst}
 use mathlib.Core.List.{List}
@@ -26,6 +26,9 @@ use Rattle.machine.specs.declared.HeapStep.the-variants.{Left, Lacks}
 use Rattle.machine.specs.declared.Step.{Step}
 use Rattle.machine.specs.declared.Step.the-variants.{Went as WentTo, Stops}
 use Rattle.machine.specs.declared.Outcome.{Outcome as Answer}
+use Rattle.machine.specs.declared.ConditionEnd.{ConditionEnd}
+use Rattle.machine.specs.declared.ConditionEnd.the-variants.{Left as TriedLeft, Lacks as TriedLacks}
+use Rattle.machine.specs.Trying.{Tried}
 use Rattle.machine.specs.Words.{FramePlaced, wordsOf, onwardTo, onward-placed, cameTo, heapCameTo, Goes, HeapGoes}
 use Rattle.machine.specs.Runs.{Ran, endedAt, entryState, firstState, runFirst}
 
@@ -36,6 +39,9 @@ ended-ran e n h m rs fw ps s = record { ending = refl; steps = refl; printed = r
 ran-as : (e : Ending) (n : ℕ) (h : Heap) (m rs fw ps : List ℕ) (s : State) (o : Outcome) (r : Answer) → endedWith e n (wordsOf h m rs fw ps s) ≡ o → r ≡ endedAt e n s
     → Ran o r m rs fw ps
 ran-as e n h m rs fw ps s o r eo er = rw (← eo, er) (ended-ran e n h m rs fw ps s)
+
+pub placed-as : {s : State} {n k : ℕ} → k ≡ n → FramePlaced s n → FramePlaced s k
+placed-as e p = rw e p
 
 -- a record that the file does not have is no goal
 past-step : (f : List ℕ) (T : Tables) (k : Room) (W : MachineWords) (i : ℕ) → Formed f → recordCount f ≤ i → steps f T k i (recordAt f i) W ≡ went W
@@ -247,3 +253,34 @@ module _ (f : List ℕ) (T : Tables) (l : ℕ) (m₀ rs₀ fw₀ ps₀ : List �
     change-stopped m₁ rs₁ fx c a r z q g ea er =
         let e = g .kept c ea in
         rw (e .0, e .1, e .2) (stopped c r z q (sym (g .comes K ps (T .successor (s .goal)) refl) ∙ ap (λ t. heapCameTo t m₁ rs₁ fx ps (onwardTo s (T .successor (s .goal)))) ea) er)
+
+    -- ---- a try
+    done-so : (k : ℕ) → k < n → (l - n) + (n - k) ≡ l - k
+    done-so k q = omega (arith, G .most)
+
+    -- telling it changes nothing
+    pub told : (fx px : List ℕ) → fx ≡ fw → px ≡ ps → Settled f T l m₀ rs₀ fw₀ ps₀ o n h m rs fx px s
+    told fx px e d = rw (e, d) G
+
+    pub tried-on : (h₁ h₂ : Heap) (m₁ rs₁ fx : List ℕ) (i k : ℕ) (v : State) (r : ConditionEnd) → Tried f T s h n m rs fw r m₁ rs₁ fx → r ≡ TriedLeft h₁ i k → v ≡ onwardTo s i
+        → (h₁ .cells .limit ≡ h .cells .limit → h₁ .regions .limit ≡ h .regions .limit → h₂ ≡ h₁) → length m₁ ≡ length m → length rs₁ ≡ length rs → length fx ≡ length fw
+        → Going f T l m₀ rs₀ fw₀ ps₀ o k h₂ m₁ rs₁ fx ps v
+    tried-on h₁ h₂ m₁ rs₁ fx i k v r t er ev eh lm lr lf =
+        let q = t .fewer h₁ i k er in
+        record {
+          rest = rw (eh (q .1 .0) (q .1 .1), ev, ← done-so k (q .0)) (sym (t .left h₁ i k er K (l - n) ps) ∙ G .rest);
+          most = omega (arith, G .most, q .0);
+          cells = lm ∙ G .cells;
+          regions = lr ∙ G .regions;
+          frames = lf ∙ G .frames;
+          prints = G .prints;
+          placed = rw ev (onward-placed i (subst (FramePlaced s) (sym lf) (G .placed)));
+        }
+
+    pub tried-stopped : (m₁ rs₁ fx : List ℕ) (c : Stop) (k : ℕ) (r : ConditionEnd) (a : Answer) → Tried f T s h n m rs fw r m₁ rs₁ fx → r ≡ TriedLacks c k
+        → a ≡ endedAt (Stopped c) (l - k) s → Ran o a m₁ rs₁ fx ps
+    unfolding endedAt
+    tried-stopped m₁ rs₁ fx c k r a t er ea =
+        let x = t .lacks c k er K (l - n) ps in
+        ran-as (Stopped c) (l - k) (x .0) m₁ rs₁ fx ps (onwardTo s (x .1)) o a
+        (ap (λ d. endedWith (Stopped c) d (wordsOf (x .0) m₁ rs₁ fx ps (onwardTo s (x .1)))) (sym (done-so k (t .most c k er))) ∙ sym (x .2) ∙ G .rest) ea

@@ -10,14 +10,14 @@ use lib.ListN.{length, set}
 use mir.Syntax.{w32}
 use mir.Val.{toZ}
 use Rattle.language.specs.Lists.{nth, choose}
-use Rattle.language.specs.File.{Kind, kNone, kHeader, kType, kFunctor, kProcedure, kVariable, kRegion, kEdge, kArm, kArgument, kGoal, kLiteral, kSum, kAssign, kConstruct, kSwitch, kIf, kCall, kPrint, kCreate, kRemove, kinds, kindOf, row, rowIn, word}
-use Rattle.language.specs.Format.{kindWord, nextWord, goalX, literalValue, sumOperation, sumY, sumZ, assignY, switchArms, ifY, ifZ, ifThen, ifElse, callProcedure, callArguments, printY, literalKind, sumKind, assignKind, constructKind, switchKind, ifKind, callKind, printKind, createKind, removeKind}
+use Rattle.language.specs.File.{Kind, kNone, kHeader, kType, kFunctor, kProcedure, kVariable, kRegion, kEdge, kArm, kArgument, kGoal, kLiteral, kSum, kAssign, kConstruct, kSwitch, kIf, kCall, kPrint, kCreate, kRemove, kTry, kTest, kinds, kindOf, row, rowIn, word}
+use Rattle.language.specs.Format.{kindWord, nextWord, goalX, literalValue, sumOperation, sumY, sumZ, assignY, switchArms, ifY, ifZ, ifThen, ifElse, callProcedure, callArguments, printY, literalKind, sumKind, assignKind, constructKind, switchKind, ifKind, callKind, printKind, createKind, removeKind, tryKind, testKind, testY, testZ}
 use Rattle.language.specs.Numbers.{residue, inRange, less}
 use Rattle.language.specs.Machine.{Room, holds}
 use Rattle.language.specs.declared.Stop.{Stop}
 use Rattle.language.specs.declared.Stop.the-variants.{Frames, Prints, Sums}
 use Rattle.records.specs.Records.{recordAt, record-as}
-use Rattle.records.specs.declared.Record.the-variants.{Literal, Sum, Assign, Switch, If, Call, Print}
+use Rattle.records.specs.declared.Record.the-variants.{Literal, Sum, Assign, Switch, If, Call, Print, Test}
 use Rattle.chains.specs.Records.{chainRecords}
 use Rattle.chains.specs.Shapes.{goal-number}
 use Rattle.memory.specs.declared.Heap.{Heap}
@@ -26,8 +26,8 @@ use Rattle.word_machine.specs.Tables.{Tables, onto}
 use Rattle.word_machine.specs.Machine.{printWords, Went, went, stops, frameWords, literalWord, given, sums, withFrames, valueOf, printsWord, ifRoom, armOf, switches, switchesOn, entersArm, armWords, calls, calleeWords, steps}
 use Rattle.machine.specs.declared.State.{State}
 use Rattle.machine.specs.declared.Step.{Step}
-use Rattle.machine.specs.declared.Step.the-variants.{Went as WentTo, Stops}
-use Rattle.machine.specs.Words.{FramePlaced, wordsOf, cameTo, onwardTo, onward-placed, Goes}
+use Rattle.machine.specs.declared.Step.the-variants.{Went as WentTo, Stops, Tries}
+use Rattle.machine.specs.Words.{FramePlaced, wordsOf, cameTo, onwardTo, onward-placed, Goes, GoesOrTries}
 use Rattle.machine.specs.GoalWords.{valueIn, sumAt, argumentsFrom, wordsFrom, functorIn, armFor, armValues, termValues}
 use Rattle.machine.specs.Steps.{of-kind}
 
@@ -61,16 +61,28 @@ module _ (f : List ℕ) (i w : ℕ) (ew : w ≡ word f i kindWord) where
   unfolding kindOf kinds nth
   print-record z = of-kind f i w ew printKind (kGoal kPrint) refl z
 
+  pub test-record : w ≡ testKind → recordAt f i ≡ Test (word f i nextWord) (word f i testY) (word f i testZ)
+  unfolding kindOf kinds nth
+  test-record z = of-kind f i w ew testKind (kGoal kTest) refl z
+
+-- ---- answers told apart
+unfoldable told : Step → ℕ
+told (WentTo t) = 0
+told (Stops d) = 1
+told Tries = 2
+
+pub went-tries : (v : State) → WentTo v ≡ Tries → ⊥
+unfolding told
+went-tries v e = let z : _≡_ {A = ℕ} 0 2 = ap told e in omega arith
+
+pub stops-tries : (q : Stop) → Stops q ≡ Tries → ⊥
+unfolding told
+stops-tries q e = let z : _≡_ {A = ℕ} 1 2 = ap told e in omega arith
+
 -- ---- a goal that leaves the heap alone
 stopped-not : (s : State) (c : Stop) → WentTo s ≡ Stops c → ⊥
-stopped-not s c e = apart (ap told e)
-  where
-    told : Step → ℕ
-    told (WentTo t) = 0
-    told (Stops d) = 1
-
-    apart : _≡_ {A = ℕ} 0 1 → ⊥
-    apart z = omega arith
+unfolding told
+stopped-not s c e = let z : _≡_ {A = ℕ} 0 1 = ap told e in omega arith
 
 -- what went on came to one state
 went-same : (v t : State) → WentTo v ≡ WentTo t → v ≡ t
@@ -98,7 +110,7 @@ module _ (f : List ℕ) (T : Tables) (s : State) (m fw ps : List ℕ) (D : Frame
   pub goes-on : (v : State) (fx px : List ℕ) → ((k : Room) (h : Heap) (rs : List ℕ) → went (wordsOf h m rs fx px v) ≡ Steps k h rs)
       → FramePlaced v (length fw) → Goes f T s m fw ps (WentTo v) fx px
   unfolding cameTo
-  goes-on v fx px e d = record { comes = λ k h rs a b. e k h rs; kept = λ c z. absurd (stopped-not v c z); stays = λ t z. rw (← went-same v t z) d }
+  goes-on v fx px e d = record { comes = λ k h rs a b. e k h rs; kept = λ c z. absurd (stopped-not v c z); stays = λ t z. rw (← went-same v t z) d; done = went-tries v }
 
   module _ (w next : ℕ) (ew : w ≡ word f (s .goal) kindWord) (en : next ≡ T .successor (s .goal)) where
     literal-step : (k : Room) (h : Heap) (rs fx : List ℕ) → w ≡ literalKind → fx ≡ set fw (s .at + word f (s .goal) goalX) (literalWord (word f (s .goal) literalValue))
@@ -155,6 +167,7 @@ module _ (f : List ℕ) (T : Tables) (s : State) (m fw ps : List ℕ) (D : Frame
           comes = λ k h rs a b. print-step k h rs px v z ev ex (rw (b ∙ sym el) l);
           kept = λ c e. absurd (stopped-not _ c e);
           stays = λ t e. rw (← went-same _ t e) (record { place = D .place; fits = D .fits });
+          done = went-tries _;
         }
 
   module _ (w : ℕ) (ew : w ≡ word f (s .goal) kindWord) where
@@ -182,7 +195,7 @@ module _ (f : List ℕ) (T : Tables) (s : State) (m fw ps : List ℕ) (D : Frame
 
     pub sum-stops : (v : ℤ) → w ≡ sumKind → v ≡ sumAt f (s .goal) (s .at) fw → inRange v ≡ false → Goes f T s m fw ps (Stops Sums) fw ps
     unfolding cameTo
-    sum-stops v z ev l = record { comes = λ k h rs a b. sum-stop k h rs v z ev l; kept = λ c e. (refl, refl); stays = λ t e. absurd (stopped-not t _ (sym e)) }
+    sum-stops v z ev l = record { comes = λ k h rs a b. sum-stop k h rs v z ev l; kept = λ c e. (refl, refl); stays = λ t e. absurd (stopped-not t _ (sym e)); done = stops-tries _ }
 
     print-stop : (k : Room) (h : Heap) (rs : List ℕ) → w ≡ printKind → k .prints ≤ s .printed → stops Prints ≡ Steps k h rs
     unfolding steps ifRoom wordsOf
@@ -190,7 +203,7 @@ module _ (f : List ℕ) (T : Tables) (s : State) (m fw ps : List ℕ) (D : Frame
 
     pub print-stops : (limit : ℕ) → w ≡ printKind → limit ≡ holds (length ps) printWords → limit ≤ s .printed → Goes f T s m fw ps (Stops Prints) fw ps
     unfolding cameTo
-    print-stops limit z el l = record { comes = λ k h rs a b. print-stop k h rs z (rw (b ∙ sym el) l); kept = λ c e. (refl, refl); stays = λ t e. absurd (stopped-not t _ (sym e)) }
+    print-stops limit z el l = record { comes = λ k h rs a b. print-stop k h rs z (rw (b ∙ sym el) l); kept = λ c e. (refl, refl); stays = λ t e. absurd (stopped-not t _ (sym e)); done = stops-tries _ }
 
     -- ---- a call
     call-step : (k : Room) (h : Heap) (rs fx : List ℕ) (g t p : ℕ) → w ≡ callKind → g ≡ T .body (word f (s .goal) callProcedure)
@@ -208,6 +221,7 @@ module _ (f : List ℕ) (T : Tables) (s : State) (m fw ps : List ℕ) (D : Frame
           comes = λ k h rs a b. call-step k h rs fx g t p z eg ex et (rw (a ∙ sym el) l);
           kept = λ c e. absurd (stopped-not _ c e);
           stays = λ v e. rw (← went-same _ v e) (record { place = omega (arith, D .place); fits = omega (arith, D .place, room-for (length fw) (suc (s .top)) (rw (← el) l)) });
+          done = went-tries _;
         }
 
     call-stop : (k : Room) (h : Heap) (rs : List ℕ) → w ≡ callKind → k .frames ≤ suc (s .top) → stops Frames ≡ Steps k h rs
@@ -216,33 +230,43 @@ module _ (f : List ℕ) (T : Tables) (s : State) (m fw ps : List ℕ) (D : Frame
 
     pub call-stops : (limit : ℕ) → w ≡ callKind → limit ≡ holds (length fw) frameWords → limit ≤ suc (s .top) → Goes f T s m fw ps (Stops Frames) fw ps
     unfolding cameTo
-    call-stops limit z el l = record { comes = λ k h rs a b. call-stop k h rs z (rw (a ∙ sym el) l); kept = λ c e. (refl, refl); stays = λ t e. absurd (stopped-not t _ (sym e)) }
+    call-stops limit z el l = record { comes = λ k h rs a b. call-stop k h rs z (rw (a ∙ sym el) l); kept = λ c e. (refl, refl); stays = λ t e. absurd (stopped-not t _ (sym e)); done = stops-tries _ }
 
-    -- ---- what is no goal: nothing changes. nl, ns, na, nb, nw, ni, nc, np, nm and nr: no literal, sum, assign, construct, switch, if, call, print, create, remove
+    -- ---- what is no goal: nothing changes. nl, ns, na, nb, nw, ni, nc, np, nm, nr and nt: no literal, sum, assign, construct, switch, if, call, print, create, remove, try
     else-step : (k : Room) (h : Heap) (rs : List ℕ) (K : Kind) → kindOf (word f (s .goal) kindWord) ≡ K → (w ≡ literalKind → ⊥) → (w ≡ sumKind → ⊥) → (w ≡ assignKind → ⊥) → (w ≡ constructKind → ⊥) → (w ≡ switchKind → ⊥)
-        → (w ≡ ifKind → ⊥) → (w ≡ callKind → ⊥) → (w ≡ printKind → ⊥) → (w ≡ createKind → ⊥) → (w ≡ removeKind → ⊥) → went (wordsOf h m rs fw ps s) ≡ Steps k h rs
+        → (w ≡ ifKind → ⊥) → (w ≡ callKind → ⊥) → (w ≡ printKind → ⊥) → (w ≡ createKind → ⊥) → (w ≡ removeKind → ⊥) → (w ≡ tryKind → ⊥) → went (wordsOf h m rs fw ps s) ≡ Steps k h rs
     unfolding steps row rowIn
-    else-step k h rs kNone e nl ns na nb nw ni nc np nm nr = rw (record-as f (s .goal) e)
-    else-step k h rs kHeader e nl ns na nb nw ni nc np nm nr = rw (record-as f (s .goal) e)
-    else-step k h rs kType e nl ns na nb nw ni nc np nm nr = rw (record-as f (s .goal) e)
-    else-step k h rs kFunctor e nl ns na nb nw ni nc np nm nr = rw (record-as f (s .goal) e)
-    else-step k h rs kProcedure e nl ns na nb nw ni nc np nm nr = rw (record-as f (s .goal) e)
-    else-step k h rs kVariable e nl ns na nb nw ni nc np nm nr = rw (record-as f (s .goal) e)
-    else-step k h rs kRegion e nl ns na nb nw ni nc np nm nr = rw (record-as f (s .goal) e)
-    else-step k h rs kEdge e nl ns na nb nw ni nc np nm nr = rw (record-as f (s .goal) e)
-    else-step k h rs kArm e nl ns na nb nw ni nc np nm nr = rw (record-as f (s .goal) e)
-    else-step k h rs kArgument e nl ns na nb nw ni nc np nm nr = rw (record-as f (s .goal) e)
-    else-step k h rs (kGoal kLiteral) e nl ns na nb nw ni nc np nm nr = absurd (nl (ew ∙ goal-number _ kLiteral e))
-    else-step k h rs (kGoal kSum) e nl ns na nb nw ni nc np nm nr = absurd (ns (ew ∙ goal-number _ kSum e))
-    else-step k h rs (kGoal kAssign) e nl ns na nb nw ni nc np nm nr = absurd (na (ew ∙ goal-number _ kAssign e))
-    else-step k h rs (kGoal kConstruct) e nl ns na nb nw ni nc np nm nr = absurd (nb (ew ∙ goal-number _ kConstruct e))
-    else-step k h rs (kGoal kSwitch) e nl ns na nb nw ni nc np nm nr = absurd (nw (ew ∙ goal-number _ kSwitch e))
-    else-step k h rs (kGoal kIf) e nl ns na nb nw ni nc np nm nr = absurd (ni (ew ∙ goal-number _ kIf e))
-    else-step k h rs (kGoal kCall) e nl ns na nb nw ni nc np nm nr = absurd (nc (ew ∙ goal-number _ kCall e))
-    else-step k h rs (kGoal kPrint) e nl ns na nb nw ni nc np nm nr = absurd (np (ew ∙ goal-number _ kPrint e))
-    else-step k h rs (kGoal kCreate) e nl ns na nb nw ni nc np nm nr = absurd (nm (ew ∙ goal-number _ kCreate e))
-    else-step k h rs (kGoal kRemove) e nl ns na nb nw ni nc np nm nr = absurd (nr (ew ∙ goal-number _ kRemove e))
+    else-step k h rs kNone e nl ns na nb nw ni nc np nm nr nt = rw (record-as f (s .goal) e)
+    else-step k h rs kHeader e nl ns na nb nw ni nc np nm nr nt = rw (record-as f (s .goal) e)
+    else-step k h rs kType e nl ns na nb nw ni nc np nm nr nt = rw (record-as f (s .goal) e)
+    else-step k h rs kFunctor e nl ns na nb nw ni nc np nm nr nt = rw (record-as f (s .goal) e)
+    else-step k h rs kProcedure e nl ns na nb nw ni nc np nm nr nt = rw (record-as f (s .goal) e)
+    else-step k h rs kVariable e nl ns na nb nw ni nc np nm nr nt = rw (record-as f (s .goal) e)
+    else-step k h rs kRegion e nl ns na nb nw ni nc np nm nr nt = rw (record-as f (s .goal) e)
+    else-step k h rs kEdge e nl ns na nb nw ni nc np nm nr nt = rw (record-as f (s .goal) e)
+    else-step k h rs kArm e nl ns na nb nw ni nc np nm nr nt = rw (record-as f (s .goal) e)
+    else-step k h rs kArgument e nl ns na nb nw ni nc np nm nr nt = rw (record-as f (s .goal) e)
+    else-step k h rs (kGoal kLiteral) e nl ns na nb nw ni nc np nm nr nt = absurd (nl (ew ∙ goal-number _ kLiteral e))
+    else-step k h rs (kGoal kSum) e nl ns na nb nw ni nc np nm nr nt = absurd (ns (ew ∙ goal-number _ kSum e))
+    else-step k h rs (kGoal kAssign) e nl ns na nb nw ni nc np nm nr nt = absurd (na (ew ∙ goal-number _ kAssign e))
+    else-step k h rs (kGoal kConstruct) e nl ns na nb nw ni nc np nm nr nt = absurd (nb (ew ∙ goal-number _ kConstruct e))
+    else-step k h rs (kGoal kSwitch) e nl ns na nb nw ni nc np nm nr nt = absurd (nw (ew ∙ goal-number _ kSwitch e))
+    else-step k h rs (kGoal kIf) e nl ns na nb nw ni nc np nm nr nt = absurd (ni (ew ∙ goal-number _ kIf e))
+    else-step k h rs (kGoal kCall) e nl ns na nb nw ni nc np nm nr nt = absurd (nc (ew ∙ goal-number _ kCall e))
+    else-step k h rs (kGoal kPrint) e nl ns na nb nw ni nc np nm nr nt = absurd (np (ew ∙ goal-number _ kPrint e))
+    else-step k h rs (kGoal kCreate) e nl ns na nb nw ni nc np nm nr nt = absurd (nm (ew ∙ goal-number _ kCreate e))
+    else-step k h rs (kGoal kRemove) e nl ns na nb nw ni nc np nm nr nt = absurd (nr (ew ∙ goal-number _ kRemove e))
+    else-step k h rs (kGoal kTry) e nl ns na nb nw ni nc np nm nr nt = absurd (nt (ew ∙ goal-number _ kTry e))
+    else-step k h rs (kGoal kTest) e nl ns na nb nw ni nc np nm nr nt = rw (record-as f (s .goal) e)
 
-    pub else-goes : (w ≡ literalKind → ⊥) → (w ≡ sumKind → ⊥) → (w ≡ assignKind → ⊥) → (w ≡ constructKind → ⊥) → (w ≡ switchKind → ⊥) → (w ≡ ifKind → ⊥) → (w ≡ callKind → ⊥) → (w ≡ printKind → ⊥) → (w ≡ createKind → ⊥) → (w ≡ removeKind → ⊥)
+    pub else-goes : (w ≡ literalKind → ⊥) → (w ≡ sumKind → ⊥) → (w ≡ assignKind → ⊥) → (w ≡ constructKind → ⊥) → (w ≡ switchKind → ⊥) → (w ≡ ifKind → ⊥) → (w ≡ callKind → ⊥) → (w ≡ printKind → ⊥) → (w ≡ createKind → ⊥) → (w ≡ removeKind → ⊥) → (w ≡ tryKind → ⊥)
         → Goes f T s m fw ps (WentTo s) fw ps
-    else-goes nl ns na nb nw ni nc np nm nr = goes-on s fw ps (λ k h rs. else-step k h rs _ refl nl ns na nb nw ni nc np nm nr) D
+    else-goes nl ns na nb nw ni nc np nm nr nt = goes-on s fw ps (λ k h rs. else-step k h rs _ refl nl ns na nb nw ni nc np nm nr nt) D
+
+-- ---- what a goal comes to that may be a try
+module _ (f : List ℕ) (T : Tables) (s : State) (m fw ps : List ℕ) where
+  pub goes-comes : (r : Step) (fx px : List ℕ) → Goes f T s m fw ps r fx px → GoesOrTries f T s m fw ps r fx px
+  goes-comes r fx px g = record { goes = λ n. g; tries = λ e. absurd (g .done e) }
+
+  pub try-comes : (w : ℕ) → w ≡ word f (s .goal) kindWord → w ≡ tryKind → GoesOrTries f T s m fw ps Tries fw ps
+  try-comes w ew z = record { goes = λ n. absurd (n refl); tries = λ e. (sym ew ∙ z, refl, refl) }

@@ -5,4 +5,6 @@ pub mod Calls
 pub mod Steps
 pub mod Heaps
 pub mod Runs
+pub mod Entries
+pub mod Trying
 pub mod Joining

@@ -6,17 +6,19 @@ use mathlib.Core.List.{List}
 use mathlib.Core.Logic.{_⊎_}
 use lib.ListN.{length}
 use Rattle.language.specs.declared.Stop.{Stop}
+use Rattle.language.specs.declared.Stop.the-variants.{Steps}
 use Rattle.language.specs.Format.{constructKind, createKind, removeKind}
 use Rattle.language.specs.Machine.{Room, holds}
 use Rattle.memory.specs.declared.Heap.{Heap}
 use Rattle.records.specs.Records.{recordAt}
+use Rattle.chains.specs.Shapes.{IsTry}
 use Rattle.word_machine.specs.Tables.{Tables}
 use Rattle.word_machine.specs.Machine.{printWords, MachineWords, Went, went, stops, frameWords, steps}
 use Rattle.machine.specs.declared.State.{State}
 use Rattle.machine.specs.declared.HeapStep.{HeapStep}
 use Rattle.machine.specs.declared.HeapStep.the-variants.{Left, Lacks}
 use Rattle.machine.specs.declared.Step.{Step}
-use Rattle.machine.specs.declared.Step.the-variants.{Went as WentTo, Stops}
+use Rattle.machine.specs.declared.Step.the-variants.{Went as WentTo, Stops, Tries}
 
 -- the newest frame's words start at their place, and n words have them all
 pub record FramePlaced (s : State) (n : ℕ) : Type 0 where
@@ -27,10 +29,11 @@ pub record FramePlaced (s : State) (n : ℕ) : Type 0 where
 unfoldable pub wordsOf : Heap → List ℕ → List ℕ → List ℕ → List ℕ → State → MachineWords
 wordsOf h m rs fw ps s = record { heap = h; cells = m; regions = rs; frames = fw; prints = ps; top = s .top; goal = s .goal; printed = s .printed }
 
--- what an answer stands for
+-- what an answer stands for; a try is only told
 unfoldable pub cameTo : Step → Heap → List ℕ → List ℕ → List ℕ → List ℕ → Went
 cameTo (WentTo s) h m rs fw ps = went (wordsOf h m rs fw ps s)
 cameTo (Stops c) h m rs fw ps = stops c
+cameTo Tries h m rs fw ps = stops Steps
 
 -- The goal at state s, one that leaves cells, regions and the heap alone, is carried out, whatever those are: r is the answer, fx and px the words of
 -- frames and printed numbers afterwards, which are as before where it stops.
@@ -39,6 +42,12 @@ pub record Goes (f : List ℕ) (T : Tables) (s : State) (m fw ps : List ℕ) (r 
       → cameTo r h m rs fx px ≡ steps f T k (s .goal) (recordAt f (s .goal)) (wordsOf h m rs fw ps s)
   pub kept : (c : Stop) → r ≡ Stops c → (fx ≡ fw) × (px ≡ ps)
   pub stays : (v : State) → r ≡ WentTo v → FramePlaced v (length fw)
+  pub done : r ≡ Tries → ⊥
+
+-- .. or it is a try, which is told and not done
+pub record GoesOrTries (f : List ℕ) (T : Tables) (s : State) (m fw ps : List ℕ) (r : Step) (fx px : List ℕ) : Type 0 where
+  pub goes : (r ≡ Tries → ⊥) → Goes f T s m fw ps r fx px
+  pub tries : r ≡ Tries → IsTry f (s .goal) × (fx ≡ fw) × (px ≡ ps)
 
 -- whether goals of the kind w change the heap: constructs with arguments, creates and removes
 abbrev pub Changes : ℕ → Bool → Type 0

@@ -42,7 +42,7 @@ fn arm_values(file: &[u8], j: usize, cell: u32, at: usize, cells: &[u32], frames
 }
 
 // The same where a part of the cell may lie behind the end: no value of an accepted file's run is such a cell.
-fn arm_part(file: &[u8], j: usize, cell: u32, at: usize, cells: &[u32], frames: &mut [u32])
+pub fn arm_part(file: &[u8], j: usize, cell: u32, at: usize, cells: &[u32], frames: &mut [u32])
     requires { ⌜ (recordBytes * j + recordBytes ≤ length (now file)) × (at + frameWords ≤ length (now frames)) ⌝ }
     requires { ⌜ LowIfAny (now file) j ⌝ }
     ensures { λ _. ⌜ now (frames .exit) ≡ armValues (now (file .entry)) j cell at (now (cells .entry)) (now (frames .entry)) ⌝ }
@@ -71,7 +71,7 @@ fn whole_cell(cells: &[u32], term: u32) -> bool
 }
 
 // The functor of a term's word: of the cell, or of the constant.
-fn functor_of(cells: &[u32], term: u32) -> u32
+pub fn functor_of(cells: &[u32], term: u32) -> u32
     ensures { λ r. ⌜ r ≡ functorIn (now (cells .entry)) term ⌝ }
 {
     if term < CONSTANTS {

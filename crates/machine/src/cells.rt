@@ -49,7 +49,7 @@ fn fill(file: &[u8], i: usize, at: usize, cell: u32, cells: &mut [u32], frames: 
 }
 
 // The same where a part of the cell may lie behind the end: no heap gives such a cell.
-fn fill_part(file: &[u8], i: usize, at: usize, cell: u32, cells: &mut [u32], frames: &[u32])
+pub fn fill_part(file: &[u8], i: usize, at: usize, cell: u32, cells: &mut [u32], frames: &[u32])
     requires { ⌜ (recordBytes * i + recordBytes ≤ length (now file)) × (at + frameWords ≤ length (now frames)) ⌝ }
     requires { ⌜ Low (now file) i ⌝ }
     ensures { λ _. ⌜ now (cells .exit) ≡ poured (now (file .entry)) i at (now (frames .entry)) cell (now (cells .entry)) ⌝ }

@@ -14,6 +14,8 @@ use language::format::LITERAL_VALUE;
 use language::format::SUM_OPERATION;
 use language::format::SUM_Y;
 use language::format::SUM_Z;
+use language::format::TEST_Y;
+use language::format::TEST_Z;
 use plans::PLAN;
 use records::word_in;
 ghost use mathlib.Core.Path.{_≡_};
@@ -24,7 +26,7 @@ ghost use mir.Val.{toZ};
 ghost use Rattle.language.specs.Lists.{choose};
 ghost use Rattle.language.specs.Numbers.{less};
 ghost use Rattle.language.specs.File.{word};
-ghost use Rattle.language.specs.Format.{recordBytes, maxRecords, maxVariables, goalX, literalValue, sumY, sumZ, assignY, ifY, ifZ, ifThen, ifElse};
+ghost use Rattle.language.specs.Format.{recordBytes, maxRecords, maxVariables, goalX, literalValue, sumY, sumZ, assignY, ifY, ifZ, ifThen, ifElse, testY, testZ};
 ghost use Rattle.word_machine.specs.Machine.{frameWords, literalWord};
 ghost use Rattle.machine.specs.GoalWords.{sumAt};
 
@@ -84,4 +86,16 @@ pub fn part_of(file: &[u8], i: usize, at: usize, frames: &[u32]) -> usize
     } else {
         word_in(file, i, IF_ELSE)
     }
+}
+
+// Whether a test passes: "fails unless Y < Z".
+pub fn passes(file: &[u8], i: usize, at: usize, frames: &[u32]) -> bool
+    requires { ⌜ (recordBytes * i + recordBytes ≤ length (now file)) × (at + frameWords ≤ length (now frames)) ⌝ }
+    requires { ⌜ (word (now file) i testY ≤ maxVariables) × (word (now file) i testZ ≤ maxVariables) ⌝ }
+    ensures { λ r. ⌜ r ≡ less (toZ w32 (getD (now (frames .entry)) (at + word (now (file .entry)) i testY) 0))
+        (toZ w32 (getD (now (frames .entry)) (at + word (now (file .entry)) i testZ) 0)) ⌝ }
+{
+    let y = value(frames, at, word_in(file, i, TEST_Y));
+    let z = value(frames, at, word_in(file, i, TEST_Z));
+    less_words(y, z)
 }

@@ -37,7 +37,7 @@ pub fn changes_heap(kind: usize) -> bool
 }
 
 // A construct, "11 no free cell".
-fn construct_step(
+pub fn construct_step(
     file: &[u8],
     plan: &[usize; PLAN],
     state: State,

@@ -1,4 +1,5 @@
 // A whole run.
+use crate::ConditionEnd;
 use crate::HeapStep;
 use crate::Outcome;
 use crate::State;
@@ -6,16 +7,21 @@ use crate::Step;
 use crate::calls::body_of;
 use crate::calls::settle;
 use crate::calls::size_of;
+use crate::entries::LOG_WORDS;
 use crate::goals::successor;
 use crate::heaps::change_heap;
 use crate::heaps::changes_heap;
+use crate::opened::SAVED_WORDS;
 use crate::steps::go;
 use crate::steps::onward;
+use crate::tries::limited;
+use crate::tries::run_try;
 use frames::FRAME_WORDS;
 use frames::clear;
 use language::Ending;
 use language::Stop;
 use language::format::KIND;
+use language::format::MAX_BYTES;
 use language::format::RECORD_BYTES;
 use memory::empty;
 use plans::CALLEES;
@@ -29,6 +35,8 @@ ghost use Rattle.chains.specs.Formed.{Formed};
 ghost use Rattle.memory.specs.Memory.{cellWords, regionWords, emptyHeap};
 ghost use Rattle.plans.specs.Plan.{Narrow, Numbered, tablesIn};
 ghost use Rattle.word_machine.specs.Machine.{frameWords, wordRun};
+ghost use Rattle.machine.specs.Entries.{logWords};
+ghost use Rattle.machine.specs.Trying.{savedWords};
 ghost use Rattle.machine.specs.Runs.{endedAt, firstState, runFirst, Ran};
 
 // A run that ends at a state, after so many steps.
@@ -54,6 +62,18 @@ pub fn first_state(callees: &[u64; CALLEES]) -> State
     }
 }
 
+fn log_words() -> [u32; LOG_WORDS]
+    ensures { λ r. ⌜ logWords ≡ length r ⌝ }
+{
+    [0; LOG_WORDS]
+}
+
+fn saved_words() -> [u32; SAVED_WORDS]
+    ensures { λ r. ⌜ savedWords ≡ length r ⌝ }
+{
+    [0; SAVED_WORDS]
+}
+
 // The run from the first step on. "An ended run is finished before 10 is looked at."
 fn run_on(
     file: &[u8],
@@ -64,6 +84,8 @@ fn run_on(
     regions: &mut [u32],
     frames: &mut [u32],
     prints: &mut [u32],
+    log: &mut [u32; LOG_WORDS],
+    own: &mut [u32; SAVED_WORDS],
     steps: usize,
 ) -> Outcome
     requires { ⌜ Formed (now file) × Narrow (now plan) (now images) × Numbered (now file) (now plan) ⌝ }
@@ -109,6 +131,51 @@ fn run_on(
                 left -= 1;
             }
             Step::Stops(stop) => return ended(Ending::Stopped(stop), steps - left, here),
+            Step::Tries => {
+                // Called in two places, which differ in where the frame's words are saved, and with a state and a heap of its own: so the
+                // compiler does not lay the condition's loop into this one, whose registers it would take.
+                let start = onward(here, i);
+                let old = limited(heap, heap);
+                let tried = if file.len() < MAX_BYTES {
+                    run_try(
+                        file,
+                        plan,
+                        start,
+                        old,
+                        cells,
+                        regions,
+                        frames,
+                        log,
+                        own,
+                        0,
+                        left,
+                    )
+                } else {
+                    run_try(
+                        file,
+                        plan,
+                        start,
+                        old,
+                        cells,
+                        regions,
+                        frames,
+                        log,
+                        own,
+                        1,
+                        left,
+                    )
+                };
+                match tried {
+                    ConditionEnd::Left(g, goal, k) => {
+                        heap = limited(g, heap);
+                        state = onward(here, goal);
+                        left = k;
+                    }
+                    ConditionEnd::Lacks(stop, k) => {
+                        return ended(Ending::Stopped(stop), steps - k, here);
+                    }
+                }
+            }
         }
     }
 }
@@ -134,6 +201,8 @@ pub fn run_words(
         return ended(Ending::Stopped(Stop::Frames), 0, first_state(callees));
     }
     clear(frames, 1, size_of(callees, 0));
+    let mut log = log_words();
+    let mut own = saved_words();
     run_on(
         file,
         plan,
@@ -143,6 +212,8 @@ pub fn run_words(
         regions,
         frames,
         prints,
+        &mut log,
+        &mut own,
         steps,
     )
 }

@@ -24,6 +24,7 @@ use language::format::PRINT;
 use language::format::PRINT_Y;
 use language::format::SUM;
 use language::format::SWITCH;
+use language::format::TRY;
 use memory::put;
 use memory::room;
 use plans::CALLEES;
@@ -40,7 +41,7 @@ ghost use mathlib.Core.Bool.{false};
 ghost use Rattle.chains.specs.Formed.{Formed};
 ghost use Rattle.chains.specs.Shapes.{IsCall, IsIf, IsPrint, IsSum, IsSwitch};
 ghost use Rattle.plans.specs.Plan.{Narrow, Numbered, tablesIn};
-ghost use Rattle.machine.specs.Words.{FramePlaced, Changes, onwardTo, Goes};
+ghost use Rattle.machine.specs.Words.{FramePlaced, Changes, onwardTo, Goes, GoesOrTries};
 
 // "1 a printed number".
 const PRINT_WORDS: usize = 1;
@@ -58,7 +59,7 @@ pub fn onward(state: State, goal: usize) -> State
 }
 
 // A sum or difference, 15 for one "outside −2,147,483,648 to 2,147,483,647".
-fn sum_step(file: &[u8], plan: &[usize; PLAN], state: State, frames: &mut [u32]) -> Step
+pub fn sum_step(file: &[u8], plan: &[usize; PLAN], state: State, frames: &mut [u32]) -> Step
     requires { ⌜ Formed (now file) × Numbered (now file) (now plan) ⌝ }
     requires { ⌜ (state .goal < recordCount (now file)) × IsSum (now file) (state .goal) × FramePlaced state (length (now frames)) ⌝ }
     ensures { λ r. ⌜ ((images callees m ps : List ℕ) → Goes (now (file .entry)) (tablesIn (now (plan .entry)) images callees)
@@ -139,7 +140,7 @@ fn print_step(
 }
 
 // A switch.
-fn switch_step(
+pub fn switch_step(
     file: &[u8],
     plan: &[usize; PLAN],
     state: State,
@@ -170,7 +171,7 @@ fn if_step(file: &[u8], plan: &[usize; PLAN], state: State, frames: &[u32]) -> S
     Step::Went(onward(state, onto(part, successor(plan, i))))
 }
 
-// The goal at record state.goal, one that leaves cells and regions alone.
+// The goal at record state.goal, one that leaves cells and regions alone; a try is only told.
 pub fn go(
     file: &[u8],
     plan: &[usize; PLAN],
@@ -185,7 +186,7 @@ pub fn go(
     requires { ⌜ Narrow (now plan) (now images) ⌝ }
     requires { ⌜ (state .goal < recordCount (now file)) × FramePlaced state (length (now frames)) ⌝ }
     requires { ⌜ Changes (word (now file) (state .goal) kindWord) false ⌝ }
-    ensures { λ r. ⌜ Goes (now (file .entry)) (tablesIn (now (plan .entry)) (now (images .entry)) (now (callees .entry))) state
+    ensures { λ r. ⌜ GoesOrTries (now (file .entry)) (tablesIn (now (plan .entry)) (now (images .entry)) (now (callees .entry))) state
         (now (cells .entry)) (now (frames .entry)) (now (prints .entry)) r (now (frames .exit)) (now (prints .exit)) ⌝ }
 {
     let i = state.goal;
@@ -204,6 +205,7 @@ pub fn go(
         IF => if_step(file, plan, state, &frames[..]),
         CALL => call_step(file, plan, images, callees, state, &mut frames[..]),
         PRINT => print_step(file, plan, state, &frames[..], &mut prints[..]),
+        TRY => Step::Tries,
         _ => Step::Went(state),
     }
 }

@@ -1,16 +1,20 @@
 // The runner's memory: cells of 8 lent words and regions of 2. Places are used again; the free ones are linked in the words themselves.
 mod cells;
+mod moving;
 mod places;
 mod pools;
+mod undoing;
 mod words;
 
 pub use cells::cell_word;
 pub use cells::hang_cell;
+pub use moving::move_words;
 pub use places::create;
 pub use places::empty;
 pub use places::remove;
 pub use places::take_cell;
 pub use pools::room;
+pub use undoing::take_back;
 pub use words::put;
 pub use words::word;
 
@@ -32,6 +36,13 @@ const MOST: u32 = 65535;
 
 // A term's word is the place of its cell or, above all places, a constant: this number and its functor.
 pub const CONSTANTS: u32 = 65536;
+
+// An entry of an open condition's log (C-20) tells of a region whether a cell was built in it, it was made or it was removed.
+pub const ENTRY_BUILT: u32 = 0;
+
+pub const ENTRY_MADE: u32 = 1;
+
+pub const ENTRY_REMOVED: u32 = 2;
 
 // The free places of a sort: a chain from `head` that ends at `top`, and the places from `top` on, never used yet. There are `limit` places.
 pub struct Pool {

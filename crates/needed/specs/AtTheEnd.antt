@@ -29,7 +29,7 @@ use Rattle.needed.specs.Passing.{all-from, last-test}
 -- a rule about the end, left out, is none of those on the way
 end-inner : (q : Rule) → onTheWay q ≡ false → (r : Rule) → onTheWay r ≡ true → leftOut (q ∷ []) r ≡ false
 unfolding leftOut _or_ onTheWay
-end-inner q e r d = ⊎-elim (λ p. absurd (clash d (ap (λ n. ltb n 19) (sym (eqb-true (number q) (number r) p)) ∙ e))) (λ p. rw p) (truth (eqb (number q) (number r)))
+end-inner q e r d = ⊎-elim (λ p. absurd (clash d (ap (λ n. ltb n 22) (sym (eqb-true (number q) (number r) p)) ∙ e))) (λ p. rw p) (truth (eqb (number q) (number r)))
 
 module _ (P : Program) (S : Signature) where
   -- ---- kept regions stay held

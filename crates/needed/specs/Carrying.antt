@@ -2,17 +2,17 @@
 -- checker step by step.
 use mathlib.Core.Bool.{Bool, true, false}
 use mathlib.Core.List.{List}
-use mathlib.Core.Path.{_≡_, refl, ap, _∙_}
+use mathlib.Core.Path.{_≡_, refl, ap, ap₂, _∙_}
 use Rattle.sets.specs.Tests.{_&_}
 use Rattle.sets.specs.Sets.{member, _∩_, sameSet, same-eq}
 use Rattle.sets.specs.Members.{setOf}
 use Rattle.sets.specs.declared.Set.{Set}
 use Rattle.language.specs.Lists.{choose}
-use Rattle.language.specs.Program.{Four, argumentsOf, Step, Goals, done, _then_, Goal, step, switch, ifLess, Arms, noArms, arm, Signature, Program}
+use Rattle.language.specs.Program.{Four, argumentsOf, Step, Goals, done, _then_, Goal, step, switch, ifLess, try, Arms, noArms, arm, Signature, Program}
 use Rattle.language.specs.Values.{gives}
 use Rattle.language.specs.Lifetimes.{effect, heldAfter}
 use Rattle.language.specs.Checking.{Carried, broken, carries, requireRule, carryOn, joinArms, soundGiven, soundWithout, stepRules, checkStep, checkGoals, checkGoal, checkArms}
-use Rattle.needed.specs.Without.{Rule, readSound, reachHeld, armsEqual, everyArm, leftOut, unless, armsJoined, givenSound, stepWithout, goalsWithout, goalWithout, armsWithout}
+use Rattle.needed.specs.Without.{Rule, readSound, reachHeld, armsEqual, everyArm, elseFromBefore, thenFromEnd, partsAlike, leftOut, unless, joinedBy, armsJoined, givenSound, stepWithout, goalsWithout, goalWithout, armsWithout}
 
 -- what is carried, if anything is, has I
 unfoldable pub CarriedAfter : (Set → Set → Type 0) → Carried → Type 0
@@ -61,6 +61,9 @@ module _ {P : Program} {S : Signature} {I : Set → Set → Type 0} (inv : Invar
     after-goal (ifLess y z a b) held sound i =
         after-require (member sound y & member sound z) _
         (λ e. after-join (checkGoals P S a held sound) (checkGoals P S b held sound) (after-goals a held sound i) (after-goals b held sound i))
+    after-goal (try c a b) held sound i =
+        after-join (carryOn (checkGoals P S c held sound) (λ h s. checkGoals P S a h s)) (checkGoals P S b held sound)
+        (after-on (checkGoals P S c held sound) _ (after-goals c held sound i) (λ h s j. after-goals a h s j)) (after-goals b held sound i)
 
     after-arms : (cs : Arms) (held sound : Set) → I held sound → CarriedAfter I (checkArms P S cs held sound)
     after-arms noArms held sound i = i
@@ -75,6 +78,9 @@ pub record StepsAgree (P : Program) (S : Signature) (I : Set → Set → Type 0)
   pub giving : leftOut out reachHeld ≡ false
   pub equal : leftOut out armsEqual ≡ false
   pub every : leftOut out everyArm ≡ false
+  pub before : leftOut out elseFromBefore ≡ false
+  pub onward : leftOut out thenFromEnd ≡ false
+  pub parts : leftOut out partsAlike ≡ false
   pub steps : (g : Step) (held sound : Set) → I held sound → stepWithout out P S g held sound ≡ checkStep P S g held sound
 
 module _ {P : Program} {S : Signature} {I : Set → Set → Type 0} {out : List Rule} (inv : Invariant P S I) (agrees : StepsAgree P S I out) where
@@ -83,11 +89,15 @@ module _ {P : Program} {S : Signature} {I : Set → Set → Type 0} {out : List 
   on-same broken f k a e = refl
   on-same (carries h s) f k a e = e h s a
 
+  joined-by : (r : Rule) → leftOut out r ≡ false → (c d : Carried) → joinedBy out r c d ≡ joinArms c d
+  unfolding joinedBy joinArms
+  joined-by r e broken d = refl
+  joined-by r e (carries h s) broken = refl
+  joined-by r e (carries h s) (carries k t) = rw (unless-in out r e true, unless-in out everyArm (agrees .every))
+
   joined-same : (c d : Carried) → armsJoined out c d ≡ joinArms c d
-  unfolding armsJoined joinArms
-  joined-same broken d = refl
-  joined-same (carries h s) broken = refl
-  joined-same (carries h s) (carries k t) = rw (unless-in out armsEqual (agrees .equal) true, unless-in out everyArm (agrees .every))
+  unfolding armsJoined
+  joined-same c d = joined-by armsEqual (agrees .equal) c d
 
   given-same : (xs held sound : Set) → givenSound out S xs held sound ≡ soundGiven S xs held sound
   unfolding givenSound
@@ -116,6 +126,14 @@ module _ {P : Program} {S : Signature} {I : Set → Set → Type 0} {out : List 
     goal-same (ifLess y z a b) held sound i =
         rw (unless-in out readSound (agrees .reading) true)
         (ap (requireRule _) (joined-same _ _ ∙ cc (goals-same a held sound i, goals-same b held sound i)))
+    goal-same (try c a b) held sound i =
+        joined-by partsAlike (agrees .parts) _ _
+        ∙ ap₂ joinArms
+        (ap (λ x. carryOn x (λ h s. unless out thenFromEnd (goalsWithout out P S a held sound) (goalsWithout out P S a h s))) (goals-same c held sound i)
+        ∙ on-same (checkGoals P S c held sound) _ _ (after-goals inv c held sound i)
+        (λ h s j. unless-in out thenFromEnd (agrees .onward) (goalsWithout out P S a held sound) _ ∙ goals-same a h s j))
+        (unless-in out elseFromBefore (agrees .before) (carryOn (goalsWithout out P S c held sound) (λ h s. goalsWithout out P S b h s)) _
+        ∙ goals-same b held sound i)
 
     arms-same : (cs : Arms) (held sound : Set) → I held sound → armsWithout out P S cs held sound ≡ checkArms P S cs held sound
     arms-same noArms held sound i = refl

@@ -5,5 +5,5 @@ use Rattle.needed.specs.Without as Without
 use Rattle.needed.specs.Faults as Faults
 
 unfoldable pub computing : Unit {0}
-unfolding Language.computing Table.eight Table.rows Table.file Without.number Without.leftOut Without.allAsked Without.unless Without.asked Without.callAsks Without.armsJoined Without.withBorn Without.withKept Without.endHeld Without.endAsks Without.givenSound Without.asks Without.stepAsks Without.holdsAfter Without.stepWithout Without.goalsWithout Without.goalWithout Without.armsWithout Without.procedureWithout Without.rulesWithout Without.checkedWithout Faults.stuckAt Faults.stuckIn Faults.stuck
+unfolding Language.computing Table.eight Table.rows Table.file Without.number Without.leftOut Without.allAsked Without.unless Without.asked Without.callAsks Without.joinedBy Without.armsJoined Without.withBorn Without.withKept Without.endHeld Without.endAsks Without.givenSound Without.asks Without.stepAsks Without.holdsAfter Without.stepWithout Without.goalsWithout Without.goalWithout Without.armsWithout Without.procedureWithout Without.rulesWithout Without.checkedWithout Faults.stuckAt Faults.stuckIn Faults.stuck
 computing = tt

@@ -13,7 +13,7 @@ use Rattle.sets.specs.MemberLaws.{unionOver-mk, image-in, image-mk, small-image
 use Rattle.sets.specs.declared.Set.{Set}
 use Rattle.language.specs.declared.Verdict.the-variants.{Accepted}
 use Rattle.language.specs.Lists.{all, choose}
-use Rattle.language.specs.Program.{Functor, Step, literal, sum, assign, construct, call, print, create, remove, Goals, Signature, Procedure, Program, signatureOf}
+use Rattle.language.specs.Program.{Functor, Step, literal, sum, assign, construct, call, print, create, remove, test, Goals, Signature, Procedure, Program, signatureOf}
 use Rattle.language.specs.Values.{insOf, reads, accessing, access}
 use Rattle.language.specs.Regions.{reach, reachAll, mapping, imageIn}
 use Rattle.language.specs.Lifetimes.{inputs, outputs, dead, kept, startHeld, classesOk, declaredClassesOk, effect, callEffect, heldAfter}
@@ -96,12 +96,13 @@ module _ (P : Program) (S : Signature) (ok : signatureOk (P .types) S ≡ true) 
   step-same (construct x f ys) held sound i = refl
   step-same (call q ys) held sound i = call-same q ys held sound i
   step-same (print y) held sound i = refl
+  step-same (test y z) held sound i = refl
   step-same (create r) held sound i = refl
   step-same (remove r) held sound i = refl
 
   agrees : StepsAgree P S (ReachHeld S emptySet) (deadHeld ∷ [])
   unfolding number leftOut _or_
-  agrees = record { reading = refl; giving = refl; equal = refl; every = refl; steps = step-same }
+  agrees = record { reading = refl; giving = refl; equal = refl; every = refl; before = refl; onward = refl; parts = refl; steps = step-same }
 
   body-same : (body : Goals) (start : classesOk S ≡ true)
       → goalsWithout (deadHeld ∷ []) P S body (startHeld S) (insOf S) ≡ checkGoals P S body (startHeld S) (insOf S)

@@ -7,17 +7,17 @@ use mathlib.Core.Path.{_≡_, refl, ap, _∙_}
 use lib.Dec.{ltb}
 use Rattle.sets.specs.declared.Set.{Set}
 use Rattle.language.specs.Lists.{choose}
-use Rattle.language.specs.Program.{Step, literal, sum, assign, construct, call, print, create, remove, Goals, Signature, Procedure, Program}
+use Rattle.language.specs.Program.{Step, literal, sum, assign, construct, call, print, create, remove, test, Goals, Signature, Procedure, Program}
 use Rattle.language.specs.Lifetimes.{callEffect, effect, heldAfter}
 use Rattle.language.specs.Checking.{Carried, broken, carries, stepRules, checkStep, checkGoals, endRules, procedureRules, rulesOk}
 use Rattle.language.specs.Answers.{program, checkerStages, checked}
 use Rattle.laws.specs.Lists.{all-same}
-use Rattle.needed.specs.Without.{Rule, createNotHeld, removeHeld, removeNotKept, removeUnsound, readSound, constructHeld, deadHeld, keptHeld, deadNotKept, bornNotHeld, deadUnshared, bornUnshared, deadGone, deadUnsound, bornThenHeld, reachHeld, armsEqual, everyArm, number, leftOut, allAsked, unless, asked, callAsks, withBorn, withKept, endHeld, endAsks, givenSound, asks, holdsAfter, stepAsks, stepWithout, goalsWithout, procedureWithout, rulesWithout, checkedWithout}
+use Rattle.needed.specs.Without.{Rule, createNotHeld, removeHeld, removeNotKept, removeUnsound, readSound, constructHeld, deadHeld, keptHeld, deadNotKept, bornNotHeld, deadUnshared, bornUnshared, deadGone, deadUnsound, bornThenHeld, reachHeld, armsEqual, everyArm, elseFromBefore, thenFromEnd, partsAlike, number, leftOut, allAsked, unless, asked, callAsks, withBorn, withKept, endHeld, endAsks, givenSound, asks, holdsAfter, stepAsks, stepWithout, goalsWithout, procedureWithout, rulesWithout, checkedWithout}
 use Rattle.needed.specs.Carrying.{unless-in, Invariant, StepsAgree, goals-same}
 
 -- the rules along a path, before the end
 unfoldable pub onTheWay : Rule → Bool
-onTheWay r = ltb (number r) 19
+onTheWay r = ltb (number r) 22
 
 module _ (out : List Rule) (inner : (r : Rule) → onTheWay r ≡ true → leftOut out r ≡ false) where
   asked-is : (r : Rule) → onTheWay r ≡ true → (s : Set) → asked out r s ≡ s
@@ -34,6 +34,7 @@ module _ (out : List Rule) (inner : (r : Rule) → onTheWay r ≡ true → leftO
     asks-same (call q ys) =
         simp (asked-is deadHeld refl, asked-is keptHeld refl, asked-is deadNotKept refl, asked-is bornNotHeld refl, asked-is deadUnshared refl, asked-is bornUnshared refl, asked-is deadGone refl, asked-is bornThenHeld refl, asked-is deadUnsound refl)
     asks-same (print y) = refl
+    asks-same (test y z) = refl
     asks-same (create r) = rw (asked-is createNotHeld refl)
     asks-same (remove r) = rw (asked-is removeHeld refl, asked-is removeNotKept refl, asked-is removeUnsound refl)
 
@@ -56,6 +57,9 @@ module _ (out : List Rule) (inner : (r : Rule) → onTheWay r ≡ true → leftO
       giving = inner reachHeld refl;
       equal = inner armsEqual refl;
       every = inner everyArm refl;
+      before = inner elseFromBefore refl;
+      onward = inner thenFromEnd refl;
+      parts = inner partsAlike refl;
       steps = λ g held sound i. step-same g held sound;
     }
 

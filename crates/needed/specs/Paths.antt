@@ -1,9 +1,9 @@
--- Each rule about arms and about the end of a procedure is needed, but for two parts of the last, which stand in `Implied`.
+-- Each rule about arms, about the parts of a try and about the end of a procedure is needed, but for two parts of the last, which stand in `Implied`.
 use Prim.Native.Nat.{ℕ}
 use mathlib.Core.List.{List, [], _∷_}
 use mathlib.Core.Path.{refl}
 use Rattle.language.specs.Table.{file}
-use Rattle.needed.specs.Without.{armsEqual, everyArm, endOther, outsSound}
+use Rattle.needed.specs.Without.{armsEqual, everyArm, elseFromBefore, thenFromEnd, partsAlike, endOther, outsSound}
 use Rattle.needed.specs.Faults.{stays, leaks, Needed}
 use Rattle.needed.specs.Computing.{computing}
 
@@ -33,6 +33,44 @@ oneArmOnly =
 pub oneArmOnly-needs : Needed (everyArm ∷ [])
 unfolding computing oneArmOnly
 oneArmOnly-needs = record { bytes = oneArmOnly; refused = refl; accepted = refl; wrong = stays 6 refl }
+
+-- "The else part starts from what .. was held and was sound before the try" (C-20). The condition fails, and region 1 was not created.
+--     N := 1 · try (create 1 · test N < N) then remove 1 else remove 1
+unfoldable pub elseFromEnd : List ℕ
+elseFromEnd =
+    file (
+    (1 ∷ 3 ∷ 1 ∷ 13 ∷ []) ∷ (2 ∷ 0 ∷ 2 ∷ []) ∷ (3 ∷ 0 ∷ 1 ∷ []) ∷ (4 ∷ 0 ∷ 4 ∷ 6 ∷ 7 ∷ []) ∷
+    (5 ∷ 5 ∷ 0 ∷ 1 ∷ 1 ∷ []) ∷ (5 ∷ []) ∷ (6 ∷ 0 ∷ 1 ∷ []) ∷ (8 ∷ 8 ∷ 2 ∷ 1 ∷ []) ∷ (20 ∷ 0 ∷ 9 ∷ 11 ∷ 12 ∷ []) ∷
+    (18 ∷ 10 ∷ 1 ∷ []) ∷ (21 ∷ 0 ∷ 2 ∷ 2 ∷ []) ∷ (19 ∷ 0 ∷ 1 ∷ []) ∷ (19 ∷ 0 ∷ 1 ∷ []) ∷ [])
+
+pub elseFromEnd-needs : Needed (elseFromBefore ∷ [])
+unfolding computing elseFromEnd
+elseFromEnd-needs = record { bytes = elseFromEnd; refused = refl; accepted = refl; wrong = stays 4 refl }
+
+-- "the then part from what the condition ends with" (C-20). Region 1 is created twice and removed once.
+--     try create 1 then (create 1 · remove 1) else nothing
+unfoldable pub thenFromBefore : List ℕ
+thenFromBefore =
+    file (
+    (1 ∷ 3 ∷ 1 ∷ 10 ∷ []) ∷ (2 ∷ 0 ∷ 2 ∷ []) ∷ (3 ∷ 0 ∷ 1 ∷ []) ∷ (4 ∷ 0 ∷ 4 ∷ 5 ∷ 6 ∷ []) ∷
+    (5 ∷ 0 ∷ 0 ∷ 1 ∷ 1 ∷ []) ∷ (6 ∷ 0 ∷ 1 ∷ []) ∷ (20 ∷ 0 ∷ 7 ∷ 8 ∷ []) ∷ (18 ∷ 0 ∷ 1 ∷ []) ∷ (18 ∷ 9 ∷ 1 ∷ []) ∷ (19 ∷ 0 ∷ 1 ∷ []) ∷ [])
+
+pub thenFromBefore-needs : Needed (thenFromEnd ∷ [])
+unfolding computing thenFromBefore
+thenFromBefore-needs = record { bytes = thenFromBefore; refused = refl; accepted = refl; wrong = leaks 4 1 refl refl }
+
+-- "both parts end alike" (C-20). The condition fails, and region 1 was not created.
+--     N := 1 · try test N < N then create 1 else nothing · remove 1
+unfoldable pub partsDiffer : List ℕ
+partsDiffer =
+    file (
+    (1 ∷ 3 ∷ 1 ∷ 12 ∷ []) ∷ (2 ∷ 0 ∷ 2 ∷ []) ∷ (3 ∷ 0 ∷ 1 ∷ []) ∷ (4 ∷ 0 ∷ 4 ∷ 6 ∷ 7 ∷ []) ∷
+    (5 ∷ 5 ∷ 0 ∷ 1 ∷ 1 ∷ []) ∷ (5 ∷ []) ∷ (6 ∷ 0 ∷ 1 ∷ []) ∷ (8 ∷ 8 ∷ 2 ∷ 1 ∷ []) ∷ (20 ∷ 11 ∷ 9 ∷ 10 ∷ []) ∷
+    (21 ∷ 0 ∷ 2 ∷ 2 ∷ []) ∷ (18 ∷ 0 ∷ 1 ∷ []) ∷ (19 ∷ 0 ∷ 1 ∷ []) ∷ [])
+
+pub partsDiffer-needs : Needed (partsAlike ∷ [])
+unfolding computing partsDiffer
+partsDiffer-needs = record { bytes = partsDiffer; refused = refl; accepted = refl; wrong = stays 3 refl }
 
 -- "At the end: born and kept regions held, no other". The region is never removed.
 --     create 1

@@ -10,14 +10,14 @@ use Rattle.sets.specs.declared.Set.{Set}
 use Rattle.language.specs.declared.Refusal.the-variants.{Classes, Rules}
 use Rattle.language.specs.declared.Verdict.{Verdict}
 use Rattle.language.specs.Lists.{all, choose}
-use Rattle.language.specs.Program.{argumentsOf, Step, literal, sum, assign, construct, call, print, create, remove, Goals, done, _then_, Goal, step, switch, ifLess, Arms, noArms, arm, Signature, Procedure, Program, regionOf, signatureOf}
+use Rattle.language.specs.Program.{argumentsOf, Step, literal, sum, assign, construct, call, print, create, remove, test, Goals, done, _then_, Goal, step, switch, ifLess, try, Arms, noArms, arm, Signature, Procedure, Program, regionOf, signatureOf}
 use Rattle.language.specs.Values.{insOf, outsOf, reads, gives}
 use Rattle.language.specs.Regions.{Mapping, mapping, imageIn}
 use Rattle.language.specs.Lifetimes.{inputs, outputs, born, dead, kept, startHeld, declaredClassesOk, Effect, noEffect, unsharedIn}
 use Rattle.language.specs.Checking.{Carried, broken, carries, requireRule, carryOn, soundGiven, soundWithout}
 use Rattle.language.specs.Answers.{stage, lowest, program, reachedStages}
 
--- the rules, in document 01's order
+-- the rules, in document 01's order; those of a try (C-20) stand behind those of arms
 pub data Rule : Type 0 where
   createNotHeld : Rule  -- "Create: not held before."
   removeHeld : Rule  -- "Remove: held,"
@@ -37,6 +37,9 @@ pub data Rule : Type 0 where
   reachHeld : Rule  -- "A variable given a value is sound if its whole reach is then held."
   armsEqual : Rule  -- "Arms end with equal held regions;"
   everyArm : Rule  -- "sound afterwards is sound after every arm."
+  elseFromBefore : Rule  -- "The else part starts from what .. was held and was sound before the try," (C-20)
+  thenFromEnd : Rule  -- "the then part from what the condition ends with." (C-20)
+  partsAlike : Rule  -- "both parts end alike" (C-20)
   endBorn : Rule  -- "At the end: born"
   endKept : Rule  -- "and kept regions held,"
   endOther : Rule  -- "no other;"
@@ -61,10 +64,13 @@ number bornThenHeld = 15
 number reachHeld = 16
 number armsEqual = 17
 number everyArm = 18
-number endBorn = 19
-number endKept = 20
-number endOther = 21
-number outsSound = 22
+number elseFromBefore = 19
+number thenFromEnd = 20
+number partsAlike = 21
+number endBorn = 22
+number endKept = 23
+number endOther = 24
+number outsSound = 25
 
 -- r is among those left out
 unfoldable pub leftOut : List Rule → Rule → Bool
@@ -114,10 +120,13 @@ module _ (out : List Rule) where
   }
 
   -- where arms may end differently, the first one's held regions are carried on; or what is sound after some arm
+  unfoldable pub joinedBy : Rule → Carried → Carried → Carried
+  joinedBy r broken c = broken
+  joinedBy r (carries h s) broken = broken
+  joinedBy r (carries h s) (carries k t) = requireRule (unless r true (sameSet h k)) (carries h (unless everyArm (s ∪ t) (s ∩ t)))
+
   unfoldable pub armsJoined : Carried → Carried → Carried
-  armsJoined broken c = broken
-  armsJoined (carries h s) broken = broken
-  armsJoined (carries h s) (carries k t) = requireRule (unless armsEqual true (sameSet h k)) (carries h (unless everyArm (s ∪ t) (s ∩ t)))
+  armsJoined c d = joinedBy armsEqual c d
 
   -- what counts as held at the end: born or kept regions, where they are not asked for, and no others, where those are let through
   unfoldable pub withBorn : Signature → Set → Set
@@ -147,6 +156,7 @@ module _ (out : List Rule) where
         allAsked (record { needs = asked constructHeld (single (regionOf S x)); bears = emptySet; ends = emptySet; unshared = true })
     asks (call q ys) = callAsks (mapping S (signatureOf P q) ys) (signatureOf P q)
     asks (print y) = allAsked noEffect
+    asks (test y z) = allAsked noEffect
     asks (create r) = record {
       needs = emptySet;
       ends = emptySet;
@@ -189,6 +199,10 @@ module _ (out : List Rule) where
       goalWithout (switch x cs) held sound = requireRule (unless readSound true (member sound x)) (armsWithout cs held sound)
       goalWithout (ifLess y z a b) held sound =
           requireRule (unless readSound true (member sound y & member sound z)) (armsJoined (goalsWithout a held sound) (goalsWithout b held sound))
+      goalWithout (try c a b) held sound =
+          joinedBy partsAlike
+          (carryOn (goalsWithout c held sound) (λ h s. unless thenFromEnd (goalsWithout a held sound) (goalsWithout a h s)))
+          (unless elseFromBefore (carryOn (goalsWithout c held sound) (λ h s. goalsWithout b h s)) (goalsWithout b held sound))
 
       pub armsWithout : Arms → Set → Set → Carried
       armsWithout noArms held sound = carries held sound

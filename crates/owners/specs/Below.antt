@@ -10,7 +10,7 @@ use lib.ListN.{length}
 use Rattle.sets.specs.Tests.{true-and}
 use Rattle.language.specs.File.{goals}
 use Rattle.language.specs.Answers.{program}
-use Rattle.language.specs.Program.{Goals, done, _then_, Goal, step, switch, ifLess, Arms, noArms, arm}
+use Rattle.language.specs.Program.{Goals, done, _then_, Goal, step, switch, ifLess, try, Arms, noArms, arm}
 use Rattle.chains.specs.Formed.{Formed, Stands}
 use Rattle.owners.specs.Owner.{ownerOf}
 use Rattle.owners.specs.Owners.{goal-kind}
@@ -31,6 +31,7 @@ module _ (L : Goal → Bool) (h : (g : Goal) → L g ≡ true) where
     goal-passes (step s) = h (step s)
     goal-passes (switch x cs) = true-and (h (switch x cs)) (arms-pass cs)
     goal-passes (ifLess y z a b) = true-and (h (ifLess y z a b)) (true-and (goals-pass a) (goals-pass b))
+    goal-passes (try c a b) = true-and (h (try c a b)) (true-and (goals-pass c) (true-and (goals-pass a) (goals-pass b)))
 
     arms-pass : (cs : Arms) → allArms L cs ≡ true
     arms-pass noArms = refl

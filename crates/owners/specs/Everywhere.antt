@@ -7,7 +7,7 @@ use Rattle.sets.specs.Tests.{_&_}
 use Rattle.language.specs.Lists.{all, upFrom}
 use Rattle.language.specs.Format.{kindWord}
 use Rattle.language.specs.File.{Kind, kNone, kHeader, kType, kFunctor, kProcedure, kVariable, kRegion, kEdge, kArm, kArgument, kGoal, kindOf, word, recordCount}
-use Rattle.language.specs.Program.{Goals, done, _then_, Goal, step, switch, ifLess, Arms, noArms, arm, Procedure, Program}
+use Rattle.language.specs.Program.{Goals, done, _then_, Goal, step, switch, ifLess, try, Arms, noArms, arm, Procedure, Program}
 use Rattle.chains.specs.Formed.{goalAt}
 use Rattle.owners.specs.Owner.{ownerOf}
 
@@ -22,6 +22,7 @@ module _ (L : Goal → Bool) where
     allGoal (step s) = L (step s)
     allGoal (switch x cs) = L (switch x cs) & allArms cs
     allGoal (ifLess y z a b) = L (ifLess y z a b) & allGoals a & allGoals b
+    allGoal (try c a b) = L (try c a b) & allGoals c & allGoals a & allGoals b
 
     pub allArms : Arms → Bool
     allArms noArms = true

@@ -43,6 +43,11 @@ count-in w (l ∷ ks) k i = elim (cons-in k l ks i) [
   | inr h ↦ omega (arith, count-cons (w k) (w l) (map w ks), count-in w ks k h)
 ]
 
+pub to-same : (g h w : ℕ → ℕ) → ((k : ℕ) → g k ≡ h k) → (ks t : List ℕ) → handTo g w ks t ≡ handTo h w ks t
+unfolding handTo
+to-same g h w e [] t = refl
+to-same g h w e (k ∷ ks) t = ap (λ v. handTo g w ks (set t (w k) v)) (e k) ∙ to-same g h w e ks (set t (w k) (h k))
+
 module _ (g w : ℕ → ℕ) where
   pub to-length : (ks t : List ℕ) → length (handTo g w ks t) ≡ length t
   unfolding handTo
@@ -169,7 +174,7 @@ module _ {f : List ℕ} (F : Formed f) where
     value i = getD (handed A f t) i 0
 
     -- a record has its value when the pass comes to it
-    settled : (i : ℕ) → i < recordCount f → value i ≡ getD (handedUpTo A f i t) i 0
+    pub settled : (i : ℕ) → i < recordCount f → value i ≡ getD (handedUpTo A f i t) i 0
     unfolding handedUpTo
     settled zero q = handed-none A f t ∙ sym none
     settled (suc i) q = stays A f (suc i) (suc i) t (omega arith) (omega arith) (λ l a b. not-back l (suc i) a b (omega arith))

@@ -1,7 +1,9 @@
 pub mod Counting
 pub mod Referred
+pub mod ChainTests
 pub mod Handed
 pub mod Handing
+pub mod TryWords
 pub mod Digits
 pub mod Owner
 pub mod Owners

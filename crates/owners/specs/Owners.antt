@@ -11,17 +11,17 @@ use lib.Dec.{eqb}
 use lib.ListN.{length, getD, replicate, length-replicate, getD-replicate, List·getD-append}
 use Rattle.sets.specs.Members.{inList}
 use Rattle.language.specs.Lists.{choose, nth}
-use Rattle.language.specs.Format.{maxRecords, kindWord, nextWord, headerProcedures, procedureGoals, armGoals, switchArms, ifThen, ifElse}
-use Rattle.language.specs.File.{GoalKind, kLiteral, kSum, kAssign, kConstruct, kSwitch, kIf, kCall, kPrint, kCreate, kRemove, Kind, kHeader, kProcedure, kArm, kGoal, procedures, goals, row, kindOf, word, recordCount}
+use Rattle.language.specs.Format.{maxRecords, kindWord, nextWord, headerProcedures, procedureGoals, armGoals, switchArms, ifThen, ifElse, tryCondition, tryThen, tryElse}
+use Rattle.language.specs.File.{GoalKind, kLiteral, kSum, kAssign, kConstruct, kSwitch, kIf, kCall, kPrint, kCreate, kRemove, kTry, kTest, Kind, kHeader, kProcedure, kArm, kGoal, procedures, goals, row, kindOf, word, recordCount}
 use Rattle.language.specs.Answers.{program}
 use Rattle.chains.specs.Layout.{all-rows, number-is, header-kind, real, chain-kind, goals-kind}
 use Rattle.records.specs.Records.{recordAt}
 use Rattle.records.specs.declared.Record.{Record}
-use Rattle.records.specs.declared.Record.the-variants.{Procedure, Switch, Arm, If}
+use Rattle.records.specs.declared.Record.the-variants.{Procedure, Switch, Arm, If, Try}
 use Rattle.chains.specs.Formed.{Formed, Stands, counted, procedures-stand, program-procedures}
 use Rattle.chains.specs.Kinds.{kindIn, kind-read}
 use Rattle.chains.specs.Declared.{procedure-at}
-use Rattle.chains.specs.Parts.{switch-at, arm-at, if-at}
+use Rattle.chains.specs.Parts.{switch-at, arm-at, if-at, try-at}
 use Rattle.chains.specs.Is.{procedure-is}
 use Rattle.chains.specs.Reached.{stands-nth, place-past}
 use Rattle.chains.specs.Records.{chainRecords, records-none, records-step, records-some, along}
@@ -93,6 +93,18 @@ module _ {f : List ℕ} (F : Formed f) (i : ℕ) (q : i < recordCount f) where
   unfolding opened
   if-else e = part-owned (kGoal kIf) e ifElse refl refl
 
+  pub try-condition : kindOf (word f i kindWord) ≡ kGoal kTry → OwnedBy f (ownerOf f i) (word f i tryCondition)
+  unfolding opened
+  try-condition e = part-owned (kGoal kTry) e tryCondition refl refl
+
+  pub try-then : kindOf (word f i kindWord) ≡ kGoal kTry → OwnedBy f (ownerOf f i) (word f i tryThen)
+  unfolding opened
+  try-then e = part-owned (kGoal kTry) e tryThen refl refl
+
+  pub try-else : kindOf (word f i kindWord) ≡ kGoal kTry → OwnedBy f (ownerOf f i) (word f i tryElse)
+  unfolding opened
+  try-else e = part-owned (kGoal kTry) e tryElse refl refl
+
   -- "procedures [are numbered] from 0 .. in chain order"
   pub procedure-next : kindOf (word f i kindWord) ≡ kProcedure → OwnedBy f (ownerOf f i + 1) (word f i nextWord)
   unfolding opened
@@ -117,6 +129,12 @@ pub record ArmOwned (f : List ℕ) (i next gs : ℕ) : Type 0 where
 
 pub record IfOwned (f : List ℕ) (i next gs hs : ℕ) : Type 0 where
   pub to-next : OwnedBy f (ownerOf f i) next
+  pub to-then : OwnedBy f (ownerOf f i) gs
+  pub to-else : OwnedBy f (ownerOf f i) hs
+
+pub record TryOwned (f : List ℕ) (i next cs gs hs : ℕ) : Type 0 where
+  pub to-next : OwnedBy f (ownerOf f i) next
+  pub to-condition : OwnedBy f (ownerOf f i) cs
   pub to-then : OwnedBy f (ownerOf f i) gs
   pub to-else : OwnedBy f (ownerOf f i) hs
 
@@ -147,6 +165,17 @@ module _ {f : List ℕ} {i : ℕ} {r : Record} (F : Formed f) (e : r ≡ recordA
         to-else = rw (h .w5) (if-else F i (h .below) k);
       }
 
+  pub try-owned : {next cs gs hs : ℕ} → r ≡ Try next cs gs hs → TryOwned f i next cs gs hs
+  try-owned g =
+      let h = try-at F e g in
+      let k = sym (kind-read f i e) ∙ ap kindIn g in
+      record {
+        to-next = rw (h .w1) (goal-next F i (h .below) kTry k);
+        to-condition = rw (h .w2) (try-condition F i (h .below) k);
+        to-then = rw (h .w3) (try-then F i (h .below) k);
+        to-else = rw (h .w4) (try-else F i (h .below) k);
+      }
+
   pub procedure-owned : {next vs rs gs : ℕ} → r ≡ Procedure next vs rs gs → ProcedureOwned f i next gs
   procedure-owned g =
       let h = procedure-at F e g in
@@ -170,6 +199,8 @@ goals-chain kCall = refl
 goals-chain kPrint = refl
 goals-chain kCreate = refl
 goals-chain kRemove = refl
+goals-chain kTry = refl
+goals-chain kTest = refl
 
 pub kind-goals : {f : List ℕ} {i : ℕ} → i < recordCount f → (g : GoalKind) → kindOf (word f i kindWord) ≡ kGoal g → Stands f goals i
 kind-goals q g e = record { below = q; sort = inr (ap (λ (k : Kind). row k .chain) e ∙ goals-chain g) }

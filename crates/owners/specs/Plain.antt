@@ -7,8 +7,8 @@ use borrow.Author.Tests.{ne-eqb}
 use lib.Dec.{eqb}
 use Rattle.sets.specs.Tests.{_&_, _or_}
 use Rattle.language.specs.Lists.{choose, all, upFrom}
-use Rattle.language.specs.File.{kLiteral, kSum, kAssign, kConstruct, kSwitch, kIf, kCall, kPrint, kCreate, kRemove, Kind, kNone, kHeader, kType, kFunctor, kProcedure, kVariable, kRegion, kEdge, kArm, kArgument, kGoal, kindOf, word, recordCount}
-use Rattle.language.specs.Program.{Goals, done, _then_, Goal, step, switch, ifLess, Arms, noArms, arm, Program}
+use Rattle.language.specs.File.{kLiteral, kSum, kAssign, kConstruct, kSwitch, kIf, kCall, kPrint, kCreate, kRemove, kTry, kTest, Kind, kNone, kHeader, kType, kFunctor, kProcedure, kVariable, kRegion, kEdge, kArm, kArgument, kGoal, kindOf, word, recordCount}
+use Rattle.language.specs.Program.{Goals, done, _then_, Goal, step, switch, ifLess, try, Arms, noArms, arm, Program}
 use Rattle.language.specs.Annotation.{plainStep, plainGoals, plainGoal, plainArms, unannotated}
 use Rattle.language.specs.Answers.{program}
 use Rattle.language.specs.Format.{kindWord, createKind, removeKind}
@@ -17,8 +17,8 @@ use Rattle.chains.specs.Formed.{Formed, goalAt}
 use Rattle.chains.specs.Layout.{all-rows, number-is}
 use Rattle.chains.specs.Kinds.{same-read}
 use Rattle.chains.specs.Shapes.{goal-number}
-use Rattle.chains.specs.Goals.{literal-at, sum-at, assign-at, construct-at, print-at, create-at, remove-at}
-use Rattle.chains.specs.Parts.{switch-at, if-at, call-at}
+use Rattle.chains.specs.Goals.{literal-at, sum-at, assign-at, construct-at, print-at, create-at, remove-at, test-at}
+use Rattle.chains.specs.Parts.{switch-at, if-at, try-at, call-at}
 use Rattle.owners.specs.Everywhere.{allGoals, allGoal, allArms, everyGoal, ifGoal, everyRecord}
 use Rattle.owners.specs.Numbered.{every-same}
 use Rattle.owners.specs.TreeLaw.{record-kind, every-record}
@@ -28,6 +28,7 @@ unfoldable pub plainHere : Goal → Bool
 plainHere (step s) = plainStep s
 plainHere (switch x cs) = true
 plainHere (ifLess y z a b) = true
+plainHere (try c a b) = true
 
 mutual
   unfolding plainGoals allGoals plainHere _&_
@@ -40,6 +41,7 @@ mutual
   plain-goal (step s) = refl
   plain-goal (switch x cs) = plain-arms cs
   plain-goal (ifLess y z a b) = ap₂ _&_ (plain-goals a) (plain-goals b)
+  plain-goal (try c a b) = ap₂ _&_ (plain-goals c) (ap₂ _&_ (plain-goals a) (plain-goals b))
 
   plain-arms : (cs : Arms) → plainArms cs ≡ allArms plainHere cs
   plain-arms noArms = refl
@@ -85,6 +87,8 @@ module _ {f : List ℕ} (F : Formed f) (i : ℕ) where
   plain-here (kGoal kPrint) e = other (kGoal kPrint) e (ap plainHere (print-at F refl (same-read f i refl e) .goal)) (λ d. false≢true cc) (λ d. false≢true cc)
   plain-here (kGoal kCreate) e = rw (goal-number (word f i kindWord) kCreate e) (ap plainHere (create-at F refl (same-read f i refl e) .goal))
   plain-here (kGoal kRemove) e = rw (goal-number (word f i kindWord) kRemove e) (ap plainHere (remove-at F refl (same-read f i refl e) .goal))
+  plain-here (kGoal kTry) e = other (kGoal kTry) e (ap plainHere (try-at F refl (same-read f i refl e) .goal)) (λ d. false≢true cc) (λ d. false≢true cc)
+  plain-here (kGoal kTest) e = other (kGoal kTest) e (ap plainHere (test-at F refl (same-read f i refl e) .goal)) (λ d. false≢true cc) (λ d. false≢true cc)
 
 module _ {f : List ℕ} (F : Formed f) where
   -- THE LOOP: every record from 1 on

@@ -1,54 +1,28 @@
 -- THE TREE LAW: of a file that passes numbers 1 and 2, every goal of the program passes a test if and only if every record that is a goal does.
--- What stands in a chain passes if and only if its first record and what its words refer to pass (`record-step`); the rest is `outward` and `inward`.
-use Prim.Native.Nat.{ℕ, suc, _+_, _-_, _<_}
+-- What stands in a chain passes if and only if its first record and what its words refer to pass (`record-step`); the rest is module ChainTests.
+use Prim.Native.Nat.{ℕ, suc, _+_, _<_}
 use native.Mathlib.Omega.{arith}
 use native.Mathlib.Decide.{ℕ-discrete}
 use mathlib.Core.Bool.{Bool, true, false, false≢true}
-use mathlib.Core.List.{List, [], _∷_}
+use mathlib.Core.List.{List}
 use mathlib.Core.Path.{_≡_, refl, ap, sym, _∙_}
-use Rattle.sets.specs.Tests.{_&_, and-true, true-and, same-truth}
-use Rattle.laws.specs.Numbers.{all-at, at-all}
-use Rattle.language.specs.Format.{headerProcedures, kindWord, nextWord, armGoals, ifElse, ifThen, procedureGoals, switchArms}
-use Rattle.language.specs.File.{kLiteral, kSum, kAssign, kConstruct, kSwitch, kIf, kCall, kPrint, kCreate, kRemove, Kind, kNone, kHeader, kType, kFunctor, kProcedure, kVariable, kRegion, kEdge, kArm, kArgument, kGoal, Chain, nowhere, types, functors, procedures, variables, regions, edges, goals, arms, arguments, Use, number, unused, first, row, kindOf, word, recordCount}
-use Rattle.language.specs.Program.{Step, _then_, Goal, step, switch, ifLess}
+use Rattle.sets.specs.Tests.{_&_}
+use Rattle.language.specs.Format.{headerProcedures, kindWord, nextWord, armGoals, ifElse, ifThen, procedureGoals, switchArms, tryCondition, tryElse, tryThen}
+use Rattle.language.specs.File.{kLiteral, kSum, kAssign, kConstruct, kSwitch, kIf, kCall, kPrint, kCreate, kRemove, kTry, kTest, Kind, kNone, kHeader, kType, kFunctor, kProcedure, kVariable, kRegion, kEdge, kArm, kArgument, kGoal, Chain, nowhere, types, functors, procedures, variables, regions, edges, goals, arms, arguments, row, kindOf, word, recordCount}
+use Rattle.language.specs.Program.{Step, _then_, Goal, step, switch, ifLess, try}
 use Rattle.language.specs.Answers.{program}
 use Rattle.chains.specs.Layout.{all-rows, real, known-chain, header-kind}
 use Rattle.records.specs.Table.{uses}
-use Rattle.chains.specs.Formed.{Formed, counted, goalsAt, goalAt, armsAt, proceduresAt, goals-none, arms-none, procedures-none, program-procedures}
+use Rattle.chains.specs.Formed.{Formed, goalsAt, goalAt, armsAt, proceduresAt, goals-none, arms-none, procedures-none, program-procedures}
 use Rattle.chains.specs.Kinds.{same-read}
-use Rattle.chains.specs.Goals.{literal-at, sum-at, assign-at, construct-at, print-at, create-at, remove-at}
-use Rattle.chains.specs.Parts.{switch-at, arm-at, if-at, call-at}
+use Rattle.chains.specs.Goals.{literal-at, sum-at, assign-at, construct-at, print-at, create-at, remove-at, test-at}
+use Rattle.chains.specs.Parts.{switch-at, arm-at, if-at, try-at, call-at}
 use Rattle.chains.specs.Declared.{procedure-at}
-use Rattle.owners.specs.Referred.{sortOf, usesOf, Each, EachOf, header-uses, outward, inward, each-later}
+use Rattle.owners.specs.Referred.{sortOf, usesOf}
+use Rattle.owners.specs.ChainTests.{one-swap, two-swap, three-swap, four-swap, five-swap, wordsTest, chain-records, chain-all}
 use Rattle.owners.specs.Owner.{ownerOf}
-use Rattle.owners.specs.Owners.{OwnedBy, goal-next, switch-arms, arm-next, arm-goals, if-then, if-else, procedure-next, procedure-goals, first-owner}
+use Rattle.owners.specs.Owners.{OwnedBy, goal-next, switch-arms, arm-next, arm-goals, if-then, if-else, try-condition, try-then, try-else, procedure-next, procedure-goals, first-owner}
 use Rattle.owners.specs.Everywhere.{allGoals, allArms, allFrom, everyGoal, ifGoal, recordTest, everyRecord}
-
--- ---- tests, in another order
-one-swap : (l r : Bool) → (l & r) ≡ (l & (r & true))
-unfolding _&_
-one-swap true true = refl
-one-swap true false = refl
-one-swap false r = refl
-
-two-swap : (a r : Bool) → (a & r) ≡ (r & (a & true))
-unfolding _&_
-two-swap true true = refl
-two-swap true false = refl
-two-swap false true = refl
-two-swap false false = refl
-
-three-swap : (l a r : Bool) → ((l & a) & r) ≡ (l & (r & (a & true)))
-unfolding _&_
-three-swap true a r = two-swap a r
-three-swap false a r = refl
-
-four-swap : (l a b r : Bool) → ((l & (a & b)) & r) ≡ (l & (r & (a & (b & true))))
-unfolding _&_
-four-swap true true b r = two-swap b r
-four-swap true false b true = refl
-four-swap true false b false = refl
-four-swap false a b r = refl
 
 module _ (L : ℕ → Goal → Bool) (f : List ℕ) where
   -- what stands in the chain at record i passes
@@ -64,30 +38,6 @@ module _ (L : ℕ → Goal → Bool) (f : List ℕ) where
   chainTest arms i = allArms (L (ownerOf f i)) (armsAt f i)
   chainTest arguments i = true
 
-  -- .. in the chains that a record's words lead to
-  unfoldable wordsTest : (ℕ → ℕ) → ℕ → List Use → Bool
-  wordsTest w k [] = true
-  wordsTest w k (number ∷ us) = wordsTest w (suc k) us
-  wordsTest w k (unused ∷ us) = wordsTest w (suc k) us
-  wordsTest w k (first c ∷ us) = chainTest c (w k) & wordsTest w (suc k) us
-
-  abbrev Passes : Chain → ℕ → Type 0
-  Passes c i = chainTest c i ≡ true
-
-  words-each : (w : ℕ → ℕ) (us : List Use) (k : ℕ) → wordsTest w k us ≡ true → Each Passes w k us
-  unfolding wordsTest
-  words-each w [] k e = tt
-  words-each w (number ∷ us) k e = words-each w us (suc k) e
-  words-each w (unused ∷ us) k e = words-each w us (suc k) e
-  words-each w (first c ∷ us) k e = (and-true e .0, words-each w us (suc k) (and-true e .1))
-
-  each-words : (w : ℕ → ℕ) (us : List Use) (k : ℕ) → Each Passes w k us → wordsTest w k us ≡ true
-  unfolding wordsTest
-  each-words w [] k e = refl
-  each-words w (number ∷ us) k e = each-words w us (suc k) e
-  each-words w (unused ∷ us) k e = each-words w us (suc k) e
-  each-words w (first c ∷ us) k e = true-and (e .0) (each-words w us (suc k) (e .1))
-
   -- ---- the test of a chain that belongs to procedure q
   module _ {q w : ℕ} (b : OwnedBy f q w) where
     owned-goals : allGoals (L q) (goalsAt f w) ≡ chainTest goals w
@@ -102,7 +52,7 @@ module _ (L : ℕ → Goal → Bool) (f : List ℕ) where
     unfolding chainTest allFrom
     owned-procedures = elim (ℕ-discrete w 0) [ yes z ↦ rw (procedures-none f z) | no z ↦ rw (b z) ]
 
-  ends : (c : Chain) → Passes c 0
+  ends : (c : Chain) → chainTest c 0 ≡ true
   unfolding chainTest allGoals allFrom
   ends nowhere = refl
   ends types = refl
@@ -140,6 +90,15 @@ module _ (L : ℕ → Goal → Bool) {f : List ℕ} (F : Formed f) (i : ℕ) (q 
   unfolding chainTest allGoals
   if-goal v g b c d = rw (v, g, owned-goals L f b, owned-goals L f c, owned-goals L f d) (four-swap _ _ _ _)
 
+  try-goal : goalsAt f i ≡ try (goalsAt f (word f i tryCondition)) (goalsAt f (word f i tryThen)) (goalsAt f (word f i tryElse)) then goalsAt f (word f i nextWord)
+      → goalAt f i ≡ try (goalsAt f (word f i tryCondition)) (goalsAt f (word f i tryThen)) (goalsAt f (word f i tryElse))
+      → OwnedBy f (ownerOf f i) (word f i nextWord) → OwnedBy f (ownerOf f i) (word f i tryCondition) → OwnedBy f (ownerOf f i) (word f i tryThen)
+      → OwnedBy f (ownerOf f i) (word f i tryElse)
+      → chainTest L f goals i ≡ (here & (chainTest L f goals (word f i nextWord) & (chainTest L f goals (word f i tryCondition)
+      & (chainTest L f goals (word f i tryThen) & (chainTest L f goals (word f i tryElse) & true)))))
+  unfolding chainTest allGoals
+  try-goal v g b c d e = rw (v, g, owned-goals L f b, owned-goals L f c, owned-goals L f d, owned-goals L f e) (five-swap _ _ _ _ _)
+
   arm-record : kindOf (word f i kindWord) ≡ kArm
       → chainTest L f arms i ≡ (chainTest L f arms (word f i nextWord) & (chainTest L f goals (word f i armGoals) & true))
   unfolding chainTest allGoals
@@ -154,7 +113,7 @@ module _ (L : ℕ → Goal → Bool) {f : List ℕ} (F : Formed f) (i : ℕ) (q 
       rw (procedure-at F refl (same-read f i refl e) .view, n, owned-procedures L f (procedure-next F i q e), owned-goals L f (procedure-goals F i q e)) (two-swap _ _)
 
   record-step : (k : Kind) → kindOf (word f i kindWord) ≡ k → real (row k .chain) ≡ true
-      → chainTest L f (row k .chain) i ≡ (ifGoal k here & wordsTest L f (word f i) 1 (uses (row k)))
+      → chainTest L f (row k .chain) i ≡ (ifGoal k here & wordsTest (chainTest L f) (word f i) 1 (uses (row k)))
   unfolding all-rows uses real ifGoal wordsTest chainTest _&_
   record-step kNone e r = absurd (false≢true r)
   record-step kHeader e r = absurd (false≢true r)
@@ -176,9 +135,11 @@ module _ (L : ℕ → Goal → Bool) {f : List ℕ} (F : Formed f) (i : ℕ) (q 
   record-step (kGoal kPrint) e r = let h = print-at F refl (same-read f i refl e) in plain-goal (h .view) (h .goal) (goal-next F i q kPrint e)
   record-step (kGoal kCreate) e r = let h = create-at F refl (same-read f i refl e) in plain-goal (h .view) (h .goal) (goal-next F i q kCreate e)
   record-step (kGoal kRemove) e r = let h = remove-at F refl (same-read f i refl e) in plain-goal (h .view) (h .goal) (goal-next F i q kRemove e)
+  record-step (kGoal kTry) e r = let h = try-at F refl (same-read f i refl e) in try-goal (h .view) (h .goal) (goal-next F i q kTry e) (try-condition F i q e) (try-then F i q e) (try-else F i q e)
+  record-step (kGoal kTest) e r = let h = test-at F refl (same-read f i refl e) in plain-goal (h .view) (h .goal) (goal-next F i q kTest e)
 
 module _ (L : ℕ → Goal → Bool) {f : List ℕ} (F : Formed f) where
-  chain-record : (i : ℕ) → 0 < i → i < recordCount f → chainTest L f (sortOf f i) i ≡ (recordTest L f i & wordsTest L f (word f i) 1 (usesOf f i))
+  chain-record : (i : ℕ) → 0 < i → i < recordCount f → chainTest L f (sortOf f i) i ≡ (recordTest L f i & wordsTest (chainTest L f) (word f i) 1 (usesOf f i))
   unfolding sortOf usesOf recordTest
   chain-record i p q =
       record-step L F i q (kindOf (word f i kindWord)) refl (known-chain (word f) (recordCount f) (F .form) (header-kind f (F .header) (F .form)) i p q)
@@ -187,27 +148,18 @@ module _ (L : ℕ → Goal → Bool) {f : List ℕ} (F : Formed f) where
   unfolding everyGoal
   whole = ap (allFrom L 0) (program-procedures F) ∙ owned-procedures L f (first-owner F)
 
+  no-types : (i : ℕ) → chainTest L f types i ≡ true
+  unfolding chainTest
+  no-types i = refl
+
   -- every goal of the program passes: every record does
   pub goals-records : everyGoal L (program f) ≡ true → (i : ℕ) → 0 < i → i < recordCount f → recordTest L f i ≡ true
-  unfolding uses all-rows chainTest
-  goals-records e i p q =
-      let h : EachOf (Passes L f) f 0 = rw (header-uses F) (sym whole ∙ e, (refl, tt)) in
-      and-true (sym (chain-record i p q) ∙ outward F (Passes L f) h (λ j a b c. words-each L f (word f j) (usesOf f j) 1 (and-true (sym (chain-record j a b) ∙ c) .1)) i p q) .0
+  goals-records e = chain-records (chainTest L f) F (recordTest L f) (ends L f) no-types chain-record (sym whole ∙ e)
 
   -- .. and the other way round
-  pub records-goals : ((i : ℕ) → 0 < i → i < recordCount f → recordTest L f i ≡ true) → everyGoal L (program f) ≡ true
-  unfolding uses all-rows
-  records-goals h =
-      let later = inward F (Passes L f) (ends L f) (λ i p q e. chain-record i p q ∙ true-and (h i p q) (each-words L f (word f i) (usesOf f i) 1 e)) in
-      let e = rw (header-uses F) at (each-later F (Passes L f) (ends L f) 0 (counted F .some) (λ j o b. later j o b)) in
-      whole ∙ e .0
-
   pub every-record : everyGoal L (program f) ≡ everyRecord L f
   unfolding everyRecord
-  every-record =
-      let n = counted F .some in
-      same-truth (λ e. at-all (recordCount f - 1) 1 (recordTest L f) (λ i p q. goals-records e i p (omega arith)))
-      (λ e. records-goals (λ i p q. all-at (recordCount f - 1) 1 (recordTest L f) e i p (omega arith)))
+  every-record = whole ∙ chain-all (chainTest L f) F (recordTest L f) (ends L f) no-types chain-record
 
   -- ---- the test of one record, by its kind
   pub record-kind : (i : ℕ) (k : Kind) → kindOf (word f i kindWord) ≡ k → recordTest L f i ≡ ifGoal k (L (ownerOf f i) (goalAt f i))

@@ -6,7 +6,7 @@ use mathlib.Core.Path.{_≡_, refl, sym, _∙_}
 use Rattle.sets.specs.Tests.{and-true, true-and}
 use Rattle.language.specs.File.{GoalKind, kGoal, kindOf, word, recordCount}
 use Rattle.language.specs.Format.{kindWord}
-use Rattle.language.specs.Program.{Functor, Goals, done, _then_, Goal, step, switch, ifLess, Arms, noArms, arm, Signature, Program, signatureOf}
+use Rattle.language.specs.Program.{Functor, Goals, done, _then_, Goal, step, switch, ifLess, try, Arms, noArms, arm, Signature, Program, signatureOf}
 use Rattle.language.specs.Typing.{goalsOk, goalOk, armsOk, typingOk}
 use Rattle.language.specs.Answers.{program}
 use Rattle.region_graph.specs.Typed.{goals-typed}
@@ -31,6 +31,9 @@ module _ (P : Program) (S : Signature) where
     goal-each (ifLess y z a b) e =
         let p = and-true (and-true (and-true e .1) .1) in
         true-and e (true-and (goals-each a (p .0)) (goals-each b (p .1)))
+    goal-each (try c a b) e =
+        let p = and-true (and-true e .1) in
+        true-and e (true-and (goals-each c (and-true e .0)) (true-and (goals-each a (p .0)) (goals-each b (p .1))))
 
     arms-each : (cs : Arms) (fs : List Functor) (n : ℕ) → armsOk P S cs fs n ≡ true → allArms (goalOk P S) cs ≡ true
     arms-each noArms fs n e = refl

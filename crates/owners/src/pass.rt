@@ -65,7 +65,7 @@ fn hand_down(parts: &[usize; KINDS_END], file: &[u8], i: usize, owners: &mut [u1
 }
 
 // Hands `on` to the next record of the chain of record i, and x to what its other words lead to, which `words` lists.
-fn hand_to(file: &[u8], i: usize, words: usize, on: u16, x: u16, owners: &mut [u16])
+pub fn hand_to(file: &[u8], i: usize, words: usize, on: u16, x: u16, owners: &mut [u16])
     requires { ⌜ Hander (now file) i words (now owners) ⌝ }
     ensures { λ _. ⌜ now (owners .exit) ≡ handTo (nextAnd on x) (word (now (file .entry)) i) (wordsOf (now (file .entry)) i) (now (owners .entry)) ⌝ }
 {

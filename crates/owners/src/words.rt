@@ -26,6 +26,8 @@ const PART_WORDS: [usize; KINDS_END] = [
     0, // print
     0, // create
     0, // remove
+    0x432, // try
+    0, // test
 ];
 
 // The table in memory, to be lent.

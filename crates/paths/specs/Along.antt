@@ -11,10 +11,10 @@ use Rattle.language.specs.Lists.{all, isNone}
 use Rattle.language.specs.Program.{Four, Signature, Program}
 use Rattle.laws.specs.Tests.{and-yes, and-swap}
 use Rattle.laws.specs.Lists.{all-append, all-same, all-both, all-beside}
-use Rattle.paths.specs.Paths.{Event, takes, compares, thenEach, thenAll, readBy, readSound, regionRules, eventRules, heldThen, soundThen, keepsAlong}
+use Rattle.paths.specs.Paths.{Event, takes, compares, tries, thenEach, thenAll, readBy, readSound, regionRules, eventRules, heldThen, soundThen, keepsAlong}
 use Rattle.paths.specs.Alls.{all-each, all-all}
 use Rattle.paths.specs.Events.{held-back, rules-meet, sound-meet}
-use Rattle.paths.specs.Steps.{compares-sound}
+use Rattle.paths.specs.Steps.{compares-sound, tries-sound, tries-sound}
 use Rattle.paths.specs.Carrying.{Test, Splits}
 
 module _ (P : Program) (S : Signature) where
@@ -98,3 +98,9 @@ module _ (P : Program) (S : Signature) where
       along-each K (compares y z b ∷ []) ps n h s
       ∙ ap₂ _&_ (and-yes (member s y & (member s z & true)) ∙ ap (λ (b : Bool). member s y & b) (and-yes (member s z)))
       (ap (alongAll K ps h) (compares-sound P S y z b h s))
+
+  -- a try that is entered reads nothing
+  pub along-tries : (K : Test) (b : Bool) (ps : List (List Event)) → isNone ps ≡ false → (h s : Set)
+      → alongAll K (thenEach (tries b ∷ []) ps) h s ≡ alongAll K ps h s
+  unfolding keepsAlong eventRules readSound readBy regionRules heldThen all _&_
+  along-tries K b ps n h s = along-each K (tries b ∷ []) ps n h s ∙ ap (alongAll K ps h) (tries-sound P S b h s)

@@ -7,7 +7,7 @@ use Rattle.sets.specs.Sets.{_∩_, sameSet, Small, same-eq, eq-same}
 use Rattle.sets.specs.SetLaws.{small-union, small-intersection, small-difference}
 use Rattle.sets.specs.MemberLaws.{small-keep}
 use Rattle.sets.specs.declared.Set.{Set}
-use Rattle.language.specs.Program.{Step, Goals, done, _then_, Goal, step, switch, ifLess, Arms, noArms, arm, Signature, Program}
+use Rattle.language.specs.Program.{Step, Goals, done, _then_, Goal, step, switch, ifLess, try, Arms, noArms, arm, Signature, Program}
 use Rattle.language.specs.Checking.{Carried, broken, carries, requireRule, carryOn, joinArms, soundGiven, soundWithout, checkStep, checkGoals, checkGoal, checkArms}
 use Rattle.laws.specs.Tests.{and-no}
 
@@ -106,6 +106,8 @@ module _ (P : Program) (S : Signature) where
     small-goal (switch x cs) h s m = small-require _ (checkArms P S cs h s) (small-arms cs h s m)
     small-goal (ifLess y z a b) h s m =
         small-require _ _ (small-join (checkGoals P S a h s) (checkGoals P S b h s) (small-goals a h s m) (small-goals b h s m))
+    small-goal (try c a b) h s m =
+        small-join _ (checkGoals P S b h s) (small-on (checkGoals P S c h s) _ (small-goals c h s m) (λ k t n. small-goals a k t n)) (small-goals b h s m)
 
     pub small-arms : (cs : Arms) (h s : Set) → Small s → SmallIn (checkArms P S cs h s)
     small-arms noArms h s m = m

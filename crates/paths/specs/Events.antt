@@ -12,12 +12,12 @@ use Rattle.sets.specs.Members.{setOf, keep, image}
 use Rattle.sets.specs.MemberLaws.{keep-in, keep-mk, small-keep, unionOver-mono}
 use Rattle.sets.specs.declared.Set.{Set}
 use Rattle.language.specs.Lists.{all}
-use Rattle.language.specs.Program.{literal, sum, assign, construct, call, print, create, remove, Signature, Program, signatureOf}
+use Rattle.language.specs.Program.{literal, sum, assign, construct, call, print, create, remove, test, Signature, Program, signatureOf}
 use Rattle.language.specs.Lifetimes.{born, dead, kept}
 use Rattle.language.specs.Regions.{reach}
 use Rattle.laws.specs.Lists.{all-same, all-both}
 use Rattle.laws.specs.MoreSets.{single-apart}
-use Rattle.paths.specs.Paths.{Event, does, takes, compares, readBy, givenBy, imageAt, imagesAt, createNotHeld, removeHeld, readSound, callHeld, callNotHeld, regionRules, eventRules, heldThen, notReaching, stillSound, soundThen}
+use Rattle.paths.specs.Paths.{Event, does, takes, compares, tries, readBy, givenBy, imageAt, imagesAt, createNotHeld, removeHeld, readSound, callHeld, callNotHeld, regionRules, eventRules, heldThen, notReaching, stillSound, soundThen}
 
 -- ---- tests and sets
 and-beside : (a b r : Bool) → ((a & b) & r) ≡ ((a & r) & (b & r))
@@ -124,11 +124,13 @@ module _ (P : Program) (S : Signature) where
   held-back (does (construct x c ys)) h k f g e = e
   held-back (does (call q ys)) h k f g e = call-back q ys h k f g e
   held-back (does (print y)) h k f g e = e
+  held-back (does (test y z)) h k f g e = e
   held-back (does (create r)) h k f g e = union-back (single r) h k (single-apart r h (neg-true f)) (single-apart r k (neg-true g)) e
   held-back (does (remove r)) h k f g e =
       difference-back (single r) h k (single-subset r h (and-true f .0)) (single-subset r k (and-true g .0)) e
   held-back (takes x c ys) h k f g e = e
   held-back (compares y z b) h k f g e = e
+  held-back (tries b) h k f g e = e
 
   -- the rules of an event for what is sound on both of two paths
   pub rules-meet : (e : Event) (h s t : Set) → eventRules P S e h (s ∩ t) ≡ (eventRules P S e h s & eventRules P S e h t)
@@ -147,10 +149,12 @@ module _ (P : Program) (S : Signature) where
   still-meet (does (construct x f ys)) s t = refl
   still-meet (does (call q ys)) s t = keep-meet _ s t
   still-meet (does (print y)) s t = refl
+  still-meet (does (test y z)) s t = refl
   still-meet (does (create r)) s t = refl
   still-meet (does (remove r)) s t = keep-meet _ s t
   still-meet (takes x f ys) s t = refl
   still-meet (compares y z b) s t = refl
+  still-meet (tries b) s t = refl
 
   -- what is sound afterwards on both
   pub sound-meet : (e : Event) (h s t : Set) → soundThen P S e h (s ∩ t) ≡ soundThen P S e h s ∩ soundThen P S e h t

@@ -14,6 +14,7 @@ use Rattle.language.specs.declared.Verdict.the-variants.{Refused, Accepted}
 use Rattle.language.specs.Lists.{nth}
 use Rattle.language.specs.File.{word, recordCount, headerOk, formOk}
 use Rattle.language.specs.Program.{Program, procedureAt}
+use Rattle.language.specs.Conditions.{conditionsOk}
 use Rattle.language.specs.Typing.{procedureOk, typingOk}
 use Rattle.language.specs.Values.{valuesOk}
 use Rattle.language.specs.Regions.{regionsOk}
@@ -30,6 +31,7 @@ use Rattle.paths.specs.Accepting.{procedure-rules, procedure-named, rule
 pub record PassesBefore8 (f : List ℕ) : Type 0 where
   pub header : headerOk f ≡ true
   pub form : formOk (word f) (recordCount f) ≡ true
+  pub conditions : conditionsOk (program f) ≡ true
   pub typing : typingOk (program f) ≡ true
   pub values : valuesOk (program f) ≡ true
   pub regions : regionsOk (program f) ≡ true
@@ -57,7 +59,7 @@ others : (f : List ℕ) → Others Rules (before-8 f)
 unfolding before-8 reachedStages fileStages refusalNumber
 others f = (
   not-8 Header (λ e. omega arith),
-  (not-8 Form (λ e. omega arith), (not-8 Typing (λ e. omega arith), (not-8 Values (λ e. omega arith), (not-8 Regions (λ e. omega arith), (not-8 Unreached (λ e. omega arith), (not-8 Classes (λ e. omega arith), tt)))))),
+  (not-8 Form (λ e. omega arith), (not-8 Form (λ e. omega arith), (not-8 Typing (λ e. omega arith), (not-8 Values (λ e. omega arith), (not-8 Regions (λ e. omega arith), (not-8 Unreached (λ e. omega arith), (not-8 Classes (λ e. omega arith), tt))))))),
 )
 
 passed-before : (f : List ℕ) (ss : List Stage) → Passed (before-8 f ++ ss) → PassesBefore8 f × Passed ss
@@ -65,13 +67,13 @@ unfolding before-8 reachedStages fileStages
 passed-before f ss p =
     let q = passed-reached f (stage Classes (declaredClassesOk (program f)) ∷ ss) p in
     let r = q .0 in
-    (record { header = r .header; form = r .form; typing = r .typing; values = r .values; regions = r .regions; reached = q .1; classes = q .2 .0 }, q .2 .1)
+    (record { header = r .header; form = r .form; conditions = r .conditions; typing = r .typing; values = r .values; regions = r .regions; reached = q .1; classes = q .2 .0 }, q .2 .1)
 
 before-passed : (f : List ℕ) (ss : List Stage) → PassesBefore8 f → Passed ss → Passed (before-8 f ++ ss)
 unfolding before-8 reachedStages fileStages
 before-passed f ss q p =
     reached-passed f (stage Classes (declaredClassesOk (program f)) ∷ ss)
-    (record { header = q .header; form = q .form; typing = q .typing; values = q .values; regions = q .regions }) (q .reached) (q .classes, p)
+    (record { header = q .header; form = q .form; conditions = q .conditions; typing = q .typing; values = q .values; regions = q .regions }) (q .reached) (q .classes, p)
 
 -- ---- the theorems
 pub accepted-every-path : (f : List ℕ) → (checked f ≡ Accepted) ↔ (PassesBefore8 f × EveryProcedure (program f))

@@ -9,15 +9,16 @@ use Rattle.sets.specs.Sets.{member, Small}
 use Rattle.sets.specs.Members.{setOf}
 use Rattle.sets.specs.declared.Set.{Set}
 use Rattle.language.specs.Lists.{all}
-use Rattle.language.specs.Program.{Four, argumentsOf, Step, Goals, done, _then_, Goal, step, switch, ifLess, Arms, noArms, arm, Signature, Program}
-use Rattle.language.specs.Checking.{carries, joinArms, soundGiven, checkStep, checkGoals, checkGoal, checkArms}
+use Rattle.language.specs.Program.{Four, argumentsOf, Step, Goals, done, _then_, Goal, step, switch, ifLess, try, Arms, noArms, arm, Signature, Program}
+use Rattle.language.specs.Checking.{carries, carryOn, joinArms, soundGiven, checkStep, checkGoals, checkGoal, checkArms}
 use Rattle.laws.specs.Tests.{and-yes, and-shared}
 use Rattle.laws.specs.Goals.{someArm}
-use Rattle.paths.specs.Paths.{does, takes, compares, thenEach, paths, ways, armWays, eventRules, heldThen, soundThen, keepsAlong}
+use Rattle.paths.specs.Paths.{does, takes, compares, tries, thenEach, thenAll, paths, ways, armWays, eventRules, heldThen, soundThen, keepsAlong}
 use Rattle.paths.specs.Named.{stepNamed, goalsNamed, goalNamed, armsNamed, some-path}
+use Rattle.paths.specs.Alls.{none-all}
 use Rattle.paths.specs.Steps.{step-checks, takes-sound, sound-small}
-use Rattle.paths.specs.Carrying.{Test, passes, Splits, passes-require, passes-on, passes-join, passes-same, small-goal}
-use Rattle.paths.specs.Along.{alongAll, all-splits, along-then, along-append, along-takes, along-compares}
+use Rattle.paths.specs.Carrying.{Test, passes, Splits, passes-require, passes-on, passes-join, passes-same, small-goals, small-goal}
+use Rattle.paths.specs.Along.{alongAll, all-splits, along-then, along-append, along-takes, along-compares, along-tries}
 
 module _ (P : Program) (S : Signature) where
   done-along : (K : Test) (h s : Set) → passes K (carries h s) ≡ alongAll P S K ([] ∷ []) h s
@@ -77,6 +78,20 @@ module _ (P : Program) (S : Signature) where
         ∙ sym (ap₂ _&_ (along-compares P S K y z true (paths a) (some-path P S a (r .0)) h s)
         (along-compares P S K y z false (paths b) (some-path P S b (r .1)) h s))
         ∙ sym (along-append P S K (thenEach (compares y z true ∷ []) (paths a)) (thenEach (compares y z false ∷ []) (paths b)) h s)
+    goal-along (try c a b) n K split h s m =
+        let r = and-true n in
+        let q = and-true (r .1) in
+        let some = some-path P S a (q .0) in
+        passes-join K split (carryOn (checkGoals P S c h s) (λ k t. checkGoals P S a k t)) (checkGoals P S b h s)
+        ∙ ap₂ _&_
+        (passes-on K (checkGoals P S c h s) (λ k t. checkGoals P S a k t)
+        ∙ passes-same (λ k t. passes K (checkGoals P S a k t)) (alongAll P S K (paths a)) (λ k t l. goals-along a (q .0) K split k t l)
+        (checkGoals P S c h s) (small-goals P S c h s m)
+        ∙ goals-along c (r .0) (alongAll P S K (paths a)) (all-splits P S K split (paths a) some) h s m
+        ∙ sym (along-then P S K (paths c) (paths a) some h s)
+        ∙ sym (along-tries P S K true (thenAll (paths c) (paths a)) (none-all (paths c) (paths a) (some-path P S c (r .0)) some) h s))
+        (goals-along b (q .1) K split h s m ∙ sym (along-tries P S K false (paths b) (some-path P S b (q .1)) h s))
+        ∙ sym (along-append P S K (thenEach (tries true ∷ []) (thenAll (paths c) (paths a))) (thenEach (tries false ∷ []) (paths b)) h s)
 
     pub arms-along : (cs : Arms) → armsNamed P S cs ≡ true → (x : ℕ) → someArm cs ≡ true → (K : Test) → Splits K → (h s : Set) → Small s
         → alongAll P S K (armWays cs x) h s ≡ (member s x & passes K (checkArms P S cs h s))

@@ -8,12 +8,13 @@ use Rattle.sets.specs.Tests.{_&_, and-true, true-and}
 use Rattle.sets.specs.Sets.{sameSet, eq-same}
 use Rattle.sets.specs.declared.Set.{Set}
 use Rattle.language.specs.Lists.{all}
-use Rattle.language.specs.Program.{Four, Goals, done, _then_, Goal, step, switch, ifLess, Arms, noArms, arm, Signature, Program}
+use Rattle.language.specs.Program.{Four, Goals, done, _then_, Goal, step, switch, ifLess, try, Arms, noArms, arm, Signature, Program}
 use Rattle.laws.specs.Lists.{all-append, all-same, all-weaker}
-use Rattle.paths.specs.Paths.{Event, takes, compares, thenEach, paths, ways, armWays, heldThen, soundThen, keepsAlong, Arrival, arrivalsAfter, arrivalsAfterAll, arrivals, arrivalsIn, armArrivals, heldAlong, armsAgree}
+use Rattle.paths.specs.Paths.{Event, takes, compares, tries, thenEach, thenAll, paths, ways, armWays, heldThen, soundThen, keepsAlong, Arrival, arrivalsAfter, arrivalsAfterAll, arrivals, arrivalsIn, armArrivals, heldAlong, armsAgree}
 use Rattle.paths.specs.Named.{goalsNamed, goalNamed, armsNamed, some-path}
+use Rattle.paths.specs.Alls.{none-all}
 use Rattle.paths.specs.Carrying.{Test, Splits}
-use Rattle.paths.specs.Along.{alongAll, all-splits, along-then, along-append, along-takes, along-compares}
+use Rattle.paths.specs.Along.{alongAll, all-splits, along-then, along-append, along-takes, along-compares, along-tries}
 
 -- any two elements that pass p stand in q
 pairwise : {A : Type 0} (p : A → Bool) (q : A → A → Bool) (xs : List A) → ((x y : A) → p x ≡ true → p y ≡ true → q x y ≡ true)
@@ -79,6 +80,11 @@ module _ (P : Program) (S : Signature) where
   unfolding heldAlong heldThen
   compares-agree y z b h places e = later-agree (compares y z b ∷ []) h places ∙ e
 
+  tries-agree : (b : Bool) (h : Set) (places : List Arrival) → all (armsAgree P S h) places ≡ true
+      → all (armsAgree P S h) (arrivalsAfter (tries b ∷ []) places) ≡ true
+  unfolding heldAlong heldThen
+  tries-agree b h places e = later-agree (tries b ∷ []) h places ∙ e
+
   later-goals : (K : Test) (us : List (List Event)) (places : List Arrival) (h s : Set)
       → ((k t : Set) → K k t ≡ true → all (armsAgree P S k) places ≡ true) → alongAll P S K us h s ≡ true
       → all (λ u. all (armsAgree P S (heldAlong P S u h)) places) us ≡ true
@@ -118,6 +124,24 @@ module _ (P : Program) (S : Signature) where
         all-append (armsAgree P S h) (arrivalsAfter (compares y z true ∷ []) (arrivals a)) (arrivalsAfter (compares y z false ∷ []) (arrivals b))
         ∙ true-and (compares-agree y z true h (arrivals a) (goals-agree a (r .0) K split h s (c .1)))
         (compares-agree y z false h (arrivals b) (goals-agree b (r .1) K split h s (d .1)))
+    goal-agree (try c a b) n K split h s e =
+        let r = and-true n in
+        let q = and-true (r .1) in
+        let some = some-path P S a (q .0) in
+        let L = alongAll P S K (paths a) in
+        let both = thenAll (paths c) (paths a) in
+        let places = arrivals c ++ arrivalsAfterAll (paths c) (arrivals a) in
+        let p = and-true (sym (along-append P S K (thenEach (tries true ∷ []) both) (thenEach (tries false ∷ []) (paths b)) h s) ∙ e) in
+        let u = sym (along-tries P S K true both (none-all (paths c) (paths a) (some-path P S c (r .0)) some) h s) ∙ p .0 in
+        let d = sym (along-then P S K (paths c) (paths a) some h s) ∙ u in
+        all-append (armsAgree P S h) (arrivalsAfter (tries true ∷ []) places) (arrivalsAfter (tries false ∷ []) (arrivals b))
+        ∙ true-and
+        (tries-agree true h places
+        (all-append (armsAgree P S h) (arrivals c) (arrivalsAfterAll (paths c) (arrivals a))
+        ∙ true-and (goals-agree c (r .0) L (all-splits P S K split (paths a) some) h s d)
+        (all-later-agree (paths c) h (arrivals a) ∙ later-goals L (paths c) (arrivals a) h s (λ k t z. goals-agree a (q .0) K split k t z) d)))
+        (tries-agree false h (arrivals b)
+        (goals-agree b (q .1) K split h s (sym (along-tries P S K false (paths b) (some-path P S b (q .1)) h s) ∙ p .1)))
 
     pub arms-agree : (cs : Arms) → armsNamed P S cs ≡ true → (x : ℕ) (K : Test) → Splits K → (h s : Set) → alongAll P S K (armWays cs x) h s ≡ true
         → all (armsAgree P S h) (armArrivals cs x) ≡ true

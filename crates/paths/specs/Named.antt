@@ -8,11 +8,11 @@ use mathlib.Core.Path.{_≡_, refl}
 use lib.Dec.{leb}
 use Rattle.sets.specs.Tests.{_&_, and-true}
 use Rattle.language.specs.Lists.{all, among, isNone}
-use Rattle.language.specs.Program.{Step, literal, sum, assign, construct, call, print, create, remove, Goals, done, _then_, Goal, step, switch, ifLess, Arms, noArms, arm, Signature, Program, regionOf}
+use Rattle.language.specs.Program.{Step, literal, sum, assign, construct, call, print, create, remove, test, Goals, done, _then_, Goal, step, switch, ifLess, try, Arms, noArms, arm, Signature, Program, regionOf}
 use Rattle.language.specs.Values.{access}
 use Rattle.laws.specs.Lists.{none-append}
 use Rattle.laws.specs.Goals.{someArm}
-use Rattle.paths.specs.Paths.{takes, compares, paths, ways, armWays, thenEach}
+use Rattle.paths.specs.Paths.{takes, compares, tries, paths, ways, armWays, thenEach, thenAll}
 use Rattle.paths.specs.Alls.{none-each, none-all}
 
 module _ (P : Program) (S : Signature) where
@@ -23,6 +23,7 @@ module _ (P : Program) (S : Signature) where
   regionNamed (construct x f ys) = leb (regionOf S x) 64
   regionNamed (call q ys) = true
   regionNamed (print y) = true
+  regionNamed (test y z) = true
   regionNamed (create r) = among 64 r
   regionNamed (remove r) = among 64 r
 
@@ -38,6 +39,7 @@ module _ (P : Program) (S : Signature) where
     goalNamed (step g) = stepNamed g
     goalNamed (switch x cs) = someArm cs & armsNamed cs
     goalNamed (ifLess y z a b) = goalsNamed a & goalsNamed b
+    goalNamed (try c a b) = goalsNamed c & goalsNamed a & goalsNamed b
 
     pub armsNamed : Arms → Bool
     armsNamed noArms = true
@@ -56,6 +58,10 @@ module _ (P : Program) (S : Signature) where
     some-way (switch x cs) n = let r = and-true n in some-arm cs x (r .0) (r .1)
     some-way (ifLess y z a b) n =
         none-append (thenEach (compares y z true ∷ []) (paths a)) _ (none-each (compares y z true ∷ []) (paths a) (some-path a (and-true n .0)))
+    some-way (try c a b) n =
+        let r = and-true n in
+        none-append (thenEach (tries true ∷ []) (thenAll (paths c) (paths a))) _
+        (none-each (tries true ∷ []) (thenAll (paths c) (paths a)) (none-all (paths c) (paths a) (some-path c (r .0)) (some-path a (and-true (r .1) .0))))
 
     pub some-arm : (cs : Arms) (x : ℕ) → someArm cs ≡ true → armsNamed cs ≡ true → isNone (armWays cs x) ≡ false
     some-arm noArms x e n = absurd (false≢true e)

@@ -11,18 +11,19 @@ use Rattle.sets.specs.Sets.{member, single, _∪_, _∖_, sameSet, subset, apar
 use Rattle.sets.specs.Members.{setOf, keep, image, every}
 use Rattle.sets.specs.declared.Set.{Set}
 use Rattle.language.specs.Lists.{all}
-use Rattle.language.specs.Program.{Four, argumentsOf, Step, literal, sum, assign, construct, call, print, create, remove, Goals, done, _then_, Goal, step, switch, ifLess, Arms, noArms, arm, Signature, Procedure, Program, regionOf, procedureAt, signatureOf}
+use Rattle.language.specs.Program.{Four, argumentsOf, Step, literal, sum, assign, construct, call, print, create, remove, test, Goals, done, _then_, Goal, step, switch, ifLess, try, Arms, noArms, arm, Signature, Procedure, Program, regionOf, procedureAt, signatureOf}
 use Rattle.language.specs.Values.{insOf, outsOf, access}
 use Rattle.language.specs.Regions.{reach, mapping, imageIn}
 use Rattle.language.specs.Lifetimes.{inputs, outputs, born, dead, kept, startHeld}
 
 -- ---- paths
 -- What a path meets in turn: a step; a switch on x, which takes the arm of functor f with arguments ys; "if Y < Z", which takes its
--- first part (true) or its second.
+-- first part (true) or its second; a try, which goes into its condition (true) or to its else part (C-20).
 pub data Event : Type 0 where
   does : Step → Event
   takes : ℕ → ℕ → Four → Event
   compares : ℕ → ℕ → Bool → Event
+  tries : Bool → Event
 
 -- u, and then each of the paths ps
 unfoldable pub thenEach : List Event → List (List Event) → List (List Event)
@@ -45,6 +46,9 @@ unfoldable mutual
   ways (step g) = (does g ∷ []) ∷ []
   ways (switch x cs) = armWays cs x
   ways (ifLess y z a b) = thenEach (compares y z true ∷ []) (paths a) ++ thenEach (compares y z false ∷ []) (paths b)
+  -- A try: the condition and then the then part, or the else part, which "starts from what .. was held and was sound before the try" (C-20). A path on
+  -- which a test fails meets in the condition what the first way meets there, and goes on like the second.
+  ways (try c a b) = thenEach (tries true ∷ []) (thenAll (paths c) (paths a)) ++ thenEach (tries false ∷ []) (paths b)
 
   pub armWays : Arms → ℕ → List (List Event)
   armWays noArms x = []
@@ -57,11 +61,13 @@ module _ (P : Program) (S : Signature) where
   readBy (does g) = access P g .read
   readBy (takes x f ys) = x ∷ []
   readBy (compares y z b) = y ∷ z ∷ []
+  readBy (tries b) = []
 
   unfoldable pub givenBy : Event → List ℕ
   givenBy (does g) = access P g .given
   givenBy (takes x f ys) = argumentsOf ys
   givenBy (compares y z b) = []
+  givenBy (tries b) = []
 
   -- a call of q with arguments ys: the image of a region of q, 0 where it has none, and the set of the images of several
   unfoldable pub imageAt : ℕ → List ℕ → ℕ → ℕ
@@ -119,10 +125,12 @@ module _ (P : Program) (S : Signature) where
   regionRules (does (construct x f ys)) held = constructHeld x held
   regionRules (does (call q ys)) held = callHeld q ys held & callNotKept q ys & callNotHeld q ys held & callUnshared q ys
   regionRules (does (print y)) held = true
+  regionRules (does (test y z)) held = true
   regionRules (does (create r)) held = createNotHeld r held
   regionRules (does (remove r)) held = removeHeld r held & removeNotKept r
   regionRules (takes x f ys) held = true
   regionRules (compares y z b) held = true
+  regionRules (tries b) held = true
 
   -- all rules that speak of an event
   unfoldable pub eventRules : Event → Set → Set → Bool
@@ -136,10 +144,12 @@ module _ (P : Program) (S : Signature) where
   heldThen (does (construct x f ys)) held = held
   heldThen (does (call q ys)) held = (held ∖ imagesAt q ys (dead (signatureOf P q))) ∪ imagesAt q ys (born (signatureOf P q))
   heldThen (does (print y)) held = held
+  heldThen (does (test y z)) held = held
   heldThen (does (create r)) held = held ∪ single r
   heldThen (does (remove r)) held = held ∖ single r
   heldThen (takes x f ys) held = held
   heldThen (compares y z b) held = held
+  heldThen (tries b) held = held
 
   -- those that reach none of the regions rs
   unfoldable pub notReaching : Set → Set → Set
@@ -153,10 +163,12 @@ module _ (P : Program) (S : Signature) where
   stillSound (does (construct x f ys)) sound = sound
   stillSound (does (call q ys)) sound = notReaching (imagesAt q ys (dead (signatureOf P q))) sound
   stillSound (does (print y)) sound = sound
+  stillSound (does (test y z)) sound = sound
   stillSound (does (create r)) sound = sound
   stillSound (does (remove r)) sound = notReaching (single r) sound
   stillSound (takes x f ys) sound = sound
   stillSound (compares y z b) sound = sound
+  stillSound (tries b) sound = sound
 
   -- "A variable given a value is sound if its whole reach is then held."
   unfoldable pub soundThen : Event → Set → Set → Set
@@ -196,6 +208,8 @@ unfoldable mutual
   arrivalsIn (switch x cs) = armArrivals cs x
   arrivalsIn (ifLess y z a b) =
       arrivalsAfter (compares y z true ∷ []) (arrivals a) ++ arrivalsAfter (compares y z false ∷ []) (arrivals b)
+  arrivalsIn (try c a b) =
+      arrivalsAfter (tries true ∷ []) (arrivals c ++ arrivalsAfterAll (paths c) (arrivals a)) ++ arrivalsAfter (tries false ∷ []) (arrivals b)
 
   pub armArrivals : Arms → ℕ → List Arrival
   armArrivals noArms x = []

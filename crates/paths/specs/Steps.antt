@@ -15,7 +15,7 @@ use Rattle.sets.specs.Members.{setOf}
 use Rattle.sets.specs.MemberLaws.{small-keep}
 use Rattle.sets.specs.declared.Set.{Set}
 use Rattle.language.specs.Lists.{all, among}
-use Rattle.language.specs.Program.{Four, argumentsOf, Step, literal, sum, assign, construct, call, print, create, remove, Signature, Program, regionOf}
+use Rattle.language.specs.Program.{Four, argumentsOf, Step, literal, sum, assign, construct, call, print, create, remove, test, Signature, Program, regionOf}
 use Rattle.language.specs.Values.{access, reads, gives}
 use Rattle.language.specs.Regions.{reach}
 use Rattle.language.specs.Lifetimes.{kept, noEffect, unsharedIn, callEffect, effect, heldAfter}
@@ -23,7 +23,7 @@ use Rattle.language.specs.Checking.{carries, requireRule, soundGiven, soundWith
 use Rattle.laws.specs.Tests.{and-yes}
 use Rattle.laws.specs.Numbers.{among-in, among-mk}
 use Rattle.laws.specs.MoreSets.{difference-empty, no-change, empty-apart, apart-empty, keep-empty, keep-all, single-apart}
-use Rattle.paths.specs.Paths.{Event, does, takes, compares, readBy, givenBy, imageAt, imagesAt, createNotHeld, removeHeld, removeNotKept, readSound, constructHeld, callHeld, callNotKept, callNotHeld, callUnshared, regionRules, eventRules, heldThen, notReaching, stillSound, soundThen}
+use Rattle.paths.specs.Paths.{Event, does, takes, compares, tries, readBy, givenBy, imageAt, imagesAt, createNotHeld, removeHeld, removeNotKept, readSound, constructHeld, callHeld, callNotKept, callNotHeld, callUnshared, regionRules, eventRules, heldThen, notReaching, stillSound, soundThen}
 use Rattle.paths.specs.Named.{regionNamed, stepNamed}
 
 -- ---- one number from 1 to 64, and a list of them
@@ -75,6 +75,7 @@ module _ (P : Program) (S : Signature) where
       ap₂ _&_ (held-if h (regionOf S x) n) (true-and (empty-apart (kept S)) (true-and (empty-apart h) refl)) ∙ and-yes _
   region-rules (call q ys) h n = refl
   region-rules (print y) h n = no-rules h
+  region-rules (test y z) h n = no-rules h
   region-rules (create r) h n =
       ap₂ _&_ (empty-subset h) (ap₂ _&_ (empty-apart (kept S)) (ap (λ (b : Bool). b & true) (not-held-one h r n)))
       ∙ and-yes (neg (member h r))
@@ -97,6 +98,7 @@ module _ (P : Program) (S : Signature) where
   step-held (construct x f ys) h = no-change h
   step-held (call q ys) h = refl
   step-held (print y) h = no-change h
+  step-held (test y z) h = no-change h
   step-held (create r) h = ap (λ (a : Set). a ∪ single r) (difference-empty h)
   step-held (remove r) h = union-empty (h ∖ single r)
 
@@ -113,6 +115,7 @@ module _ (P : Program) (S : Signature) where
   step-still (construct x f ys) s h = stays-sound s h
   step-still (call q ys) s h = refl
   step-still (print y) s h = stays-sound s h
+  step-still (test y z) s h = stays-sound s h
   step-still (create r) s h = stays-sound s h
   step-still (remove r) s h = refl
 
@@ -132,6 +135,10 @@ module _ (P : Program) (S : Signature) where
   compares-sound y z b h s =
       ap (λ (a : Set). (s ∖ emptySet) ∪ a) (keep-empty (λ x. subset (reach S x) (heldThen P S (compares y z b) h))) ∙ no-change s
 
+  pub tries-sound : (b : Bool) (h s : Set) → soundThen P S (tries b) h s ≡ s
+  unfolding soundThen stillSound givenBy setOf
+  tries-sound b h s = ap (λ (a : Set). (s ∖ emptySet) ∪ a) (keep-empty (λ x. subset (reach S x) (heldThen P S (tries b) h))) ∙ no-change s
+
   -- what is sound after an event has no member above 64
   still-small : (e : Event) (s : Set) → Small s → Small (stillSound P S e s)
   unfolding stillSound notReaching
@@ -141,10 +148,12 @@ module _ (P : Program) (S : Signature) where
   still-small (does (construct x f ys)) s h = h
   still-small (does (call q ys)) s h = small-keep _ s
   still-small (does (print y)) s h = h
+  still-small (does (test y z)) s h = h
   still-small (does (create r)) s h = h
   still-small (does (remove r)) s h = small-keep _ s
   still-small (takes x f ys) s h = h
   still-small (compares y z b) s h = h
+  still-small (tries b) s h = h
 
   pub sound-small : (e : Event) (h s : Set) → Small s → Small (soundThen P S e h s)
   unfolding soundThen

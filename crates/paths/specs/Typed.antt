@@ -11,7 +11,7 @@ use lib.ListN.{length}
 use Rattle.sets.specs.Tests.{and-true, true-and}
 use Rattle.sets.specs.Members.{consIf}
 use Rattle.language.specs.Lists.{all, among}
-use Rattle.language.specs.Program.{Functor, argumentsOf, Step, literal, sum, assign, construct, call, print, create, remove, Goals, done, _then_, Goal, step, switch, ifLess, Arms, noArms, arm, Signature, Program, typeOf, regionOf, signatureOf, Parameter, parametersOf, inMode, argumentsIn}
+use Rattle.language.specs.Program.{Functor, argumentsOf, Step, literal, sum, assign, construct, call, print, create, remove, test, Goals, done, _then_, Goal, step, switch, ifLess, try, Arms, noArms, arm, Signature, Program, typeOf, regionOf, signatureOf, Parameter, parametersOf, inMode, argumentsIn}
 use Rattle.language.specs.Values.{access, accessing}
 use Rattle.language.specs.Typing.{isVariable, isRegion, hasType, haveTypes, argumentsOk, typesOk, signatureOk, functorsFor, parameterTypes, stepOk, goalsOk, goalOk, armsOk}
 use Rattle.laws.specs.Numbers.{among-wider}
@@ -72,6 +72,7 @@ module _ (P : Program) (S : Signature) (types : typesOk (P .types) ≡ true) (de
   step-named (call q ys) e =
       true-and (some-named inMode (parametersOf (signatureOf P q)) ys (arguments-named (parameterTypes (signatureOf P q)) ys (and-true e .1))) refl
   step-named (print y) e = true-and (true-and (typed-named 0 y e) refl) refl
+  step-named (test y z) e = let r = and-true e in true-and (true-and (typed-named 0 y (r .0)) (true-and (typed-named 0 z (r .1)) refl)) refl
   step-named (create r) e = true-and refl (region-named r e)
   step-named (remove r) e = true-and refl (region-named r e)
 
@@ -91,6 +92,10 @@ module _ (P : Program) (S : Signature) (types : typesOk (P .types) ≡ true) (de
     goal-named (ifLess y z a b) e =
         let r = and-true (and-true (and-true e .1) .1) in
         true-and (goals-named a (r .0)) (goals-named b (r .1))
+    goal-named (try c a b) e =
+        let r = and-true e in
+        let q = and-true (r .1) in
+        true-and (goals-named c (r .0)) (true-and (goals-named a (q .0)) (goals-named b (q .1)))
 
     pub arms-named : (cs : Arms) (fs : List Functor) (n : ℕ) → armsOk P S cs fs n ≡ true → armsNamed P S cs ≡ true
     arms-named noArms fs n e = refl

@@ -10,18 +10,18 @@ use Rattle.sets.specs.SetLaws.{subset-refl, subset-trans, left-union, right-uni
 use Rattle.sets.specs.Members.{members, setOf, keep}
 use Rattle.sets.specs.MemberLaws.{keep-mk}
 use Rattle.sets.specs.declared.Set.{Set}
-use Rattle.language.specs.Program.{Four, argumentsOf, Step, Goals, done, _then_, Goal, step, Arms, _before_, Signature, Program}
+use Rattle.language.specs.Program.{Four, argumentsOf, Step, Goals, done, _then_, Goal, step, try, Arms, _before_, Signature, Program}
 use Rattle.language.specs.Values.{reads, gives}
 use Rattle.language.specs.Regions.{reach}
 use Rattle.language.specs.Lifetimes.{wanted, liveStep, live, liveGoal, effect, heldAfter, stepClasses}
-use Rattle.language.specs.Annotation.{creates, goingOn, placedIf, placedSwitch, placedArm, createdFor, placeStep, placeGoals, placeGoal, placeArms}
+use Rattle.language.specs.Annotation.{creates, goingOn, placedIf, placedTry, placedSwitch, placedArm, createdFor, placeStep, placeGoals, placeGoal, placeArms}
 use Rattle.language.specs.Checking.{Carried, broken, carries, requireRule, carryOn, joinArms, soundGiven, stepRules, checkStep, checkGoals, checkGoal, checkArms}
 use Rattle.region_graph.specs.Laws.{Declared}
 use Rattle.placement.specs.Given.{small-liveStep, small-live, small-liveGoal}
 use Rattle.placement.specs.Wanted.{kept-wanted, reach-wanted, Within, wanted-within, within-small}
 use Rattle.placement.specs.Effects.{FitsStep}
-use Rattle.placement.specs.Fits.{ArmStart, GoalsFit, fits-done, fits-then, FitsGoal, fits-step, fits-switch, fits-if, FitsArms, fits-last, fits-more}
-use Rattle.placement.specs.Held.{removed-held, removed-wants, removed-within, ends-apart, bears-apart, created-mk, step-wants, goal-wants, then-wants, else-wants, arms-held, then-held, created-within, goal-within}
+use Rattle.placement.specs.Fits.{ArmStart, GoalsFit, fits-done, fits-then, FitsGoal, fits-step, fits-switch, fits-if, fits-try, FitsArms, fits-last, fits-more}
+use Rattle.placement.specs.Held.{removed-held, removed-wants, removed-within, ends-apart, bears-apart, created-mk, step-wants, goal-wants, then-wants, else-wants, condition-wants, otherwise-wants, arms-held, then-held, condition-held, try-held, created-within, goal-within}
 use Rattle.placement.specs.Passes.{Passes, passes-by, passes-on, check-before, step-passes, removing-passes, creating-passes}
 
 -- ---- the checker's small functions, where a rule is kept
@@ -128,8 +128,16 @@ module _ (P : Program) (S : Signature) (D : Declared (P .types) S) where
   at-wanted g after sound e X =
       subst (λ (h : Set). Passes after (placeGoal P S g after h .held) (checkGoals P S (placeGoal P S g after h .goals) h sound)) (sym e) X
 
+  -- the then part is met with exactly what is wanted before it, as its condition ends with
+  then-passes : {after n : Set} (s : Set) (c a b : Goals) → GoalsFit P S c (live P a after)
+      → Passes after n (checkGoals P S (placeGoals P S a after (wanted S (live P a after)) .goals) (wanted S (live P a after)) s)
+      → Passes after n
+      (checkGoals P S (placeGoals P S a after (placeGoals P S c (live P a after) (wanted S (liveGoal P (try c a b) after)) .held) .goals)
+      (wanted S (live P a after)) s)
+  then-passes {after} s c a b E X = rw (condition-held P S after _ c a b E (subset-refl _)) X
+
   mutual
-    unfolding placeGoals placeGoal placeArms goingOn placedIf placedSwitch placedArm live liveGoal checkGoals checkGoal checkArms
+    unfolding placeGoals placeGoal placeArms goingOn placedIf placedTry placedSwitch placedArm live liveGoal checkGoals checkGoal checkArms
 
     -- THE INDUCTION: placed goals pass, and end with exactly what is wanted held and all that is live sound
     pub placed-passes : {gs : Goals} {after : Set} → GoalsFit P S gs after → (held sound : Set) → Small after
@@ -159,6 +167,15 @@ module _ (P : Program) (S : Signature) (D : Declared (P .types) S) where
         (subset-trans _ _ sound (subset-trans _ _ _ (left-union (live P a after) (live P b after)) (right-union (single y ∪ single z) _)) c))
         (placed-passes G _ sound t (else-wants S y z (live P a after) (live P b after)) (wanted-within (P .types) S D _)
         (subset-trans _ _ sound (subset-trans _ _ _ (right-union (live P a after) (live P b after)) (right-union (single y ∪ single z) _)) c)))
+    goal-passes (fits-try {c = q} {a = a} {b = b} {after = after} E F G) sound t c =
+        passes-by (carry-end _) (sym (try-held P S after _ q a b E F (subset-refl _)))
+        (passes-join
+        (passes-on _
+        (placed-passes E _ sound (small-live P a after t) (condition-wants S (live P q (live P a after)) (live P b after)) (wanted-within (P .types) S D _)
+        (subset-trans _ _ sound (left-union (live P q (live P a after)) (live P b after)) c))
+        (λ s d. then-passes s q a b E (placed-passes F (wanted S (live P a after)) s t (subset-refl _) (wanted-within (P .types) S D _) d)))
+        (placed-passes G _ sound t (otherwise-wants S (live P q (live P a after)) (live P b after)) (wanted-within (P .types) S D _)
+        (subset-trans _ _ sound (right-union (live P q (live P a after)) (live P b after)) c)))
 
     arms-pass : {l : Set} {cs : Arms} {after : Set} → FitsArms P S l cs after → (held sound : Set) → Small after → subset (wanted S l) held ≡ true
         → Within S held → subset l sound ≡ true → Passes after (wanted S after) (checkArms P S (placeArms P S cs after held .arms) held sound)

@@ -6,12 +6,12 @@ use mathlib.Core.List.{List, [], _∷_, map}
 use lib.ListN.{length, length-map}
 use Rattle.sets.specs.declared.Set.{Set}
 use Rattle.language.specs.Lists.{nth}
-use Rattle.language.specs.Program.{Functor, Step, literal, sum, assign, construct, call, print, create, remove, Goals, done, _then_, Goal, step, switch, ifLess, Arms, noArms, arm, Signature, Procedure, Program, signatureOf, procedureAt}
+use Rattle.language.specs.Program.{Functor, Step, literal, sum, assign, construct, call, print, create, remove, test, Goals, done, _then_, Goal, step, switch, ifLess, try, Arms, noArms, arm, Signature, Procedure, Program, signatureOf, procedureAt}
 use Rattle.language.specs.Typing.{stepOk, functorsFor, goalsOk, goalOk, armsOk}
 use Rattle.language.specs.Values.{access, reads, gives, stepValues, meetValues, goalsValues, goalValues, armsValues}
 use Rattle.language.specs.Regions.{inTargets, stepRegions, goalsRegions, goalRegions, armsRegions}
 use Rattle.language.specs.Lifetimes.{effect, liveStep, live, liveGoal, liveArms, heldAfter}
-use Rattle.language.specs.Checking.{stepRules, checkStep, checkGoals, checkGoal, checkArms}
+use Rattle.language.specs.Checking.{stepRules, checkStep, checkGoals, checkGoal, checkArms, joinArms}
 use Rattle.language.specs.Annotation.{annotate, annotateProcedure}
 use Rattle.placement.specs.Combine.{after-same, carry-same}
 
@@ -32,6 +32,7 @@ module _ (P R : Program) (A : AlikePrograms P R) where
   alike-access (print y) = refl
   alike-access (create r) = refl
   alike-access (remove r) = refl
+  alike-access (test y z) = refl
 
   pub alike-effect : (S : Signature) (g : Step) → effect P S g ≡ effect R S g
   unfolding effect
@@ -43,6 +44,7 @@ module _ (P R : Program) (A : AlikePrograms P R) where
   alike-effect S (print y) = refl
   alike-effect S (create r) = refl
   alike-effect S (remove r) = refl
+  alike-effect S (test y z) = refl
 
   pub alike-functors : (S : Signature) (x : ℕ) → functorsFor P S x ≡ functorsFor R S x
   unfolding functorsFor
@@ -58,6 +60,7 @@ module _ (P R : Program) (A : AlikePrograms P R) where
   alike-stepOk S (print y) = refl
   alike-stepOk S (create r) = refl
   alike-stepOk S (remove r) = refl
+  alike-stepOk S (test y z) = refl
 
   pub alike-stepRegions : (S : Signature) (g : Step) → stepRegions P S g ≡ stepRegions R S g
   unfolding stepRegions inTargets
@@ -69,6 +72,7 @@ module _ (P R : Program) (A : AlikePrograms P R) where
   alike-stepRegions S (print y) = refl
   alike-stepRegions S (create r) = refl
   alike-stepRegions S (remove r) = refl
+  alike-stepRegions S (test y z) = refl
 
   pub alike-stepValues : (g : Step) (e s : Set) → stepValues P g e s ≡ stepValues R g e s
   unfolding stepValues reads
@@ -94,6 +98,7 @@ module _ (P R : Program) (A : AlikePrograms P R) where
     alike-goalOk (step g) S = alike-stepOk S g
     alike-goalOk (switch x cs) S = rw (alike-functors S x, alike-armsOk cs S (functorsFor R S x) 0)
     alike-goalOk (ifLess y z a b) S = rw (alike-goalsOk a S, alike-goalsOk b S)
+    alike-goalOk (try c a b) S = rw (alike-goalsOk c S, alike-goalsOk a S, alike-goalsOk b S)
 
     alike-armsOk : (cs : Arms) (S : Signature) (fs : List Functor) (n : ℕ) → armsOk P S cs fs n ≡ armsOk R S cs fs n
     alike-armsOk noArms S [] n = refl
@@ -112,6 +117,8 @@ module _ (P R : Program) (A : AlikePrograms P R) where
     alike-goalValues (step g) e s = alike-stepValues g e s
     alike-goalValues (switch x cs) e s = rw (alike-armsValues cs e s)
     alike-goalValues (ifLess y z a b) e s = rw (alike-goalsValues a e s, alike-goalsValues b e s)
+    alike-goalValues (try c a b) e s =
+        ap₂ meetValues (rw (alike-goalsValues c e s) (after-same (goalsValues R c e s) (λ d t. alike-goalsValues a d t))) (alike-goalsValues b e s)
 
     alike-armsValues : (cs : Arms) (e s : Set) → armsValues P cs e s ≡ armsValues R cs e s
     alike-armsValues noArms e s = refl
@@ -130,6 +137,7 @@ module _ (P R : Program) (A : AlikePrograms P R) where
     alike-goalRegions (step g) S = alike-stepRegions S g
     alike-goalRegions (switch x cs) S = alike-armsRegions cs S _
     alike-goalRegions (ifLess y z a b) S = rw (alike-goalsRegions a S, alike-goalsRegions b S)
+    alike-goalRegions (try c a b) S = rw (alike-goalsRegions c S, alike-goalsRegions a S, alike-goalsRegions b S)
 
     alike-armsRegions : (cs : Arms) (S : Signature) (r : ℕ) → armsRegions P S cs r ≡ armsRegions R S cs r
     alike-armsRegions noArms S r = refl
@@ -146,6 +154,7 @@ module _ (P R : Program) (A : AlikePrograms P R) where
     alike-liveGoal (step g) after = alike-liveStep g after
     alike-liveGoal (switch x cs) after = rw (alike-liveArms cs after)
     alike-liveGoal (ifLess y z a b) after = rw (alike-live a after, alike-live b after)
+    alike-liveGoal (try c a b) after = rw (alike-live a after, alike-live c (live R a after), alike-live b after)
 
     pub alike-liveArms : (cs : Arms) (after : Set) → liveArms P cs after ≡ liveArms R cs after
     alike-liveArms noArms after = refl
@@ -163,6 +172,9 @@ module _ (P R : Program) (A : AlikePrograms P R) where
     alike-checkGoal (step g) S held sound = alike-checkStep S g held sound
     alike-checkGoal (switch x cs) S held sound = rw (alike-checkArms cs S held sound)
     alike-checkGoal (ifLess y z a b) S held sound = rw (alike-checkGoals a S held sound, alike-checkGoals b S held sound)
+    alike-checkGoal (try c a b) S held sound =
+        ap₂ joinArms (rw (alike-checkGoals c S held sound) (carry-same (checkGoals R S c held sound) (λ h s. alike-checkGoals a S h s)))
+        (alike-checkGoals b S held sound)
 
     alike-checkArms : (cs : Arms) (S : Signature) (held sound : Set) → checkArms P S cs held sound ≡ checkArms R S cs held sound
     alike-checkArms noArms S held sound = refl

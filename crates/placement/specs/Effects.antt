@@ -13,7 +13,7 @@ use Rattle.sets.specs.SetLaws.{apart-in, apart-mk}
 use Rattle.sets.specs.Members.{image}
 use Rattle.sets.specs.MemberLaws.{image-in}
 use Rattle.sets.specs.declared.Set.{Set}
-use Rattle.language.specs.Program.{Step, literal, sum, assign, construct, call, print, create, remove, Signature, Program, typeOf, regionOf, signatureOf}
+use Rattle.language.specs.Program.{Step, literal, sum, assign, construct, call, print, create, remove, test, Signature, Program, typeOf, regionOf, signatureOf}
 use Rattle.language.specs.Typing.{isVariable, isRegion, functorsFor, stepOk}
 use Rattle.language.specs.Regions.{images, imageIn, mapping, stepRegions}
 use Rattle.language.specs.Lifetimes.{inputs, outputs, born, dead, kept, classesOk, Effect, noEffect, unsharedIn, callEffect, effect, stepClasses}
@@ -92,6 +92,7 @@ module _ (P : Program) (S : Signature) (H : Home P S) where
   }
   regions-fit (call q ys) t r u = call-fits S (signatureOf P q) ys (H .called q ys t r) (H .classes q) u
   regions-fit (print y) t r u = nothing-fits S
+  regions-fit (test y z) t r u = nothing-fits S
   regions-fit (create n) t r u = record {
     needs = within-empty;
     bears = within-single S n (inr t);

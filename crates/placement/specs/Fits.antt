@@ -11,7 +11,7 @@ use Rattle.sets.specs.SetLaws.{subset-trans, left-union, right-union}
 use Rattle.sets.specs.Members.{setOf, inList, nil-in, cons-in}
 use Rattle.sets.specs.MemberLaws.{setOf-in}
 use Rattle.sets.specs.declared.Set.{Set}
-use Rattle.language.specs.Program.{Four, argumentsOf, Functor, Step, Goals, done, _then_, Goal, step, switch, ifLess, Arms, noArms, arm, Signature, Program, regionOf}
+use Rattle.language.specs.Program.{Four, argumentsOf, Functor, Step, Goals, done, _then_, Goal, step, switch, ifLess, try, Arms, noArms, arm, Signature, Program, regionOf}
 use Rattle.language.specs.Typing.{isVariable, hasType, functorsFor, goalsOk, goalOk, armsOk}
 use Rattle.language.specs.Regions.{reach, reachFrom, inTargets, goalsRegions, goalRegions, armsRegions}
 use Rattle.language.specs.Lifetimes.{wanted, live, liveGoal, liveArms, goalsClasses, goalClasses, armsClasses}
@@ -38,6 +38,8 @@ mutual
         → FitsArms P S (liveGoal P (switch x cs) after) cs after → FitsGoal P S (switch x cs) after
     fits-if : {y z : ℕ} {a b : Goals} {after : Set} → member (liveGoal P (ifLess y z a b) after) y ≡ true
         → member (liveGoal P (ifLess y z a b) after) z ≡ true → GoalsFit P S a after → GoalsFit P S b after → FitsGoal P S (ifLess y z a b) after
+    fits-try : {c a b : Goals} {after : Set} → GoalsFit P S c (live P a after) → GoalsFit P S a after → GoalsFit P S b after
+        → FitsGoal P S (try c a b) after
 
   -- arms of a switch before which l is live; there is one
   pub data FitsArms (P : Program) (S : Signature) : Set → Arms → Set → Type 0 where
@@ -115,6 +117,12 @@ module _ (P : Program) (S : Signature) (H : Home P S) where
         fits-if (union-left (single y ∪ single z) _ y (union-left (single y) _ y (number-live y (u .0))))
         (union-left (single y ∪ single z) _ z (union-right (single y) _ z (number-live z (w .0))))
         (fits a after (k .0) (and-true r .0) (and-true c .0)) (fits b after (k .1) (and-true r .1) (and-true c .1))
+    goal-fits (try q a b) after t r c =
+        let u = and-true (and-true t .1) in
+        let v = and-true (and-true r .1) in
+        let w = and-true (and-true c .1) in
+        fits-try (fits q (live P a after) (and-true t .0) (and-true r .0) (and-true c .0)) (fits a after (u .0) (v .0) (w .0))
+        (fits b after (u .1) (v .1) (w .1))
 
     arms-fit : (cs : Arms) (x : ℕ) (l after : Set) (fs : List Functor) (n : ℕ) → isVariable S x ≡ true → member l x ≡ true
         → subset (liveArms P cs after) l ≡ true → someArm cs ≡ true → armsOk P S cs fs n ≡ true → armsRegions P S cs (regionOf S x) ≡ true

@@ -10,7 +10,7 @@ use Rattle.sets.specs.SetLaws.{subset-trans, empty-subset, single-subset, union
 use Rattle.sets.specs.Members.{setOf}
 use Rattle.sets.specs.MemberLaws.{small-setOf}
 use Rattle.sets.specs.declared.Set.{Set}
-use Rattle.language.specs.Program.{argumentsOf, Step, Goals, done, _then_, Goal, step, switch, ifLess, Arms, noArms, arm, Signature, Procedure, Program}
+use Rattle.language.specs.Program.{argumentsOf, Step, Goals, done, _then_, Goal, step, switch, ifLess, try, Arms, noArms, arm, Signature, Procedure, Program}
 use Rattle.language.specs.Values.{Valued, faulty, valued, insOf, outsOf, access, reads, gives, giveValues, stepValues, goalsValues, goalValues, armsValues, outsValued, procedureValues}
 use Rattle.language.specs.Lifetimes.{liveStep, live, liveGoal, liveArms}
 use Rattle.placement.specs.Combine.{required-values, after-values, met-values, valued-every}
@@ -60,6 +60,12 @@ module _ (P : Program) where
         union-least _ _ e (union-least _ _ e (single-subset y e (and-true (r .0) .0)) (single-subset z e (and-true (r .0) .1)))
         (union-least _ _ e (live-given a after e s _ _ (m .left) (subset-trans after d _ h (m .in-left)))
         (live-given b after e s _ _ (m .right) (subset-trans after d _ h (m .in-right))))
+    goal-live (try c a b) after e s d t q h =
+        let m = met-values q in
+        let r = after-values (m .left) in
+        union-least _ _ e
+        (live-given c (live P a after) e s _ _ (r .2) (live-given a after (r .0) (r .1) _ _ (r .3) (subset-trans after d _ h (m .in-left))))
+        (live-given b after e s _ _ (m .right) (subset-trans after d _ h (m .in-right)))
 
     pub arms-live : (cs : Arms) (after e s d t : Set) → armsValues P cs e s ≡ valued d t → subset after d ≡ true
         → subset (liveArms P cs after) e ≡ true
@@ -104,6 +110,7 @@ module _ (P : Program) where
     small-liveGoal (switch x cs) after h = small-union (small-single x) (small-liveArms cs after h)
     small-liveGoal (ifLess y z a b) after h =
         small-union (small-union (small-single y) (small-single z)) (small-union (small-live a after h) (small-live b after h))
+    small-liveGoal (try c a b) after h = small-union (small-live c _ (small-live a after h)) (small-live b after h)
 
     pub small-liveArms : (cs : Arms) (after : Set) → Small after → Small (liveArms P cs after)
     small-liveArms noArms after h = small-empty

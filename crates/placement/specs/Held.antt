@@ -1,5 +1,5 @@
 -- The annotator's invariant: where at least what is wanted is held before the removes, exactly that is held after them, at each point of each
--- chain; so goals end with exactly what is wanted after them, and all parts of a switch or an if end alike.
+-- chain; so goals end with exactly what is wanted after them, and all parts of a switch, an if or a try end alike.
 use Prim.Native.Nat.{ℕ}
 use mathlib.Core.Path.{_≡_, ap, _∙_}
 use mathlib.Core.Bool.{true, false}
@@ -8,14 +8,14 @@ use Rattle.sets.specs.Tests.{truth, clash, false-of, and-true}
 use Rattle.sets.specs.Sets.{member, single, _∪_, _∖_, subset, union-left, union-right, difference-mk, subset-in, subset-mk}
 use Rattle.sets.specs.SetLaws.{subset-refl, subset-trans, left-union, right-union, union-least, apart-in}
 use Rattle.sets.specs.declared.Set.{Set}
-use Rattle.language.specs.Program.{Four, Step, Goals, Goal, ifLess, Arms, noArms, arm, Signature, Program}
+use Rattle.language.specs.Program.{Four, Step, Goals, Goal, ifLess, try, Arms, noArms, arm, Signature, Program}
 use Rattle.language.specs.Lifetimes.{wanted, liveStep, live, liveGoal, liveArms, effect, heldAfter, stepClasses}
-use Rattle.language.specs.Annotation.{goingOn, removing, placedIf, placedSwitch, placedArm, createdFor, placeStep, placeGoals, placeGoal, placeArms}
+use Rattle.language.specs.Annotation.{goingOn, removing, placedIf, placedTry, placedSwitch, placedArm, createdFor, placeStep, placeGoals, placeGoal, placeArms}
 use Rattle.laws.specs.MoreSets.{intersection-whole}
 use Rattle.region_graph.specs.Laws.{Declared}
 use Rattle.placement.specs.Wanted.{wanted-mono, Within, within-union, within-difference, within-intersection, wanted-within}
 use Rattle.placement.specs.Effects.{FitsStep}
-use Rattle.placement.specs.Fits.{GoalsFit, fits-done, fits-then, FitsGoal, fits-step, fits-switch, fits-if, FitsArms, fits-last, fits-more}
+use Rattle.placement.specs.Fits.{GoalsFit, fits-done, fits-then, FitsGoal, fits-step, fits-switch, fits-if, fits-try, FitsArms, fits-last, fits-more}
 
 -- after the removes, what is wanted is held and nothing else
 pub removed-held : (S : Signature) (held l : Set) → subset (wanted S l) held ≡ true → removing held (wanted S l) .held ≡ wanted S l
@@ -36,6 +36,14 @@ module _ (S : Signature) (y z : ℕ) (a b : Set) where
 
   pub else-wants : subset (wanted S b) (wanted S ((single y ∪ single z) ∪ (a ∪ b))) ≡ true
   else-wants = wanted-mono S b _ (subset-trans b (a ∪ b) _ (right-union a b) (right-union _ (a ∪ b)))
+
+-- what is wanted in the condition of a try is wanted before it, and so is what its else part wants
+module _ (S : Signature) (c b : Set) where
+  pub condition-wants : subset (wanted S c) (wanted S (c ∪ b)) ≡ true
+  condition-wants = wanted-mono S c _ (left-union c b)
+
+  pub otherwise-wants : subset (wanted S b) (wanted S (c ∪ b)) ≡ true
+  otherwise-wants = wanted-mono S b _ (right-union c b)
 
 module _ (P : Program) (S : Signature) where
   -- ---- a step
@@ -82,7 +90,7 @@ module _ (P : Program) (S : Signature) where
   first-held after held (fits-more ps F A) (alike-arm e E) = e
 
   mutual
-    unfolding placeGoals placeGoal placeArms goingOn placedIf placedSwitch placedArm live liveGoal liveArms
+    unfolding placeGoals placeGoal placeArms goingOn placedIf placedTry placedSwitch placedArm live liveGoal liveArms
 
     -- THE INVARIANT: goals that are met with all that is wanted there end with exactly what is wanted after them
     pub goals-held : {gs : Goals} {after : Set} → GoalsFit P S gs after → (held : Set) → subset (wanted S (live P gs after)) held ≡ true
@@ -98,6 +106,13 @@ module _ (P : Program) (S : Signature) where
         ap (subset (wanted S after)) (first-held after held A (arms-alike A held h)) ∙ subset-refl (wanted S after)
     goal-wants (fits-if {y = y} {z = z} {a = a} {b = b} {after = after} m n F G) held h =
         ap (subset (wanted S after)) (goals-held F held (subset-trans _ _ held (then-wants S y z (live P a after) (live P b after)) h))
+        ∙ subset-refl (wanted S after)
+    goal-wants (fits-try {c = c} {a = a} {b = b} {after = after} E F G) held h =
+        ap (subset (wanted S after))
+        (goals-held F _
+        (ap (subset (wanted S (live P a after)))
+        (goals-held E held (subset-trans _ _ held (condition-wants S (live P c (live P a after)) (live P b after)) h))
+        ∙ subset-refl (wanted S (live P a after))))
         ∙ subset-refl (wanted S after)
 
     -- all parts of a switch end alike
@@ -117,6 +132,17 @@ module _ (P : Program) (S : Signature) where
     unfolding liveGoal
     then-held y z a b F h = goals-held F held (subset-trans _ _ held (then-wants S y z (live P a after) (live P b after)) h)
 
+    -- and those of a try: its condition ends with exactly what is wanted before the then part
+    pub condition-held : (c a b : Goals) → GoalsFit P S c (live P a after) → subset (wanted S (liveGoal P (try c a b) after)) held ≡ true
+        → placeGoals P S c (live P a after) held .held ≡ wanted S (live P a after)
+    unfolding liveGoal
+    condition-held c a b E h = goals-held E held (subset-trans _ _ held (condition-wants S (live P c (live P a after)) (live P b after)) h)
+
+    pub try-held : (c a b : Goals) → GoalsFit P S c (live P a after) → GoalsFit P S a after
+        → subset (wanted S (liveGoal P (try c a b) after)) held ≡ true
+        → placeGoals P S a after (placeGoals P S c (live P a after) held .held) .held ≡ wanted S after
+    try-held c a b E F h = goals-held F _ (ap (subset (wanted S (live P a after))) (condition-held c a b E h) ∙ subset-refl (wanted S (live P a after)))
+
   -- ---- only regions of the procedure are created and held
   module _ (D : Declared (P .types) S) where
     pub created-within : (g : Step) (after : Set) → FitsStep P S g after → Within S (createdFor P S g after)
@@ -129,8 +155,10 @@ module _ (P : Program) (S : Signature) where
 
     pub goal-within : {g : Goal} {after : Set} → FitsGoal P S g after → (held : Set) → subset (wanted S (liveGoal P g after)) held ≡ true
         → Within S held → Within S (placeGoal P S g after held .held)
-    unfolding placeGoal placedSwitch placedIf
+    unfolding placeGoal placedSwitch placedIf placedTry
     goal-within (fits-step {g = g} {after = after} F) held h W = step-within g after held F W
     goal-within (fits-switch {x = x} {cs = cs} {after = after} m A) held h W = rw (arms-held after held A h) (wanted-within (P .types) S D after)
     goal-within (fits-if {y = y} {z = z} {a = a} {b = b} {after = after} m n F G) held h W =
         rw (then-held after held y z a b F h) (wanted-within (P .types) S D after)
+    goal-within (fits-try {c = c} {a = a} {b = b} {after = after} E F G) held h W =
+        rw (try-held after held c a b E F h) (wanted-within (P .types) S D after)

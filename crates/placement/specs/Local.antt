@@ -5,13 +5,13 @@ use Rattle.sets.specs.Sets.{_∪_, _∖_, subset}
 use Rattle.sets.specs.SetLaws.{subset-refl, subset-trans}
 use Rattle.sets.specs.Members.{members}
 use Rattle.sets.specs.declared.Set.{Set}
-use Rattle.language.specs.Program.{Step, Goals, done, _then_, Goal, step, switch, ifLess, Arms, noArms, arm, _before_, Signature, Program}
+use Rattle.language.specs.Program.{Step, Goals, done, _then_, Goal, step, switch, ifLess, try, Arms, noArms, arm, _before_, Signature, Program}
 use Rattle.language.specs.Lifetimes.{wanted, liveStep, live, liveGoal, heldAfter}
-use Rattle.language.specs.Annotation.{creates, removes, goingOn, removing, placedIf, placedSwitch, placedArm, createdFor, placeStep, placeGoals, placeGoal, placeArms}
+use Rattle.language.specs.Annotation.{creates, removes, goingOn, removing, placedIf, placedTry, placedSwitch, placedArm, createdFor, placeStep, placeGoals, placeGoal, placeArms}
 use Rattle.laws.specs.MoreSets.{difference-self, members-empty}
 use Rattle.laws.specs.Goals.{before-done, before-assoc}
-use Rattle.placement.specs.Fits.{GoalsFit, fits-done, fits-then, FitsGoal, fits-step, fits-switch, fits-if, FitsArms, fits-last, fits-more}
-use Rattle.placement.specs.Held.{removed-held, removed-wants, goal-wants, then-wants, else-wants, arms-held, then-held}
+use Rattle.placement.specs.Fits.{GoalsFit, fits-done, fits-then, FitsGoal, fits-step, fits-switch, fits-if, fits-try, FitsArms, fits-last, fits-more}
+use Rattle.placement.specs.Held.{removed-held, removed-wants, goal-wants, then-wants, else-wants, condition-wants, otherwise-wants, arms-held, then-held, condition-held, try-held}
 
 -- removes from `held` to what is wanted where l is live
 unfoldable pub removesTo : Signature → Set → Set → Goals
@@ -39,6 +39,9 @@ module _ (P : Program) (S : Signature) where
     localGoal (ifLess y z a b) after =
         ifLess y z (removesTo S (wanted S (liveGoal P (ifLess y z a b) after)) (live P a after) before localGoals a after)
         (removesTo S (wanted S (liveGoal P (ifLess y z a b) after)) (live P b after) before localGoals b after) then done
+    localGoal (try c a b) after =
+        try (removesTo S (wanted S (liveGoal P (try c a b) after)) (live P c (live P a after)) before localGoals c (live P a after)) (localGoals a after)
+        (removesTo S (wanted S (liveGoal P (try c a b) after)) (live P b after) before localGoals b after) then done
 
     pub localArms : Arms → Set → Set → Arms
     localArms noArms after w = noArms
@@ -63,8 +66,15 @@ module _ (P : Program) (S : Signature) where
   unfolding withRemoves
   at-end g after held e q = ap (λ gs. placeGoal P S g after held .goals before gs) (none-removed S _ after e) ∙ before-done _ ∙ q
 
+  local-try : {c d a e b f : Goals} → c ≡ d → a ≡ e → b ≡ f → try c a b then done ≡ try d e f then done
+  local-try x y z = rw (x, y, z)
+
+  bare-local : {rs gs hs : Goals} → rs ≡ done → hs ≡ rs before gs → hs ≡ gs
+  unfolding _before_
+  bare-local {gs = gs} e q = q ∙ ap (λ ks. ks before gs) e
+
   mutual
-    unfolding placeGoals placeGoal placeArms goingOn removing placedIf placedSwitch placedArm live liveGoal localGoals removesTo withRemoves
+    unfolding placeGoals placeGoal placeArms goingOn removing placedIf placedTry placedSwitch placedArm live liveGoal localGoals removesTo withRemoves
 
     -- THE LOCAL FORM: the annotated goals do not depend on how `held` is carried
     pub placed-local : {gs : Goals} {after : Set} → GoalsFit P S gs after → (held : Set) → subset (wanted S (live P gs after)) held ≡ true
@@ -82,6 +92,12 @@ module _ (P : Program) (S : Signature) where
         at-end (ifLess y z a b) after _ (then-held P S after _ y z a b F (subset-refl _))
         (ap₂ (λ c d. ifLess y z c d then done) (placed-local F _ (then-wants S y z (live P a after) (live P b after)))
         (placed-local G _ (else-wants S y z (live P a after) (live P b after))))
+    goal-local (fits-try {c = c} {a = a} {b = b} {after = after} E F G) =
+        let e = condition-held P S after _ c a b E (subset-refl _) in
+        at-end (try c a b) after _ (try-held P S after _ c a b E F (subset-refl _))
+        (local-try (placed-local E _ (condition-wants S (live P c (live P a after)) (live P b after)))
+        (bare-local (none-removed S _ (live P a after) e) (placed-local F _ (ap (subset (wanted S (live P a after))) e ∙ subset-refl _)))
+        (placed-local G _ (otherwise-wants S (live P c (live P a after)) (live P b after))))
 
     arms-local : {l : Set} {cs : Arms} {after : Set} → FitsArms P S l cs after → (held : Set) → subset (wanted S l) held ≡ true
         → placeArms P S cs after held .arms ≡ localArms cs after held

@@ -8,7 +8,7 @@ use Rattle.sets.specs.Sets.{_∪_, _∖_, subset}
 use Rattle.sets.specs.SetLaws.{empty-subset, union-empty}
 use Rattle.sets.specs.Members.{setOf}
 use Rattle.sets.specs.declared.Set.{Set}
-use Rattle.language.specs.Program.{Step, literal, sum, assign, construct, call, print, create, remove, Goals, done, _then_, Goal, step, switch, ifLess, Arms, noArms, arm, Signature, Procedure, Program, parametersOf}
+use Rattle.language.specs.Program.{Step, literal, sum, assign, construct, call, print, create, remove, test, Goals, done, _then_, Goal, step, switch, ifLess, try, Arms, noArms, arm, Signature, Procedure, Program, parametersOf}
 use Rattle.language.specs.Lists.{all, isNone}
 use Rattle.language.specs.Values.{valued, access, accessing, distinct, reads, gives, requireValues, afterValues, giveValues, meetValues, stepValues, goalsValues, goalValues, armsValues, outsValued, procedureValues, valuesOk}
 use Rattle.language.specs.Regions.{stepRegions, goalsRegions, goalRegions, armsRegions, regionsOk}
@@ -44,6 +44,7 @@ module _ (P : Program) where
   mark (construct x f ys) e = absurd (false≢true (sym e))
   mark (call q ys) e = absurd (false≢true (sym e))
   mark (print y) e = absurd (false≢true (sym e))
+  mark (test y z) e = absurd (false≢true (sym e))
   mark (create r) e = record { values = no-values; regions = λ S. refl; lives = no-live }
   mark (remove r) e = record { values = no-values; regions = λ S. refl; lives = no-live }
 
@@ -65,6 +66,9 @@ module _ (P : Program) where
     values-goal (step g) gs e s = values-step g gs e s (plainStep g) refl
     values-goal (switch x cs) gs e s = rw (values-arms cs e s)
     values-goal (ifLess y z a b) gs e s = rw (values-strip a e s, values-strip b e s)
+    values-goal (try c a b) gs e s =
+        ap (λ v. afterValues v (λ d t. goalsValues P gs d t))
+        (ap₂ meetValues (rw (values-strip c e s) (after-same _ (λ d t. values-strip a d t))) (values-strip b e s))
 
     values-arms : (cs : Arms) (e s : Set) → armsValues P (stripArms cs) e s ≡ armsValues P cs e s
     values-arms noArms e s = refl
@@ -89,6 +93,7 @@ module _ (P : Program) where
     regions-goal (step g) gs S = regions-step g S gs (plainStep g) refl
     regions-goal (switch x cs) gs S = rw (regions-arms cs _ S)
     regions-goal (ifLess y z a b) gs S = rw (regions-strip a S, regions-strip b S)
+    regions-goal (try c a b) gs S = rw (regions-strip c S, regions-strip a S, regions-strip b S)
 
     regions-arms : (cs : Arms) (r : ℕ) (S : Signature) → armsRegions P S (stripArms cs) r ≡ armsRegions P S cs r
     regions-arms noArms r S = refl
@@ -111,6 +116,8 @@ module _ (P : Program) where
     live-goal (step g) gs after = live-step g gs after (plainStep g) refl
     live-goal (switch x cs) gs after = rw (live-arms cs (live P gs after))
     live-goal (ifLess y z a b) gs after = rw (live-strip a (live P gs after), live-strip b (live P gs after))
+    live-goal (try c a b) gs after =
+        rw (live-strip a (live P gs after), live-strip c (live P a (live P gs after)), live-strip b (live P gs after))
 
     live-arms : (cs : Arms) (after : Set) → liveArms P (stripArms cs) after ≡ liveArms P cs after
     live-arms noArms after = refl
@@ -118,9 +125,9 @@ module _ (P : Program) where
 
 -- ---- an annotation passes numbers 4, 5 and the declared part of 7 exactly where the input does
 module _ (P : Program) where
-  pub all-annotated : (test : Procedure → Bool) → all test (annotate P .procedures) ≡ all (λ p. test (annotateProcedure P p)) (P .procedures)
+  pub all-annotated : (holds : Procedure → Bool) → all holds (annotate P .procedures) ≡ all (λ p. holds (annotateProcedure P p)) (P .procedures)
   unfolding annotate
-  all-annotated test = all-map test (annotateProcedure P) (P .procedures)
+  all-annotated holds = all-map holds (annotateProcedure P) (P .procedures)
 
   placed-values : (gs : Goals) (S : Signature) (after held e s : Set)
       → goalsValues (annotate P) (placeGoals P S gs after held .goals) e s ≡ goalsValues P gs e s

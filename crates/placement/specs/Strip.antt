@@ -5,9 +5,9 @@ use mathlib.Core.Bool.{true}
 use mathlib.Core.List.{List, [], _∷_, map-map, map-congr-left}
 use Rattle.sets.specs.Tests.{and-true}
 use Rattle.sets.specs.declared.Set.{Set}
-use Rattle.language.specs.Program.{Step, Goals, done, _then_, Goal, step, switch, ifLess, Arms, noArms, arm, _before_, Signature, Procedure, Program}
+use Rattle.language.specs.Program.{Step, Goals, done, _then_, Goal, step, switch, ifLess, try, Arms, noArms, arm, _before_, Signature, Procedure, Program}
 use Rattle.language.specs.Lifetimes.{live}
-use Rattle.language.specs.Annotation.{plainStep, plainGoals, plainGoal, plainArms, unannotated, creates, removes, goingOn, removing, placedIf, placedSwitch, placedArm, placeStep, placeGoals, placeGoal, placeArms, annotateProcedure, annotate}
+use Rattle.language.specs.Annotation.{plainStep, plainGoals, plainGoal, plainArms, unannotated, creates, removes, goingOn, removing, placedIf, placedTry, placedSwitch, placedArm, placeStep, placeGoals, placeGoal, placeArms, annotateProcedure, annotate}
 use Rattle.language.specs.PlainRun.{thenIf, stripGoals, stripGoal, stripArms, stripProcedure, stripped}
 use Rattle.laws.specs.Lists.{map-all}
 use Rattle.laws.specs.Goals.{goal-before, strip-before}
@@ -37,7 +37,7 @@ module _ (P : Program) (S : Signature) where
       ∙ strip-before front rest ∙ ap₂ _before_ p q ∙ goal-before g done (stripGoals gs)
 
   mutual
-    unfolding placeGoals placeGoal placeArms goingOn removing placedIf placedSwitch placedArm stripGoals stripGoal stripArms
+    unfolding placeGoals placeGoal placeArms goingOn removing placedIf placedTry placedSwitch placedArm stripGoals stripGoal stripArms
 
     pub strip-placed : (gs : Goals) (after held : Set) → stripGoals (placeGoals P S gs after held .goals) ≡ stripGoals gs
     strip-placed done after held = strip-removes _
@@ -48,6 +48,8 @@ module _ (P : Program) (S : Signature) where
     strip-goal (step g) after held = strip-step g after held
     strip-goal (switch x cs) after held = ap (λ (ds : Arms). switch x ds then done) (strip-arms cs after held)
     strip-goal (ifLess y z a b) after held = rw (strip-placed a after held, strip-placed b after held)
+    strip-goal (try c a b) after held =
+        rw (strip-placed c (live P a after) held, strip-placed a after (placeGoals P S c (live P a after) held .held), strip-placed b after held)
 
     strip-arms : (cs : Arms) (after held : Set) → stripArms (placeArms P S cs after held .arms) ≡ stripArms cs
     strip-arms noArms after held = refl
@@ -65,6 +67,8 @@ mutual
   plain-goal (step g) gs e = rw e
   plain-goal (switch x cs) gs e = rw (plain-arms cs e)
   plain-goal (ifLess y z a b) gs e = let r = and-true e in rw (strip-plain a (r .0), strip-plain b (r .1))
+  plain-goal (try c a b) gs e =
+      let r = and-true e in let q = and-true (r .1) in rw (strip-plain c (r .0), strip-plain a (q .0), strip-plain b (q .1))
 
   plain-arms : (cs : Arms) → plainArms cs ≡ true → stripArms cs ≡ cs
   plain-arms noArms e = refl

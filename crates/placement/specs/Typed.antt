@@ -6,19 +6,19 @@ use mathlib.Core.List.{List, [], _∷_}
 use lib.Dec.{eqb, leb}
 use Rattle.sets.specs.Tests.{_&_, true-and}
 use Rattle.sets.specs.Sets.{subset}
-use Rattle.sets.specs.SetLaws.{subset-trans}
+use Rattle.sets.specs.SetLaws.{subset-refl, subset-trans}
 use Rattle.sets.specs.Members.{members, inList, cons-here, cons-later, members-in}
 use Rattle.sets.specs.declared.Set.{Set}
 use Rattle.language.specs.Program.{Functor, Step, Goals, done, _then_, Goal, step, Arms, noArms, _before_, Signature, Program, typeOf}
 use Rattle.language.specs.Typing.{isVariable, isRegion, hasType, argumentsOk, functorsFor, stepOk, goalsOk, goalOk, armsOk}
 use Rattle.language.specs.Lifetimes.{wanted, live, liveGoal}
-use Rattle.language.specs.Annotation.{creates, removes, goingOn, removing, placedIf, placedSwitch, placedArm, placeStep, placeGoals, placeGoal, placeArms}
+use Rattle.language.specs.Annotation.{creates, removes, goingOn, removing, placedIf, placedTry, placedSwitch, placedArm, placeStep, placeGoals, placeGoal, placeArms}
 use Rattle.laws.specs.Tests.{and-assoc, yes-and, and-yes}
 use Rattle.region_graph.specs.Laws.{Declared}
-use Rattle.placement.specs.Wanted.{Within, within-difference}
+use Rattle.placement.specs.Wanted.{Within, within-difference, wanted-within}
 use Rattle.placement.specs.Effects.{FitsStep}
-use Rattle.placement.specs.Fits.{GoalsFit, fits-done, fits-then, FitsGoal, fits-step, fits-switch, fits-if, FitsArms, fits-last, fits-more}
-use Rattle.placement.specs.Held.{removed-wants, removed-within, goal-wants, then-wants, else-wants, created-within, goal-within}
+use Rattle.placement.specs.Fits.{GoalsFit, fits-done, fits-then, FitsGoal, fits-step, fits-switch, fits-if, fits-try, FitsArms, fits-last, fits-more}
+use Rattle.placement.specs.Held.{removed-wants, removed-within, goal-wants, then-wants, else-wants, condition-wants, otherwise-wants, condition-held, created-within, goal-within}
 
 module _ (P : Program) (S : Signature) where
   ok-before : (gs hs : Goals) → goalsOk P S (gs before hs) ≡ (goalsOk P S gs & goalsOk P S hs)
@@ -58,8 +58,11 @@ module _ (P : Program) (S : Signature) where
     ok-parts rs front rest gs g p q r =
         ok-before rs (front before rest) ∙ yes-and _ p ∙ ok-before front rest ∙ ap₂ _&_ q r
 
+    try-typed : {k l m n p q : Bool} → k ≡ l → m ≡ n → p ≡ q → (k & m & p) ≡ (l & n & q)
+    try-typed x y z = rw (x, y, z)
+
     mutual
-      unfolding placeGoals placeGoal placeArms goingOn placedIf placedSwitch placedArm goalsOk goalOk armsOk live liveGoal
+      unfolding placeGoals placeGoal placeArms goingOn placedIf placedTry placedSwitch placedArm goalsOk goalOk armsOk live liveGoal
 
       -- placed goals pass number 3 where the input's do
       pub placed-typed : {gs : Goals} {after : Set} → GoalsFit P S gs after → (held : Set) → subset (wanted S (live P gs after)) held ≡ true
@@ -82,6 +85,12 @@ module _ (P : Program) (S : Signature) where
           ∙ ap₂ (λ c d. hasType S 0 y & hasType S 0 z & c & d)
           (placed-typed F held (subset-trans _ _ held (then-wants S y z (live P a after) (live P b after)) h) W)
           (placed-typed G held (subset-trans _ _ held (else-wants S y z (live P a after) (live P b after)) h) W)
+      goal-typed (fits-try {c = c} {a = a} {b = b} {after = after} E F G) held h W =
+          let e = condition-held P S after held c a b E h in
+          and-yes _
+          ∙ try-typed (placed-typed E held (subset-trans _ _ held (condition-wants S (live P c (live P a after)) (live P b after)) h) W)
+          (placed-typed F _ (ap (subset (wanted S (live P a after))) e ∙ subset-refl _) (rw e (wanted-within (P .types) S D (live P a after))))
+          (placed-typed G held (subset-trans _ _ held (otherwise-wants S (live P c (live P a after)) (live P b after)) h) W)
 
       arms-typed : {l : Set} {cs : Arms} {after : Set} → FitsArms P S l cs after → (held : Set) → subset (wanted S l) held ≡ true → Within S held
           → (fs : List Functor) (n : ℕ) → armsOk P S (placeArms P S cs after held .arms) fs n ≡ armsOk P S cs fs n

@@ -152,7 +152,7 @@ module _ {f : List ℕ} (F : Formed f) where
         let c = counted F .most in
         handed-keeps F (onwardBy f) (λ m. Early f) (λ m p v h. h)
         (λ m q v h k i. early-goal f (word f m k) _ (omega (arith, word-below F m q k i))
-        (given-few _ (word f m nextWord) v k (omega (arith, word-below F m q nextWord (next-word f m))) (h .reaches .goal (omega arith))))
+        (choose-few _ 0 _ (omega arith) (given-few _ (word f m nextWord) v k (omega (arith, word-below F m q nextWord (next-word f m))) (h .reaches .goal (omega arith)))))
         t (early-zero f 0) (zeros-every (Early f) (early-zero f) planWords zeros)
 
     pub early-matched : Every (Early f) matchedPlan

@@ -8,7 +8,7 @@ use mathlib.Core.Path.{_≡_, refl, sym, ap, _∙_}
 use lib.ListN.{getD}
 use Rattle.sets.specs.Tests.{and-true}
 use Rattle.sets.specs.Members.{inList, cons-here, cons-later}
-use Rattle.language.specs.File.{kLiteral, kSum, kAssign, kConstruct, kSwitch, kIf, kPrint, kCreate, kRemove, kArm, kindOf, word, recordCount}
+use Rattle.language.specs.File.{kLiteral, kSum, kAssign, kConstruct, kSwitch, kIf, kPrint, kCreate, kRemove, kTest, kArm, kindOf, word, recordCount}
 use Rattle.language.specs.Program.{four, fourWords, trimOnto, trimmed, argumentsOf, Functor, Signature, signatureOf}
 use Rattle.language.specs.Typing.{isVariable, isRegion, hasType, argumentsOk, typesIn, signatureOk, goalOk, stepOk, typingOk}
 use Rattle.language.specs.Answers.{program}
@@ -21,7 +21,7 @@ use Rattle.records.specs.declared.Record.the-variants.{Construct, Arm}
 use Rattle.chains.specs.Layout.{all-rows, header-kind, record-used}
 use Rattle.chains.specs.Formed.{Formed, counted}
 use Rattle.chains.specs.Kinds.{kindIn, kind-read}
-use Rattle.chains.specs.Goals.{literal-at, sum-at, assign-at, construct-at, print-at, create-at, remove-at}
+use Rattle.chains.specs.Goals.{literal-at, sum-at, assign-at, construct-at, print-at, create-at, remove-at, test-at}
 use Rattle.chains.specs.Parts.{switch-at, arm-at, if-at}
 use Rattle.owners.specs.Owner.{ownerOf}
 use Rattle.word_machine.specs.Typed.{owning, typed-record, typed-arms-at}
@@ -115,6 +115,11 @@ module _ {f : List ℕ} (F : Formed f) (ok : typingOk (program f) ≡ true) wher
         let h = if-at F refl e in
         let t = and-true (rw (h .goal) at (typed-record F ok i (h .some) (h .below) kIf (ap kindIn e))) in
         (type-few _ _ (typed i) 0 y (t .0), type-few _ _ (typed i) 0 z (and-true (t .1) .0))
+        );
+    test = λ i n y z e. (
+        let h = test-at F refl e in
+        let t = and-true (rw (h .goal) at (typed-record F ok i (h .some) (h .below) kTest (ap kindIn e))) in
+        (type-few _ _ (typed i) 0 y (t .0), type-few _ _ (typed i) 0 z (t .1))
         );
     print = λ i n y e. (let h = print-at F refl e in type-few _ _ (typed i) 0 y (rw (h .goal) at (typed-record F ok i (h .some) (h .below) kPrint (ap kindIn e))));
     create = λ i n r e. (let h = create-at F refl e in region-few _ _ (typed i) r (rw (h .goal) at (typed-record F ok i (h .some) (h .below) kCreate (ap kindIn e))));

@@ -17,7 +17,7 @@ use Rattle.language.specs.Format.{maxVariables, maxRegions, maxProcedures, term
 use Rattle.language.specs.Lists.{choose}
 use Rattle.language.specs.Program.{inMode}
 use Rattle.records.specs.Records.{recordAt}
-use Rattle.records.specs.declared.Record.the-variants.{Literal, Sum, Assign, Construct, Switch, Arm, If, Print, Create, Remove}
+use Rattle.records.specs.declared.Record.the-variants.{Literal, Sum, Assign, Construct, Switch, Arm, If, Print, Create, Remove, Test}
 use Rattle.word_machine.specs.Tables.{linkUnit, Tables, slotOf, givenOf}
 
 -- where each sort of word starts, and how many words and images there are
@@ -106,6 +106,7 @@ pub record Numbered (f plan : List ℕ) : Type 0 where
   pub arm : (i n g k a b c d : ℕ) → recordAt f i ≡ Arm n g k a b c d → (a ≤ maxVariables) × (b ≤ maxVariables) × (c ≤ maxVariables) × (d ≤ maxVariables)
   pub none : word f 0 termArguments ≡ 0  -- no arm is record 0, which has no argument
   pub less : (i n y z a b : ℕ) → recordAt f i ≡ If n y z a b → (y ≤ maxVariables) × (z ≤ maxVariables)
+  pub test : (i n y z : ℕ) → recordAt f i ≡ Test n y z → (y ≤ maxVariables) × (z ≤ maxVariables)
   pub print : (i n y : ℕ) → recordAt f i ≡ Print n y → y ≤ maxVariables
   pub create : (i n r : ℕ) → recordAt f i ≡ Create n r → r ≤ maxRegions
   pub remove : (i n r : ℕ) → recordAt f i ≡ Remove n r → r ≤ maxRegions

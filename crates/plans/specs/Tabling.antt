@@ -9,7 +9,7 @@ use lib.ListN.{length, getD, replicate}
 use Rattle.sets.specs.Sets.{member, _∪_, union-in, loaded, loaded-stored}
 use Rattle.sets.specs.Members.{inList, cons-here, cons-later}
 use Rattle.language.specs.Lists.{choose}
-use Rattle.language.specs.File.{GoalKind, kConstruct, kSwitch, kIf, kGoal, arms, kindOf, word, recordCount}
+use Rattle.language.specs.File.{GoalKind, kConstruct, kSwitch, kIf, kTry, kGoal, arms, kindOf, word, recordCount}
 use Rattle.language.specs.Format.{maxVariables, maxProcedures, callKind, kindWord, nextWord, armGoals, constructKind, procedureGoals, argumentVariable}
 use Rattle.language.specs.Program.{Functor, Signature, regionOf, signatureOf, parametersOf, argumentsIn, variablesIn}
 use Rattle.language.specs.Typing.{signatureOk, typingOk}
@@ -26,7 +26,7 @@ use Rattle.chains.specs.Formed.{Formed, Stands, argumentsAt, counted}
 use Rattle.chains.specs.Fields.{field-some}
 use Rattle.chains.specs.Records.{chainRecords}
 use Rattle.chains.specs.Goals.{construct-at}
-use Rattle.chains.specs.Parts.{switch-at, if-at, call-at}
+use Rattle.chains.specs.Parts.{switch-at, if-at, try-at, call-at}
 use Rattle.chains.specs.Kinds.{kindIn, kind-read}
 use Rattle.chains.specs.Shapes.{goal-number}
 use Rattle.owners.specs.Owner.{ownerOf}
@@ -35,7 +35,7 @@ use Rattle.tables.specs.Starts.{window-here, body-here}
 use Rattle.word_machine.specs.Tables.{Tables, PassingMode, slotOf, givenOf, onto, bodyRecord, Tabled}
 use Rattle.word_machine.specs.Filling.{slots, modes}
 use Rattle.word_machine.specs.Arguments.{given-small, slot-small, slots-passed, givens-passed}
-use Rattle.word_machine.specs.Tabling.{Onward, goal-next, arm-next, arm-goals, switch-arms, if-then, if-else, body-starts, argument-matches}
+use Rattle.word_machine.specs.Tabling.{Onward, goal-next, arm-next, arm-goals, switch-arms, if-then, if-else, try-condition, try-then, try-else, body-starts, argument-matches}
 use Rattle.word_machine.specs.Passing.{ofMode}
 use Rattle.plans.specs.Plan.{sidesFrom, linksFrom, planWords, imageBytes, calleesWords, tablesIn, Numbered}
 use Rattle.plans.specs.Passes.{TypedAndFilled, callerOf, joining, imageCount, imagesBefore, imageOf, sideAt, picturing, planOf, imagesOf, calleesOf}
@@ -205,6 +205,9 @@ module _ {f table : List ℕ} (R : TypedAndFilled f table) (plan₀ : List ℕ) 
     switch-arms = λ i m x cs e. rw (successor-is i (switch-at F refl e .below) kSwitch (kind i ∙ ap kindIn e)) (switch-arms F i m x cs e);
     if-then = λ i m y z a b e. rw (successor-is i (if-at F refl e .below) kIf (kind i ∙ ap kindIn e)) (if-then F i m y z a b e);
     if-else = λ i m y z a b e. rw (successor-is i (if-at F refl e .below) kIf (kind i ∙ ap kindIn e)) (if-else F i m y z a b e);
+    try-condition = try-condition F;
+    try-then = λ i m c a b e. rw (successor-is i (try-at F refl e .below) kTry (kind i ∙ ap kindIn e)) (try-then F i m c a b e);
+    try-else = λ i m c a b e. rw (successor-is i (try-at F refl e .below) kTry (kind i ∙ ap kindIn e)) (try-else F i m c a b e);
     bodies = λ p l. rw (body-window p l) (body-starts F p l);
     region = λ i m x k a b c d e. region-here i m x k (suc a) b c d e;
     arm-entry = entry-is;

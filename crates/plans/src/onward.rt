@@ -7,10 +7,12 @@ use records::sizes::KINDS_END;
 use records::word_in;
 ghost use mathlib.Core.Path.{_≡_};
 ghost use Prim.Native.Nat.{_≤_, _<_};
-ghost use lib.ListN.{length};
+ghost use lib.ListN.{length, getD};
 ghost use Rattle.language.specs.File.{word, recordCount};
+ghost use Rattle.language.specs.Format.{tryKind};
 ghost use Rattle.records.specs.Table.{tableOf};
 ghost use Rattle.chains.specs.Formed.{Formed};
+ghost use Rattle.chains.specs.Shapes.{IsTry};
 ghost use Rattle.owners.specs.Handed.{partDigits, nextAnd, handTo, wordsOf, handDown, handed};
 ghost use Rattle.owners.specs.Digits.{Hander};
 ghost use Rattle.word_machine.specs.Tables.{onto as ontoOf};
@@ -48,13 +50,36 @@ fn hand_down(parts: &[usize; KINDS_END], file: &[u8], i: usize, table: &mut [usi
 {
     let own = table[i];
     let kind = word_in(file, i, format::KIND);
+    if kind == format::TRY {
+        hand_try(file, i, own, table);
+        return;
+    }
     let words = parts[kind];
     let next = word_in(file, i, format::NEXT);
     hand_to(file, i, words, own, parts_onward(kind, next, own), table);
 }
 
-// Where the chains go on that a record's words beside w1 lead to, own being where its own does.
+// A try's condition goes on nowhere, its parts at the goal after it.
+fn hand_try(file: &[u8], i: usize, own: usize, table: &mut [usize])
+    requires { ⌜ Formed (now file) ⌝ }
+    requires { ⌜ (i < recordCount (now file)) × (recordCount (now file) ≤ length (now table)) ⌝ }
+    requires { ⌜ IsTry (now file) i × (own ≡ getD (now table) i 0) ⌝ }
+    ensures { λ _. ⌜ now (table .exit) ≡ handDown (onwardBy (now (file .entry))) (now (file .entry)) i (now (table .entry)) ⌝ }
+{
+    let next = word_in(file, i, format::NEXT);
+    let condition = word_in(file, i, format::TRY_CONDITION);
+    let then_part = word_in(file, i, format::TRY_THEN);
+    let else_part = word_in(file, i, format::TRY_ELSE);
+    let on = onto(next, own);
+    table[next] = own;
+    table[condition] = 0;
+    table[then_part] = on;
+    table[else_part] = on;
+}
+
+// Where the chains go on that a record's words beside w1 lead to, own being where its own does. It is no try.
 fn parts_onward(kind: usize, next: usize, own: usize) -> usize
+    requires { ⌜ (kind ≡ tryKind → ⊥) ⌝ }
     ensures { λ r. ⌜ r ≡ partsOnward kind next own ⌝ }
 {
     match kind {

@@ -9,7 +9,9 @@ use plans::blank_images;
 use plans::blank_plan;
 use profiling::LINE_BYTES;
 use profiling::begin;
+use profiling::log_words;
 use profiling::put_entry;
+use profiling::saved_words;
 use running::fill_tables;
 use running::lent::cell_words;
 use running::lent::frame_words;
@@ -48,6 +50,8 @@ fn print_tabled(
     let mut regions = region_words();
     let mut frames = frame_words();
     let mut prints = print_words();
+    let mut log = log_words();
+    let mut own = saved_words();
     let mut out = output();
     let first = begin(callees, &cells, &regions, &mut frames);
     let n = put_entry(&mut out, first);
@@ -62,6 +66,8 @@ fn print_tabled(
         &mut regions,
         &mut frames,
         &mut prints,
+        &mut log,
+        &mut own,
         &mut out[..room],
     );
 }

@@ -2,6 +2,8 @@
 use answering::print;
 use language::Ending;
 use lines::put_ending;
+use machine::LOG_WORDS;
+use machine::SAVED_WORDS;
 use plans::CALLEES;
 use plans::PLAN;
 use profiling::Part;
@@ -34,11 +36,14 @@ pub fn print_parts(
     regions: &mut [u32],
     frames: &mut [u32],
     prints: &mut [u32],
+    log: &mut [u32; LOG_WORDS],
+    own: &mut [u32; SAVED_WORDS],
     out: &mut [u8],
 )
     requires { ⌜ Narrow (now plan) (now images) × Numbered (now file) (now plan) ⌝ }
     requires { ⌜ lineBytes ≤ length (now out) ⌝ }
-    requires { ⌜ RunStands (now file) (tablesIn (now plan) (now images) (now callees)) stepsLent (now cells) (now regions) (now frames) (now prints) first ⌝ }
+    requires { ⌜ RunStands (now file) (tablesIn (now plan) (now images) (now callees)) stepsLent (now cells) (now regions) (now frames) (now prints)
+        (now log) (now own) first ⌝ }
 {
     let mut point = first;
     loop {
@@ -52,6 +57,8 @@ pub fn print_parts(
             regions,
             frames,
             prints,
+            log,
+            own,
             STEPS,
             out,
         );

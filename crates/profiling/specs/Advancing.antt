@@ -13,22 +13,22 @@ use Rattle.profiling.specs.Text.{lineBytes}
 use Rattle.profiling.specs.declared.Point.{Point}
 use Rattle.profiling.specs.declared.Part.{Part}
 use Rattle.profiling.specs.declared.Part.the-variants.{More, Last}
-use Rattle.profiling.specs.Standing.{StandsAfter, at-as, heldBy}
+use Rattle.profiling.specs.Standing.{wordsIn, StandsAfter, at-as, heldBy}
 use Rattle.profiling.specs.Parts.{PartWritten, written-none, written-same, written-more}
 use Rattle.profiling.specs.Moving.{RunStands, EndsAfter, StepOnward, lent-same}
 use Rattle.profiling.specs.Noting.{heldAt, Notes, no-line, a-line, lineTo}
 
 -- From point p: the bytes at the front of `out₁` are the lines of the steps from p to where the run stands afterwards; or of all that were left, and
 -- so the run ended. The words with ₁ are those afterwards.
-pub data Advances (f : List ℕ) (T : Tables) (l : ℕ) (m rs fw ps : List ℕ) (p : Point) (out m₁ rs₁ fw₁ ps₁ out₁ : List ℕ) : Part → Type 0 where
-  a-part : {at : ℕ} {q : Point} → RunStands f T l m₁ rs₁ fw₁ ps₁ q → p .done < q .done → q .done ≤ l → PartWritten f (p .done) (q .done) out out₁ at → at ≤ length out₁
-      → Advances f T l m rs fw ps p out m₁ rs₁ fw₁ ps₁ out₁ (More at q)
+pub data Advances (f : List ℕ) (T : Tables) (l : ℕ) (m rs fw ps : List ℕ) (p : Point) (out m₁ rs₁ fw₁ ps₁ log₁ own₁ out₁ : List ℕ) : Part → Type 0 where
+  a-part : {at : ℕ} {q : Point} → RunStands f T l m₁ rs₁ fw₁ ps₁ log₁ own₁ q → p .done < q .done → q .done ≤ l → PartWritten f (p .done) (q .done) out out₁ at → at ≤ length out₁
+      → Advances f T l m rs fw ps p out m₁ rs₁ fw₁ ps₁ log₁ own₁ out₁ (More at q)
   last-part : {at n : ℕ} {e : Ending} → EndsAfter f (lentWords m rs fw ps l) e n → PartWritten f (p .done) n out out₁ at → at ≤ length out₁
-      → Advances f T l m rs fw ps p out m₁ rs₁ fw₁ ps₁ out₁ (Last at e n)
+      → Advances f T l m rs fw ps p out m₁ rs₁ fw₁ ps₁ log₁ own₁ out₁ (Last at e n)
 
 -- ---- the loop: what was at the entry has ₀
-pub record Under (f : List ℕ) (T : Tables) (l : ℕ) (m₀ rs₀ fw₀ ps₀ : List ℕ) (p₀ : Point) (out₀ m rs fw ps out : List ℕ) (p : Point) (at : ℕ) : Type 0 where
-  pub stands : RunStands f T l m rs fw ps p
+pub record Under (f : List ℕ) (T : Tables) (l : ℕ) (m₀ rs₀ fw₀ ps₀ : List ℕ) (p₀ : Point) (out₀ m rs fw ps log own out : List ℕ) (p : Point) (at : ℕ) : Type 0 where
+  pub stands : RunStands f T l m rs fw ps log own p
   pub cells : length m ≡ length m₀
   pub regions : length rs ≡ length rs₀
   pub frames : length fw ≡ length fw₀
@@ -40,8 +40,8 @@ pub record Under (f : List ℕ) (T : Tables) (l : ℕ) (m₀ rs₀ fw₀ ps₀ :
   pub moved : p₀ .done < p .done → p .done ≤ l
   pub still : p .done ≡ p₀ .done → at ≡ 0
 
-pub under-first : {f : List ℕ} {T : Tables} {l : ℕ} {m rs fw ps : List ℕ} {p : Point} (out : List ℕ) → RunStands f T l m rs fw ps p
-    → Under f T l m rs fw ps p out m rs fw ps out p 0
+pub under-first : {f : List ℕ} {T : Tables} {l : ℕ} {m rs fw ps log own : List ℕ} {p : Point} (out : List ℕ) → RunStands f T l m rs fw ps log own p
+    → Under f T l m rs fw ps p out m rs fw ps log own out p 0
 under-first {f} {p = p} out H = record {
   stands = H;
   cells = refl;
@@ -57,31 +57,35 @@ under-first {f} {p = p} out H = record {
 }
 
 -- what is held, as the points say it
-pub same-held : (p : Point) (m rs fw ps : List ℕ) → heldBy (wordsOf (p .heap) m rs fw ps (p .state)) (p .counts) ≡ heldAt p
+pub same-held : {f : List ℕ} {T : Tables} {l : ℕ} {m rs fw ps log own : List ℕ} {p : Point} (H : RunStands f T l m rs fw ps log own p)
+    → heldBy (wordsIn (H .stand)) (H .tally .held) ≡ heldAt p
 unfolding heldBy heldAt wordsOf
-same-held p m rs fw ps = refl
+same-held H = rw (H .words, H .held)
 
-module _ {f : List ℕ} {T : Tables} {l : ℕ} {m₀ rs₀ fw₀ ps₀ : List ℕ} {p₀ : Point} {out₀ m rs fw ps out : List ℕ} {p : Point} {at : ℕ}
-    (U : Under f T l m₀ rs₀ fw₀ ps₀ p₀ out₀ m rs fw ps out p at) where
-  module _ {m₁ rs₁ fw₁ ps₁ : List ℕ} {q : Point} (lm : length m₁ ≡ length m) (lr : length rs₁ ≡ length rs) (lf : length fw₁ ≡ length fw) (lp : length ps₁ ≡ length ps)
-      (M : StepOnward f T l p m₁ rs₁ fw₁ ps₁ q) where
+module _ {f : List ℕ} {T : Tables} {l : ℕ} {m₀ rs₀ fw₀ ps₀ : List ℕ} {p₀ : Point} {out₀ m rs fw ps log own out : List ℕ} {p : Point} {at : ℕ}
+    (U : Under f T l m₀ rs₀ fw₀ ps₀ p₀ out₀ m rs fw ps log own out p at) where
+  module _ {m₁ rs₁ fw₁ ps₁ log₁ own₁ : List ℕ} {q : Point} (lm : length m₁ ≡ length m) (lr : length rs₁ ≡ length rs) (lf : length fw₁ ≡ length fw) (lp : length ps₁ ≡ length ps)
+      (M : StepOnward f T l p m₁ rs₁ fw₁ ps₁ log₁ own₁ q) where
     -- the next point, in the memory that was lent
-    later : StandsAfter f T (lentWords m rs fw ps l) (suc (p .done)) (wordsOf (q .heap) m₁ rs₁ fw₁ ps₁ (q .state)) (q .counts)
+    later : StandsAfter f T (lentWords m rs fw ps l) (suc (p .done)) (M .stands .stand) (M .stands .tally)
     later = at-as (sym (lent-same m m₁ rs rs₁ fw fw₁ ps ps₁ l lm lr lf lp)) (M .next) refl refl (M .stands .here)
 
-    line-is : lineTo p q ≡ record { step = suc (p .done); held = heldBy (wordsOf (q .heap) m₁ rs₁ fw₁ ps₁ (q .state)) (q .counts); goal = p .state .goal }
+    line-is : lineTo p q ≡ record { step = suc (p .done); held = heldBy (wordsIn (M .stands .stand)) (M .stands .tally .held); goal = p .state .goal }
     line-is =
         ap (λ n. record { step = n; held = heldAt q; goal = p .state .goal }) (M .next)
-        ∙ ap (λ h. record { step = suc (p .done); held = h; goal = p .state .goal }) (sym (same-held q m₁ rs₁ fw₁ ps₁))
+        ∙ ap (λ h. record { step = suc (p .done); held = h; goal = p .state .goal }) (sym (same-held (M .stands)))
+
+    goal-there : wordsIn (U .stands .stand) .goal ≡ p .state .goal
+    unfolding wordsOf
+    goal-there = ap (λ w. w .goal) (U .stands .words)
 
     wrote : {out₁ : List ℕ} {at₁ : ℕ} → Notes p q out at out₁ at₁ → PartWritten f (p₀ .done) (suc (p .done)) out₀ out₁ at₁
-    unfolding wordsOf
-    wrote (no-line e) = written-same (U .stands .here) later (U .written) (same-held q m₁ rs₁ fw₁ ps₁ ∙ e ∙ sym (same-held p m rs fw ps))
+    wrote (no-line e) = written-same (U .stands .here) later (U .written) (same-held (M .stands) ∙ e ∙ sym (same-held (U .stands)))
     wrote (a-line e t) =
-        written-more (U .stands .here) later (U .written) (λ x. e (sym (same-held q m₁ rs₁ fw₁ ps₁) ∙ x ∙ same-held p m rs fw ps)) (p .state .goal) refl (M .busy) (rw line-is at t)
+        written-more (U .stands .here) later (U .written) (λ x. e (sym (same-held (M .stands)) ∙ x ∙ same-held (U .stands))) (p .state .goal) goal-there (M .busy) (rw line-is at t)
 
     pub under-next : {out₁ : List ℕ} {at₁ : ℕ} → Notes p q out at out₁ at₁ → length out₁ ≡ length out → at₁ ≤ length out₁
-        → Under f T l m₀ rs₀ fw₀ ps₀ p₀ out₀ m₁ rs₁ fw₁ ps₁ out₁ q at₁
+        → Under f T l m₀ rs₀ fw₀ ps₀ p₀ out₀ m₁ rs₁ fw₁ ps₁ log₁ own₁ out₁ q at₁
     under-next N lo la = record {
       stands = M .stands;
       cells = lm ∙ U .cells;
@@ -97,13 +101,13 @@ module _ {f : List ℕ} {T : Tables} {l : ℕ} {m₀ rs₀ fw₀ ps₀ : List �
     }
 
   -- ---- the end of a part
-  pub under-last : (e : Ending) (m₁ rs₁ fw₁ ps₁ : List ℕ) → EndsAfter f (lentWords m rs fw ps l) e (p .done)
-      → Advances f T l m₀ rs₀ fw₀ ps₀ p₀ out₀ m₁ rs₁ fw₁ ps₁ out (Last at e (p .done))
-  under-last e m₁ rs₁ fw₁ ps₁ M =
+  pub under-last : (e : Ending) (m₁ rs₁ fw₁ ps₁ log₁ own₁ : List ℕ) → EndsAfter f (lentWords m rs fw ps l) e (p .done)
+      → Advances f T l m₀ rs₀ fw₀ ps₀ p₀ out₀ m₁ rs₁ fw₁ ps₁ log₁ own₁ out (Last at e (p .done))
+  under-last e m₁ rs₁ fw₁ ps₁ log₁ own₁ M =
       last-part {n = p .done} (subst (λ x. EndsAfter f x e (p .done)) (sym (lent-same m₀ m rs₀ rs fw₀ fw ps₀ ps l (U .cells) (U .regions) (U .frames) (U .prints))) M)
       (U .written) (U .fits)
 
-  pub under-more : lineBytes ≤ length out₀ → length out - at < lineBytes → Advances f T l m₀ rs₀ fw₀ ps₀ p₀ out₀ m rs fw ps out (More at p)
+  pub under-more : lineBytes ≤ length out₀ → length out - at < lineBytes → Advances f T l m₀ rs₀ fw₀ ps₀ p₀ out₀ m rs fw ps log own out (More at p)
   under-more h t = let z = still-on in a-part (U .stands) z (U .moved z) (U .written) (U .fits)
     where
       still-on : p₀ .done < p .done

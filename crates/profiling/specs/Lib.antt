@@ -1,6 +1,8 @@
 pub mod Statement
 pub mod Walking
 pub mod Counting
+pub mod Taking
+pub mod Tallying
 pub mod Kinds
 pub mod Standing
 pub mod Beginning
@@ -12,3 +14,6 @@ pub mod Noting
 pub mod Advancing
 pub mod Entering
 pub mod Whole
+pub mod Going
+pub mod Behind
+pub mod Inward

@@ -5,11 +5,10 @@ use mathlib.Core.List.{List, [], _∷_, _++_, append-assoc}
 use Rattle.lines.specs.Put.{Put, put-none, put-then}
 use Rattle.language.specs.Machine.{Lent}
 use Rattle.word_machine.specs.Tables.{Tables}
-use Rattle.word_machine.specs.Machine.{MachineWords}
-use Rattle.profiling.specs.declared.Counts.{Counts}
 use Rattle.profiling.specs.declared.Line.{Line}
 use Rattle.profiling.specs.Statement.{heldAfter, CarriesOut, Lines, none, same, more, lineText, textOf}
-use Rattle.profiling.specs.Standing.{StandsAfter, heldBy, held-here, carries-here}
+use Rattle.profiling.specs.Tallying.{Tally}
+use Rattle.profiling.specs.Standing.{Stand, wordsIn, StandsAfter, heldBy, held-here, carries-here}
 
 append-none : (xs : List Line) → xs ++ [] ≡ xs
 append-none [] = refl
@@ -45,17 +44,17 @@ pub written-none : (f : List ℕ) (a : ℕ) (b : List ℕ) → PartWritten f a a
 unfolding textOf
 written-none f a b = record { lines = []; every = none; put = put-none b 0 }
 
-module _ {f : List ℕ} {T : Tables} {lent : Lent} {n : ℕ} {v w : MachineWords} {c d : Counts} (H : StandsAfter f T lent n v c) (G : StandsAfter f T lent (suc n) w d)
+module _ {f : List ℕ} {T : Tables} {lent : Lent} {n : ℕ} {v w : Stand} {c d : Tally} (H : StandsAfter f T lent n v c) (G : StandsAfter f T lent (suc n) w d)
     {a at : ℕ} {b e : List ℕ} (W : PartWritten f a n b e at) where
-  pub written-same : heldBy w d ≡ heldBy v c → PartWritten f a (suc n) b e at
+  pub written-same : heldBy (wordsIn w) (d .held) ≡ heldBy (wordsIn v) (c .held) → PartWritten f a (suc n) b e at
   written-same z = record { lines = W .lines; every = same (W .every) (held-here G ∙ z ∙ sym (held-here H)); put = W .put }
 
-  carried : (i : ℕ) → v .goal ≡ i → (i ≡ 0 → ⊥) → CarriesOut f n i
+  carried : (i : ℕ) → wordsIn v .goal ≡ i → (i ≡ 0 → ⊥) → CarriesOut f n i
   carried zero t z = absurd (z refl)
   carried (suc j) t z = carries-here H j t
 
-  pub written-more : (heldBy w d ≡ heldBy v c → ⊥) → (i : ℕ) → v .goal ≡ i → (i ≡ 0 → ⊥) → {x : List ℕ} {k : ℕ}
-      → Put e at (lineText (record { step = suc n; held = heldBy w d; goal = i })) x k → PartWritten f a (suc n) b x k
+  pub written-more : (heldBy (wordsIn w) (d .held) ≡ heldBy (wordsIn v) (c .held) → ⊥) → (i : ℕ) → wordsIn v .goal ≡ i → (i ≡ 0 → ⊥) → {x : List ℕ} {k : ℕ}
+      → Put e at (lineText (record { step = suc n; held = heldBy (wordsIn w) (d .held); goal = i })) x k → PartWritten f a (suc n) b x k
   written-more z i t o p = record {
     lines = W .lines ++ (record { step = suc n; held = heldAfter f (suc n); goal = i } ∷ []);
     every = more (W .every) (λ q. z (sym (held-here G) ∙ q ∙ held-here H)) (carried i t o);

@@ -6,22 +6,23 @@ use mathlib.Core.List.{List, [], _∷_, _++_}
 use lib.ListN.{length}
 use Rattle.language.specs.Program.{Goals, _then_}
 use Rattle.language.specs.AcceptedRun.{RegionFrame, State, steps}
-use Rattle.language.specs.Machine.{Lent, cellsHeld, regionsHeld}
+use Rattle.language.specs.Machine.{Lent, cellsHeld, regionsHeld, counted}
 use Rattle.language.specs.Answers.{program, ran}
 use Rattle.language.specs.Output.{decimal, line, endingLine}
 use Rattle.chains.specs.Formed.{goalAt}
 use Rattle.profiling.specs.declared.Held.{Held}
 use Rattle.profiling.specs.declared.Line.{Line}
 
--- how many of each a state holds: document 01's counts
+-- how many of each a state holds: document 01's counts. In an open condition what it removed "count[s] as held" (C-20)
 unfoldable pub heldIn : State → Held
-heldIn s = record { cells = cellsHeld (s .memory .alive) (s .memory .cells); regions = regionsHeld (s .memory); frames = length (s .frames) }
+heldIn s = record { cells = cellsHeld (counted s .alive) (counted s .cells); regions = regionsHeld (counted s); frames = length (s .frames) }
 
 -- .. the accepted file's run after n steps
 unfoldable pub heldAfter : List ℕ → ℕ → Held
 heldAfter f n = heldIn (steps (program f) n)
 
--- record i is that of the goal which the run carries out after n steps: the newest frame's next goal is the one read there
+-- record i is that of the goal which the run carries out after n steps: the newest frame's next goal is the one read there; in an open condition, the
+-- condition's next
 pub record CarriesOut (f : List ℕ) (n i : ℕ) : Type 0 where
   pub newest : RegionFrame
   pub waiting : List RegionFrame

@@ -5,6 +5,8 @@ use crate::Point;
 use crate::moving::forward;
 use crate::noting::note;
 use crate::text::LINE_BYTES;
+use machine::LOG_WORDS;
+use machine::SAVED_WORDS;
 use plans::CALLEES;
 use plans::PLAN;
 ghost use Prim.Native.Nat.{_≤_};
@@ -26,15 +28,18 @@ pub fn advance(
     regions: &mut [u32],
     frames: &mut [u32],
     prints: &mut [u32],
+    log: &mut [u32; LOG_WORDS],
+    own: &mut [u32; SAVED_WORDS],
     steps: usize,
     out: &mut [u8],
 ) -> Part
     requires { ⌜ Narrow (now plan) (now images) × Numbered (now file) (now plan) ⌝ }
     requires { ⌜ lineBytes ≤ length (now out) ⌝ }
-    requires { ⌜ RunStands (now file) (tablesIn (now plan) (now images) (now callees)) steps (now cells) (now regions) (now frames) (now prints) point ⌝ }
+    requires { ⌜ RunStands (now file) (tablesIn (now plan) (now images) (now callees)) steps (now cells) (now regions) (now frames) (now prints)
+        (now log) (now own) point ⌝ }
     ensures { λ r. ⌜ Advances (now (file .entry)) (tablesIn (now (plan .entry)) (now (images .entry)) (now (callees .entry))) steps
         (now (cells .entry)) (now (regions .entry)) (now (frames .entry)) (now (prints .entry)) point (now (out .entry))
-        (now (cells .exit)) (now (regions .exit)) (now (frames .exit)) (now (prints .exit)) (now (out .exit)) r ⌝ }
+        (now (cells .exit)) (now (regions .exit)) (now (frames .exit)) (now (prints .exit)) (now (log .exit)) (now (own .exit)) (now (out .exit)) r ⌝ }
 {
     let mut here = point;
     let mut at = 0;
@@ -49,6 +54,8 @@ pub fn advance(
             regions,
             frames,
             prints,
+            log,
+            own,
             steps,
         );
         match moved {

@@ -21,7 +21,7 @@ ghost use Rattle.memory.specs.declared.Heap.{Heap};
 ghost use Rattle.memory.specs.Memory.{most};
 ghost use Rattle.word_machine.specs.Machine.{regionPlace};
 ghost use Rattle.machine.specs.Words.{wordsOf};
-ghost use Rattle.profiling.specs.Counting.{counted};
+ghost use Rattle.profiling.specs.Counting.{madeCounted, counted};
 
 // What is left of a after b go; at least none.
 fn less(a: u32, b: u32) -> u32
@@ -38,22 +38,11 @@ fn region_place(frames: &[u32], frame: u32, r: usize) -> u32
     memory::word(frames, FRAME_WORDS * (frame as usize) + REGIONS_FROM + r)
 }
 
-// The counts after the next goal, from those before it and the words before it: a construct with arguments has one cell more, a create one region
-// more, a remove as many cells less as the region has. There are `limit` places for cells.
-pub fn count(
-    file: &[u8],
-    state: State,
-    limit: u32,
-    counts: Counts,
-    cells: &[u32],
-    regions: &[u32],
-    frames: &[u32],
-) -> Counts
+// The counts after the goal at record i, if it removes nothing: a construct with arguments has one cell more, a create one region more.
+pub fn count_made(file: &[u8], i: usize, counts: Counts) -> Counts
     requires { ⌜ (counts .cells ≤ most) × (counts .regions ≤ most) ⌝ }
-    ensures { λ r. ⌜ ((h : Heap) (ps : List ℕ) → h .cells .limit ≡ limit
-        → r ≡ counted (wordsOf h (now (cells .entry)) (now (regions .entry)) (now (frames .entry)) ps state) (recordAt (now (file .entry)) (state .goal)) counts) ⌝ }
+    ensures { λ r. ⌜ r ≡ madeCounted (recordAt (now (file .entry)) i) counts ⌝ }
 {
-    let i = state.goal;
     match word(file, i, KIND) {
         CONSTRUCT => {
             if word(file, i, TERM_ARGUMENTS) == 0 {
@@ -68,14 +57,33 @@ pub fn count(
             cells: counts.cells,
             regions: counts.regions + 1,
         },
-        REMOVE => {
-            let place = region_place(frames, state.top, word(file, i, LIFETIME_REGION));
-            let size = region_size(cells, regions, limit, place);
-            Counts {
-                cells: less(counts.cells, size),
-                regions: less(counts.regions, 1),
-            }
-        }
         _ => counts,
+    }
+}
+
+// The counts after the next goal, from those before it and the words before it: a remove has as many cells less as the region has. There are `limit`
+// places for cells.
+pub fn count(
+    file: &[u8],
+    state: State,
+    limit: u32,
+    counts: Counts,
+    cells: &[u32],
+    regions: &[u32],
+    frames: &[u32],
+) -> Counts
+    requires { ⌜ (counts .cells ≤ most) × (counts .regions ≤ most) ⌝ }
+    ensures { λ r. ⌜ ((h : Heap) (ps : List ℕ) → h .cells .limit ≡ limit
+        → r ≡ counted (wordsOf h (now (cells .entry)) (now (regions .entry)) (now (frames .entry)) ps state) (recordAt (now (file .entry)) (state .goal)) counts) ⌝ }
+{
+    let i = state.goal;
+    if word(file, i, KIND) != REMOVE {
+        return count_made(file, i, counts);
+    }
+    let place = region_place(frames, state.top, word(file, i, LIFETIME_REGION));
+    let size = region_size(cells, regions, limit, place);
+    Counts {
+        cells: less(counts.cells, size),
+        regions: less(counts.regions, 1),
     }
 }

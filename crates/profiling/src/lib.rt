@@ -5,12 +5,15 @@ mod counting;
 mod moving;
 mod noting;
 mod text;
+mod trying;
 mod turning;
 mod walking;
 
 pub use advancing::advance;
 pub use beginning::begin;
+pub use beginning::log_words;
 pub use beginning::put_entry;
+pub use beginning::saved_words;
 use language::Ending;
 use language::Stop;
 use machine::State;
@@ -37,10 +40,20 @@ pub struct Line {
     pub goal: u64,
 }
 
-// What a step comes to.
+// What a step outside conditions comes to. A try's is told, not done.
 pub enum Turn {
     On(State, Heap),
     Lacks(Stop),
+    Tries,
+}
+
+// An open condition (C-20): the record of its try, 0 outside conditions; how many entries are logged; the counts without what the condition removed, and
+// those at the try.
+pub struct Open {
+    pub at: usize,
+    pub logged: usize,
+    pub left: Counts,
+    pub before: Counts,
 }
 
 // Where a run stands after `done` steps, beside the lent words.
@@ -49,6 +62,7 @@ pub struct Point {
     pub heap: Heap,
     pub counts: Counts,
     pub done: usize,
+    pub condition: Open,
 }
 
 // Where the run stands one step later, or how it ended.

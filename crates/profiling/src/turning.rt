@@ -1,4 +1,4 @@
-// One step of the run, by the runner's own functions.
+// One step outside conditions, by the runner's own functions.
 use crate::Turn;
 use language::format::KIND;
 use machine::HeapStep;
@@ -66,5 +66,6 @@ pub fn step(
     match went {
         Step::Went(next) => Turn::On(settle(file, plan, images, callees, next, frames), heap),
         Step::Stops(stop) => Turn::Lacks(stop),
+        Step::Tries => Turn::Tries,
     }
 }

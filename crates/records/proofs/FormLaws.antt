@@ -7,7 +7,7 @@ use mathlib.Core.List.{List, [], _∷_, _++_}
 use lib.Dec.{eqb, leb}
 use borrow.Author.Tests.{eq-eqb, eqb-true, le-leb, leb-true}
 use Rattle.sets.specs.Tests.{_&_, same-truth, and-true, true-and}
-use Rattle.language.specs.File.{kLiteral, kSum, kAssign, kConstruct, kSwitch, kIf, kCall, kPrint, kCreate, kRemove, Kind, kNone, kHeader, kType, kFunctor, kProcedure, kVariable, kRegion, kEdge, kArm, kArgument, kGoal, row, rowIn, padded, Use, number, unused, first, kindAt, referenceOk, wordsOk, recordOk, leading}
+use Rattle.language.specs.File.{kLiteral, kSum, kAssign, kConstruct, kSwitch, kIf, kCall, kPrint, kCreate, kRemove, kTry, kTest, Kind, kNone, kHeader, kType, kFunctor, kProcedure, kVariable, kRegion, kEdge, kArm, kArgument, kGoal, row, rowIn, padded, Use, number, unused, first, kindAt, referenceOk, wordsOk, recordOk, leading}
 use Rattle.records.specs.Table.{listed, lowMost, highMost, uses}
 use Rattle.records.specs.Form.{zeros, leads, refers, refersOk, spareOk, useOk}
 use Rattle.records.specs.Sizes.{wordEnd}
@@ -96,6 +96,8 @@ module _ (W : ℕ → ℕ → ℕ) (i : ℕ) {a b : ℕ} (l : LowWords (W i) a) 
   zeros-small (kGoal kPrint) = used1
   zeros-small (kGoal kCreate) = used1
   zeros-small (kGoal kRemove) = used1
+  zeros-small (kGoal kTry) = used3
+  zeros-small (kGoal kTest) = used2
 
 -- tests may stand in any order
 and-later : (a b c : Bool) → (a & b & c) ≡ (b & a & c)

@@ -5,7 +5,7 @@ use mathlib.Core.Path.{_≡_, refl, sym, ap}
 use mathlib.Core.List.{List, [], _∷_, map}
 use lib.ListN.{length, getD}
 use Rattle.language.specs.Lists.{nth}
-use Rattle.language.specs.File.{Chain, nowhere, types, functors, procedures, variables, regions, edges, goals, arms, arguments, Use, number, unused, first, row, rowIn, padded, kinds, kindOf, code, kLiteral, kSum, kAssign, kConstruct, kSwitch, kIf, kCall, kPrint, kCreate, kRemove, Kind, kNone, kHeader, kType, kFunctor, kProcedure, kVariable, kRegion, kEdge, kArm, kArgument, kGoal}
+use Rattle.language.specs.File.{Chain, nowhere, types, functors, procedures, variables, regions, edges, goals, arms, arguments, Use, number, unused, first, row, rowIn, padded, kinds, kindOf, code, kLiteral, kSum, kAssign, kConstruct, kSwitch, kIf, kCall, kPrint, kCreate, kRemove, kTry, kTest, Kind, kNone, kHeader, kType, kFunctor, kProcedure, kVariable, kRegion, kEdge, kArm, kArgument, kGoal}
 use Rattle.records.specs.Sizes.{digitEnd, kindsEnd}
 use Rattle.records.specs.Table.{digit, pack, tableOf, uses}
 
@@ -32,6 +32,8 @@ seven (kGoal kCall) = refl
 seven (kGoal kPrint) = refl
 seven (kGoal kCreate) = refl
 seven (kGoal kRemove) = refl
+seven (kGoal kTry) = refl
+seven (kGoal kTest) = refl
 
 code-low : (c : Chain) → code c < 14
 unfolding code
@@ -78,7 +80,7 @@ nth-past d [] n h = refl
 nth-past d (x ∷ xs) zero h = absurd (omega arith)
 nth-past d (x ∷ xs) (suc n) h = nth-past d xs n (omega arith)
 
--- a number past 19 is no kind
+-- a number past the kinds' is no kind
 pub kind-high : (n : ℕ) → kindsEnd ≤ n → kindOf n ≡ kNone
 unfolding kindOf kinds
 kind-high n h = nth-past kNone kinds n h

@@ -2,10 +2,10 @@
 use Prim.Native.Nat.{ℕ, _+_}
 use mathlib.Core.Path.{_≡_, refl, sym, ap, _∙_}
 use mathlib.Core.List.{List}
-use Rattle.language.specs.File.{word, kindOf, Kind, kNone, kHeader, kType, kFunctor, kProcedure, kVariable, kRegion, kEdge, kArm, kArgument, kGoal, kLiteral, kSum, kAssign, kConstruct, kSwitch, kIf, kCall, kPrint, kCreate, kRemove}
-use Rattle.language.specs.Format.{argumentVariable, armGoals, assignY, callArguments, callProcedure, edgeFunctor, edgePosition, edgeTarget, functorArity, functorTypes, goalX, headerCount, headerProcedures, headerTypes, ifElse, ifThen, ifY, ifZ, kindWord, lifetimeRegion, literalValue, nextWord, printY, procedureGoals, procedureRegions, procedureVariables, regionClass, regionEdges, regionType, sumOperation, sumY, sumZ, switchArms, termArguments, termFunctor, typeFunctors, variableMode, variableRegion, variableType}
+use Rattle.language.specs.File.{word, kindOf, Kind, kNone, kHeader, kType, kFunctor, kProcedure, kVariable, kRegion, kEdge, kArm, kArgument, kGoal, kLiteral, kSum, kAssign, kConstruct, kSwitch, kIf, kCall, kPrint, kCreate, kRemove, kTry, kTest}
+use Rattle.language.specs.Format.{argumentVariable, armGoals, assignY, callArguments, callProcedure, edgeFunctor, edgePosition, edgeTarget, functorArity, functorTypes, goalX, headerCount, headerProcedures, headerTypes, ifElse, ifThen, ifY, ifZ, kindWord, lifetimeRegion, literalValue, nextWord, printY, procedureGoals, procedureRegions, procedureVariables, regionClass, regionEdges, regionType, sumOperation, sumY, sumZ, switchArms, termArguments, termFunctor, testY, testZ, tryCondition, tryElse, tryThen, typeFunctors, variableMode, variableRegion, variableType}
 use Rattle.records.specs.declared.Record.{Record}
-use Rattle.records.specs.declared.Record.the-variants.{Header, «Type» as TypeOf, Functor, Procedure, Variable, Region, Edge, Literal, Sum, Assign, Construct, Switch, Arm, If, Call, Argument, Print, Create, Remove, Other}
+use Rattle.records.specs.declared.Record.the-variants.{Header, «Type» as TypeOf, Functor, Procedure, Variable, Region, Edge, Literal, Sum, Assign, Construct, Switch, Arm, If, Call, Argument, Print, Create, Remove, Try, Test, Other}
 
 -- a record of a kind, by its words
 abbrev pub recordAs : Kind → (ℕ → ℕ) → Record
@@ -30,6 +30,8 @@ recordAs kArgument w = Argument (w nextWord) (w argumentVariable)
 recordAs (kGoal kPrint) w = Print (w nextWord) (w printY)
 recordAs (kGoal kCreate) w = Create (w nextWord) (w lifetimeRegion)
 recordAs (kGoal kRemove) w = Remove (w nextWord) (w lifetimeRegion)
+recordAs (kGoal kTry) w = Try (w nextWord) (w tryCondition) (w tryThen) (w tryElse)
+recordAs (kGoal kTest) w = Test (w nextWord) (w testY) (w testZ)
 
 -- record i of a file
 unfoldable pub recordAt : List ℕ → ℕ → Record
@@ -57,6 +59,8 @@ kindIn (Argument w1 w2) = kArgument
 kindIn (Print w1 w2) = kGoal kPrint
 kindIn (Create w1 w2) = kGoal kCreate
 kindIn (Remove w1 w2) = kGoal kRemove
+kindIn (Try w1 w2 w3 w4) = kGoal kTry
+kindIn (Test w1 w2 w3) = kGoal kTest
 kindIn Other = kNone
 
 kind-as : (k : Kind) (w : ℕ → ℕ) → kindIn (recordAs k w) ≡ k
@@ -80,6 +84,8 @@ kind-as kArgument w = refl
 kind-as (kGoal kPrint) w = refl
 kind-as (kGoal kCreate) w = refl
 kind-as (kGoal kRemove) w = refl
+kind-as (kGoal kTry) w = refl
+kind-as (kGoal kTest) w = refl
 
 module _ (f : List ℕ) (i : ℕ) where
   -- from the kind to the record

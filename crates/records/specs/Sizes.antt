@@ -11,7 +11,7 @@ abbrev pub recordWords : ℕ
 recordWords = 8
 
 abbrev pub kindsEnd : ℕ
-kindsEnd = 20
+kindsEnd = 22
 
 -- the record table has a hex digit a word
 abbrev pub digitEnd : ℕ

@@ -4,7 +4,7 @@ use crate::words::word;
 use language::format::*;
 ghost use mathlib.Core.Path.{_≡_};
 ghost use Rattle.language.specs.File.{word, kHeader, kType, kFunctor, kProcedure, kVariable, kRegion, kEdge, kArm, kArgument, kGoal};
-ghost use Rattle.language.specs.File.{kLiteral, kSum, kAssign, kConstruct, kSwitch, kIf, kCall, kPrint, kCreate, kRemove};
+ghost use Rattle.language.specs.File.{kLiteral, kSum, kAssign, kConstruct, kSwitch, kIf, kCall, kPrint, kCreate, kRemove, kTry, kTest};
 ghost use Rattle.records.specs.Records.{recordAs, recordAt};
 
 // Record i of a file.
@@ -31,6 +31,8 @@ pub fn record_at(file: &[u8], i: usize) -> Record
         PRINT => read_print(file, i),
         CREATE => read_create(file, i),
         REMOVE => read_remove(file, i),
+        TRY => read_try(file, i),
+        TEST => read_test(file, i),
         _ => Record::Other,
     }
 }
@@ -281,4 +283,28 @@ fn read_remove(file: &[u8], i: usize) -> Record
     let next = word(file, i, NEXT);
     let region = word(file, i, LIFETIME_REGION);
     Record::Remove { next, region }
+}
+
+fn read_try(file: &[u8], i: usize) -> Record
+    ensures { λ r. ⌜ r ≡ recordAs (kGoal kTry) (word (now (file .entry)) i) ⌝ }
+{
+    let next = word(file, i, NEXT);
+    let condition = word(file, i, TRY_CONDITION);
+    let then_part = word(file, i, TRY_THEN);
+    let else_part = word(file, i, TRY_ELSE);
+    Record::Try {
+        next,
+        condition,
+        then_part,
+        else_part,
+    }
+}
+
+fn read_test(file: &[u8], i: usize) -> Record
+    ensures { λ r. ⌜ r ≡ recordAs (kGoal kTest) (word (now (file .entry)) i) ⌝ }
+{
+    let next = word(file, i, NEXT);
+    let y = word(file, i, TEST_Y);
+    let z = word(file, i, TEST_Z);
+    Record::Test { next, y, z }
 }

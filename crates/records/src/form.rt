@@ -42,6 +42,8 @@ const ROWS: [usize; KINDS_END] = [
     0x88, // print
     0x88, // create
     0x88, // remove
+    0x88888, // try
+    0x88, // test
 ];
 
 // The most that w2 and w3 may be as one number, w2 lowest: the words that a kind does not use are its last ones, and are 0.
@@ -66,6 +68,8 @@ const LOW: [usize; KINDS_END] = [
     0xffff, // print
     0xffff, // create
     0xffff, // remove
+    0xffffffff, // try
+    0xffffffff, // test
 ];
 
 // The same of w4 to w7.
@@ -90,6 +94,8 @@ const HIGH: [usize; KINDS_END] = [
     0, // print
     0, // create
     0, // remove
+    0xffff, // try
+    0, // test
 ];
 
 // The tables in memory, to be lent.

@@ -126,5 +126,16 @@ pub enum Record {
         next: usize,
         region: usize,
     },
+    Try {
+        next: usize,
+        condition: usize,
+        then_part: usize,
+        else_part: usize,
+    },
+    Test {
+        next: usize,
+        y: usize,
+        z: usize,
+    },
     Other,
 }

@@ -6,6 +6,6 @@ pub const WORD_END: usize = 65536;
 
 pub const RECORD_WORDS: usize = 8;
 
-pub const KINDS_END: usize = 20;
+pub const KINDS_END: usize = 22;
 
 pub const DIGIT_END: usize = 16;

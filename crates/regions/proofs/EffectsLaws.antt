@@ -4,23 +4,23 @@ use mathlib.Core.Bool.{Bool, true, false, false≢true}
 use mathlib.Core.List.{List}
 use mathlib.Core.Path.{_≡_, refl, sym, ap, _∙_}
 use Rattle.sets.specs.Sets.{single, single-zero}
-use Rattle.language.specs.File.{GoalKind, kLiteral, kSum, kAssign, kConstruct, kSwitch, kIf, kCall, kPrint, kCreate, kRemove, kGoal, kindOf, word, recordCount}
-use Rattle.language.specs.Format.{kindWord, literalKind, sumKind, assignKind, constructKind, callKind, printKind, createKind, removeKind, goalX, lifetimeRegion}
-use Rattle.language.specs.Program.{Four, Step, construct, create, remove, Goal, step, switch, ifLess, Signature, Program, regionOf}
+use Rattle.language.specs.File.{GoalKind, kLiteral, kSum, kAssign, kConstruct, kSwitch, kIf, kCall, kPrint, kCreate, kRemove, kTry, kTest, kGoal, kindOf, word, recordCount}
+use Rattle.language.specs.Format.{kindWord, literalKind, sumKind, assignKind, constructKind, callKind, printKind, createKind, removeKind, testKind, goalX, lifetimeRegion}
+use Rattle.language.specs.Program.{Four, Step, construct, create, remove, Goal, step, switch, ifLess, try, Signature, Program, regionOf}
 use Rattle.language.specs.Lifetimes
 use Rattle.language.specs.Lifetimes.{effect, noEffect}
 use Rattle.language.specs.Answers.{program}
 use Rattle.chains.specs.Layout.{all-rows}
 use Rattle.chains.specs.Formed.{Formed, goalAt}
 use Rattle.chains.specs.Kinds.{same-read}
-use Rattle.chains.specs.Goals.{literal-at, sum-at, assign-at, print-at}
-use Rattle.chains.specs.Parts.{switch-at, if-at}
-use Rattle.chains.specs.Shapes.{IsLiteral, IsSum, IsAssign, IsConstruct, IsSwitch, IsCall, IsPrint, IsCreate, IsRemove, goal-number, goal-kind, literal-here, sum-here, assign-here, construct-here, switch-here, call-here, print-here, create-here, remove-here}
+use Rattle.chains.specs.Goals.{literal-at, sum-at, assign-at, print-at, test-at}
+use Rattle.chains.specs.Parts.{switch-at, if-at, try-at}
+use Rattle.chains.specs.Shapes.{IsLiteral, IsSum, IsAssign, IsConstruct, IsSwitch, IsCall, IsPrint, IsCreate, IsRemove, IsTest, goal-number, goal-kind, literal-here, sum-here, assign-here, construct-here, switch-here, call-here, print-here, create-here, remove-here, test-here}
 use Rattle.tables.specs.Window.{homeIn}
 use Rattle.tables.specs.Filled.{GoalIsStep}
 use Rattle.tables.specs.declared.Effect.{Effect}
 use Rattle.regions.specs.Here.{signatureAt, Here, construct-kind, call-kind}
-use Rattle.regions.proofs.HereLaws.{literal-kind, sum-kind, assign-kind, print-kind, create-kind, remove-kind}
+use Rattle.regions.proofs.HereLaws.{literal-kind, sum-kind, assign-kind, print-kind, test-kind, create-kind, remove-kind}
 use Rattle.regions.specs.Effects.{EffectAt, Effects, NoStep, SomeStep, effect-made, regionEffect, same-step, step-at}
 
 module _ (P : Program) (S : Signature) where
@@ -50,6 +50,7 @@ unfoldable pub isStep : Goal → Bool
 isStep (step s) = true
 isStep (switch x cs) = false
 isStep (ifLess y z a b) = false
+isStep (try c a b) = false
 
 pub no-step : (f : List ℕ) (i : ℕ) {h : Goal} → goalAt f i ≡ h → isStep h ≡ false → NoStep f i
 unfolding isStep
@@ -62,7 +63,7 @@ module _ {f : List ℕ} {i : ℕ} (p : 0 < i) (q : i < recordCount f) (k : GoalK
 
 -- ---- by the kind, and the words that the code has read
 module _ {f : List ℕ} {i : ℕ} (F : Formed f) (p : 0 < i) (q : i < recordCount f) where
-  -- literals, sums and prints have none
+  -- literals, sums, prints and tests have none
   pub literal-made : {e : Effect} → IsLiteral f i → e ≡ regionEffect 0 0 0 → EffectAt f i e
   unfolding effect
   literal-made k = effect-none p q kLiteral (literal-kind f i k) (literal-here F refl k .goal) refl
@@ -74,6 +75,10 @@ module _ {f : List ℕ} {i : ℕ} (F : Formed f) (p : 0 < i) (q : i < recordCoun
   pub print-made : {e : Effect} → IsPrint f i → e ≡ regionEffect 0 0 0 → EffectAt f i e
   unfolding effect
   print-made k = effect-none p q kPrint (print-kind f i k) (print-here F refl k .goal) refl
+
+  pub test-made : {e : Effect} → IsTest f i → e ≡ regionEffect 0 0 0 → EffectAt f i e
+  unfolding effect
+  test-made k = effect-none p q kTest (test-kind f i k) (test-here F refl k .goal) refl
 
   -- steps that ask for a window
   pub assign-step : IsAssign f i → SomeStep f i
@@ -97,7 +102,8 @@ unfolding isStep
 switch-none {f} {i} F k = no-step f i (switch-here F refl k .goal) refl
 
 module _ {f : List ℕ} {i : ℕ} (F : Formed f) {w : ℕ} (e : w ≡ word f i kindWord) (n8 : w ≡ literalKind → ⊥) (n9 : w ≡ sumKind → ⊥) (n10 : w ≡ assignKind → ⊥)
-    (n11 : w ≡ constructKind → ⊥) (n15 : w ≡ callKind → ⊥) (n17 : w ≡ printKind → ⊥) (n18 : w ≡ createKind → ⊥) (n19 : w ≡ removeKind → ⊥) where
+    (n11 : w ≡ constructKind → ⊥) (n15 : w ≡ callKind → ⊥) (n17 : w ≡ printKind → ⊥) (n18 : w ≡ createKind → ⊥) (n19 : w ≡ removeKind → ⊥)
+    (n21 : w ≡ testKind → ⊥) where
   none-left : (k : GoalKind) → kindOf (word f i kindWord) ≡ kGoal k → NoStep f i
   unfolding all-rows isStep
   none-left kLiteral k = absurd (n8 (e ∙ goal-number (word f i kindWord) kLiteral k))
@@ -110,6 +116,8 @@ module _ {f : List ℕ} {i : ℕ} (F : Formed f) {w : ℕ} (e : w ≡ word f i k
   none-left kPrint k = absurd (n17 (e ∙ goal-number (word f i kindWord) kPrint k))
   none-left kCreate k = absurd (n18 (e ∙ goal-number (word f i kindWord) kCreate k))
   none-left kRemove k = absurd (n19 (e ∙ goal-number (word f i kindWord) kRemove k))
+  none-left kTry k = no-step f i (try-at F refl (same-read f i refl k) .goal) refl
+  none-left kTest k = absurd (n21 (e ∙ goal-number (word f i kindWord) kTest k))
 
   pub no-step-left : NoStep f i
   no-step-left g s = let k = goal-kind (s .stands) (s .some) in none-left (k .0) (k .1) g s
@@ -145,6 +153,8 @@ module _ {f own : List ℕ} {i : ℕ} (H : Here f own i) where
     none-at kPrint k g s = same-step f i (print-at (H .formed) refl (same-read f i refl k) .goal) (none-effect (program f) (signatureAt f i) refl) g s
     none-at kCreate k g s = absurd (n18 (e ∙ goal-number (word f i kindWord) kCreate k))
     none-at kRemove k g s = absurd (n19 (e ∙ goal-number (word f i kindWord) kRemove k))
+    none-at kTry k g s = absurd (no-step f i (try-at (H .formed) refl (same-read f i refl k) .goal) refl g s)
+    none-at kTest k g s = same-step f i (test-at (H .formed) refl (same-read f i refl k) .goal) (none-effect (program f) (signatureAt f i) refl) g s
 
     pub none-made : {d : Effect} → d ≡ regionEffect 0 0 0 → EffectAt f i d
     none-made m = record {

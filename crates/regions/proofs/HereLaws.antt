@@ -7,7 +7,7 @@ use lib.Dec.{eqb}
 use Rattle.sets.specs.Tests.{_&_}
 use Rattle.laws.specs.Tests.{and-stop, and-on}
 use Rattle.language.specs.File
-use Rattle.language.specs.File.{GoalKind, kLiteral, kSum, kAssign, kConstruct, kSwitch, kIf, kCall, kPrint, kCreate, kRemove, Kind, kNone, kHeader, kType, kFunctor, kProcedure, kVariable, kRegion, kEdge, kArm, kArgument, kGoal, kinds, kindOf, word}
+use Rattle.language.specs.File.{GoalKind, kLiteral, kSum, kAssign, kConstruct, kSwitch, kIf, kCall, kPrint, kCreate, kRemove, kTry, kTest, Kind, kNone, kHeader, kType, kFunctor, kProcedure, kVariable, kRegion, kEdge, kArm, kArgument, kGoal, kinds, kindOf, word}
 use Rattle.language.specs.Format.{kindWord, nextWord, assignKind, constructKind, switchKind, callKind, goalX, assignY, termFunctor, switchArms}
 use Rattle.language.specs.Lists.{nth}
 use Rattle.language.specs.Program.{argumentsOf, Edge, Arms, noArms, arm, Signature, Program, regionOf, regionAt}
@@ -16,9 +16,9 @@ use Rattle.language.specs.Answers.{program}
 use Rattle.chains.specs.Layout.{all-rows}
 use Rattle.chains.specs.Formed.{Formed, Stands, edgesAt, armsAt, arms-none}
 use Rattle.chains.specs.Kinds.{same-read}
-use Rattle.chains.specs.Goals.{literal-at, sum-at, print-at, create-at, remove-at}
-use Rattle.chains.specs.Parts.{if-at}
-use Rattle.chains.specs.Shapes.{IsLiteral, IsSum, IsAssign, IsSwitch, IsPrint, IsCreate, IsRemove, goal-number, assign-here, construct-here, switch-here, arm-here}
+use Rattle.chains.specs.Goals.{literal-at, sum-at, print-at, create-at, remove-at, test-at}
+use Rattle.chains.specs.Parts.{if-at, try-at}
+use Rattle.chains.specs.Shapes.{IsLiteral, IsSum, IsAssign, IsSwitch, IsPrint, IsCreate, IsRemove, IsTest, goal-number, assign-here, construct-here, switch-here, arm-here}
 use Rattle.owners.specs.Everywhere.{ifGoal, recordTest}
 use Rattle.owners.specs.TreeLaw.{record-kind}
 use Rattle.tables.specs.Window.{Window, homeIn, edgesIn}
@@ -40,6 +40,10 @@ module _ (f : List ℕ) (i : ℕ) where
   pub print-kind : IsPrint f i → kindOf (word f i kindWord) ≡ kGoal kPrint
   unfolding kindOf kinds nth
   print-kind k = ap kindOf k
+
+  pub test-kind : IsTest f i → kindOf (word f i kindWord) ≡ kGoal kTest
+  unfolding kindOf kinds nth
+  test-kind k = ap kindOf k
 
   pub assign-kind : IsAssign f i → kindOf (word f i kindWord) ≡ kGoal kAssign
   unfolding kindOf kinds nth
@@ -124,6 +128,8 @@ module _ {f : List ℕ} (i : ℕ) (F : Formed f) {w : ℕ} (e : w ≡ word f i k
   other-test (kGoal kPrint) k = goal-test i F kPrint k (print-at F refl (same-read f i refl k) .goal) refl
   other-test (kGoal kCreate) k = goal-test i F kCreate k (create-at F refl (same-read f i refl k) .goal) refl
   other-test (kGoal kRemove) k = goal-test i F kRemove k (remove-at F refl (same-read f i refl k) .goal) refl
+  other-test (kGoal kTry) k = goal-test i F kTry k (try-at F refl (same-read f i refl k) .goal) refl
+  other-test (kGoal kTest) k = goal-test i F kTest k (test-at F refl (same-read f i refl k) .goal) refl
 
   pub other-agrees : true ≡ recordTest (agrees f) f i
   other-agrees = other-test (kindOf (word f i kindWord)) refl

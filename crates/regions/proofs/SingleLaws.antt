@@ -6,7 +6,7 @@ use mathlib.Core.Path.{_≡_, refl, ap₂, _∙_}
 use Rattle.sets.specs.Tests.{_&_}
 use Rattle.language.specs.File.{recordCount}
 use Rattle.language.specs.Lists.{all, upFrom}
-use Rattle.language.specs.Program.{argumentsOf, Goals, done, _then_, Goal, step, switch, ifLess, Arms, noArms, arm, Signature, Program, regionOf, signatureOf}
+use Rattle.language.specs.Program.{argumentsOf, Goals, done, _then_, Goal, step, switch, ifLess, try, Arms, noArms, arm, Signature, Program, regionOf, signatureOf}
 use Rattle.language.specs.Regions.{inTargets, goalsRegions, goalRegions, armsRegions, regionsOk}
 use Rattle.language.specs.Answers.{program}
 use Rattle.chains.specs.Formed.{Formed}
@@ -35,6 +35,7 @@ module _ (P : Program) (S : Signature) where
     goal-agrees (step s) = refl
     goal-agrees (switch x cs) = arms-agree cs (regionOf S x)
     goal-agrees (ifLess y z a b) = ap₂ _&_ (goals-agree a) (goals-agree b)
+    goal-agrees (try c a b) = ap₂ _&_ (goals-agree c) (ap₂ _&_ (goals-agree a) (goals-agree b))
 
     arms-agree : (cs : Arms) (r : ℕ) → armsRegions P S cs r ≡ (armsHere P S cs r & allArms (agreesHere P S) cs)
     arms-agree noArms r = refl

@@ -7,7 +7,7 @@ use mathlib.Core.Path.{_≡_, sym, ap, _∙_}
 use Rattle.sets.specs.Sets.{single}
 use Rattle.language.specs.File.{GoalKind, kGoal, kindOf, word, recordCount}
 use Rattle.language.specs.Format.{kindWord}
-use Rattle.language.specs.Program.{Step, print, Goal, step, switch, ifLess, Signature, Program}
+use Rattle.language.specs.Program.{Step, print, Goal, step, switch, ifLess, try, Signature, Program}
 use Rattle.language.specs.Lifetimes.{effect}
 use Rattle.language.specs.Answers.{program}
 use Rattle.chains.specs.Formed.{goalAt}
@@ -44,6 +44,7 @@ unfoldable stepIn : Goal → Step
 stepIn (step s) = s
 stepIn (switch x cs) = print 0
 stepIn (ifLess y z a b) = print 0
+stepIn (try c a b) = print 0
 
 module _ (f : List ℕ) (i : ℕ) {h : Step} (v : goalAt f i ≡ step h) where
   pub same-step : {e : Effect} → Effects (program f) (signatureAt f i) h e → (g : Step) → GoalIsStep f i g → Effects (program f) (signatureAt f i) g e

@@ -3,7 +3,7 @@ use Prim.Native.Nat.{ℕ}
 use mathlib.Core.Bool.{Bool, true}
 use mathlib.Core.List.{List}
 use Rattle.sets.specs.Tests.{_&_}
-use Rattle.language.specs.Program.{argumentsOf, Goal, step, switch, ifLess, Arms, noArms, arm, Signature, Program, regionOf, signatureOf}
+use Rattle.language.specs.Program.{argumentsOf, Goal, step, switch, ifLess, try, Arms, noArms, arm, Signature, Program, regionOf, signatureOf}
 use Rattle.language.specs.Regions.{inTargets, stepRegions}
 use Rattle.language.specs.Answers.{program}
 
@@ -18,6 +18,7 @@ module _ (P : Program) (S : Signature) where
   agreesHere (step s) = stepRegions P S s
   agreesHere (switch x cs) = armsHere cs (regionOf S x)
   agreesHere (ifLess y z a b) = true
+  agreesHere (try c a b) = true
 
 -- the test of a goal of procedure q
 unfoldable pub agrees : List ℕ → ℕ → Goal → Bool

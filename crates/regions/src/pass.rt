@@ -188,6 +188,7 @@ fn next_ok(
         format::LITERAL => put_none(rows, i),
         format::SUM => put_none(rows, i),
         format::PRINT => put_none(rows, i),
+        format::TEST => put_none(rows, i),
         format::SWITCH => switch_ok(file, table, owners, i, firsts),
         format::CALL => next_call_ok(file, table, owners, last, i, rows),
         format::ASSIGN => step_ok(file, table, owners, i, rows, firsts),

@@ -11,7 +11,7 @@ use Rattle.sets.specs.Tests.{_or_, and-true, true-or-left, true-or-right}
 use Rattle.sets.specs.Sets.{member, single, subset, single-mk, subset-in}
 use Rattle.sets.specs.declared.Set.{Set}
 use Rattle.language.specs.Lists.{isNone}
-use Rattle.language.specs.Program.{Four, argumentsOf, Functor, literal, sum, assign, construct, call, print, create, remove, Goals, Goal, step, switch, ifLess, Signature, Program, typeOf, regionOf, signatureOf, functorsOf}
+use Rattle.language.specs.Program.{Four, argumentsOf, Functor, literal, sum, assign, construct, call, print, create, remove, test, Goals, Goal, step, switch, ifLess, try, Signature, Program, typeOf, regionOf, signatureOf, functorsOf}
 use Rattle.language.specs.Typing.{isRegion, hasType, haveTypes, typesOf, argumentsOk, functorsFor, stepOk, goalOk}
 use Rattle.language.specs.Regions.{regionsOf, inTargets, reach}
 use Rattle.language.specs.Lifetimes.{effect}
@@ -107,7 +107,9 @@ module _ {P : Program} (A : Accepted P) (f : RegionFrame) (fs : List RegionFrame
   allowed-ok (step (print y)) rest X = refl
   allowed-ok (step (create r)) rest X = refl
   allowed-ok (step (remove r)) rest X = needed-alive r (X .typed) (obeyed P S (remove r) (X .goes) .needs-held)
+  allowed-ok (step (test y z)) rest X = refl
   allowed-ok (switch x cs) rest X =
       let l = leb-true 1 (typeOf S x) (and-true (and-true (X .typed) .1) .0) in
       read-alive x l (subset-in (X .counted) s (X .fewer) x (require-in (X .goes) .0))
   allowed-ok (ifLess y z a b) rest X = refl
+  allowed-ok (try c a b) rest X = refl

@@ -10,8 +10,8 @@ use Rattle.language.specs.Program.{Goals, Goal, _then_, Program, signatureOf, p
 use Rattle.language.specs.Regions.{mapping, imageIn}
 use Rattle.language.specs.Lifetimes.{born, kept}
 use Rattle.language.specs.Checking.{soundGiven}
-use Rattle.language.specs.Frames.{Value}
-use Rattle.language.specs.AcceptedRun.{RegionFrame, RegionCell, Memory, State}
+use Rattle.language.specs.Frames.{Value, Condition, closed, opened}
+use Rattle.language.specs.AcceptedRun.{RegionFrame, RegionCell, Memory, State, whole}
 use Rattle.region_graph.specs.Laws.{shared, Called}
 use Rattle.safety.specs.Doing.{Doing}
 use Rattle.safety.specs.Premises.{Accepted, laws}
@@ -66,10 +66,16 @@ module _ (P : Program) where
         → Now (f .frame .procedure) (f .frame .arguments) (f .stands) (f .frame .values) fs (m .cells) (m .made) (m .alive) h s os
         → Inv f fs m
 
-  -- a settled state: the newest frame has a goal, or the run has ended and nothing is alive
+  -- what a failing test comes back to: the invariant once more, of the saved frame and memory, over the same waiting frames (C-20)
+  pub data Saved (fs : List RegionFrame) : Condition RegionFrame Memory → Type 0 where
+    none-open : Saved fs closed
+    saved : {a : Goals} {e : RegionFrame} {n : Memory} → Inv e fs n → Saved fs (opened a e n)
+
+  -- a settled state: the newest frame has a goal, or the run has ended and nothing is alive. In an open condition the invariant is asked twice: of
+  -- what goes on, with the goals that follow the condition, and of what is saved
   pub data Fine (st : State) : Type 0 where
     running : {f : RegionFrame} {fs : List RegionFrame} {g : Goal} {gs : Goals} → st .frames ≡ f ∷ fs → f .frame .goals ≡ g then gs
-        → Inv f fs (st .memory) → Fine st
+        → Inv (whole (st .condition) f) fs (st .memory) → Saved fs (st .condition) → Fine st
     over : st .frames ≡ [] → ((k : ℕ) → st .memory .alive k ≡ false) → Fine st
 
   -- ---- the waiting frames see of the newest what its kept regions stand for, and only more cells

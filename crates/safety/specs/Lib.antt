@@ -15,3 +15,5 @@ pub mod Settling
 pub mod Allowed
 pub mod Steps
 pub mod Safety
+pub mod Standing
+pub mod Since

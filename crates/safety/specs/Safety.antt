@@ -9,38 +9,43 @@ use Rattle.sets.specs.Sets.{member}
 use Rattle.language.specs.Program.{Goals, _then_, Goal, Program, signatureOf, inMode}
 use Rattle.language.specs.Values.{insOf}
 use Rattle.language.specs.Lifetimes.{startHeld}
-use Rattle.language.specs.Frames.{fits, withGoals, entryFrame}
-use Rattle.language.specs.AcceptedRun.{RegionFrame, Memory, State, withFrame, start, allowed, take, stepFrom, stepOf, steps}
+use Rattle.language.specs.Frames.{Condition, ahead, fits, withGoals, entryFrame}
+use Rattle.language.specs.AcceptedRun.{RegionFrame, Memory, State, withFrame, whole, start, allowed, take, stepFrom, stepOf, steps}
 use Rattle.laws.specs.Runs as Runs
+use Rattle.laws.specs.Goals.{ahead-then}
 use Rattle.laws.specs.MoreSets.{empty-in}
 use Rattle.safety.specs.Doing.{next-in}
 use Rattle.region_graph.specs.Classes.{kept-in}
 use Rattle.safety.specs.Signatures.{start-shared}
 use Rattle.safety.specs.Premises.{Accepted, fit, start-doing, entry-variables, entry-unshared}
-use Rattle.safety.specs.Invariant.{bottom, Inv, inv, Fine, running, over}
+use Rattle.safety.specs.Invariant.{bottom, Inv, inv, Saved, Fine, running, over}
 use Rattle.safety.specs.Settling.{settled}
 use Rattle.safety.specs.Allowed.{allowed-ok}
 use Rattle.safety.specs.Steps.{take-ok}
 
 module _ {P : Program} (A : Accepted P) where
   -- the next goal of a frame is allowed, and taking it leads to a settled state
-  inv-allowed : (f : RegionFrame) (fs : List RegionFrame) (m : Memory) (g : Goal) (gs : Goals) → f .frame .goals ≡ g then gs → Inv P f fs m
-      → allowed P g f m ≡ true
-  inv-allowed f fs m g gs e (inv d N) = allowed-ok A f fs m N g gs (next-in P _ d g gs e)
+  inv-allowed : (c : Condition RegionFrame Memory) (f : RegionFrame) (fs : List RegionFrame) (m : Memory) (g : Goal) (gs : Goals)
+      → f .frame .goals ≡ g then gs → Inv P (whole c f) fs m → allowed P g f m ≡ true
+  unfolding whole withFrame withGoals
+  inv-allowed c f fs m g gs e (inv d N) = allowed-ok A f fs m N g (ahead c gs) (next-in P _ d g (ahead c gs) (ap (ahead c) e ∙ ahead-then c g gs))
 
-  inv-taken : (f : RegionFrame) (fs : List RegionFrame) (m : Memory) (g : Goal) (gs : Goals) → f .frame .goals ≡ g then gs → Inv P f fs m
-      → Fine P (take P g (withFrame f (withGoals (f .frame) gs)) fs m)
-  unfolding withFrame withGoals
-  inv-taken f fs m g gs e (inv d N) = take-ok A (withFrame f (withGoals (f .frame) gs)) fs m N g (next-in P _ d g gs e)
+  inv-taken : (c : Condition RegionFrame Memory) (f : RegionFrame) (fs : List RegionFrame) (m : Memory) (g : Goal) (gs : Goals)
+      → f .frame .goals ≡ g then gs → Inv P (whole c f) fs m → Saved P fs c → Fine P (take P c g (withFrame f (withGoals (f .frame) gs)) fs m)
+  unfolding whole withFrame withGoals
+  inv-taken c f fs m g gs e (inv d N) v =
+      take-ok A c (withFrame f (withGoals (f .frame) gs)) fs m N v g (next-in P _ d g (ahead c gs) (ap (ahead c) e ∙ ahead-then c g gs))
 
   -- a step from there is that goal taken, or stays at a sum out of range
   step-fine : (st : State) → Fine P st → Fine P (stepOf P st)
   unfolding stepOf stepFrom
-  step-fine st (running {f = f} {fs = fs} {g = g} {gs = gs} e q i) = go (truth (fits g (f .frame)))
+  step-fine st (running {f = f} {fs = fs} {g = g} {gs = gs} e q i v) = go (truth (fits g (f .frame)))
     where
       go : (fits g (f .frame) ≡ true) ⊎ (fits g (f .frame) ≡ false) → Fine P (stepOf P st)
-      go (inl n) = rw (Runs.taken P st f fs g gs e q n (inv-allowed f fs (st .memory) g gs q i)) (inv-taken f fs (st .memory) g gs q i)
-      go (inr n) = rw (Runs.stays-at-sum P st f fs g gs e q n) (running e q i)
+      go (inl n) =
+          rw (Runs.taken P st f fs g gs e q n (inv-allowed (st .condition) f fs (st .memory) g gs q i))
+          (inv-taken (st .condition) f fs (st .memory) g gs q i v)
+      go (inr n) = rw (Runs.stays-at-sum P st f fs g gs e q n) (running e q i v)
   step-fine st (over e d) = rw (ended e) (over e d)
     where
       ended : st .frames ≡ [] → stepOf P st ≡ st
@@ -76,8 +81,8 @@ module _ {P : Program} (A : Accepted P) where
   steps-fine (suc n) = step-fine (steps P n) (steps-fine n)
 
   -- ---- what a settled state says, for any frame that is its newest
-  fine-inv : (st : State) (f : RegionFrame) (fs : List RegionFrame) → Fine P st → st .frames ≡ f ∷ fs → Inv P f fs (st .memory)
-  fine-inv st f fs (running {f = e} {fs = es} p q i) z =
+  fine-inv : (st : State) (f : RegionFrame) (fs : List RegionFrame) → Fine P st → st .frames ≡ f ∷ fs → Inv P (whole (st .condition) f) fs (st .memory)
+  fine-inv st f fs (running {f = e} {fs = es} p q i v) z =
       let a : e ≡ f = cc in
       let b : es ≡ fs = cc in
       rw (← a) (rw (← b) i)
@@ -85,25 +90,25 @@ module _ {P : Program} (A : Accepted P) where
 
   fine-goal : (st : State) (f : RegionFrame) (fs : List RegionFrame) → Fine P st → st .frames ≡ f ∷ fs
       → (g : Goal) × (gs : Goals) × (f .frame .goals ≡ g then gs)
-  fine-goal st f fs (running {f = e} {g = g} {gs = gs} p q i) z =
+  fine-goal st f fs (running {f = e} {g = g} {gs = gs} p q i v) z =
       let a : e ≡ f = cc in
       (g, gs, ap (λ (b : RegionFrame). b .frame .goals) (sym a) ∙ q)
   fine-goal st f fs (over p d) z = absurd (false≢true (cc))
 
   fine-clean : (st : State) → Fine P st → st .frames ≡ [] → (k : ℕ) → st .memory .alive k ≡ false
-  fine-clean st (running p q i) z k = absurd (false≢true (cc))
+  fine-clean st (running p q i v) z k = absurd (false≢true (cc))
   fine-clean st (over p d) z k = d k
 
   -- ---- the theorems
   -- the state after any number of steps is never one that stays for a region
   pub safe : (n : ℕ) (f : RegionFrame) (fs : List RegionFrame) (g : Goal) (gs : Goals) → steps P n .frames ≡ f ∷ fs
       → f .frame .goals ≡ g then gs → allowed P g f (steps P n .memory) ≡ true
-  safe n f fs g gs e q = inv-allowed f fs (steps P n .memory) g gs q (fine-inv (steps P n) f fs (steps-fine n) e)
+  safe n f fs g gs e q = inv-allowed (steps P n .condition) f fs (steps P n .memory) g gs q (fine-inv (steps P n) f fs (steps-fine n) e)
 
   -- so the next step takes the newest frame's next goal, unless that is a sum out of range
   pub taken : (n : ℕ) (f : RegionFrame) (fs : List RegionFrame) (g : Goal) (gs : Goals) → steps P n .frames ≡ f ∷ fs
       → f .frame .goals ≡ g then gs → fits g (f .frame) ≡ true
-      → steps P (suc n) ≡ take P g (withFrame f (withGoals (f .frame) gs)) fs (steps P n .memory)
+      → steps P (suc n) ≡ take P (steps P n .condition) g (withFrame f (withGoals (f .frame) gs)) fs (steps P n .memory)
   unfolding steps
   taken n f fs g gs e q t = Runs.taken P (steps P n) f fs g gs e q t (safe n f fs g gs e q)
 

@@ -10,31 +10,33 @@ use lib.ListN.{length}
 use lib.IntN.{ℤ}
 use Rattle.sets.specs.Tests.{and-true}
 use Rattle.sets.specs.Sets.{emptySet, subset, subset-in}
+use Rattle.sets.specs.SetLaws.{subset-refl}
 use Rattle.sets.specs.Members.{setOf, nil-in, cons-in}
 use Rattle.sets.specs.declared.Set.{Set}
 use Rattle.language.specs.Lists.{choose, put}
-use Rattle.language.specs.Program.{Four, argumentsOf, Functor, Step, literal, sum, assign, construct, call, print, create, remove, Goals, Goal, step, switch, ifLess, Arms, _before_, Signature, Program, typeOf, regionOf, signatureOf, functorsOf, functorAt, parametersOf, inMode}
+use Rattle.language.specs.Program.{Four, argumentsOf, Functor, Step, literal, sum, assign, construct, call, print, create, remove, test, Goals, Goal, step, switch, ifLess, try, Arms, _before_, Signature, Program, typeOf, regionOf, signatureOf, functorsOf, functorAt, parametersOf, inMode}
 use Rattle.language.specs.Typing.{isVariable, isRegion, functorsFor, typesOf, parameterTypes, stepOk, goalsOk, goalOk}
 use Rattle.language.specs.Values.{reads, gives, access, accessing}
 use Rattle.language.specs.Regions.{regionsOf, inTargets, stepRegions, goalsRegions, goalRegions}
 use Rattle.language.specs.Lifetimes.{noEffect, effect}
 use Rattle.language.specs.Checking.{carries, soundGiven, soundWithout, checkStep, checkGoals, checkGoal}
-use Rattle.language.specs.Frames.{Value, cellAt, Frame, Cell, withGoals, giving, giveEach, literalIn, sumIn, assignIn, cellFor, builtValue, buildIn, branchIn, picked, pick, enterArm, cellIn, openCell, calleeFrame}
-use Rattle.language.specs.AcceptedRun.{RegionFrame, Memory, cellOf, withCell, withBuilt, withPrinted, withRegion, withoutRegion, withFrame, mappingFrom, calleeRegions, regionFor, take}
+use Rattle.language.specs.Frames.{Value, cellAt, Frame, Condition, closed, opened, ahead, Cell, lessIn, withGoals, giving, giveEach, literalIn, sumOf, sumIn, assignIn, cellFor, builtValue, buildIn, branchIn, Picked, noArm, picked, pick, enterArm, cellIn, openCell, calleeFrame}
+use Rattle.language.specs.AcceptedRun.{RegionFrame, Memory, State, cellOf, withCell, withBuilt, withPrinted, withRegion, withoutRegion, restored, withFrame, going, whole, mappingFrom, calleeRegions, regionFor, failed, take}
 use Rattle.region_graph.specs.Parameters.{arguments-in}
 use Rattle.region_graph.specs.Typed.{types-had, arguments-regioned}
 use Rattle.region_graph.specs.Procedure.{cell-region}
-use Rattle.safety.specs.Walks.{require-in, Joined, join-in}
+use Rattle.laws.specs.Goals.{ahead-before}
+use Rattle.safety.specs.Walks.{require-in, carryOn-in, Joined, join-in}
 use Rattle.safety.specs.Doing.{Doing, segment, NextGoal, ArmTaken, arms-in}
 use Rattle.safety.specs.Signatures.{Fit, laws-of}
 use Rattle.safety.specs.Premises.{Accepted, calling, fit, start-doing}
 use Rattle.safety.specs.PlacedValues.{cellOn, grows-more, PlacedValue, is-constant, PlacedAll, placed-none, placed-more, Lies, cell-found}
 use Rattle.safety.specs.Variables.{AllVariables, type-in, types-variables, read-sound, placed-each, placed-new}
 use Rattle.safety.specs.Owners.{Owner}
-use Rattle.safety.specs.Invariant.{Now, Inv, inv, Fine}
+use Rattle.safety.specs.Invariant.{Now, Inv, inv, Saved, none-open, saved, Fine}
 use Rattle.safety.specs.Quiet.{Obeyed, obeyed, quiet, now-fewer, now-given, now-grown, now-quiet, now-created, now-removed}
 use Rattle.safety.specs.Calls.{now-called}
-use Rattle.safety.specs.Settling.{settled}
+use Rattle.safety.specs.Settling.{settled, settled-in}
 use Rattle.safety.specs.Allowed.{number-placed, fits-along, cell-of, Built, constructed}
 
 -- how a step is checked and described, opened together
@@ -209,15 +211,88 @@ module _ {P : Program} (A : Accepted P) (f : RegionFrame) (fs : List RegionFrame
       (λ y j. types-variables S (parameterTypes (signatureOf P q)) ys (o .1) y
       (arguments-in inMode (parametersOf (signatureOf P q)) ys y j)))
 
-  pub take-ok : (g : Goal) → NextGoal P S g (f .frame .goals) h s → Fine P (take P g f fs m)
-  unfolding take
-  take-ok (step (literal x v)) X = settled A _ fs m (literal-ok x v X)
-  take-ok (step (sum x o y z)) X = settled A _ fs m (sum-ok x o y z X)
-  take-ok (step (assign x y)) X = settled A _ fs m (assign-ok x y X)
-  take-ok (step (construct x k ys)) X = settled A _ fs _ (construct-ok x k ys X)
-  take-ok (step (call q ys)) X = settled A _ (f ∷ fs) m (call-ok q ys X)
-  take-ok (step (print y)) X = settled A f fs _ (print-ok y _ X)
-  take-ok (step (create r)) X = settled A _ fs _ (create-ok r X)
-  take-ok (step (remove r)) X = settled A f fs _ (remove-ok r X)
-  take-ok (switch x cs) X = settled A _ fs m (switch-ok x cs X)
-  take-ok (ifLess y z a b) X = settled A _ fs m (if-ok y z a b X)
+  -- a test that does not fail changes nothing
+  test-ok : (y z : ℕ) → NextGoal P S (step (test y z)) (f .frame .goals) h s → Inv P f fs m
+  unfolding described
+  test-ok y z X =
+      inv (quiet-doing (test y z) (X .counted) (f .frame .goals) refl refl (X .goes) (X .onward))
+      (now-quiet A (X .counted) [] (X .fewer) placed-none N)
+
+  -- a try: the condition, the then part and the rest go on; the else part and the rest are saved
+  condition-ok : (t a b : Goals) → NextGoal P S (try t a b) (f .frame .goals) h s → Inv P (going f (t before (a before f .frame .goals))) fs m
+  unfolding described withFrame withGoals
+  condition-ok t a b X =
+      let o = and-true (X .typed) in
+      let r = and-true (X .regioned) in
+      let j = join-in (X .goes) in
+      let i = carryOn-in (j .goes-left) in
+      inv (segment t refl (o .0) (r .0) (i .2) (subset-refl (i .1))
+      (segment a refl (and-true (o .1) .0) (and-true (r .1) .0) (i .3) (j .in-left) (X .onward)))
+      (now-fewer A (X .fewer) N)
+
+  else-ok : (t a b : Goals) → NextGoal P S (try t a b) (f .frame .goals) h s → Inv P (going f (b before f .frame .goals)) fs m
+  unfolding described withFrame withGoals
+  else-ok t a b X =
+      let o = and-true (and-true (X .typed) .1) in
+      let r = and-true (and-true (X .regioned) .1) in
+      let j = join-in (X .goes) in
+      inv (segment b refl (o .1) (r .1) (j .goes-right) (j .in-right) (X .onward)) (now-fewer A (X .fewer) N)
+
+-- ---- the newest frame with all its goals does what it does without those that follow the condition
+module _ (c : Condition RegionFrame Memory) (f : RegionFrame) where
+  whole-branch : (y z : ℕ) (a b : Goals)
+      → whole c (withFrame f (branchIn (f .frame) y z a b)) ≡ withFrame (whole c f) (branchIn (whole c f .frame) y z a b)
+  unfolding whole withFrame withGoals branchIn lessIn
+  whole-branch y z a b = rw (ahead-before c)
+
+  whole-arm : (p : Picked) (vs : List Value) → whole c (withFrame f (enterArm p vs (f .frame))) ≡ withFrame (whole c f) (enterArm p vs (whole c f .frame))
+  unfolding whole withFrame withGoals enterArm
+  whole-arm noArm vs = refl
+  whole-arm (picked ys gs) vs = rw (ahead-before c)
+
+  whole-open : (k : Cell) (cs : Arms) → whole c (withFrame f (openCell k cs (f .frame))) ≡ withFrame (whole c f) (openCell k cs (whole c f .frame))
+  unfolding openCell
+  whole-open k cs = whole-arm (pick cs (k .functor)) (k .contents)
+
+  whole-built : (P : Program) (m : Memory) (x k : ℕ) (ys : List ℕ)
+      → withBuilt m (regionFor P (whole c f) x) (whole c f .frame) k ys ≡ withBuilt m (regionFor P f x) (f .frame) k ys
+  unfolding whole withFrame withGoals withBuilt regionFor cellFor
+  whole-built P m x k [] = refl
+  whole-built P m x k (y ∷ ys) = refl
+
+-- ---- taking a goal
+fine-choose : {P : Program} (b : Bool) (s t : State) → Fine P s → Fine P t → Fine P (choose b s t)
+unfolding choose
+fine-choose true s t x y = x
+fine-choose false s t x y = y
+
+-- what is saved is fine, whatever was printed since
+saved-fine : {P : Program} (e : RegionFrame) (fs : List RegionFrame) (n m : Memory) → Inv P e fs n → Inv P e fs (restored n m)
+unfolding restored
+saved-fine e fs n m (inv d N) = inv d N
+
+module _ {P : Program} (A : Accepted P) (f : RegionFrame) (fs : List RegionFrame) (m : Memory) where
+  failed-ok : (c : Condition RegionFrame Memory) → Inv P (whole c f) fs m → Saved P fs c → Fine P (failed P c f fs m)
+  unfolding failed whole ahead withFrame withGoals
+  failed-ok closed i v = settled A f fs m i
+  failed-ok (opened a e n) i (saved j) = settled A e fs (restored n m) (saved-fine e fs n m j)
+
+module _ {P : Program} (A : Accepted P) (c : Condition RegionFrame Memory) (f : RegionFrame) (fs : List RegionFrame) (m : Memory) {h s : Set}
+    {os : List Owner}
+    (N : Now P (f .frame .procedure) (f .frame .arguments) (f .stands) (f .frame .values) fs (m .cells) (m .made) (m .alive) h s os)
+    (W : Saved P fs c) where
+  pub take-ok : (g : Goal) → NextGoal P (signatureOf P (f .frame .procedure)) g (ahead c (f .frame .goals)) h s → Fine P (take P c g f fs m)
+  unfolding take whole withFrame withGoals literalIn sumIn sumOf assignIn buildIn giving calleeRegions calleeFrame mappingFrom regionFor ahead
+  take-ok (step (literal x v)) X = settled-in A c _ fs m (literal-ok A (whole c f) fs m N x v X) W
+  take-ok (step (sum x o y z)) X = settled-in A c _ fs m (sum-ok A (whole c f) fs m N x o y z X) W
+  take-ok (step (assign x y)) X = settled-in A c _ fs m (assign-ok A (whole c f) fs m N x y X) W
+  take-ok (step (construct x k ys)) X = settled-in A c _ fs _ (rw (whole-built c f P m x k (argumentsOf ys)) at (construct-ok A (whole c f) fs m N x k ys X)) W
+  take-ok (step (call q ys)) X = settled A _ (whole c f ∷ fs) m (call-ok A (whole c f) fs m N q ys X)
+  take-ok (step (print y)) X = settled-in A c f fs _ (print-ok A (whole c f) fs m N y _ X) W
+  take-ok (step (create r)) X = settled-in A c _ fs _ (create-ok A (whole c f) fs m N r X) W
+  take-ok (step (remove r)) X = settled-in A c f fs _ (remove-ok A (whole c f) fs m N r X) W
+  take-ok (step (test y z)) X =
+      let i = test-ok A (whole c f) fs m N y z X in fine-choose _ _ _ (settled-in A c f fs m i W) (failed-ok A f fs m c i W)
+  take-ok (switch x cs) X = settled-in A c _ fs m (rw (whole-open c f) (switch-ok A (whole c f) fs m N x cs X)) W
+  take-ok (ifLess y z a b) X = settled-in A c _ fs m (rw (whole-branch c f) (if-ok A (whole c f) fs m N y z a b X)) W
+  take-ok (try t a b) X = settled-in A _ _ fs m (condition-ok A (whole c f) fs m N t a b X) (saved (else-ok A (whole c f) fs m N t a b X))

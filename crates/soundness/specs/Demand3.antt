@@ -1,5 +1,7 @@
 -- Demand 3, proved: `demand-3` and `written-accepted` are the two claims of `Statement`.
-use Prim.Native.Nat.{ℕ, _≤_}
+use Prim.Native.Nat.{ℕ, zero, suc, _≤_}
+use native.Mathlib.Omega.{arith}
+use native.Mathlib.Decide.{decLe}
 use mathlib.Core.Bool.{true}
 use mathlib.Core.List.{List}
 use mathlib.Core.Path.{_≡_, sym, ap, _∙_}
@@ -14,15 +16,28 @@ use Rattle.language.specs.Lifetimes.{declaredClassesOk}
 use Rattle.language.specs.Annotation.{annotate}
 use Rattle.language.specs.Checking.{rulesOk}
 use Rattle.language.specs.Answers.{lowest, program, fileOf, roomOk, annotatorStages, checkerStages, annotated, checked}
+use Rattle.language.specs.Conditions.{conditionsOk}
+use Rattle.laws.specs.Conditions.{stripped-conditions}
 use Rattle.laws.specs.Stages.{lowest-passed, passed-lowest, Read, passed-reached, reached-passed, writes-passed}
 use Rattle.layout.specs.Programs.{program-written, form-of-program, header-of-program}
 use Rattle.call_graph.specs.Stripped.{stripped-reached}
 use Rattle.placement.specs.Strip.{strip-annotate}
 use Rattle.placement.specs.Whole.{Annotatable, accepted-again, typed-again, values-again, regions-again, classes-again}
+use Rattle.lockstep.specs.Counted.{spent}
 use Rattle.lockstep.specs.Lock as Lock
 use Rattle.safety.specs.Premises as Premises
 use Rattle.safety.specs.Safety.{safe, taken, clean}
+use Rattle.safety.specs.Since.{goes-back}
 use Rattle.soundness.specs.Statement.{Demand3, Written}
+
+-- what was spent stays so
+spent-more : (P : Program) (n k : ℕ) → n ≤ k → spent P n ≤ spent P k
+unfolding spent
+spent-more P n zero l = let z : n ≡ 0 = omega arith in rw z (omega arith)
+spent-more P n (suc k) l = elim (decLe n k) [
+  | yes h ↦ omega (arith, spent-more P n k h)
+  | no h ↦ let z : n ≡ suc k = omega (arith, h) in rw z (omega arith)
+]
 
 -- ---- an accepted file
 -- what it has passed: numbers 1 to 5, 17, 7 and 8
@@ -54,6 +69,8 @@ demand-3 f e =
       safe = S;
       taken = taken A;
       clean = clean A;
+      undone = goes-back (program f) (checked-is f e .read .conditions);
+      stillSpent = spent-more (program f);
       prints = Lock.prints (program f) S;
       each = Lock.each (program f) S;
       both = Lock.both (program f) S;
@@ -71,15 +88,20 @@ demand-3 f e =
 reached-again : (P : Program) → reachedOk (annotate P) ≡ reachedOk P
 reached-again P = sym (stripped-reached (annotate P)) ∙ ap reachedOk (strip-annotate P) ∙ stripped-reached P
 
+-- creates and removes may stand in conditions too
+conditions-again : (P : Program) → conditionsOk (annotate P) ≡ conditionsOk P
+conditions-again P = sym (stripped-conditions (annotate P)) ∙ ap conditionsOk (strip-annotate P) ∙ stripped-conditions P
+
 -- the annotation of a program passes every stage of the checker
-annotation-checked : (P : Program) → Annotatable P → reachedOk P ≡ true → size (programTree (annotate P)) ≤ 4096 → Checked (fileOf (annotate P))
+annotation-checked : (P : Program) → Annotatable P → conditionsOk P ≡ true → reachedOk P ≡ true → size (programTree (annotate P)) ≤ 4096 → Checked (fileOf (annotate P))
 unfolding fileOf
-annotation-checked P A h l =
+annotation-checked P A k h l =
     let e = program-written (annotate P) in
     record {
       read = record {
         header = header-of-program (annotate P) l;
         form = form-of-program (annotate P);
+        conditions = rw e (conditions-again P ∙ k);
         typing = rw e (typed-again P A);
         values = rw e (values-again P A);
         regions = rw e (regions-again P A);
@@ -99,4 +121,4 @@ written-accepted f lent g e =
     rw (← w .1)
     (is-checked (fileOf (annotate (program f)))
     (annotation-checked (program f)
-    (record { typing = p .0 .typing; values = p .0 .values; regions = p .0 .regions; classes = c .0; calls = c .1 }) (p .1) l))
+    (record { typing = p .0 .typing; values = p .0 .values; regions = p .0 .regions; classes = c .0; calls = c .1 }) (p .0 .conditions) (p .1) l))

@@ -11,7 +11,7 @@ use Rattle.language.specs.declared.Stop.{Stop}
 use Rattle.language.specs.declared.Stop.the-variants.{Steps, Cells, Places, Frames, Prints, Sums}
 use Rattle.language.specs.declared.Ending.{Ending}
 use Rattle.language.specs.declared.Ending.the-variants.{Refused, Finished, Stopped}
-use Rattle.language.specs.Program.{literal, sum, assign, construct, call, print, create, remove, Goals, done, _then_, Goal, step, switch, ifLess, Program}
+use Rattle.language.specs.Program.{literal, sum, assign, construct, call, print, create, remove, test, Goals, done, _then_, Goal, step, switch, ifLess, try, Program}
 use Rattle.language.specs.Frames.{fitsStep, fits, overAhead, staysAtSum}
 use Rattle.language.specs.PlainRun.{stripped, plainSteps}
 use Rattle.language.specs.AcceptedRun.{RegionFrame, State, frameOf, start, stepOf, steps}
@@ -79,8 +79,10 @@ module _ (k : Room) (s : State) where
   goal-onward (step (print y)) e = room-onward _ _ refl
   goal-onward (step (create r)) e = room-onward _ _ refl
   goal-onward (step (remove r)) e = (refl, refl)
+  goal-onward (step (test y z)) e = (refl, refl)
   goal-onward (switch x cs) e = (refl, refl)
   goal-onward (ifLess y z a b) e = (refl, refl)
+  goal-onward (try c a b) e = (refl, refl)
 
   goals-onward : (gs : Goals) (e : RegionFrame) → Onward (outlookIn k gs e s)
   unfolding Onward outlookIn isEnded stopsWith stopNumber
@@ -124,8 +126,10 @@ module _ (k : Room) (s : State) where
   goal-sum (step (print y)) e o = absurd (room-sum _ _ refl o)
   goal-sum (step (create r)) e o = absurd (room-sum _ _ refl o)
   goal-sum (step (remove r)) e o = absurd (false≢true o)
+  goal-sum (step (test y z)) e o = absurd (false≢true o)
   goal-sum (switch x cs) e o = absurd (false≢true o)
   goal-sum (ifLess y z a b) e o = absurd (false≢true o)
+  goal-sum (try c a b) e o = absurd (false≢true o)
 
   goals-sum : (gs : Goals) (e : RegionFrame) → lacksSums (outlookIn k gs e s) ≡ true → overAhead gs (e .frame) ≡ true
   unfolding outlookIn overAhead stopsWith stopNumber

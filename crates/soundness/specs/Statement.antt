@@ -1,19 +1,23 @@
 -- Demand 3, to be checked against the user's words without reading a proof: what holds of every file that the checker accepts, and of whatever
 -- the annotator writes.
-use Prim.Native.Nat.{ℕ, suc, _+_, _-_}
+use Prim.Native.Nat.{ℕ, suc, _+_, _-_, _≤_}
 use mathlib.Core.Bool.{true, false}
 use mathlib.Core.List.{List, [], _∷_, map}
 use mathlib.Core.Logic.{_↔_}
 use mathlib.Core.Path.{_≡_}
 use Rattle.language.specs.declared.Verdict.the-variants.{Accepted}
-use Rattle.language.specs.Program.{Goals, _then_, Goal}
-use Rattle.language.specs.Frames.{withGoals, fits, staysAtSum}
+use Rattle.language.specs.Program.{test, Goals, _then_, Goal, step}
+use Rattle.language.specs.Frames.{lessIn, withGoals, fits, staysAtSum}
 use Rattle.language.specs.PlainRun.{stripped, plainSteps}
 use Rattle.language.specs.AcceptedRun.{RegionFrame, frameOf, withFrame, allowed, take, steps}
 use Rattle.language.specs.Answers.{program, checked, annotated, writes}
 use Rattle.lockstep.specs.Counted.{spent}
 use Rattle.lockstep.specs.Erase.{eraseFrame}
+use Rattle.safety.specs.Since.{GoneBack}
 
+-- "For demand 3 a create or removal that a failing test undoes has not happened, though its step stays spent on it" (C-20): a failing test goes on
+-- with the memory saved before the condition (`undone`), so `safe` and `clean` speak of regions that were created and removed for good or in the
+-- condition that is open; and what was spent stays so (`stillSpent`).
 -- The accepted file's run is `steps (program f)`, the plain run `plainSteps (stripped (program f))`; a run has ended once it has no frame. It is at a sum
 -- out of range if the newest frame's next goal is one (`staysAtSum`); it stays there and has not ended (C-15).
 pub record Sound (f : List ℕ) : Type 0 where
@@ -24,9 +28,15 @@ pub record Sound (f : List ℕ) : Type 0 where
   -- so it stays only at a sum out of range: any other goal is taken
   pub taken : (n : ℕ) (e : RegionFrame) (es : List RegionFrame) (g : Goal) (gs : Goals)
       → steps (program f) n .frames ≡ e ∷ es → e .frame .goals ≡ (g then gs) → fits g (e .frame) ≡ true
-      → steps (program f) (suc n) ≡ take (program f) g (withFrame e (withGoals (e .frame) gs)) es (steps (program f) n .memory)
+      → steps (program f) (suc n) ≡ take (program f) (steps (program f) n .condition) g (withFrame e (withGoals (e .frame) gs)) es (steps (program f) n .memory)
   -- "all are removed once the entry has returned"
   pub clean : (n : ℕ) → steps (program f) n .frames ≡ [] → (k : ℕ) → steps (program f) n .memory .alive k ≡ false
+  -- "When a test fails, the else part begins with variables, regions and cells exactly as before the condition" (C-20): the run came to the try some steps
+  -- before, and goes on with the frame and the memory that it had there (`GoneBack`)
+  pub undone : (n : ℕ) (e : RegionFrame) (es : List RegionFrame) (y z : ℕ) (gs : Goals)
+      → steps (program f) n .frames ≡ e ∷ es → e .frame .goals ≡ (step (test y z) then gs) → lessIn (e .frame) y z ≡ false → GoneBack (program f) n es
+  -- ".. though its step stays spent on it" (C-20): what a failing test undoes is not taken off again, nor is anything else
+  pub stillSpent : (n k : ℕ) → n ≤ k → spent (program f) n ≤ spent (program f) k
   -- "the numbers printed are those of the plain run .. after as many steps less those spent on creates and removes": up to a sum out of range, and there
   pub prints : (n : ℕ) → steps (program f) n .memory .printed ≡ plainSteps (stripped (program f)) (n - spent (program f) n) .printed
   -- "each number of plain steps comes up"

@@ -8,7 +8,7 @@ use borrow.Author.Tests.{leb-true}
 use lib.ListN.{length, length-append}
 use Rattle.sets.specs.Tests.{and-true}
 use Rattle.language.specs.Format.{maxProcedures}
-use Rattle.language.specs.File.{kSwitch, kIf, kGoal}
+use Rattle.language.specs.File.{kSwitch, kIf, kTry, kGoal}
 use Rattle.language.specs.Lists.{among}
 use Rattle.language.specs.Typing.{typingOk}
 use Rattle.language.specs.Answers.{program}
@@ -17,7 +17,7 @@ use Rattle.chains.specs.Formed.{Formed}
 use Rattle.chains.specs.Is.{arm-is}
 use Rattle.chains.specs.Shapes.{by-number}
 use Rattle.owners.specs.Owner.{ownersOf, ownerOf}
-use Rattle.owners.specs.Owners.{owners-length, listed-owner, goals-owned, switch-owned, if-owned, arm-owned, procedureRecord, procedure-first}
+use Rattle.owners.specs.Owners.{owners-length, listed-owner, goals-owned, switch-owned, if-owned, try-owned, arm-owned, procedureRecord, procedure-first}
 use Rattle.accesses.specs.Noting.{AllNoted, noted-accessed}
 use Rattle.called.specs.Linked.{OwnersIn}
 use Rattle.regions.specs.Here.{Given}
@@ -36,6 +36,9 @@ owning {f} F = record {
   to-next = λ i s z j e n. goals-owned F s z e n;
   to-then = λ i k j e n. moved f e (if-owned F refl (by-number f i (kGoal kIf) refl k) .to-then) n;
   to-else = λ i k j e n. moved f e (if-owned F refl (by-number f i (kGoal kIf) refl k) .to-else) n;
+  to-condition = λ i k j e n. moved f e (try-owned F refl (by-number f i (kGoal kTry) refl k) .to-condition) n;
+  to-try-then = λ i k j e n. moved f e (try-owned F refl (by-number f i (kGoal kTry) refl k) .to-then) n;
+  to-try-else = λ i k j e n. moved f e (try-owned F refl (by-number f i (kGoal kTry) refl k) .to-else) n;
   to-arms = λ i k j e n. moved f e (switch-owned F refl (by-number f i (kGoal kSwitch) refl k) .to-arms) n;
   arm-goals = λ i s z j e n. moved f e (arm-owned F refl (arm-is s z) .to-goals) n;
   arm-next = λ i s z j e n. moved f e (arm-owned F refl (arm-is s z) .to-next) n;

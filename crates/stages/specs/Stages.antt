@@ -4,9 +4,10 @@ use mathlib.Core.Path.{_≡_, refl, sym, _∙_, ap}
 use mathlib.Core.Bool.{Bool, true, false, false≢true}
 use mathlib.Core.List.{List, [], _∷_, _++_}
 use Rattle.language.specs.declared.Refusal.{Refusal}
-use Rattle.language.specs.declared.Refusal.the-variants.{Typing, Values, Regions, Unreached, Classes}
+use Rattle.language.specs.declared.Refusal.the-variants.{Form, Typing, Values, Regions, Unreached, Classes}
 use Rattle.language.specs.declared.Verdict.{Verdict}
 use Rattle.language.specs.declared.Verdict.the-variants.{Refused, Accepted}
+use Rattle.language.specs.Conditions.{conditionsOk}
 use Rattle.language.specs.Typing.{typingOk}
 use Rattle.language.specs.Values.{valuesOk}
 use Rattle.language.specs.Regions.{regionsOk}
@@ -17,9 +18,13 @@ use Rattle.records.specs.Verdicts.{formStages, formVerdict, after, lowest-appen
 use Rattle.chains.specs.Formed.{Formed, formed}
 
 module _ (f : List ℕ) where
+  -- numbers 1 and 2
+  abbrev pub shapeStages : List Stage
+  shapeStages = formStages f ++ (stage Form (conditionsOk (program f)) ∷ [])
+
   -- numbers 1 to 3
   abbrev pub typingStages : List Stage
-  typingStages = formStages f ++ (stage Typing (typingOk (program f)) ∷ [])
+  typingStages = shapeStages ++ (stage Typing (typingOk (program f)) ∷ [])
 
   -- numbers 5 and 17
   abbrev pub regionStages : List Stage
@@ -61,9 +66,12 @@ module _ (ss : List Stage) where
 
 -- ---- what an accepting stage has found
 module _ (f : List ℕ) where
-  pub typing-found : {v : Verdict} → v ≡ lowest (typingStages f) → v ≡ Accepted → Formed f × (typingOk (program f) ≡ true)
+  pub shape-found : {v : Verdict} → v ≡ lowest (shapeStages f) → v ≡ Accepted → Formed f × (conditionsOk (program f) ≡ true)
   unfolding formVerdict
-  typing-found e g = let p = passed-both (formStages f) Typing e g in (formed refl (p .0), p .1)
+  shape-found e g = let p = passed-both (formStages f) Form e g in (formed refl (p .0), p .1)
+
+  pub typing-found : {v : Verdict} → v ≡ lowest (typingStages f) → v ≡ Accepted → Formed f × (typingOk (program f) ≡ true)
+  typing-found e g = let p = passed-both (shapeStages f) Typing e g in (shape-found refl (p .0) .0, p .1)
 
 pub not-accepted : {A : Type 0} {r : Refusal} → Refused r ≡ Accepted → A
 not-accepted e = absurd (false≢true cc)

@@ -1,5 +1,6 @@
 // Numbers 1 to 3 of any bytes; then numbers 4, 5 and 17, and 7's part for every program, with the tables that later stages read.
 use called::all_reached;
+use conditions::conditions_ok;
 use language::Refusal;
 use language::Verdict;
 use owners::list_owners;
@@ -24,14 +25,28 @@ ghost use Rattle.chains.specs.Formed.{Formed};
 ghost use Rattle.tables.specs.Window.{FileTable};
 ghost use Rattle.tables.specs.Filled.{Prepared};
 ghost use Rattle.regions.specs.Rowed.{AfterPass};
-ghost use Rattle.stages.specs.Stages.{typingStages, regionStages, tableStages};
+ghost use Rattle.stages.specs.Stages.{shapeStages, typingStages, regionStages, tableStages};
 ghost use Rattle.stages.specs.Tabled.{TablesAfter};
+
+// Numbers 1 and 2.
+fn check_shape(file: &[u8]) -> Verdict
+    ensures { λ r. ⌜ r ≡ lowest (shapeStages (now (file .entry))) ⌝ }
+{
+    let answer = check_form(file);
+    let Verdict::Accepted = answer else {
+        return answer;
+    };
+    if !conditions_ok(file) {
+        return Verdict::Refused(Refusal::Form);
+    }
+    Verdict::Accepted
+}
 
 // Numbers 1 to 3.
 pub fn check_typing(file: &[u8]) -> Verdict
     ensures { λ r. ⌜ r ≡ lowest (typingStages (now (file .entry))) ⌝ }
 {
-    let answer = check_form(file);
+    let answer = check_shape(file);
     let Verdict::Accepted = answer else {
         return answer;
     };

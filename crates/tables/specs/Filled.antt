@@ -5,7 +5,7 @@ use mathlib.Core.Path.{_≡_}
 use lib.ListN.{length}
 use Rattle.sets.specs.Members.{setOf}
 use Rattle.language.specs.File.{procedures, goals, arms, word}
-use Rattle.language.specs.Format.{maxProcedures, nextWord, switchArms, armGoals, ifThen, ifElse, procedureGoals, headerProcedures}
+use Rattle.language.specs.Format.{maxProcedures, nextWord, switchArms, armGoals, ifThen, ifElse, tryCondition, tryThen, tryElse, procedureGoals, headerProcedures}
 use Rattle.language.specs.Lists.{nth}
 use Rattle.language.specs.Program.{argumentsOf, Step, step, signatureOf}
 use Rattle.language.specs.Values
@@ -14,7 +14,7 @@ use Rattle.language.specs.Answers.{program}
 use Rattle.chains.specs.Formed.{Stands, goalAt}
 use Rattle.chains.specs.Records.{chainRecords}
 use Rattle.chains.specs.Parts.{fourAt}
-use Rattle.chains.specs.Shapes.{IsIf, IsSwitch}
+use Rattle.chains.specs.Shapes.{IsIf, IsSwitch, IsTry}
 use Rattle.tables.specs.Window.{FileTable}
 use Rattle.tables.specs.Rows.{readsIn, givesIn, needsIn, bearsIn, endsIn, markIn}
 
@@ -46,6 +46,9 @@ module _ (f : List ℕ) where
     pub to-next : (i : ℕ) → Stands f goals i → (i ≡ 0 → ⊥) → (j : ℕ) → j ≡ word f i nextWord → (j ≡ 0 → ⊥) → owner j ≡ owner i
     pub to-then : (i : ℕ) → IsIf f i → (j : ℕ) → j ≡ word f i ifThen → (j ≡ 0 → ⊥) → owner j ≡ owner i
     pub to-else : (i : ℕ) → IsIf f i → (j : ℕ) → j ≡ word f i ifElse → (j ≡ 0 → ⊥) → owner j ≡ owner i
+    pub to-condition : (i : ℕ) → IsTry f i → (j : ℕ) → j ≡ word f i tryCondition → (j ≡ 0 → ⊥) → owner j ≡ owner i
+    pub to-try-then : (i : ℕ) → IsTry f i → (j : ℕ) → j ≡ word f i tryThen → (j ≡ 0 → ⊥) → owner j ≡ owner i
+    pub to-try-else : (i : ℕ) → IsTry f i → (j : ℕ) → j ≡ word f i tryElse → (j ≡ 0 → ⊥) → owner j ≡ owner i
     pub to-arms : (i : ℕ) → IsSwitch f i → (j : ℕ) → j ≡ word f i switchArms → (j ≡ 0 → ⊥) → owner j ≡ owner i
     pub arm-goals : (i : ℕ) → Stands f arms i → (i ≡ 0 → ⊥) → (j : ℕ) → j ≡ word f i armGoals → (j ≡ 0 → ⊥) → owner j ≡ owner i
     pub arm-next : (i : ℕ) → Stands f arms i → (i ≡ 0 → ⊥) → (j : ℕ) → j ≡ word f i nextWord → (j ≡ 0 → ⊥) → owner j ≡ owner i

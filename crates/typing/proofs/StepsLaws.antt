@@ -9,14 +9,14 @@ use lib.Dec.{leb, ltb}
 use lib.ListN.{length}
 use Rattle.sets.specs.Tests.{_&_}
 use Rattle.laws.specs.Tests.{and-stop, and-on, refuse, pass}
-use Rattle.language.specs.Format.{goalX, sumOperation, sumY, sumZ, assignY, termFunctor, printY, lifetimeRegion, variableType}
+use Rattle.language.specs.Format.{goalX, sumOperation, sumY, sumZ, assignY, termFunctor, printY, testY, testZ, lifetimeRegion, variableType}
 use Rattle.language.specs.File.{word}
 use Rattle.language.specs.Program.{Signature, functorsOf, functorAt, typeOf}
 use Rattle.language.specs.Answers.{program}
 use Rattle.language.specs.Typing.{isVariable, isRegion, hasType, argumentsOk, functorsFor, stepOk, goalOk}
 use Rattle.chains.specs.Parts.{fourAt}
 use Rattle.chains.specs.Formed.{Formed, goalAt}
-use Rattle.chains.specs.Shapes.{IsLiteral, IsSum, IsAssign, IsConstruct, IsPrint, IsCreate, IsRemove, literal-here, sum-here, assign-here, construct-here, print-here, create-here, remove-here}
+use Rattle.chains.specs.Shapes.{IsLiteral, IsSum, IsAssign, IsConstruct, IsPrint, IsCreate, IsRemove, IsTest, literal-here, sum-here, assign-here, construct-here, print-here, create-here, remove-here, test-here}
 use Rattle.declarations.specs.DeclaredPlaces.{variableIn, regionIn, functorIn}
 use Rattle.declarations.specs.Functors.{functorAtRecord}
 use Rattle.declarations.specs.Declares.{Declares, functor-listed, functor-here}
@@ -31,6 +31,17 @@ module _ {f : List ℕ} (F : Formed f) (S : Signature) (i : ℕ) where
   pub print-is : IsPrint f i → {r : Bool} → r ≡ hasType S 0 (word f i printY) → r ≡ goalOk (program f) S (goalAt f i)
   unfolding goalOk stepOk
   print-is n h = h ∙ rw (print-here F refl n .goal)
+
+  module _ (n : IsTest f i) {r1 : Bool} (e1 : r1 ≡ hasType S 0 (word f i testY)) where
+    test-as : (hasType S 0 (word f i testY) & hasType S 0 (word f i testZ)) ≡ goalOk (program f) S (goalAt f i)
+    unfolding goalOk stepOk
+    test-as = rw (test-here F refl n .goal)
+
+    pub test-first : r1 ≡ false → false ≡ goalOk (program f) S (goalAt f i)
+    test-first p1 = refuse _ e1 p1 ∙ test-as
+
+    pub test-both : {r2 : Bool} → r1 ≡ true → r2 ≡ hasType S 0 (word f i testZ) → r2 ≡ goalOk (program f) S (goalAt f i)
+    test-both p1 e2 = pass e1 p1 e2 ∙ test-as
 
   module _ (n : IsSum f i) {r1 : Bool} (e1 : r1 ≡ hasType S 0 (word f i goalX)) where
     sum-as : (hasType S 0 (word f i goalX) & leb (word f i sumOperation) 1 & hasType S 0 (word f i sumY) & hasType S 0 (word f i sumZ)) ≡ goalOk (program f) S (goalAt f i)

@@ -1,4 +1,4 @@
--- The walk over goals: a chain of goals, an if, a switch, its arms. What the code tests is what the definition says.
+-- The walk over goals: a chain of goals, an if, a try, a switch, its arms. What the code tests is what the definition says.
 use Prim.Native.Nat.{ℕ, suc}
 use native.Mathlib.Omega.{arith}
 use native.Mathlib.Decide.{decLt}
@@ -8,7 +8,7 @@ use mathlib.Core.List.{List}
 use lib.Dec.{eqb, leb}
 use borrow.Author.Tests.{eq-eqb, ne-eqb, le-leb, lt-leb, lt-ltb, le-ltb}
 use Rattle.sets.specs.Tests.{_&_}
-use Rattle.language.specs.Format.{nextWord, variableType, goalX, termFunctor, switchArms, armGoals, ifY, ifZ, ifThen, ifElse}
+use Rattle.language.specs.Format.{nextWord, variableType, goalX, termFunctor, switchArms, armGoals, ifY, ifZ, ifThen, ifElse, tryCondition, tryThen, tryElse}
 use Rattle.language.specs.File.{functors, goals, arms, word}
 use Rattle.language.specs.Program.{Goals, Goal, _then_, Signature, functorsOf, typeOf}
 use Rattle.language.specs.Answers.{program}
@@ -16,7 +16,7 @@ use Rattle.language.specs.Typing.{isVariable, hasType, functorsFor, argumentsOk
 use Rattle.chains.specs.Parts.{fourAt}
 use Rattle.chains.specs.Formed.{Formed, Stands, goalsAt, goalAt, goals-none, armsAt, arms-none, functorsAt, functors-none}
 use Rattle.chains.specs.Is.{goals-step}
-use Rattle.chains.specs.Shapes.{IsSwitch, IsIf, switch-here, if-here, arm-here}
+use Rattle.chains.specs.Shapes.{IsSwitch, IsIf, IsTry, switch-here, if-here, try-here, arm-here}
 use Rattle.laws.specs.Tests.{and-assoc, and-stop, and-on, refuse, pass}
 use Rattle.declarations.specs.DeclaredPlaces.{variableIn, functorIn}
 use Rattle.declarations.specs.Functors.{functorAtRecord, functors-step}
@@ -65,6 +65,23 @@ module _ {f : List ℕ} (F : Formed f) (S : Signature) where
 
         pub if-else : {v : ℕ} {r4 : Bool} → r3 ≡ true → v ≡ word f i ifElse → r4 ≡ goalsOk (program f) S (goalsAt f v) → r4 ≡ goalOk (program f) S (goalAt f i)
         if-else p ev e4 = pass e1 p1 (pass e2 p2 (pass then-is p (e4 ∙ ap (λ j. goalsOk (program f) S (goalsAt f j)) ev))) ∙ if-as
+
+  -- ---- a try: its three parts in turn
+  module _ (i : ℕ) (n : IsTry f i) {u : ℕ} (eu : u ≡ word f i tryCondition) {r1 : Bool} (e1 : r1 ≡ goalsOk (program f) S (goalsAt f u)) where
+    try-as : (goalsOk (program f) S (goalsAt f u) & goalsOk (program f) S (goalsAt f (word f i tryThen)) & goalsOk (program f) S (goalsAt f (word f i tryElse)))
+        ≡ goalOk (program f) S (goalAt f i)
+    unfolding goalOk
+    try-as = rw (try-here F refl n .goal, eu)
+
+    pub try-condition : r1 ≡ false → false ≡ goalOk (program f) S (goalAt f i)
+    try-condition p = refuse _ e1 p ∙ try-as
+
+    module _ (p1 : r1 ≡ true) {v : ℕ} (ev : v ≡ word f i tryThen) {r2 : Bool} (e2 : r2 ≡ goalsOk (program f) S (goalsAt f v)) where
+      pub try-then : r2 ≡ false → false ≡ goalOk (program f) S (goalAt f i)
+      try-then p = pass e1 p1 (refuse _ (rw ev at e2) p) ∙ try-as
+
+      pub try-else : {w : ℕ} {r3 : Bool} → r2 ≡ true → w ≡ word f i tryElse → r3 ≡ goalsOk (program f) S (goalsAt f w) → r3 ≡ goalOk (program f) S (goalAt f i)
+      try-else p ew e3 = pass e1 p1 (pass (rw ev at e2) p (rw ew at e3)) ∙ try-as
 
   -- ---- the arms and the functors side by side
   module _ (i g n : ℕ) (sa : Stands f arms i) (za : i ≡ 0 → ⊥) (s : Stands f functors g) {r1 : Bool} (e1 : r1 ≡ armFits f S g n i) where

@@ -23,6 +23,9 @@ use language::format::SUM;
 use language::format::SUM_OPERATION;
 use language::format::SUM_Y;
 use language::format::SUM_Z;
+use language::format::TEST;
+use language::format::TEST_Y;
+use language::format::TEST_Z;
 use language::format::VARIABLE_TYPE;
 ghost use mathlib.Core.Path.{_≡_};
 ghost use mathlib.Core.Logic.{_⊎_};
@@ -30,7 +33,7 @@ ghost use Prim.Native.Nat.{_<_};
 ghost use Rattle.language.specs.File.{word, goals, recordCount};
 ghost use Rattle.records.specs.Sizes.{recordWords};
 ghost use Rattle.chains.specs.Formed.{Formed, Stands};
-ghost use Rattle.chains.specs.Shapes.{IsSum, IsAssign, IsCreate, IsRemove, IsSwitch, IsIf};
+ghost use Rattle.chains.specs.Shapes.{IsSum, IsAssign, IsCreate, IsRemove, IsSwitch, IsIf, IsTry, IsTest};
 ghost use Rattle.declarations.specs.Declares.{Declares};
 ghost use Rattle.declarations.specs.Own.{Own};
 ghost use Rattle.typing.specs.Settings.{NumberTested, GoalTested};
@@ -83,11 +86,22 @@ fn lifetime_ok(file: &[u8], own: &[u16; OWN_PLACES], i: usize) -> bool
     0 < region(own, word(file, i, LIFETIME_REGION))
 }
 
+fn test_ok(file: &[u8], own: &[u16; OWN_PLACES], i: usize) -> bool
+    requires { ⌜ Formed (now file) × Own (now file) (now own) ⌝ }
+    requires { ⌜ IsTest (now file) i × (i < recordCount (now file)) ⌝ }
+    ensures { λ b. ⌜ GoalTested (now (file .entry)) (now (own .entry)) i b ⌝ }
+{
+    if !is_number(file, own, i, TEST_Y) {
+        return false;
+    }
+    is_number(file, own, i, TEST_Z)
+}
+
 // The step of record i, by its kind.
 pub fn step_ok(file: &[u8], table: &[u16; FILE_PLACES], own: &[u16; OWN_PLACES], i: usize) -> bool
     requires { ⌜ Declares (now file) (now table) × Own (now file) (now own) ⌝ }
     requires { ⌜ Stands (now file) goals i × (i ≡ 0 → ⊥) ⌝ }
-    requires { ⌜ (IsSwitch (now file) i → ⊥) × (IsIf (now file) i → ⊥) ⌝ }
+    requires { ⌜ (IsSwitch (now file) i → ⊥) × (IsIf (now file) i → ⊥) × (IsTry (now file) i → ⊥) ⌝ }
     ensures { λ b. ⌜ GoalTested (now (file .entry)) (now (own .entry)) i b ⌝ }
 {
     match word(file, i, KIND) {
@@ -99,6 +113,7 @@ pub fn step_ok(file: &[u8], table: &[u16; FILE_PLACES], own: &[u16; OWN_PLACES],
         PRINT => is_number(file, own, i, PRINT_Y),
         CREATE => lifetime_ok(file, own, i),
         REMOVE => lifetime_ok(file, own, i),
+        TEST => test_ok(file, own, i),
         _ => false,
     }
 }

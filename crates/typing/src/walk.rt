@@ -1,4 +1,4 @@
-// The walk over goals: a chain of goals, a goal, the two parts of an if, a switch with its arms.
+// The walk over goals: a chain of goals, a goal, the two parts of an if, the three of a try, a switch with its arms.
 use crate::constructs::arm_fits;
 use crate::steps::is_number;
 use crate::steps::step_ok;
@@ -18,12 +18,16 @@ use language::format::KIND;
 use language::format::NEXT;
 use language::format::SWITCH;
 use language::format::SWITCH_ARMS;
+use language::format::TRY;
+use language::format::TRY_CONDITION;
+use language::format::TRY_ELSE;
+use language::format::TRY_THEN;
 use language::format::VARIABLE_TYPE;
 ghost use mathlib.Core.Path.{_≡_};
 ghost use Prim.Native.Nat.{_<_};
 ghost use Rattle.language.specs.File.{functors, goals, arms, recordCount};
 ghost use Rattle.chains.specs.Formed.{Stands};
-ghost use Rattle.chains.specs.Shapes.{IsSwitch, IsIf};
+ghost use Rattle.chains.specs.Shapes.{IsSwitch, IsIf, IsTry};
 ghost use Rattle.declarations.specs.Declares.{Declares};
 ghost use Rattle.declarations.specs.Own.{Own};
 ghost use Rattle.typing.specs.Settings.{GoalsTested, GoalTested, ArmsTested};
@@ -53,6 +57,7 @@ fn goal(file: &[u8], table: &[u16; FILE_PLACES], own: &[u16; OWN_PLACES], i: usi
     match word(file, i, KIND) {
         SWITCH => switch(file, table, own, i),
         IF => branches(file, table, own, i),
+        TRY => attempt(file, table, own, i),
         _ => step_ok(file, table, own, i),
     }
 }
@@ -77,6 +82,28 @@ fn branches(file: &[u8], table: &[u16; FILE_PLACES], own: &[u16; OWN_PLACES], i:
         return true;
     }
     goals(file, table, own, second)
+}
+
+// The try of record i.
+fn attempt(file: &[u8], table: &[u16; FILE_PLACES], own: &[u16; OWN_PLACES], i: usize) -> bool
+    requires { ⌜ Declares (now file) (now table) × Own (now file) (now own) ⌝ }
+    requires { ⌜ IsTry (now file) i × (i < recordCount (now file)) ⌝ }
+    ensures { λ b. ⌜ GoalTested (now (file .entry)) (now (own .entry)) i b ⌝ }
+{
+    if !goals(file, table, own, word(file, i, TRY_CONDITION)) {
+        return false;
+    }
+    let first = word(file, i, TRY_THEN);
+    if first != 0 {
+        if !goals(file, table, own, first) {
+            return false;
+        }
+    }
+    let otherwise = word(file, i, TRY_ELSE);
+    if otherwise == 0 {
+        return true;
+    }
+    goals(file, table, own, otherwise)
 }
 
 // The switch of record i.

@@ -11,7 +11,7 @@ use Rattle.sets.specs.SetLaws.{union-comm, intersection-comm}
 use Rattle.sets.specs.Members.{setOf}
 use Rattle.sets.specs.declared.Set.{Set}
 use Rattle.language.specs.File.{goals, arms, word}
-use Rattle.language.specs.Format.{kindWord, switchKind, ifKind}
+use Rattle.language.specs.Format.{kindWord, switchKind, ifKind, tryKind}
 use Rattle.language.specs.Program.{Step}
 use Rattle.language.specs.Values.{reads, gives}
 use Rattle.language.specs.Answers.{program}
@@ -44,9 +44,9 @@ module _ (f : List ℕ) {rows : List ℕ} (N : AllNoted f rows) where
   row-step i {g} c d r s m = let h = N .at i .step g s in m ∙ rw (h .read, h .given, h .none-twice) refl
 
   pub goal-step : (F : Formed f) (i : ℕ) (S : Stands f goals i) (z : i ≡ 0 → ⊥) {w : ℕ} (e : w ≡ word f i kindWord) (p : w ≡ switchKind → ⊥) (q : w ≡ ifKind → ⊥)
-      → (c d : List ℕ) (r : Bool) → RowValued rows i c r d → GoalValued f i c r d
-  goal-step F i S z e p q c d r m =
-      let s = one-at F i S z e p q in
+      (t : w ≡ tryKind → ⊥) → (c d : List ℕ) (r : Bool) → RowValued rows i c r d → GoalValued f i c r d
+  goal-step F i S z e p q t c d r m =
+      let s = one-at F i S z e p q t in
       step-goes (valuer (program f)) (valuation c) (valuation d) r (s .view) (row-step i c d r s m)
 
   -- ---- an arm's row

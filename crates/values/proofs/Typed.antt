@@ -10,7 +10,7 @@ use borrow.Author.Tests.{leb-true}
 use Rattle.sets.specs.Tests.{and-true, clash}
 use Rattle.sets.specs.Members.{consIf}
 use Rattle.language.specs.Lists.{all, among}
-use Rattle.language.specs.Program.{Four, argumentsOf, Functor, Parameter, Step, literal, sum, assign, construct, call, print, create, remove, Goals, _then_, Goal, step, switch, ifLess, Arms, arm, Signature, Procedure, Program, parametersOf, signatureOf, argumentsIn, outMode}
+use Rattle.language.specs.Program.{Four, argumentsOf, Functor, Parameter, Step, literal, sum, assign, construct, call, print, create, remove, test, Goals, _then_, Goal, step, switch, ifLess, try, Arms, arm, Signature, Procedure, Program, parametersOf, signatureOf, argumentsIn, outMode}
 use Rattle.language.specs.Typing.{isVariable, hasType, haveTypes, argumentsOk, signatureOk, stepOk, goalsOk, goalOk, armsOk, procedureOk, typingOk}
 use Rattle.language.specs.Values.{access, accessing}
 use Rattle.language.specs.Format.{maxVariables}
@@ -71,6 +71,7 @@ module _ (S : Signature) (few : length (S .variables) ≤ maxVariables) where
   given-range P (print y) e = tt
   given-range P (create r) e = tt
   given-range P (remove r) e = tt
+  given-range P (test y z) e = tt
 
 -- ---- the parts of goals
 module _ {P : Program} where
@@ -94,6 +95,18 @@ module _ {P : Program} where
   pub typed-else : {gs hs bs cs : Goals} {y z : ℕ} → TypedGoals P gs → gs ≡ ifLess y z bs cs then hs → TypedGoals P cs
   unfolding goalsOk goalOk
   typed-else h e = record { signature = h .signature; few = h .few; ok = and-true (and-true (and-true (and-true (rw e at (h .ok)) .0) .1) .1) .1 }
+
+  pub typed-condition : {gs hs bs cs ds : Goals} → TypedGoals P gs → gs ≡ try ds bs cs then hs → TypedGoals P ds
+  unfolding goalsOk goalOk
+  typed-condition h e = record { signature = h .signature; few = h .few; ok = and-true (and-true (rw e at (h .ok)) .0) .0 }
+
+  pub typed-try-then : {gs hs bs cs ds : Goals} → TypedGoals P gs → gs ≡ try ds bs cs then hs → TypedGoals P bs
+  unfolding goalsOk goalOk
+  typed-try-then h e = record { signature = h .signature; few = h .few; ok = and-true (and-true (and-true (rw e at (h .ok)) .0) .1) .0 }
+
+  pub typed-try-else : {gs hs bs cs ds : Goals} → TypedGoals P gs → gs ≡ try ds bs cs then hs → TypedGoals P cs
+  unfolding goalsOk goalOk
+  typed-try-else h e = record { signature = h .signature; few = h .few; ok = and-true (and-true (and-true (rw e at (h .ok)) .0) .1) .1 }
 
 -- an arm's arguments, its goals, and the arms behind it
 pub record ArmTyped (P : Program) (ys : Four) (gs : Goals) (cs : Arms) : Type 0 where

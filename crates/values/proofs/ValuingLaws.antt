@@ -8,10 +8,10 @@ use Rattle.sets.specs.Sets.{member, emptySet, _∪_, _∩_, sameSet, subset, ap
 use Rattle.sets.specs.SetLaws.{empty-subset}
 use Rattle.sets.specs.Members.{setOf}
 use Rattle.sets.specs.declared.Set.{Set}
-use Rattle.language.specs.Program.{Four, argumentsOf, Step, Goals, done, _then_, Goal, step, switch, ifLess, Arms, noArms, arm, Procedure, Program}
+use Rattle.language.specs.Program.{Four, argumentsOf, Step, Goals, done, _then_, Goal, step, switch, ifLess, try, Arms, noArms, arm, Procedure, Program}
 use Rattle.language.specs.Values.{Valued, faulty, valued, access, reads, gives, requireValues, afterValues, meetValues, giveValues, stepValues, goalsValues, goalValues, armsValues, insOf, outsOf, outsValued, procedureValues}
 use Rattle.accesses.specs.Ranged.{Ranged, fresh, fresh-distinct}
-use Rattle.values.proofs.Typed.{TypedGoals, ArmsTyped, typed-next, typed-step, typed-arms, typed-then, typed-else, typed-arm}
+use Rattle.values.proofs.Typed.{TypedGoals, ArmsTyped, typed-next, typed-step, typed-arms, typed-then, typed-else, typed-condition, typed-try-then, typed-try-else, typed-arm}
 use Rattle.walks.specs.Walk.{WalkOutcome, stopped, goesOn, outcome, require, onwards, meet, walkGoals, walkGoal, walkArms}
 use Rattle.values.specs.Valuing.{Valuation, both, giving, valuer}
 
@@ -81,6 +81,11 @@ module _ (P : Program) where
         required _ (meet (valuer P) (walkGoals (valuer P) bs a) (walkGoals (valuer P) cs a))
         ∙ ap₂ requireValues (ap₂ _&_ (test-is a y) (test-is a z))
         (met P (walkGoals (valuer P) bs a) (walkGoals (valuer P) cs a) (goals-agree bs (typed-then t refl) a) (goals-agree cs (typed-else t refl) a))
+    goal-agree (try ds bs cs) gs t a =
+        met P _ (walkGoals (valuer P) cs a)
+        (on-both (walkGoals (valuer P) ds a) (goalsValues P ds (a .every) (a .some)) (λ b. walkGoals (valuer P) bs b) (λ d u. goalsValues P bs d u)
+        (goals-agree ds (typed-condition t refl) a) (λ b. goals-agree bs (typed-try-then t refl) b))
+        (goals-agree cs (typed-try-else t refl) a)
 
     arms-agree : (cs : Arms) → ArmsTyped P cs → (a : Valuation) → told (walkArms (valuer P) cs a) ≡ armsValues P cs (a .every) (a .some)
     arms-agree noArms t a = refl

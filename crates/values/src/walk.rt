@@ -17,12 +17,16 @@ use language::format::KIND;
 use language::format::NEXT;
 use language::format::SWITCH;
 use language::format::SWITCH_ARMS;
+use language::format::TRY;
+use language::format::TRY_CONDITION;
+use language::format::TRY_ELSE;
+use language::format::TRY_THEN;
 use tables::ROWS;
 use walks::WALK_WORDS;
 use walks::is_step;
 ghost use mathlib.Core.Path.{_≡_};
 ghost use Rattle.language.specs.File.{goals, arms, word};
-ghost use Rattle.language.specs.Format.{kindWord, switchKind, ifKind};
+ghost use Rattle.language.specs.Format.{kindWord, switchKind, ifKind, tryKind};
 ghost use Rattle.chains.specs.Formed.{Formed, Stands};
 ghost use Rattle.accesses.specs.Noting.{AllNoted};
 ghost use Rattle.values.specs.Carrying.{GoalsValued, GoalValued, ArmsValued};
@@ -55,6 +59,7 @@ fn goal(file: &[u8], rows: &[u64; ROWS], carried: &mut [u64; WALK_WORDS], i: usi
     match kind {
         SWITCH => switch(file, rows, carried, i),
         IF => branches(file, rows, carried, i),
+        TRY => attempt(file, rows, carried, i),
         _ => {
             if !is_step(kind) {
                 return false;
@@ -105,6 +110,38 @@ fn branches(file: &[u8], rows: &[u64; ROWS], carried: &mut [u64; WALK_WORDS], i:
     let s = some_in(carried);
     carry(carried, every, some);
     if !goals(file, rows, carried, second) {
+        return false;
+    }
+    join(e, s, carried);
+    true
+}
+
+// A try: its condition and from there its then part, then from what was carried before its else part.
+fn attempt(file: &[u8], rows: &[u64; ROWS], carried: &mut [u64; WALK_WORDS], i: usize) -> bool
+    requires { ⌜ Formed (now file) ⌝ }
+    requires { ⌜ AllNoted (now file) (now rows) ⌝ }
+    requires { ⌜ word (now file) i kindWord ≡ tryKind ⌝ }
+    ensures { λ b. ⌜ GoalValued (now (file .entry)) i (now (carried .entry)) b (now (carried .exit)) ⌝ }
+{
+    let every = every_in(carried);
+    let some = some_in(carried);
+    let condition = word(file, i, TRY_CONDITION);
+    if !goals(file, rows, carried, condition) {
+        return false;
+    }
+    let first = word(file, i, TRY_THEN);
+    if !goals(file, rows, carried, first) {
+        return false;
+    }
+    let e = every_in(carried);
+    let s = some_in(carried);
+    carry(carried, every, some);
+    let otherwise = word(file, i, TRY_ELSE);
+    if otherwise == 0 {
+        join(e, s, carried);
+        return true;
+    }
+    if !goals(file, rows, carried, otherwise) {
         return false;
     }
     join(e, s, carried);

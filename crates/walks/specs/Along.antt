@@ -6,10 +6,10 @@ use mathlib.Core.Path.{_≡_, refl, sym, _∙_}
 use mathlib.Core.Bool.{Bool, true, false}
 use mathlib.Core.List.{List}
 use Rattle.language.specs.File.{goals, arms, word}
-use Rattle.language.specs.Format.{nextWord, goalX, switchArms, ifY, ifZ, ifThen, ifElse, armGoals}
+use Rattle.language.specs.Format.{nextWord, goalX, switchArms, ifY, ifZ, ifThen, ifElse, tryCondition, tryThen, tryElse, armGoals}
 use Rattle.chains.specs.Formed.{Formed, Stands, ahead, goalsAt, goalAt, armsAt, goals-none, arms-none}
 use Rattle.chains.specs.Is.{goals-step, chain-next}
-use Rattle.chains.specs.Shapes.{IsSwitch, IsIf, switch-here, if-here, arm-here}
+use Rattle.chains.specs.Shapes.{IsSwitch, IsIf, IsTry, switch-here, if-here, try-here, arm-here}
 use Rattle.chains.specs.Parts.{fourAt}
 use Rattle.walks.specs.Walk
 
@@ -86,6 +86,25 @@ module _ {A : Type 0} (W : Walk.Walker A) (f : List ℕ) where
             pub if-walked : (c : A) (y : Bool) (b′ : A) → b′ ≡ b → s ≡ true → Walk.outcome y c ≡ W .join b′ g → GoalWalked i a y c
             if-walked c y b′ kept both t =
                 Walk.if-joins W a (if-here F refl k .goal) (rw j at e) p (rw l at h) q b r (rw o at m) d g s (rw (x, again) at n) c y both (rw kept at t)
+
+  -- ---- a try
+  module _ (F : Formed f) (i : ℕ) (k : IsTry f i) where
+    module _ (a b : A) (r : Bool) {v : ℕ} (o : v ≡ word f i tryCondition) (m : GoalsWalked v a r b) where
+      pub condition-stops : (c : A) → r ≡ false → GoalWalked i a false c
+      condition-stops c p = Walk.try-condition-stop W a (try-here F refl k .goal) b r (rw o at m) c p
+
+      module _ (p : r ≡ true) (d : A) (s : Bool) {w : ℕ} (x : w ≡ word f i tryThen) (n : GoalsWalked w b s d) where
+        pub try-then-stops : (c : A) → s ≡ false → GoalWalked i a false c
+        try-then-stops c q = Walk.try-then-stop W a (try-here F refl k .goal) b r (rw o at m) p d s (rw x at n) c q
+
+        -- what was carried before the try is carried again
+        module _ (q : s ≡ true) (a′ : A) (again : a′ ≡ a) (g : A) (u : Bool) {z : ℕ} (l : z ≡ word f i tryElse) (j : GoalsWalked z a′ u g) where
+          pub try-else-stops : (c : A) → u ≡ false → GoalWalked i a false c
+          try-else-stops c y = Walk.try-else-stop W a (try-here F refl k .goal) b r (rw o at m) p d s (rw x at n) q g u (rw (l, again) at j) c y
+
+          pub try-walked : (c : A) (y : Bool) (d′ : A) → d′ ≡ d → u ≡ true → Walk.outcome y c ≡ W .join d′ g → GoalWalked i a y c
+          try-walked c y d′ kept both t =
+              Walk.try-joins W a (try-here F refl k .goal) b r (rw o at m) p d s (rw x at n) q g u (rw (l, again) at j) c y both (rw kept at t)
 
   -- ---- arms
   pub arms-none-walked : {i : ℕ} (a : A) → i ≡ 0 → ArmsWalked i a true a

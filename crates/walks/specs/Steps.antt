@@ -7,24 +7,24 @@ use mathlib.Core.Path.{_≡_, refl, sym}
 use borrow.Author.Tests.{ne-eqb}
 use Rattle.sets.specs.Tests.{_or_}
 use Rattle.sets.specs.Members.{inList}
-use Rattle.language.specs.Format.{literalKind, sumKind, assignKind, constructKind, callKind, printKind, createKind, removeKind, kindWord}
-use Rattle.language.specs.File.{GoalKind, kLiteral, kSum, kAssign, kConstruct, kSwitch, kIf, kCall, kPrint, kCreate, kRemove, kNone, kArm, kGoal, arms, row, kindOf, word, recordCount}
+use Rattle.language.specs.Format.{literalKind, sumKind, assignKind, constructKind, callKind, printKind, createKind, removeKind, testKind, kindWord}
+use Rattle.language.specs.File.{GoalKind, kLiteral, kSum, kAssign, kConstruct, kSwitch, kIf, kCall, kPrint, kCreate, kRemove, kTry, kTest, kNone, kArm, kGoal, arms, row, kindOf, word, recordCount}
 use Rattle.language.specs.Program.{Step, step}
 use Rattle.chains.specs.Layout.{all-rows, starts-kind, arms-kind}
 use Rattle.chains.specs.Formed.{Formed, Stands, stands-starts, goalAt}
-use Rattle.chains.specs.Shapes.{goal-kind, kind-number, switch-here, if-here}
+use Rattle.chains.specs.Shapes.{goal-kind, kind-number, switch-here, if-here, try-here}
 use Rattle.tables.specs.Filled.{GoalIsStep}
 
 -- the kinds of steps
 unfoldable pub isStep : ℕ → Bool
 isStep k =
-    inList k (literalKind ∷ sumKind ∷ assignKind ∷ constructKind ∷ callKind ∷ printKind ∷ createKind ∷ removeKind ∷ [])
+    inList k (literalKind ∷ sumKind ∷ assignKind ∷ constructKind ∷ callKind ∷ printKind ∷ createKind ∷ removeKind ∷ testKind ∷ [])
 
 module _ {k : ℕ} where
   pub not-step : (k ≡ literalKind → ⊥) → (k ≡ sumKind → ⊥) → (k ≡ assignKind → ⊥) → (k ≡ constructKind → ⊥) → (k ≡ callKind → ⊥) → (k ≡ printKind → ⊥)
-      → (k ≡ createKind → ⊥) → (k ≡ removeKind → ⊥) → false ≡ isStep k
+      → (k ≡ createKind → ⊥) → (k ≡ removeKind → ⊥) → (k ≡ testKind → ⊥) → false ≡ isStep k
   unfolding isStep inList _or_
-  not-step a b c d e f g h =
+  not-step a b c d e f g h i =
       rw (
         ne-eqb literalKind k (λ q. a (sym q)),
         ne-eqb sumKind k (λ q. b (sym q)),
@@ -34,6 +34,7 @@ module _ {k : ℕ} where
         ne-eqb printKind k (λ q. f (sym q)),
         ne-eqb createKind k (λ q. g (sym q)),
         ne-eqb removeKind k (λ q. h (sym q)),
+        ne-eqb testKind k (λ q. i (sym q)),
       ) refl
 
 -- ---- a step's kind
@@ -53,6 +54,8 @@ module _ {f : List ℕ} (i : ℕ) (F : Formed f) where
   kind-step g kPrint v e = rw e refl
   kind-step g kCreate v e = rw e refl
   kind-step g kRemove v e = rw e refl
+  kind-step g kTry v e = let n = try-here F refl e .goal in let z : _≡_ {A = ℕ} 0 1 = cc in absurd (omega arith)
+  kind-step g kTest v e = rw e refl
 
   pub step-kind : (g : Step) → GoalIsStep f i g → isStep (word f i kindWord) ≡ true
   step-kind g s = let k = goal-kind (s .stands) (s .some) in kind-step g (k .0) (s .view) (kind-number (word f i kindWord) (kGoal (k .0)) (k .1) goal-some)

@@ -4,7 +4,7 @@ use Prim.Native.Nat.{ℕ}
 use mathlib.Core.Path.{_≡_, refl, sym, _∙_}
 use mathlib.Core.Bool.{Bool, true, false}
 use Rattle.sets.specs.Tests.{_&_}
-use Rattle.language.specs.Program.{Four, Step, Goals, done, _then_, Goal, step, switch, ifLess, Arms, noArms, arm}
+use Rattle.language.specs.Program.{Four, Step, Goals, done, _then_, Goal, step, switch, ifLess, try, Arms, noArms, arm}
 
 -- what is carried, or that the walk has stopped
 pub data WalkOutcome (A : Type 0) : Type 0 where
@@ -47,6 +47,7 @@ module _ {A : Type 0} (W : Walker A) where
     walkGoal (step g) a = W .atStep g a
     walkGoal (switch x cs) a = require (W .readable a x) (walkArms cs a)
     walkGoal (ifLess y z bs cs) a = require (W .readable a y & W .readable a z) (meet (walkGoals bs a) (walkGoals cs a))
+    walkGoal (try ds bs cs) a = meet (onwards (walkGoals ds a) (λ b. walkGoals bs b)) (walkGoals cs a)
 
     pub walkArms : Arms → A → WalkOutcome A
     walkArms noArms a = goesOn a
@@ -82,7 +83,26 @@ module _ {A : Type 0} (W : Walker A) where
     unfolding walkGoal require
     switch-goes p b r m = m ∙ rw (v, sym e ∙ p) refl
 
-  -- ---- an if: b is carried behind its first part, d behind its second
+  -- ---- two parts whose paths meet: b is carried behind the first, d behind the second, w is what the second does
+  module _ {o : WalkOutcome A} (w : WalkOutcome A) (b : A) (r : Bool) (m : meet (outcome r b) w ≡ o) where
+    first-stop : (c : A) → r ≡ false → outcome false c ≡ o
+    unfolding outcome meet
+    first-stop c p = rw p at m
+
+    module _ (p : r ≡ true) (d : A) (s : Bool) (n : outcome s d ≡ w) where
+      both-meet : meet (goesOn b) (outcome s d) ≡ o
+      unfolding outcome
+      both-meet = rw (p, sym n) at m
+
+      second-stop : (c : A) → s ≡ false → outcome false c ≡ o
+      unfolding outcome meet
+      second-stop c q = rw q at both-meet
+
+      both-join : (c : A) (x : Bool) → s ≡ true → outcome x c ≡ W .join b d → outcome x c ≡ o
+      unfolding outcome meet
+      both-join c x q j = j ∙ (rw q at both-meet)
+
+  -- ---- an if
   module _ {g : Goal} {y z : ℕ} {gs hs : Goals} (a : A) (v : g ≡ ifLess y z gs hs) {t : Bool} (e : t ≡ W .readable a y) where
     pub if-first : (c : A) → t ≡ false → outcome false c ≡ walkGoal g a
     unfolding walkGoal require outcome _&_
@@ -99,21 +119,35 @@ module _ {A : Type 0} (W : Walker A) where
         if-is = rw (v, sym e ∙ p, sym h ∙ q, m) refl
 
         pub if-then-stop : (c : A) → r ≡ false → outcome false c ≡ walkGoal g a
-        unfolding outcome meet
-        if-then-stop c o = rw o at if-is
+        if-then-stop c o = first-stop _ b r if-is c o
 
         module _ (o : r ≡ true) (d : A) (s : Bool) (n : outcome s d ≡ walkGoals hs a) where
-          if-both : meet (goesOn b) (outcome s d) ≡ walkGoal g a
-          unfolding outcome
-          if-both = rw (o, sym n) at if-is
-
           pub if-else-stop : (c : A) → s ≡ false → outcome false c ≡ walkGoal g a
-          unfolding outcome meet
-          if-else-stop c k = rw k at if-both
+          if-else-stop c k = second-stop _ b r if-is o d s n c k
 
           pub if-joins : (c : A) (x : Bool) → s ≡ true → outcome x c ≡ W .join b d → outcome x c ≡ walkGoal g a
-          unfolding outcome meet
-          if-joins c x k j = j ∙ (rw k at if-both)
+          if-joins c x k j = both-join _ b r if-is o d s n c x k j
+
+  -- ---- a try: i is carried behind its condition, b behind its then part, d behind its else part
+  module _ {g : Goal} {ds gs hs : Goals} (a : A) (v : g ≡ try ds gs hs) (i : A) (t : Bool) (e : outcome t i ≡ walkGoals ds a) where
+    pub try-condition-stop : (c : A) → t ≡ false → outcome false c ≡ walkGoal g a
+    unfolding walkGoal onwards meet outcome
+    try-condition-stop c p = rw (v, sym e, p) refl
+
+    module _ (p : t ≡ true) (b : A) (r : Bool) (m : outcome r b ≡ walkGoals gs i) where
+      try-is : meet (outcome r b) (walkGoals hs a) ≡ walkGoal g a
+      unfolding walkGoal onwards outcome
+      try-is = rw (v, m, sym e, p) refl
+
+      pub try-then-stop : (c : A) → r ≡ false → outcome false c ≡ walkGoal g a
+      try-then-stop c o = first-stop _ b r try-is c o
+
+      module _ (o : r ≡ true) (d : A) (s : Bool) (n : outcome s d ≡ walkGoals hs a) where
+        pub try-else-stop : (c : A) → s ≡ false → outcome false c ≡ walkGoal g a
+        try-else-stop c k = second-stop _ b r try-is o d s n c k
+
+        pub try-joins : (c : A) (x : Bool) → s ≡ true → outcome x c ≡ W .join b d → outcome x c ≡ walkGoal g a
+        try-joins c x k j = both-join _ b r try-is o d s n c x k j
 
   -- ---- arms: i is carried where the first arm's goals start, b behind them, d behind the other arms
   first-stops : (f : ℕ) (ys : Four) (gs : Goals) (cs : Arms) (a : A) → onwards (W .enter ys a) (λ b. walkGoals gs b) ≡ stopped → stopped ≡ walkArms (arm f ys gs cs) a

@@ -7,6 +7,7 @@ use language::format::LITERAL;
 use language::format::PRINT;
 use language::format::REMOVE;
 use language::format::SUM;
+use language::format::TEST;
 ghost use mathlib.Core.Path.{_≡_};
 ghost use Rattle.walks.specs.Steps.{isStep};
 
@@ -23,6 +24,7 @@ pub fn is_step(kind: usize) -> bool
         PRINT => true,
         CREATE => true,
         REMOVE => true,
+        TEST => true,
         _ => false,
     }
 }

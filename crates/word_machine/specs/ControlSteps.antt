@@ -16,8 +16,8 @@ use Rattle.language.specs.File.{goals, word}
 use Rattle.language.specs.Numbers.{less}
 use Rattle.language.specs.Program.{fourWords, trimmed, argumentsOf, call, Goals, step, switch, ifLess, Arms, _before_}
 use Rattle.language.specs.Typing.{isVariable}
-use Rattle.language.specs.Frames.{Value, numeral, cellAt, constant, Cell, numberIn, withGoals, giveEach, branchIn, picked, pick, enterArm, cellIn, openCell, calleeFrame}
-use Rattle.language.specs.AcceptedRun.{RegionFrame, Memory, readable, cellOf, withFrame, calleeRegions, state}
+use Rattle.language.specs.Frames.{Value, closed, ahead, lessIn, numeral, cellAt, constant, Cell, numberIn, withGoals, giveEach, branchIn, picked, pick, enterArm, cellIn, openCell, calleeFrame}
+use Rattle.language.specs.AcceptedRun.{RegionFrame, Memory, readable, cellOf, withFrame, calleeRegions, whole, state, within, stateIn}
 use Rattle.language.specs.AcceptedRun as Run
 use Rattle.language.specs.Machine.{Room, goes, roomOr}
 use Rattle.language.specs.Answers.{program}
@@ -62,9 +62,9 @@ module _ {f : List ℕ} {T : Tables} (B : Tabled f T) (A : Accepted (program f))
 
   pub if-after : (n y z a b : ℕ) → recordAt f i ≡ If n y z a b → isVariable (sig f (u .frame .procedure)) y ≡ true
       → isVariable (sig f (u .frame .procedure)) z ≡ true → Number (u .frame .values y) → Number (u .frame .values z)
-      → After B A F K qs (ifLess y z (goalsAt f a) (goalsAt f b)) u fs m goes
+      → After B A F K qs closed (ifLess y z (goalsAt f a) (goalsAt f b)) u fs m goes
       (went (withFrames w (w .frames) (onto (choose (less (toZ w32 (valueOf w y)) (toZ w32 (valueOf w z))) a b) (T .successor i))))
-  unfolding Run.take withFrames withFrame withGoals branchIn
+  unfolding Run.take stateIn within withFrames withFrame withGoals branchIn lessIn
   if-after n y z a b e vy vz ny nz =
       let I = if-at F refl e in
       rw (value-number B A F K qs w u fs m ρ χ i G W Q y vy ny, value-number B A F K qs w u fs m ρ χ i G W Q z vz nz)
@@ -97,19 +97,32 @@ module _ {f : List ℕ} {T : Tables} (B : Tabled f T) (A : Accepted (program f))
     }
 
   call-by : (q ys : ℕ) → CallLinked B i (u .frame .procedure) q (argumentsAt f ys) → (b : Bool) → ltb (suc (w .top)) (K .frames) ≡ b
-      → After B A F K qs (step (call q (argumentsAt f ys))) u fs m (roomOr b Frames) (ifRoom b Frames (calls f T w i q))
-  unfolding roomOr ifRoom Run.take
+      → After B A F K qs closed (step (call q (argumentsAt f ys))) u fs m (roomOr b Frames) (ifRoom b Frames (calls f T w i q))
+  unfolding roomOr ifRoom Run.take stateIn within whole ahead withFrame withGoals
   call-by q ys N false o = halts
   call-by q ys N true o =
       let r : frameWords * suc (suc (w .top)) ≤ length (w .frames) = omega (arith, ltb-true (suc (w .top)) (K .frames) o, Q .frame-room) in
       onward refl (call-running q ys N r) (call-stored q ys N r)
 
   pub call-after : (q ys : ℕ) → CallLinked B i (u .frame .procedure) q (argumentsAt f ys)
-      → After B A F K qs (step (call q (argumentsAt f ys))) u fs m (roomOr (ltb (suc (length fs)) (K .frames)) Frames)
+      → After B A F K qs closed (step (call q (argumentsAt f ys))) u fs m (roomOr (ltb (suc (length fs)) (K .frames)) Frames)
       (ifRoom (ltb (suc (w .top)) (K .frames)) Frames (calls f T w i q))
   call-after q ys N = rw (← waiting-depth B W) (call-by q ys N (ltb (suc (w .top)) (K .frames)) refl)
 
-  -- ---- a switch: the arm at record j has arguments ys, which get the values vs, and goals gs
+  -- ---- a switch: what it does to the words, whatever the condition; `enters` is the frame in its arm
+  pub record Switched (x : ℕ) (cs : Arms) (t : MachineWords) : Type 0 where
+    pub words : List ℕ
+    pub goal : ℕ
+    pub enters : RegionFrame
+    pub taken : withFrame u (openCell (cellIn (map cellOf (m .cells)) (u .frame .values x)) cs (u .frame)) ≡ enters
+    pub same : enters .frame .procedure ≡ u .frame .procedure
+    pub is : t ≡ withFrames w words goal
+    pub long : length words ≡ length (w .frames)
+    pub other : (k : ℕ) → (k < frameWords * w .top) ⊎ (frameWords * w .top + maxVariables < k) → getD words k 0 ≡ getD (w .frames) k 0
+    pub newest : FrameOk B words (w .top) L goal enters
+    pub waiting : Waiting B words L (enters .frame .procedure) (enters .frame .arguments) (w .top) fs
+
+  -- the arm at record j has arguments ys, which get the values vs, and goals gs
   module _ (j : ℕ) (ys : List ℕ) (gs : Goals) (vs : List Value) (found : ArmFound B F (T .successor i) (u .frame .procedure) ys gs j) where
     -- the frame in the arm
     abbrev inArm : RegionFrame
@@ -124,9 +137,18 @@ module _ {f : List ℕ} {T : Tables} (B : Tabled f T) (A : Accepted (program f))
         (values : (x : ℕ) → 1 ≤ x → x ≤ maxVariables → isVariable (sig f (u .frame .procedure)) x ≡ true
         → Means L (getD fw (valuePlace (w .top) x) 0) (giveEach ys vs (u .frame .values) x))
         (other : (k : ℕ) → (k < frameWords * w .top) ⊎ (frameWords * w .top + maxVariables < k) → getD fw k 0 ≡ getD (w .frames) k 0) where
-      arm-running : Running B (withFrames w fw (T .entry j)) L inArm fs
-      unfolding withFrames withFrame
-      arm-running = record {
+      arm-switched : (x : ℕ) (cs : Arms) (c : Cell) → cellIn (map cellOf (m .cells)) (u .frame .values x) ≡ c → c .contents ≡ vs → pick cs (c .functor) ≡ picked ys gs
+          → Switched x cs (withFrames w fw (T .entry j))
+      unfolding withFrame
+      arm-switched x cs c e d q = record {
+        words = fw;
+        goal = T .entry j;
+        enters = inArm;
+        taken = ap (λ (k : Cell). withFrame u (openCell k cs (u .frame))) e ∙ arm-taken cs c d q;
+        same = refl;
+        is = refl;
+        long = long;
+        other = other;
         newest = record {
           fits = omega (arith, G .fits, long);
           values = values;
@@ -135,17 +157,6 @@ module _ {f : List ℕ} {T : Tables} (B : Tabled f T) (A : Accepted (program f))
         };
         waiting = waiting-later B (not-later L) long (λ k h. other k (inl h)) (other (callPlace (w .top)) (inr (omega arith))) W;
       }
-
-      arm-stored : MemoryStored K qs (withFrames w fw (T .entry j)) m ρ χ
-      unfolding withFrames
-      arm-stored = record { represents = Q .represents; cell-room = Q .cell-room; printed = Q .printed; frame-room = rw long (Q .frame-room); print-room = Q .print-room }
-
-      arm-after : (x : ℕ) (cs : Arms) (c : Cell) → cellIn (map cellOf (m .cells)) (u .frame .values x) ≡ c → c .contents ≡ vs → pick cs (c .functor) ≡ picked ys gs
-          → After B A F K qs (switch x cs) u fs m goes (went (withFrames w fw (T .entry j)))
-      unfolding Run.take
-      arm-after x cs c e d q =
-          onward (ap (λ (k : Cell). state (program f) (withFrame u (openCell k cs (u .frame))) fs m) e ∙ ap (λ (b : RegionFrame). state (program f) b fs m) (arm-taken cs c d q))
-          arm-running arm-stored
 
   -- ---- X's cell stands at place p: the arguments get its words
   module _ (j : ℕ) (ys : List ℕ) (gs : Goals) (vs : List Value) (p : ℕ) (found : ArmFound B F (T .successor i) (u .frame .procedure) ys gs j)
@@ -165,20 +176,20 @@ module _ {f : List ℕ} {T : Tables} (B : Tabled f T) (A : Accepted (program f))
         (each-means (frameWords * w .top) L x four′ (argumentWords (w .cells) p) vs (w .frames) (u .frame .values) (rw (arguments-are (w .cells) p) (omega arith))
         (omega (arith, G .fits)) words (count ∙ ap length trimmed-are) (rw trimmed-are at range) (G .values x l h v))
 
-    cell-after : (x : ℕ) (cs : Arms) (c : Cell) → cellIn (map cellOf (m .cells)) (u .frame .values x) ≡ c → c .contents ≡ vs → pick cs (c .functor) ≡ picked ys gs
-        → After B A F K qs (switch x cs) u fs m goes (went (entersArm f T w p j))
+    cell-switched : (x : ℕ) (cs : Arms) (c : Cell) → cellIn (map cellOf (m .cells)) (u .frame .values x) ≡ c → c .contents ≡ vs → pick cs (c .functor) ≡ picked ys gs
+        → Switched x cs (entersArm f T w p j)
     unfolding entersArm
-    cell-after x cs c e d q =
+    cell-switched x cs c e d q =
         rw (arm-each f T w p j)
-        (arm-after j ys gs vs found _ (each-length (frameWords * w .top) four′ (argumentWords (w .cells) p) (w .frames)) cell-values
+        (arm-switched j ys gs vs found _ (each-length (frameWords * w .top) four′ (argumentWords (w .cells) p) (w .frames)) cell-values
         (λ k. each-other (frameWords * w .top) four′ (argumentWords (w .cells) p) (w .frames) k (rw trimmed-are at range)) x cs c e d q)
 
   -- ---- X is a constant: the arm has no arguments, and no words change
-  constant-after : (j : ℕ) (ys : List ℕ) (gs : Goals) → ArmFound B F (T .successor i) (u .frame .procedure) ys gs j → (x : ℕ) (cs : Arms) (c : Cell)
+  constant-switched : (j : ℕ) (ys : List ℕ) (gs : Goals) → ArmFound B F (T .successor i) (u .frame .procedure) ys gs j → (x : ℕ) (cs : Arms) (c : Cell)
       → cellIn (map cellOf (m .cells)) (u .frame .values x) ≡ c → c .contents ≡ [] → pick cs (c .functor) ≡ picked ys gs
-      → After B A F K qs (switch x cs) u fs m goes (went (withFrames w (w .frames) (T .entry j)))
-  constant-after j ys gs found x cs c e d q =
-      arm-after j ys gs [] found (w .frames) refl (λ y l h v. rw (give-none ys (u .frame .values)) (G .values y l h v)) (λ k o. refl) x cs c e d q
+      → Switched x cs (withFrames w (w .frames) (T .entry j))
+  constant-switched j ys gs found x cs c e d q =
+      arm-switched j ys gs [] found (w .frames) refl (λ y l h v. rw (give-none ys (u .frame .values)) (G .values y l h v)) (λ k o. refl) x cs c e d q
 
   module _ (n x cs : ℕ) (e : recordAt f i ≡ Switch n x cs) where
     abbrev records : List ℕ
@@ -195,21 +206,29 @@ module _ {f : List ℕ} {T : Tables} (B : Tabled f T) (A : Accepted (program f))
       has = ap (cellIn (map cellOf (m .cells))) q ∙ H .is
 
     by-value : (t : Value) → u .frame .values x ≡ t → ArmFits (sig f (u .frame .procedure)) (m .cells) t (armsAt f cs) → Means L (valueOf w x) t → readable m t ≡ true
-        → After B A F K qs (switch x (armsAt f cs)) u fs m goes (went (switches f T w (valueOf w x) cs))
+        → Switched x (armsAt f cs) (switches f T w (valueOf w x) cs)
     unfolding StandsFor cellIn
     by-value (numeral z) q H s l = absurd (H .no-number z refl)
     by-value (cellAt j) q H s l =
         let R : Reads (w .cells) χ (length (m .cells)) (valueOf w x) (H .cell) = rw (H .is) at (reads (Q .represents) (valueOf w x) j s l) in
         let r : RangedMembers (H .arguments) = λ y h. variable-top _ _ (laws A (u .frame .procedure)) y (H .variables y h) in
         rw (switch-place f T w (valueOf w x) cs (omega (arith, place-low (Q .represents) (valueOf w x) j s l, Q .cell-room)), R .functor)
-        (cell-after (armOf f (H .cell .functor) records) (H .arguments) (H .goals) (H .cell .contents) (valueOf w x) (found-arm (cellAt j) q H) (R .contents) (H .count) r x
+        (cell-switched (armOf f (H .cell .functor) records) (H .arguments) (H .goals) (H .cell .contents) (valueOf w x) (found-arm (cellAt j) q H) (R .contents) (H .count) r x
         (armsAt f cs) (H .cell) (has (cellAt j) q H) refl (H .picks))
     by-value (constant k) q H s l =
         rw (switch-constant f T w (valueOf w x) cs k s, ap (λ (c : Cell). c .functor) (H .is))
-        (constant-after (armOf f (H .cell .functor) records) (H .arguments) (H .goals) (found-arm (constant k) q H) x (armsAt f cs) (H .cell) (has (constant k) q H)
+        (constant-switched (armOf f (H .cell .functor) records) (H .arguments) (H .goals) (found-arm (constant k) q H) x (armsAt f cs) (H .cell) (has (constant k) q H)
         (sym (ap (λ (c : Cell). c .contents) (H .is))) (H .picks))
 
-    pub switch-after : isVariable (sig f (u .frame .procedure)) x ≡ true → readable m (u .frame .values x) ≡ true
-        → ArmFits (sig f (u .frame .procedure)) (m .cells) (u .frame .values x) (armsAt f cs)
-        → After B A F K qs (switch x (armsAt f cs)) u fs m goes (went (switches f T w (valueOf w x) cs))
-    switch-after v l H = by-value (u .frame .values x) refl H (value-means B A F K qs w u fs m ρ χ i G W Q x v) l
+    module _ (v : isVariable (sig f (u .frame .procedure)) x ≡ true) (l : readable m (u .frame .values x) ≡ true)
+        (H : ArmFits (sig f (u .frame .procedure)) (m .cells) (u .frame .values x) (armsAt f cs)) where
+      pub switched : Switched x (armsAt f cs) (switches f T w (valueOf w x) cs)
+      switched = by-value (u .frame .values x) refl H (value-means B A F K qs w u fs m ρ χ i G W Q x v) l
+
+      pub switch-after : After B A F K qs closed (switch x (armsAt f cs)) u fs m goes (went (switches f T w (valueOf w x) cs))
+      unfolding Run.take stateIn within withFrames
+      switch-after =
+          let S = switched in
+          rw (S .is)
+          (onward (ap (λ (b : RegionFrame). state (program f) b fs m) (S .taken)) (record { newest = S .newest; waiting = S .waiting })
+          (record { represents = Q .represents; cell-room = Q .cell-room; printed = Q .printed; frame-room = rw (S .long) (Q .frame-room); print-room = Q .print-room }))

@@ -3,14 +3,14 @@ use Prim.Native.Nat.{ℕ, zero, suc, _-_}
 use mathlib.Core.List.{List, [], _∷_, map}
 use lib.Dec.{eqb}
 use lib.ListN.{length, getD, set, replicate}
-use Rattle.sets.specs.Tests.{_or_}
+use Rattle.sets.specs.Tests.{_&_, _or_}
 use Rattle.language.specs.Lists.{choose}
 use Rattle.language.specs.File.{word, recordCount}
 use Rattle.language.specs.Program.{Parameter, regionOf, signatureOf, parametersOf}
 use Rattle.language.specs.Regions.{mapping, imageIn}
 use Rattle.language.specs.Lifetimes.{born, startHeld}
 use Rattle.language.specs.Answers.{program}
-use Rattle.language.specs.Format.{kindWord, nextWord, armGoals, goalX, callProcedure, callArguments, argumentVariable, procedureKind, switchKind, ifKind, callKind, maxRecords}
+use Rattle.language.specs.Format.{kindWord, nextWord, armGoals, goalX, callProcedure, callArguments, argumentVariable, procedureKind, switchKind, ifKind, tryKind, callKind, tryCondition, maxRecords}
 use Rattle.chains.specs.Formed.{argumentsAt}
 use Rattle.chains.specs.Records.{chainRecords}
 use Rattle.owners.specs.Handed.{Attribute, nextAnd, handed}
@@ -18,12 +18,14 @@ use Rattle.owners.specs.Owner.{ownerOf}
 use Rattle.word_machine.specs.Tables.{Tables, onto, bodyRecord}
 use Rattle.word_machine.specs.Passing.{packed, ofMode}
 
--- where the chains go on that a record's words beside w1 lead to, v being where its own does: a switch's arms and an if's parts at the goal after it, a body nowhere
+-- where the chains go on that a record's words beside w1 lead to, v being where its own does: a switch's arms and the parts of an if or a try at the goal after it, a
+-- body nowhere
 unfoldable pub partsOnward : ℕ → ℕ → ℕ → ℕ
-partsOnward kind next v = choose (eqb kind procedureKind) 0 (choose (eqb kind switchKind or eqb kind ifKind) (onto next v) v)
+partsOnward kind next v = choose (eqb kind procedureKind) 0 (choose (eqb kind switchKind or eqb kind ifKind or eqb kind tryKind) (onto next v) v)
 
+-- a condition goes on nowhere: it runs by itself
 unfoldable pub onwardBy : List ℕ → Attribute
-onwardBy f kind i k v = nextAnd v (partsOnward kind (word f i nextWord) v) k
+onwardBy f kind i k v = choose (eqb kind tryKind & eqb k tryCondition) 0 (nextAnd v (partsOnward kind (word f i nextWord) v) k)
 
 -- ---- a call's arguments: each one's record gets what its parameter says
 unfoldable pub matched : (Parameter → ℕ) → List Parameter → List ℕ → List ℕ → List ℕ

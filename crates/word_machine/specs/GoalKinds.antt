@@ -1,4 +1,4 @@
--- A record that stands in a chain of goals is one of the ten kinds of goal.
+-- A record that stands in a chain of goals is one of the twelve kinds of goal.
 use Prim.Native.Nat.{ℕ}
 use mathlib.Core.List.{List}
 use mathlib.Core.Path.{_≡_, refl}

@@ -10,6 +10,10 @@ pub mod Statement
 pub mod Successors
 pub mod Copies
 pub mod Relation
+pub mod Back
+pub mod Inside
+pub mod Sized
+pub mod InCondition
 pub mod Returns
 pub mod Links
 pub mod Calls
@@ -19,9 +23,14 @@ pub mod Numbers
 pub mod Arms
 pub mod Switching
 pub mod Steps
+pub mod Entering
 pub mod MemorySteps
 pub mod ControlSteps
+pub mod Trying
+pub mod InSteps
 pub mod NextGoal
+pub mod NextIn
+pub mod Bodies
 pub mod WholeRun
 pub mod Filling
 pub mod Matching

@@ -2,12 +2,15 @@
 --
 -- A frame is 136 words at 136 * k, k counting from 0 at the entry: word 0 the record of the next goal while the frame waits, word x the value of
 -- variable x, word 64 + r the place of what region number r stands for, word 129 the record of the call that made the frame.
+--
+-- In an open condition (C-20) the run also keeps a log of what the condition did to cells and regions, the frame's 128 words as they were, and where the then and
+-- the else part begin. A removal only goes into the log; its region goes when the condition has ended.
 use Prim.Native.Nat.{ℕ, zero, suc, _+_, _-_, _*_}
 use mathlib.Core.Bool.{Bool, true, false}
 use mathlib.Core.List.{List, [], _∷_}
 use lib.Dec.{eqb, ltb}
 use lib.IntN.{ℤ}
-use lib.ListN.{length, getD, set}
+use lib.ListN.{length, getD, set, replicate}
 use mir.Syntax.{w32}
 use mir.Val.{toZ}
 use Rattle.sets.specs.Members.{members}
@@ -20,16 +23,18 @@ use Rattle.language.specs.File.{word, recordCount}
 use Rattle.language.specs.Program.{inMode, outMode}
 use Rattle.language.specs.Numbers.{literalNumber, residue, sumNumber, inRange, less}
 use Rattle.language.specs.Machine.{Lent, Room, holds, roomIn}
-use Rattle.language.specs.Format.{maxRegions, termFunctor, termArguments, callProcedure, maxVariables}
+use Rattle.language.specs.Format.{maxRecords, maxRegions, termFunctor, termArguments, callProcedure, maxVariables}
 use Rattle.records.specs.Records.{recordAt}
 use Rattle.records.specs.declared.Record.{Record}
-use Rattle.records.specs.declared.Record.the-variants.{Header, «Type» as TypeOf, Functor, Procedure, Variable, Region, Edge, Literal, Sum, Assign, Construct, Switch, Arm, If, Call, Argument, Print, Create, Remove, Other}
+use Rattle.records.specs.declared.Record.the-variants.{Header, «Type» as TypeOf, Functor, Procedure, Variable, Region, Edge, Literal, Sum, Assign, Construct, Switch, Arm, If, Call, Argument, Print, Create, Remove, Try, Test, Other}
 use Rattle.chains.specs.Records.{chainRecords}
 use Rattle.memory.specs.declared.Contents.{Contents}
 use Rattle.memory.specs.declared.Heap.{Heap}
 use Rattle.memory.specs.declared.Made.{Made}
 use Rattle.memory.specs.declared.Made.the-variants.{At, NoRoom}
 use Rattle.memory.specs.Memory.{cellWords, regionWords, constantsFrom, cellWord, emptyHeap, created, createdRegions, built, builtCells, builtRegions, removed, removedCells, removedRegions}
+use Rattle.memory.specs.Log.{builtIn, madeAt, removedAt, entry, Stored, stored, undone, freed}
+use Rattle.memory.specs.Moved.{moved}
 use Rattle.word_machine.specs.Tables.{Tables, onto, slotOf, givenOf}
 
 -- the lent words and what a run keeps beside them: the newest frame's number, its next goal's record, and how many numbers are printed
@@ -122,9 +127,19 @@ valueOf w x = getD (w .frames) (valuePlace (w .top) x) 0
 unfoldable pub regionFor : MachineWords → ℕ → ℕ
 regionFor w r = getD (w .frames) (regionPlace (w .top) r) 0
 
--- what a step comes to
+-- ---- an open condition: the log with its first `count` entries, the frame's words at the try, and the records where the then and the else part begin
+pub record ConditionWords : Type 0 where
+  pub words : MachineWords
+  pub log : List ℕ
+  pub count : ℕ
+  pub own : List ℕ
+  pub then′ : ℕ
+  pub else′ : ℕ
+
+-- what a step comes to: words outside conditions, in an open one, or a stop
 pub data Went : Type 0 where
   went : MachineWords → Went
+  opens : ConditionWords → Went
   stops : Stop → Went
 
 unfoldable pub ifRoom : Bool → Stop → MachineWords → Went
@@ -134,6 +149,62 @@ ifRoom false c w = stops c
 -- X gets a sum's word, and record i is next; out of range, the run stops (C-15)
 unfoldable pub sums : MachineWords → ℕ → ℤ → ℕ → Went
 sums w x z i = ifRoom (inRange z) Sums (given w x (residue z) i)
+
+-- ---- conditions
+unfoldable pub storedIn : MachineWords → Stored
+storedIn w = stored (w .heap) (w .cells) (w .regions)
+
+-- other cells and regions, other frames, and record i is next
+unfoldable pub withStored : MachineWords → Stored → List ℕ → ℕ → MachineWords
+withStored w s fw i =
+    record { heap = s .heap; cells = s .cells; regions = s .regions; frames = fw; prints = w .prints; top = w .top; goal = i; printed = w .printed }
+
+-- the words of variables and regions of frame k, saved from place 1 of `own` on, and put back
+unfoldable pub savedFrame : ℕ → List ℕ → List ℕ → List ℕ
+savedFrame k fw own = moved (frameWords * k + 1) 1 regionsEnd fw own
+
+unfoldable pub putBack : ℕ → List ℕ → List ℕ → List ℕ
+putBack k own fw = moved 1 (frameWords * k + 1) regionsEnd own fw
+
+-- a try whose condition begins at record c, its parts at a and b
+unfoldable pub tries : MachineWords → ℕ → ℕ → ℕ → ConditionWords
+tries w c a b =
+    record {
+      words = withFrames w (w .frames) c;
+      log = replicate maxRecords 0;
+      count = 0;
+      own = savedFrame (w .top) (w .frames) (replicate (suc regionsEnd) 0);
+      then′ = a;
+      else′ = b;
+    }
+
+-- a step in a condition that is not logged, and one that is
+unfoldable pub inWords : ConditionWords → MachineWords → ConditionWords
+inWords v w = record { words = w; log = v .log; count = v .count; own = v .own; then′ = v .then′; else′ = v .else′ }
+
+unfoldable pub logged : ConditionWords → MachineWords → ℕ → ConditionWords
+logged v w e = record { words = w; log = set (v .log) (v .count) e; count = suc (v .count); own = v .own; then′ = v .then′; else′ = v .else′ }
+
+-- a failing test: what was done is undone, and the else part is next
+unfoldable pub fails : ConditionWords → MachineWords
+fails v =
+    withStored (v .words) (undone (v .log) (v .count) (storedIn (v .words))) (putBack (v .words .top) (v .own) (v .words .frames)) (v .else′)
+
+-- the condition's end: what it removed goes, and the then part is next
+unfoldable pub leaves : ConditionWords → MachineWords
+leaves v = withStored (v .words) (freed (v .log) (v .count) (storedIn (v .words))) (v .words .frames) (v .then′)
+
+-- a condition has ended where no goal of its own is next
+unfoldable pub entersAt : ℕ → ConditionWords → Went
+entersAt zero v = went (leaves v)
+entersAt (suc i) v = opens v
+
+unfoldable pub enters : ConditionWords → Went
+enters v = entersAt (v .words .goal) v
+
+unfoldable pub ifRoomIn : Bool → Stop → ConditionWords → Went
+ifRoomIn true c v = enters v
+ifRoomIn false c v = stops c
 
 -- ---- constructs and creates: a construct without arguments gives a constant, any other a cell
 -- a cell's words for functor k: the values of its arguments, up to the first that is numbered 0; behind them, what stands there
@@ -172,6 +243,32 @@ createdBy w r i rs NoRoom = stops Places
 unfoldable pub makesRegion : MachineWords → ℕ → ℕ → Went
 makesRegion w r i = createdBy w r i (createdRegions (w .heap) (w .regions)) (created (w .heap) (w .regions))
 
+-- .. in a condition
+unfoldable pub constructedIn : ConditionWords → ℕ → ℕ → ℕ → List ℕ → List ℕ → Made → Went
+constructedIn v x i p m rs (At y h) =
+    enters (logged v (withStored (v .words) (stored h m rs) (set (v .words .frames) (valuePlace (v .words .top) x) y) i) (entry p builtIn))
+constructedIn v x i p m rs NoRoom = stops Cells
+
+unfoldable pub constructsIn : ConditionWords → ℕ → ℕ → ℕ → ℕ → ℕ → ℕ → ℕ → ℕ → Went
+constructsIn v x i r t zero b c d = enters (inWords v (given (v .words) x (constantsFrom + t) i))
+constructsIn v x i r t (suc a) b c d =
+    constructedIn v x i (regionFor (v .words) r)
+    (builtCells (v .words .heap) (v .words .cells) (v .words .regions) (regionFor (v .words) r) (contentsOf (v .words) t (suc a) b c d))
+    (builtRegions (v .words .heap) (v .words .cells) (v .words .regions) (regionFor (v .words) r))
+    (built (v .words .heap) (v .words .cells))
+
+unfoldable pub createdIn : ConditionWords → ℕ → ℕ → List ℕ → Made → Went
+createdIn v r i rs (At p h) =
+    enters (logged v (withStored (v .words) (stored h (v .words .cells) rs) (set (v .words .frames) (regionPlace (v .words .top) r) p) i) (entry p madeAt))
+createdIn v r i rs NoRoom = stops Places
+
+unfoldable pub makesRegionIn : ConditionWords → ℕ → ℕ → Went
+makesRegionIn v r i = createdIn v r i (createdRegions (v .words .heap) (v .words .regions)) (created (v .words .heap) (v .words .regions))
+
+-- "A removal in a condition frees nothing before the then part begins"
+unfoldable pub dropsRegionIn : ConditionWords → ℕ → ℕ → ConditionWords
+dropsRegionIn v p i = logged v (withFrames (v .words) (v .words .frames) i) (entry p removedAt)
+
 -- the region at place p goes
 unfoldable pub dropsRegion : MachineWords → ℕ → ℕ → MachineWords
 dropsRegion w p i =
@@ -199,9 +296,10 @@ pub record Outcome : Type 0 where
 unfoldable pub endedWith : Ending → ℕ → MachineWords → Outcome
 endedWith e n w = record { ending = e; done = n; words = w }
 
-unfoldable pub afterStep : Went → (MachineWords → Outcome) → (Stop → Outcome) → Outcome
-afterStep (went w) onward halt = onward w
-afterStep (stops c) onward halt = halt c
+unfoldable pub afterStep : Went → (MachineWords → Outcome) → (ConditionWords → Outcome) → (Stop → Outcome) → Outcome
+afterStep (went w) onward inward halt = onward w
+afterStep (opens v) onward inward halt = inward v
+afterStep (stops c) onward inward halt = halt c
 
 module _ (f : List ℕ) (T : Tables) where
   -- ---- a switch: the arm at record j, with the words of the cell at place p
@@ -280,6 +378,7 @@ module _ (f : List ℕ) (T : Tables) where
 
   unfoldable pub settledIf : Went → Went
   settledIf (went w) = went (settled w)
+  settledIf (opens v) = opens v
   settledIf (stops c) = stops c
 
   -- ---- the goal at record i, in room k
@@ -295,6 +394,8 @@ module _ (f : List ℕ) (T : Tables) where
   steps k i (Print n y) w = ifRoom (ltb (w .printed) (k .prints)) Prints (printsWord w (valueOf w y) (T .successor i))
   steps k i (Create n r) w = makesRegion w r (T .successor i)
   steps k i (Remove n r) w = went (dropsRegion w (regionFor w r) (T .successor i))
+  steps k i (Try n c a b) w = enters (tries w c (onto a (T .successor i)) (onto b (T .successor i)))
+  steps k i (Test n y z) w = went w
   steps k i (Header a b c) w = went w
   steps k i (TypeOf n fs) w = went w
   steps k i (Functor n a b c d e) w = went w
@@ -309,12 +410,52 @@ module _ (f : List ℕ) (T : Tables) where
   unfoldable pub stepped : Room → ℕ → MachineWords → Went
   stepped k i w = settledIf (steps k i (recordAt f i) w)
 
+  -- ---- the goal at record i, in an open condition; number 2 sees to it that no other kind stands there
+  unfoldable pub stepsIn : ℕ → Record → ConditionWords → Went
+  stepsIn i (Literal n x v) c = enters (inWords c (given (c .words) x (literalWord v) (T .successor i)))
+  stepsIn i (Sum n x o y z) c =
+      ifRoomIn (inRange (sumOfWords o (valueOf (c .words) y) (valueOf (c .words) z))) Sums
+      (inWords c (given (c .words) x (residue (sumOfWords o (valueOf (c .words) y) (valueOf (c .words) z))) (T .successor i)))
+  stepsIn i (Assign n x y) c = enters (inWords c (given (c .words) x (valueOf (c .words) y) (T .successor i)))
+  stepsIn i (Construct n x t a b d e) c = constructsIn c x (T .successor i) (T .region i) t a b d e
+  stepsIn i (Switch n x cs) c = enters (inWords c (switches (c .words) (valueOf (c .words) x) cs))
+  stepsIn i (Create n r) c = makesRegionIn c r (T .successor i)
+  stepsIn i (Remove n r) c = enters (dropsRegionIn c (regionFor (c .words) r) (T .successor i))
+  stepsIn i (Test n y z) c =
+      choose (less (toZ w32 (valueOf (c .words) y)) (toZ w32 (valueOf (c .words) z)))
+      (enters (inWords c (withFrames (c .words) (c .words .frames) (T .successor i)))) (went (fails c))
+  stepsIn i (If n y z a b) c = opens c
+  stepsIn i (Call n q ys) c = opens c
+  stepsIn i (Print n y) c = opens c
+  stepsIn i (Try n s a b) c = opens c
+  stepsIn i (Header a b d) c = opens c
+  stepsIn i (TypeOf n fs) c = opens c
+  stepsIn i (Functor n a b d e g) c = opens c
+  stepsIn i (Procedure n a b d) c = opens c
+  stepsIn i (Variable n a b d) c = opens c
+  stepsIn i (Region n a b d) c = opens c
+  stepsIn i (Edge n a b d) c = opens c
+  stepsIn i (Arm n g t a b d e) c = opens c
+  stepsIn i (Argument n y) c = opens c
+  stepsIn i Other c = opens c
+
+  unfoldable pub steppedIn : ℕ → ConditionWords → Went
+  steppedIn i c = settledIf (stepsIn i (recordAt f i) c)
+
   -- ---- the run: l steps are left, record i is next, n steps are done. "An ended run is finished before 10 is looked at"
-  unfoldable pub runOn : Room → ℕ → ℕ → ℕ → MachineWords → Outcome
-  runOn k zero zero n w = endedWith Finished n w
-  runOn k zero (suc i) n w = endedWith (Stopped Steps) n w
-  runOn k (suc l) zero n w = endedWith Finished n w
-  runOn k (suc l) (suc i) n w = afterStep (stepped k (suc i) w) (λ v. runOn k l (v .goal) (suc n) v) (λ c. endedWith (Stopped c) n w)
+  unfoldable mutual
+    pub runOn : Room → ℕ → ℕ → ℕ → MachineWords → Outcome
+    runOn k zero zero n w = endedWith Finished n w
+    runOn k zero (suc i) n w = endedWith (Stopped Steps) n w
+    runOn k (suc l) zero n w = endedWith Finished n w
+    runOn k (suc l) (suc i) n w =
+        afterStep (stepped k (suc i) w) (λ v. runOn k l (v .goal) (suc n) v) (λ c. runIn k l (suc n) c) (λ s. endedWith (Stopped s) n w)
+
+    -- .. in an open condition, which has a goal
+    pub runIn : Room → ℕ → ℕ → ConditionWords → Outcome
+    runIn k zero n c = endedWith (Stopped Steps) n (c .words)
+    runIn k (suc l) n c =
+        afterStep (steppedIn (c .words .goal) c) (λ v. runOn k l (v .goal) (suc n) v) (λ d. runIn k l (suc n) d) (λ s. endedWith (Stopped s) n (c .words))
 
   -- nothing made, the entry's frame alone
   unfoldable pub startWords : List ℕ → List ℕ → List ℕ → List ℕ → MachineWords

@@ -18,8 +18,8 @@ use Rattle.language.specs.declared.Stop.the-variants.{Cells, Places, Prints}
 use Rattle.language.specs.Lists.{put, isNone}
 use Rattle.language.specs.Program.{four, fourWords, trimOnto, trimmed, argumentsOf, construct, print, create, remove, step, regionOf}
 use Rattle.language.specs.Typing.{isVariable, isRegion}
-use Rattle.language.specs.Frames.{cellAt, constant, numberIn, giving, cellFor, builtValue, buildIn}
-use Rattle.language.specs.AcceptedRun.{RegionFrame, RegionCell, Memory, withCell, withBuilt, withPrinted, withRegion, withoutRegion, withFrame, regionFor, state}
+use Rattle.language.specs.Frames.{closed, cellAt, constant, numberIn, giving, cellFor, builtValue, buildIn}
+use Rattle.language.specs.AcceptedRun.{RegionFrame, RegionCell, Memory, withCell, withBuilt, withPrinted, withRegion, withoutRegion, withFrame, regionFor, state, within, stateIn}
 use Rattle.language.specs.AcceptedRun as Run
 use Rattle.language.specs.Machine.{Room, goes, roomOr, cellsHeld, regionsHeld}
 use Rattle.language.specs.Answers.{program}
@@ -53,8 +53,8 @@ module _ {f : List ℕ} {T : Tables} (B : Tabled f T) (A : Accepted (program f))
     (W : Waiting B (w .frames) (whereIn m ρ χ) (u .frame .procedure) (u .frame .arguments) (w .top) fs) (Q : MemoryStored K qs w m ρ χ) where
   -- ---- a print
   print-by : (y : ℕ) → isVariable (sig f (u .frame .procedure)) y ≡ true → Number (u .frame .values y) → (b : Bool) → ltb (w .printed) (K .prints) ≡ b
-      → After B A F K qs (step (print y)) u fs m (roomOr b Prints) (ifRoom b Prints (printsWord w (valueOf w y) (T .successor i)))
-  unfolding roomOr ifRoom printsWord Run.take withPrinted
+      → After B A F K qs closed (step (print y)) u fs m (roomOr b Prints) (ifRoom b Prints (printsWord w (valueOf w y) (T .successor i)))
+  unfolding roomOr ifRoom printsWord Run.take stateIn within withPrinted
   print-by y o n false e = halts
   print-by y o n true e =
       onward refl (record { newest = G; waiting = W })
@@ -69,7 +69,7 @@ module _ {f : List ℕ} {T : Tables} (B : Tabled f T) (A : Accepted (program f))
       })
 
   pub print-after : (y : ℕ) → isVariable (sig f (u .frame .procedure)) y ≡ true → Number (u .frame .values y)
-      → After B A F K qs (step (print y)) u fs m (roomOr (ltb (length (m .printed)) (K .prints)) Prints)
+      → After B A F K qs closed (step (print y)) u fs m (roomOr (ltb (length (m .printed)) (K .prints)) Prints)
       (ifRoom (ltb (w .printed) (K .prints)) Prints (printsWord w (valueOf w y) (T .successor i)))
   print-after y o n = rw (← Q .printed .count) (print-by y o n (ltb (w .printed) (K .prints)) refl)
 
@@ -84,8 +84,8 @@ module _ {f : List ℕ} {T : Tables} (B : Tabled f T) (A : Accepted (program f))
   }
 
   create-by : (r : ℕ) → isRegion (sig f (u .frame .procedure)) r ≡ true → (o : Made) (rs : List ℕ) → Creates K (w .cells) (w .regions) m ρ χ o rs
-      → After B A F K qs (step (create r)) u fs m (roomOr (ltb (regionsHeld m) (K .regions)) Places) (createdBy w r (T .successor i) rs o)
-  unfolding roomOr createdBy Run.take withRegion
+      → After B A F K qs closed (step (create r)) u fs m (roomOr (ltb (regionsHeld m) (K .regions)) Places) (createdBy w r (T .successor i) rs o)
+  unfolding roomOr createdBy Run.take stateIn within withRegion
   create-by r v NoRoom rs (stops-12 e) = rw e halts
   create-by r v (At p h) rs (creates e R) =
       let t = later-region p in
@@ -106,7 +106,7 @@ module _ {f : List ℕ} {T : Tables} (B : Tabled f T) (A : Accepted (program f))
       same-printed = Q .printed
 
   pub create-after : (r : ℕ) → isRegion (sig f (u .frame .procedure)) r ≡ true
-      → After B A F K qs (step (create r)) u fs m (roomOr (ltb (regionsHeld m) (K .regions)) Places) (makesRegion w r (T .successor i))
+      → After B A F K qs closed (step (create r)) u fs m (roomOr (ltb (regionsHeld m) (K .regions)) Places) (makesRegion w r (T .successor i))
   unfolding makesRegion
   create-after r v = create-by r v (created (w .heap) (w .regions)) (createdRegions (w .heap) (w .regions)) (create-ok (Q .represents))
 
@@ -118,8 +118,8 @@ module _ {f : List ℕ} {T : Tables} (B : Tabled f T) (A : Accepted (program f))
       G .regions r (t .0) (t .1) (alive-made (Q .represents) (u .stands r) l) .1
 
   pub remove-after : (r : ℕ) → isRegion (sig f (u .frame .procedure)) r ≡ true → m .alive (u .stands r) ≡ true
-      → After B A F K qs (step (remove r)) u fs m goes (went (dropsRegion w (M.regionFor w r) (T .successor i)))
-  unfolding dropsRegion Run.take withoutRegion
+      → After B A F K qs closed (step (remove r)) u fs m goes (went (dropsRegion w (M.regionFor w r) (T .successor i)))
+  unfolding dropsRegion Run.take stateIn within withoutRegion
   remove-after r v l =
       rw (region-word r v l)
       (onward refl (record { newest = G; waiting = W })
@@ -133,12 +133,12 @@ module _ {f : List ℕ} {T : Tables} (B : Tabled f T) (A : Accepted (program f))
 
   -- ---- a construct of X without arguments: a constant
   module _ (x k b c d : ℕ) (e : argumentsOf (four 0 b c d) ≡ []) where
-    constant-taken : Run.take (program f) (step (construct x k (four 0 b c d))) u fs m ≡ state (program f) (withFrame u (giving (u .frame) x (constant k))) fs m
-    unfolding Run.take buildIn builtValue withBuilt
+    constant-taken : Run.take (program f) closed (step (construct x k (four 0 b c d))) u fs m ≡ state (program f) (withFrame u (giving (u .frame) x (constant k))) fs m
+    unfolding Run.take stateIn within buildIn builtValue withBuilt
     constant-taken = rw e
 
     pub constant-after : isVariable (sig f (u .frame .procedure)) x ≡ true → (r : ℕ)
-        → After B A F K qs (step (construct x k (four 0 b c d))) u fs m
+        → After B A F K qs closed (step (construct x k (four 0 b c d))) u fs m
         (roomOr (isNone (argumentsOf (four 0 b c d)) or ltb (cellsHeld (m .alive) (m .cells)) (K .cells)) Cells) (constructs w x (T .successor i) r k 0 b c d)
     unfolding roomOr isNone _or_ constructs StandsFor
     constant-after v r =
@@ -163,9 +163,9 @@ module _ {f : List ℕ} {T : Tables} (B : Tabled f T) (A : Accepted (program f))
     }
 
     construct-by : (h : Made) (ms rs : List ℕ) → Builds K (w .cells) (w .regions) m ρ χ (regionFor (program f) u x) (cellFor (u .frame) k (argumentsOf (four (suc a) b c d))) h ms rs
-        → After B A F K qs (step (construct x k (four (suc a) b c d))) u fs m (roomOr (ltb (cellsHeld (m .alive) (m .cells)) (K .cells)) Cells)
+        → After B A F K qs closed (step (construct x k (four (suc a) b c d))) u fs m (roomOr (ltb (cellsHeld (m .alive) (m .cells)) (K .cells)) Cells)
         (constructedBy w x (T .successor i) ms rs h)
-    unfolding roomOr constructedBy Run.take buildIn builtValue withBuilt argumentsOf trimmed trimOnto fourWords withFrame giving withCell
+    unfolding roomOr constructedBy Run.take stateIn within buildIn builtValue withBuilt argumentsOf trimmed trimOnto fourWords withFrame giving withCell
     construct-by NoRoom ms rs (stops-11 e) = rw e halts
     construct-by (At p h) ms rs (builds e R) =
         let t = later-cell p in
@@ -183,17 +183,17 @@ module _ {f : List ℕ} {T : Tables} (B : Tabled f T) (A : Accepted (program f))
         same-printed : Printed qs (w .prints) (w .printed) (withCell m new .printed)
         same-printed = Q .printed
 
-    argument-words : StandEach χ (length (m .cells)) (wordsOf (contentsOf w k (suc a) b c d)) (map (u .frame .values) (argumentsOf (four (suc a) b c d)))
+    pub argument-words : StandEach χ (length (m .cells)) (wordsOf (contentsOf w k (suc a) b c d)) (map (u .frame .values) (argumentsOf (four (suc a) b c d)))
     unfolding contentsOf
     argument-words =
         term-words χ (length (m .cells)) (valueOf w) _ (u .frame .values) k (suc a) b c d (λ y h. variable-top _ _ (laws A (u .frame .procedure)) y (vs y h))
         (each-argument χ (length (m .cells)) (valueOf w) (u .frame .values) (four (suc a) b c d) (λ y h. value-means B A F K qs w u fs m ρ χ i G W Q y (vs y h)))
 
-    functor-word : contentsOf w k (suc a) b c d .functor ≡ k
+    pub functor-word : contentsOf w k (suc a) b c d .functor ≡ k
     unfolding contentsOf
     functor-word = term-functor (valueOf w) _ k (suc a) b c d
 
-    pub construct-after : After B A F K qs (step (construct x k (four (suc a) b c d))) u fs m
+    pub construct-after : After B A F K qs closed (step (construct x k (four (suc a) b c d))) u fs m
         (roomOr (isNone (argumentsOf (four (suc a) b c d)) or ltb (cellsHeld (m .alive) (m .cells)) (K .cells)) Cells) (constructs w x (T .successor i) r k (suc a) b c d)
     unfolding constructs constructed cellFor regionFor isNone _or_
     construct-after =

@@ -1,27 +1,29 @@
 -- The newest frame's next goal, whichever it is.
-use Prim.Native.Nat.{ℕ, zero, suc}
+use Prim.Native.Nat.{ℕ, zero, suc, _≤_}
 use mathlib.Core.Path.{_≡_, refl, ap, _∙_}
-use mathlib.Core.Bool.{Bool, true}
+use mathlib.Core.Bool.{Bool, true, false, false≢true}
 use mathlib.Core.List.{List, _∷_}
 use Rattle.sets.specs.Tests.{_or_, and-true}
 use Rattle.language.specs.Lists.{isNone}
-use Rattle.language.specs.File.{GoalKind, kLiteral, kSum, kAssign, kConstruct, kSwitch, kIf, kCall, kPrint, kCreate, kRemove, kGoal, word}
-use Rattle.language.specs.Program.{four, argumentsOf, Goals, _then_, Goal, typeOf, regionOf}
+use Rattle.language.specs.File.{GoalKind, kLiteral, kSum, kAssign, kConstruct, kSwitch, kIf, kCall, kPrint, kCreate, kRemove, kTry, kTest, kGoal, word}
+use Rattle.language.specs.Program.{four, argumentsOf, Goals, _then_, Goal, try, typeOf, regionOf}
 use Rattle.language.specs.Typing.{functorsFor, argumentsOk, stepOk, goalOk}
 use Rattle.language.specs.Regions.{goalRegions}
-use Rattle.language.specs.Frames.{withGoals, sumOf, fitsStep}
+use Rattle.language.specs.Format.{maxRecords}
+use Rattle.language.specs.Conditions.{stepStands, goalStands}
+use Rattle.language.specs.Frames.{closed, withGoals, sumOf, fitsStep}
 use Rattle.language.specs.AcceptedRun.{RegionFrame, Memory, withFrame, regionFor, allowed}
-use Rattle.language.specs.Machine.{Room, outlookFor}
+use Rattle.language.specs.Machine.{Room, counted, countedIn, outlookFor}
 use Rattle.language.specs.Answers.{program}
 use Rattle.region_graph.specs.Typed.{arguments-regioned}
 use Rattle.region_graph.specs.Procedure.{cell-region}
 use Rattle.region_graph.specs.Shared.{variable-top}
 use Rattle.records.specs.Records.{recordAs, recordAt}
-use Rattle.records.specs.declared.Record.the-variants.{Literal, Sum, Assign, Construct, Switch, If, Call, Print, Create, Remove}
+use Rattle.records.specs.declared.Record.the-variants.{Literal, Sum, Assign, Construct, Switch, If, Call, Print, Create, Remove, Try, Test}
 use Rattle.chains.specs.Formed.{Formed, goalsAt, armsAt}
 use Rattle.word_machine.specs.GoalKinds.{goal-is}
-use Rattle.chains.specs.Goals.{literal-at, sum-at, assign-at, construct-at, print-at, create-at, remove-at}
-use Rattle.chains.specs.Parts.{switch-at, if-at, call-at}
+use Rattle.chains.specs.Goals.{literal-at, sum-at, assign-at, construct-at, print-at, create-at, remove-at, test-at}
+use Rattle.chains.specs.Parts.{switch-at, if-at, try-at, call-at}
 use Rattle.safety.specs.Premises.{Accepted, fit, laws}
 use Rattle.safety.specs.Variables.{type-in, types-variables}
 use Rattle.safety.specs.Invariant.{Inv}
@@ -35,12 +37,15 @@ use Rattle.word_machine.specs.Links.{linked}
 use Rattle.word_machine.specs.Stepping.{frame-goals}
 use Rattle.word_machine.specs.Steps.{After, literal-after, sum-after, assign-after}
 use Rattle.word_machine.specs.MemorySteps.{print-after, create-after, remove-after, constant-after, construct-after}
+use Rattle.layout.specs.Sizes.{goalsSize}
 use Rattle.word_machine.specs.ControlSteps.{if-after, call-after, switch-after}
+use Rattle.word_machine.specs.Trying.{try-after}
 
 module _ {f : List ℕ} {T : Tables} (B : Tabled f T) (A : Accepted (program f)) (F : Formed f) (K : Room) (qs : List ℕ) (w : MachineWords) (e : RegionFrame)
     (fs : List RegionFrame) (m : Memory) (ρ χ : ℕ → ℕ) (i : ℕ) (G : FrameOk B (w .frames) (w .top) (whereIn m ρ χ) i e)
     (W : Waiting B (w .frames) (whereIn m ρ χ) (e .frame .procedure) (e .frame .arguments) (w .top) fs) (Q : MemoryStored K qs w m ρ χ)
-    (I : Inv (program f) e fs m) (g : Goal) (rest : Goals) (q : e .frame .goals ≡ g then rest) where
+    (I : Inv (program f) e fs m) (g : Goal) (rest : Goals) (q : e .frame .goals ≡ g then rest)
+    (stands : goalStands false g ≡ true) (short : (t a b : Goals) → g ≡ try t a b → goalsSize t ≤ maxRecords) where
   O : GoalOnward B (e .frame .procedure) i g rest
   O = todo-next B (G .todo) g rest q
 
@@ -56,7 +61,7 @@ module _ {f : List ℕ} {T : Tables} (B : Tabled f T) (A : Accepted (program f))
   W′ = W
 
   abbrev Goes : Goal → Type 0
-  Goes a = After B A F K qs a u fs m (outlookFor K a e (record { frames = e ∷ fs; memory = m })) (steps f T K i (recordAt f i) w)
+  Goes a = After B A F K qs closed a u fs m (outlookFor K a e (record { frames = e ∷ fs; memory = m; condition = closed })) (steps f T K i (recordAt f i) w)
 
   -- the goal is a; what number 3 says of it
   typed : (a : Goal) → g ≡ a → goalOk (program f) (sig f (e .frame .procedure)) a ≡ true
@@ -95,7 +100,7 @@ module _ {f : List ℕ} {T : Tables} (B : Tabled f T) (A : Accepted (program f))
 
   -- without arguments a construct touches no region
   is-construct : (n x k a b c d : ℕ) → recordAt f i ≡ Construct n x k a b c d → Goes g
-  unfolding outlookFor steps goalOk stepOk functorsFor argumentsOk allowed withFrame withGoals regionFor
+  unfolding outlookFor counted countedIn steps goalOk stepOk functorsFor argumentsOk allowed withFrame withGoals regionFor
   is-construct n x k zero b c d r =
       let z = O .is ∙ construct-at F refl r .goal in
       let t = and-true (typed _ z) in
@@ -145,7 +150,7 @@ module _ {f : List ℕ} {T : Tables} (B : Tabled f T) (A : Accepted (program f))
       rw (z, r) (print-after B A F K qs w u fs m ρ χ i G′ W′ Q y (type-in _ 0 y (typed _ z) .0) (print-number A e fs m I y rest (goals-are _ z)))
 
   is-create : (n r : ℕ) → recordAt f i ≡ Create n r → Goes g
-  unfolding outlookFor steps goalOk stepOk withFrame withGoals
+  unfolding outlookFor counted countedIn steps goalOk stepOk withFrame withGoals
   is-create n k r =
       let z = O .is ∙ create-at F refl r .goal in
       rw (z, r) (create-after B A F K qs w u fs m ρ χ i G′ W′ Q k (typed _ z))
@@ -155,6 +160,17 @@ module _ {f : List ℕ} {T : Tables} (B : Tabled f T) (A : Accepted (program f))
   is-remove n k r =
       let z = O .is ∙ remove-at F refl r .goal in
       rw (z, r) (remove-after B A F K qs w u fs m ρ χ i G′ W′ Q k (typed _ z) (next-allowed A e fs m I _ rest (goals-are _ z)))
+
+  is-try : (n c a b : ℕ) → recordAt f i ≡ Try n c a b → Goes g
+  unfolding outlookFor steps withFrame withGoals
+  is-try n c a b r =
+      let z = O .is ∙ try-at F refl r .goal in
+      rw (z, r) (try-after B A F K qs w u fs m ρ χ i (O .mine) G′ W′ Q n c a b r (short _ _ _ z))
+
+  -- number 2: no test stands outside conditions
+  is-test : (n y z : ℕ) → recordAt f i ≡ Test n y z → Goes g
+  unfolding goalStands stepStands
+  is-test n y z r = absurd (false≢true (rw (O .is ∙ test-at F refl r .goal) at stands))
 
   by-kind : (k : GoalKind) → recordAt f i ≡ recordAs (kGoal k) (word f i) → Goes g
   by-kind kLiteral r = is-literal _ _ _ r
@@ -167,6 +183,9 @@ module _ {f : List ℕ} {T : Tables} (B : Tabled f T) (A : Accepted (program f))
   by-kind kPrint r = is-print _ _ r
   by-kind kCreate r = is-create _ _ r
   by-kind kRemove r = is-remove _ _ r
+  by-kind kTry r = is-try _ _ _ _ r
+  by-kind kTest r = is-test _ _ _ r
 
-  pub goal-after : After B A F K qs g (withFrame e (withGoals (e .frame) rest)) fs m (outlookFor K g e (record { frames = e ∷ fs; memory = m })) (steps f T K i (recordAt f i) w)
+  pub goal-after : After B A F K qs closed g (withFrame e (withGoals (e .frame) rest)) fs m (outlookFor K g e (record { frames = e ∷ fs; memory = m; condition = closed }))
+      (steps f T K i (recordAt f i) w)
   goal-after = let k = goal-is (O .stands) (O .some) in by-kind (k .0) (k .1)

@@ -13,7 +13,7 @@ use Rattle.sets.specs.Tests.{and-true}
 use Rattle.sets.specs.Sets.{member, subset-in}
 use Rattle.sets.specs.Members.{inList, setOf, nil-in, cons-in, cons-here, cons-later}
 use Rattle.sets.specs.declared.Set.{Set}
-use Rattle.language.specs.Program.{Functor, Step, sum, print, Goals, _then_, Goal, step, switch, ifLess, Arms, Signature, Program, typeOf, regionOf, signatureOf, functorsOf, functorAt}
+use Rattle.language.specs.Program.{Functor, Step, sum, print, test, Goals, _then_, Goal, step, switch, ifLess, Arms, Signature, Program, typeOf, regionOf, signatureOf, functorsOf, functorAt}
 use Rattle.language.specs.Typing.{isVariable, hasType, functorsFor, goalOk, stepOk}
 use Rattle.language.specs.Values.{reads, access, accessing}
 use Rattle.language.specs.Regions.{goalRegions}
@@ -125,30 +125,38 @@ module _ {P : Program} (A : Accepted P) (e : RegionFrame) (fs : List RegionFrame
         go : Inv P e fs m → allowed P g e m ≡ true
         go (inv d N) = allowed-ok A e fs m N g rest (next-in P _ d g rest q)
 
+  -- lists of one and two variables
+  one : (k : ℕ) → isVariable S k ≡ true → AllVariables S (k ∷ [])
+  one k a n i = elim (cons-in n k [] i) [ inl c ↦ rw (← c) a | inr c ↦ absurd (nil-in n c) ]
+
+  both : (y z : ℕ) → isVariable S y ≡ true → isVariable S z ≡ true → AllVariables S (y ∷ z ∷ [])
+  both y z a b n i = elim (cons-in n y (z ∷ []) i) [ inl c ↦ rw (← c) a | inr c ↦ one z b n c ]
+
   pub sum-numbers : Inv P e fs m → (x o y z : ℕ) (rest : Goals) → e .frame .goals ≡ step (sum x o y z) then rest
       → Number (e .frame .values y) × Number (e .frame .values z)
   unfolding goalOk stepOk reads access accessing
   sum-numbers (inv d N) x o y z rest q =
       let X = next-in P _ d _ rest q in
       let t = and-true (and-true (and-true (X .typed) .1) .1) in
-      let a = both (type-in S 0 y (t .0) .0) (type-in S 0 z (t .1) .0) in
+      let a = both y z (type-in S 0 y (t .0) .0) (type-in S 0 z (t .1) .0) in
       let r = read-in N (sum x o y z) (y ∷ z ∷ []) rest X refl a in
       (number-of N y (t .0) (r y (cons-here y y (z ∷ []) refl)), number-of N z (t .1) (r z (cons-later z y (z ∷ []) (cons-here z z [] refl))))
-    where
-      one : (k : ℕ) → isVariable S k ≡ true → AllVariables S (k ∷ [])
-      one k a n i = elim (cons-in n k [] i) [ inl c ↦ rw (← c) a | inr c ↦ absurd (nil-in n c) ]
 
-      both : isVariable S y ≡ true → isVariable S z ≡ true → AllVariables S (y ∷ z ∷ [])
-      both a b n i = elim (cons-in n y (z ∷ []) i) [ inl c ↦ rw (← c) a | inr c ↦ one z b n c ]
+  pub test-numbers : Inv P e fs m → (y z : ℕ) (rest : Goals) → e .frame .goals ≡ step (test y z) then rest
+      → Number (e .frame .values y) × Number (e .frame .values z)
+  unfolding goalOk stepOk reads access accessing
+  test-numbers (inv d N) y z rest q =
+      let X = next-in P _ d _ rest q in
+      let t = and-true (X .typed) in
+      let a = both y z (type-in S 0 y (t .0) .0) (type-in S 0 z (t .1) .0) in
+      let r = read-in N (test y z) (y ∷ z ∷ []) rest X refl a in
+      (number-of N y (t .0) (r y (cons-here y y (z ∷ []) refl)), number-of N z (t .1) (r z (cons-later z y (z ∷ []) (cons-here z z [] refl))))
 
   pub print-number : Inv P e fs m → (y : ℕ) (rest : Goals) → e .frame .goals ≡ step (print y) then rest → Number (e .frame .values y)
   unfolding goalOk stepOk reads access accessing
   print-number (inv d N) y rest q =
       let X = next-in P _ d _ rest q in
-      number-of N y (X .typed) (read-in N (print y) (y ∷ []) rest X refl (one (type-in S 0 y (X .typed) .0)) y (cons-here y y [] refl))
-    where
-      one : isVariable S y ≡ true → AllVariables S (y ∷ [])
-      one a n i = elim (cons-in n y [] i) [ inl c ↦ rw (← c) a | inr c ↦ absurd (nil-in n c) ]
+      number-of N y (X .typed) (read-in N (print y) (y ∷ []) rest X refl (one y (type-in S 0 y (X .typed) .0)) y (cons-here y y [] refl))
 
   pub if-numbers : Inv P e fs m → (y z : ℕ) (a b : Goals) (rest : Goals) → e .frame .goals ≡ ifLess y z a b then rest
       → Number (e .frame .values y) × Number (e .frame .values z)

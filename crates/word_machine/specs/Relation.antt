@@ -53,6 +53,18 @@ pub record Later (L L′ : Where) : Type 0 where
 pub not-later : (L : Where) → Later L L
 not-later L = record { same-cells = λ j l. refl; more-cells = omega arith; same-regions = λ s l. refl; more-regions = omega arith }
 
+pub later-still : {L L′ L″ : Where} → Later L L′ → Later L′ L″ → Later L L″
+later-still t u = record {
+  same-cells = λ j l. u .same-cells j (omega (arith, t .more-cells)) ∙ t .same-cells j l;
+  more-cells = omega (arith, t .more-cells, u .more-cells);
+  same-regions = λ s l. u .same-regions s (omega (arith, t .more-regions)) ∙ t .same-regions s l;
+  more-regions = omega (arith, t .more-regions, u .more-regions);
+}
+
+-- places that agree on what was made at L: what is made since may be forgotten
+pub later-back : {L L′ : Where} → Later L L′ → Later L (record { regionAt = L′ .regionAt; cellAt = L′ .cellAt; made = L .made; cells = L .cells })
+later-back t = record { same-cells = t .same-cells; more-cells = omega arith; same-regions = t .same-regions; more-regions = omega arith }
+
 pub means-later : {L L′ : Where} → Later L L′ → (w : ℕ) (v : Value) → Means L w v → Means L′ w v
 means-later {L} {L′} t w v s = stands-more (L .cellAt) (L′ .cellAt) (L .cells) (L′ .cells) (t .same-cells) (t .more-cells) w v s
 

@@ -15,13 +15,13 @@ use Rattle.language.specs.Lifetimes.{born, startHeld}
 use Rattle.language.specs.Answers.{program}
 use Rattle.language.specs.Format.{nextWord, headerProcedures, procedureGoals, armGoals}
 use Rattle.records.specs.Records.{recordAt}
-use Rattle.records.specs.declared.Record.the-variants.{Construct, Switch, If, Call}
+use Rattle.records.specs.declared.Record.the-variants.{Construct, Switch, If, Try, Call}
 use Rattle.chains.specs.Formed.{Stands, argumentsAt}
 use Rattle.chains.specs.Fields.{fieldOf}
 use Rattle.chains.specs.Records.{chainRecords}
 
 pub record Tables : Type 0 where
-  pub successor : ℕ → ℕ  -- of a goal's record: the record of the goal that comes next, 0 at the procedure's end
+  pub successor : ℕ → ℕ  -- of a goal's record: the record of the goal that comes next, 0 at the procedure's end and at a condition's
   pub entry : ℕ → ℕ  -- of an arm's record: the record of its first goal; where it has none, of the goal after the switch
   pub region : ℕ → ℕ  -- of a construct's record, if it has arguments: the region number of X
   pub passes : ℕ → ℕ → List ℕ  -- of a mode and a call's record: what its arguments of that mode pass, a word for each (slotOf, givenOf)
@@ -74,6 +74,10 @@ pub record Tabled (f : List ℕ) (T : Tables) : Type 0 where
   pub switch-arms : (i n x cs : ℕ) → recordAt f i ≡ Switch n x cs → Continues onward owner cs (T .successor i) (owner i)
   pub if-then : (i n y z a b : ℕ) → recordAt f i ≡ If n y z a b → Continues onward owner a (T .successor i) (owner i)
   pub if-else : (i n y z a b : ℕ) → recordAt f i ≡ If n y z a b → Continues onward owner b (T .successor i) (owner i)
+  -- a condition goes on nowhere: it runs by itself
+  pub try-condition : (i n c a b : ℕ) → recordAt f i ≡ Try n c a b → Continues onward owner c 0 (owner i)
+  pub try-then : (i n c a b : ℕ) → recordAt f i ≡ Try n c a b → Continues onward owner a (T .successor i) (owner i)
+  pub try-else : (i n c a b : ℕ) → recordAt f i ≡ Try n c a b → Continues onward owner b (T .successor i) (owner i)
   pub bodies : (p : ℕ) → p < length (program f .procedures) → Continues onward owner (T .body p) 0 p
   pub region : (i n x k a b c d : ℕ) → recordAt f i ≡ Construct n x k (suc a) b c d → T .region i ≡ regionOf (signatureOf (program f) (owner i)) x
   pub arm-entry : (i : ℕ) → Stands f arms i → (i ≡ 0 → ⊥) → T .entry i ≡ onto (word f i armGoals) (onward i)

@@ -2,26 +2,27 @@
 use Prim.Native.Nat.{ℕ, zero, suc, _+_, _-_, _≤_, _<_}
 use native.Mathlib.Omega.{arith}
 use mathlib.Core.Path.{_≡_, refl, sym, ap, _∙_}
-use mathlib.Core.Bool.{true}
+use mathlib.Core.Bool.{Bool, true, false}
 use mathlib.Core.List.{List, [], _∷_, map}
 use mathlib.Core.Logic.{_≢_}
+use lib.Dec.{eqb}
 use lib.ListN.{length, getD, replicate, length-replicate, getD-replicate}
-use Rattle.sets.specs.Tests.{_or_}
+use Rattle.sets.specs.Tests.{_&_, _or_}
 use Rattle.sets.specs.Members.{inList}
 use Rattle.language.specs.Lists.{choose}
-use Rattle.language.specs.File.{kSwitch, kIf, Kind, kProcedure, kArm, kGoal, goals, arms, row, kindOf, word, recordCount}
+use Rattle.language.specs.File.{kSwitch, kIf, kTry, Kind, kProcedure, kArm, kGoal, goals, arms, row, kindOf, word, recordCount}
 use Rattle.language.specs.Program.{Parameter, signatureOf, parametersOf, argumentsIn, variablesIn}
 use Rattle.language.specs.Typing.{typingOk}
 use Rattle.language.specs.Answers.{program}
-use Rattle.language.specs.Format.{kindWord, nextWord, procedureGoals, armGoals, switchArms, ifThen, ifElse, argumentVariable, maxRecords}
+use Rattle.language.specs.Format.{kindWord, nextWord, procedureGoals, armGoals, switchArms, ifThen, ifElse, tryCondition, tryThen, tryElse, argumentVariable, maxRecords, tryKind}
 use Rattle.records.specs.Records.{recordAt}
-use Rattle.records.specs.declared.Record.the-variants.{Switch, If, Call}
+use Rattle.records.specs.declared.Record.the-variants.{Switch, If, Try, Call}
 use Rattle.chains.specs.Formed.{Formed, Stands, argumentsAt, counted}
 use Rattle.chains.specs.Fields.{field-some}
 use Rattle.chains.specs.Is.{arm-is, procedure-is}
 use Rattle.chains.specs.Kinds.{kindIn, kind-read}
 use Rattle.chains.specs.Goals.{construct-at}
-use Rattle.chains.specs.Parts.{switch-at, if-at, call-at}
+use Rattle.chains.specs.Parts.{switch-at, if-at, try-at, call-at}
 use Rattle.chains.specs.Records.{chainRecords}
 use Rattle.owners.specs.Handed.{referenceWords, words-open, nextAnd}
 use Rattle.owners.specs.Handing.{handed-by}
@@ -35,7 +36,7 @@ use Rattle.word_machine.specs.Filling.{partsOnward, onwardBy, onwards, s
 use Rattle.word_machine.specs.Matching.{Says, matches-say}
 
 unfoldable opened : Unit {0}
-unfolding words-open onwardBy partsOnward nextAnd choose _or_
+unfolding words-open onwardBy partsOnward nextAnd choose _or_ _&_
 opened = tt
 
 module _ {f : List ℕ} (F : Formed f) where
@@ -51,9 +52,14 @@ module _ {f : List ℕ} (F : Formed f) where
   unfolding onwards
   onward-by K i q e k m z = handed-by F (onwardBy f) (replicate maxRecords 0) few (getD-replicate {A = ℕ} maxRecords 0 0 0 (omega arith)) K i q e k m z
 
+  not-condition : (b : Bool) (v : ℕ) → choose (b & false) 0 v ≡ v
+  unfolding choose _&_
+  not-condition true v = refl
+  not-condition false v = refl
+
   onward-next : (i : ℕ) → i < recordCount f → word f i nextWord ≢ 0 → Onward (word f i nextWord) ≡ Onward i
   unfolding opened
-  onward-next i q z = onward-by (kindOf (word f i kindWord)) i q refl nextWord refl z
+  onward-next i q z = onward-by (kindOf (word f i kindWord)) i q refl nextWord refl z ∙ not-condition (eqb (row (kindOf (word f i kindWord)) .kind) tryKind) (Onward i)
 
   pub goal-next : (i : ℕ) → Stands f goals i → (z : i ≢ 0) → Continues Onward (ownerOf f) (word f i nextWord) (Onward i) (ownerOf f i)
   goal-next i s z y = (onward-next i (s .below) y, goals-owned F s z refl y)
@@ -90,6 +96,27 @@ module _ {f : List ℕ} (F : Formed f) where
       let c = if-at F refl e in
       let k = sym (kind-read f i refl) ∙ ap kindIn e in
       rw (c .w5) (λ q. (onward-by (kGoal kIf) i (c .below) k ifElse refl q, Owners.if-else F i (c .below) k q))
+
+  pub try-condition : (i n c a b : ℕ) → recordAt f i ≡ Try n c a b → Continues Onward (ownerOf f) c 0 (ownerOf f i)
+  unfolding opened
+  try-condition i n c a b e =
+      let t = try-at F refl e in
+      let k = sym (kind-read f i refl) ∙ ap kindIn e in
+      rw (t .w2) (λ q. (onward-by (kGoal kTry) i (t .below) k tryCondition refl q, Owners.try-condition F i (t .below) k q))
+
+  pub try-then : (i n c a b : ℕ) → recordAt f i ≡ Try n c a b → Continues Onward (ownerOf f) a (onto (word f i nextWord) (Onward i)) (ownerOf f i)
+  unfolding opened
+  try-then i n c a b e =
+      let t = try-at F refl e in
+      let k = sym (kind-read f i refl) ∙ ap kindIn e in
+      rw (t .w3) (λ q. (onward-by (kGoal kTry) i (t .below) k tryThen refl q, Owners.try-then F i (t .below) k q))
+
+  pub try-else : (i n c a b : ℕ) → recordAt f i ≡ Try n c a b → Continues Onward (ownerOf f) b (onto (word f i nextWord) (Onward i)) (ownerOf f i)
+  unfolding opened
+  try-else i n c a b e =
+      let t = try-at F refl e in
+      let k = sym (kind-read f i refl) ∙ ap kindIn e in
+      rw (t .w4) (λ q. (onward-by (kGoal kTry) i (t .below) k tryElse refl q, Owners.try-else F i (t .below) k q))
 
   -- a body goes on nowhere
   pub body-starts : (p : ℕ) → p < length (program f .procedures) → Continues Onward (ownerOf f) (word f (procedureRecord f p) procedureGoals) 0 p
@@ -146,6 +173,9 @@ module _ {f : List ℕ} (F : Formed f) where
     switch-arms = switch-arms;
     if-then = if-then;
     if-else = if-else;
+    try-condition = try-condition;
+    try-then = try-then;
+    try-else = try-else;
     bodies = λ p l. rw (← body-record p l) (body-starts p l);
     region = λ i n x k a b c d e. rw (construct-at F refl e .w2);
     arm-entry = λ i s z. refl;

@@ -6,6 +6,7 @@ use mathlib.Core.List.{List}
 use borrow.Author.Tests.{ltb-true}
 use lib.Dec.{ltb}
 use Rattle.language.specs.declared.Verdict.the-variants.{Accepted}
+use Rattle.language.specs.Conditions.{conditionsOk}
 use Rattle.language.specs.AcceptedRun.{start, state}
 use Rattle.language.specs.Machine.{roomIn, run}
 use Rattle.language.specs.Machine as D
@@ -32,13 +33,17 @@ pub accepted-formed : (f : List ℕ) → checked f ≡ Accepted → Formed f
 unfolding checked checkerStages
 accepted-formed f e = let p = passed-reached f _ (lowest-passed (checkerStages f) e) in record { header = p .0 .header; form = p .0 .form }
 
+pub accepted-conditions : (f : List ℕ) → checked f ≡ Accepted → conditionsOk (program f) ≡ true
+unfolding checked checkerStages
+accepted-conditions f e = passed-reached f _ (lowest-passed (checkerStages f) e) .0 .conditions
+
 module _ (f : List ℕ) (e : checked f ≡ Accepted) (T : Tables) (B : Tabled f T) (m rs fw ps : List ℕ) (l : ℕ) where
   -- with or without a frame for the entry
   from-gives : (b : Bool) → ltb 0 (roomIn (lentWords m rs fw ps l) .frames) ≡ b
       → Gives ps (runFrom f T b (roomIn (lentWords m rs fw ps l)) l m rs fw ps) (D.runFrom b (program f) (roomIn (lentWords m rs fw ps l)) l)
   unfolding runFrom D.runFrom D.endedWith endedWith noFrame start state
   from-gives true q =
-      start-gives B (accepted-program f e) (accepted-formed f e) (roomIn (lentWords m rs fw ps l)) ps m rs fw l refl (ltb-true 0 _ q)
+      start-gives B (accepted-program f e) (accepted-formed f e) (roomIn (lentWords m rs fw ps l)) ps m rs fw l refl (ltb-true 0 _ q) (accepted-conditions f e)
   from-gives false q = record {
     ending = refl;
     steps = refl;

@@ -5,7 +5,7 @@ use mathlib.Core.Bool.{true, false≢true}
 use mathlib.Core.List.{List}
 use mathlib.Core.Logic.{inl, inr}
 use mathlib.Core.Path.{_≡_, refl, sym, _∙_}
-use Rattle.language.specs.File.{GoalKind, kLiteral, kSum, kAssign, kConstruct, kSwitch, kIf, kCall, kPrint, kCreate, kRemove, Kind, kNone, kHeader, kType, kFunctor, kProcedure, kVariable, kRegion, kEdge, kArm, kArgument, kGoal, Chain, nowhere, types, functors, procedures, variables, regions, edges, goals, arms, arguments, row, kindOf, word, recordCount}
+use Rattle.language.specs.File.{GoalKind, kLiteral, kSum, kAssign, kConstruct, kSwitch, kIf, kCall, kPrint, kCreate, kRemove, kTry, kTest, Kind, kNone, kHeader, kType, kFunctor, kProcedure, kVariable, kRegion, kEdge, kArm, kArgument, kGoal, Chain, nowhere, types, functors, procedures, variables, regions, edges, goals, arms, arguments, row, kindOf, word, recordCount}
 use Rattle.language.specs.Program.{Signature, signatureOf}
 use Rattle.language.specs.Typing.{goalOk, typingOk}
 use Rattle.language.specs.Answers.{program}
@@ -75,6 +75,8 @@ module _ {f : List ℕ} (F : Formed f) (ok : typingOk (program f) ≡ true) wher
     armed-step (kGoal kPrint) e r h = (tt, tt)
     armed-step (kGoal kCreate) e r h = (tt, tt)
     armed-step (kGoal kRemove) e r h = (tt, tt)
+    armed-step (kGoal kTry) e r h = (tt, (tt, (tt, (tt, tt))))
+    armed-step (kGoal kTest) e r h = (tt, tt)
 
   header-armed : EachOf Armed f 0
   unfolding Armed uses all-rows

@@ -7,9 +7,9 @@ use mathlib.Core.Bool.{Bool, true, false, false≢true}
 use lib.Dec.{eqb, leb}
 use borrow.Author.Tests.{ne-eqb}
 use Rattle.sets.specs.Tests.{_&_, _or_}
-use Rattle.language.specs.Format.{kindWord, headerKind, typeKind, procedureKind, regionKind, switchKind, armKind, ifKind, callKind, headerTypes, typeFunctors, procedureGoals, regionEdges, switchArms, armGoals, ifThen, ifElse, callArguments}
+use Rattle.language.specs.Format.{kindWord, headerKind, typeKind, procedureKind, regionKind, switchKind, armKind, ifKind, callKind, tryKind, headerTypes, typeFunctors, procedureGoals, regionEdges, switchArms, armGoals, ifThen, ifElse, callArguments, tryElse}
 use Rattle.language.specs.Lists.{nth, all, upFrom}
-use Rattle.language.specs.File.{kLiteral, kSum, kAssign, kConstruct, kSwitch, kIf, kCall, kPrint, kCreate, kRemove, Kind, kNone, kHeader, kType, kFunctor, kProcedure, kVariable, kRegion, kEdge, kArm, kArgument, kGoal, unused, row, kindOf, word}
+use Rattle.language.specs.File.{kLiteral, kSum, kAssign, kConstruct, kSwitch, kIf, kCall, kPrint, kCreate, kRemove, kTry, kTest, Kind, kNone, kHeader, kType, kFunctor, kProcedure, kVariable, kRegion, kEdge, kArm, kArgument, kGoal, unused, row, kindOf, word}
 use Rattle.laws.specs.Numbers.{all-at}
 use Rattle.records.specs.Sizes.{recordWords}
 use Rattle.chains.specs.Layout.{all-rows, number-is}
@@ -72,6 +72,10 @@ module _ {w k : ℕ} (l : 2 ≤ k) (m : k < recordWords) where
   unfolding opened
   call-leads e = right l m w (kGoal kCall) (number-is (kGoal kCall) w e) (λ j. eqb j callArguments) refl
 
+  pub try-leads : w ≡ tryKind → leb k tryElse ≡ leadsAt w k
+  unfolding opened
+  try-leads e = right l m w (kGoal kTry) (number-is (kGoal kTry) w e) (λ j. leb j tryElse) refl
+
   pub then-leads : w ≡ ifKind → k ≡ ifThen → true ≡ leadsAt w k
   unfolding opened leadsAt
   then-leads e z = rw (z, number-is (kGoal kIf) w e) refl
@@ -82,7 +86,7 @@ module _ {w k : ℕ} (l : 2 ≤ k) (m : k < recordWords) where
 
   -- ---- no other
   module _ (n1 : w ≡ headerKind → ⊥) (n2 : w ≡ typeKind → ⊥) (n4 : w ≡ procedureKind → ⊥) (n6 : w ≡ regionKind → ⊥) (n12 : w ≡ switchKind → ⊥)
-      (n13 : w ≡ armKind → ⊥) (n14 : w ≡ ifKind → ⊥) (n15 : w ≡ callKind → ⊥) where
+      (n13 : w ≡ armKind → ⊥) (n14 : w ≡ ifKind → ⊥) (n15 : w ≡ callKind → ⊥) (n20 : w ≡ tryKind → ⊥) where
     some : (kd : Kind) → kindOf w ≡ kd → (kd ≡ kNone → ⊥) → (w ≡ row kd .kind → ⊥) → ⊥
     some kd e n h = h (kind-number w kd e n)
 
@@ -108,6 +112,8 @@ module _ {w k : ℕ} (l : 2 ≤ k) (m : k < recordWords) where
     none-at (kGoal kPrint) e = right l m w (kGoal kPrint) e (λ j. false) refl
     none-at (kGoal kCreate) e = right l m w (kGoal kCreate) e (λ j. false) refl
     none-at (kGoal kRemove) e = right l m w (kGoal kRemove) e (λ j. false) refl
+    none-at (kGoal kTry) e = absurd (some (kGoal kTry) e (λ q. let z : _≡_ {A = ℕ} 0 1 = cc in omega arith) n20)
+    none-at (kGoal kTest) e = right l m w (kGoal kTest) e (λ j. false) refl
 
     pub none-leads : false ≡ leadsAt w k
     none-leads = none-at (kindOf w) refl

@@ -1,10 +1,10 @@
 // Where records would end if they were written, in written order. A place past 4,096 stays above 4,096, so no place overflows.
 use crate::walk::leads;
+use chains::word;
 use language::format::KIND;
 use language::format::MAX_RECORDS;
 use language::format::NEXT;
 use records::sizes::RECORD_WORDS;
-use records::word;
 ghost use Prim.Native.Nat.{suc, _<_};
 ghost use Rattle.language.specs.File.{recordCount};
 ghost use Rattle.language.specs.Layout.{size, sizeWords};

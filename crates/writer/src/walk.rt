@@ -2,6 +2,7 @@
 use crate::put::copy_record;
 use crate::put::link;
 use crate::put::put_word;
+use chains::word;
 use language::format::ARM;
 use language::format::ARM_GOALS;
 use language::format::CALL;
@@ -19,10 +20,11 @@ use language::format::REGION;
 use language::format::REGION_EDGES;
 use language::format::SWITCH;
 use language::format::SWITCH_ARMS;
+use language::format::TRY;
+use language::format::TRY_ELSE;
 use language::format::TYPE;
 use language::format::TYPE_FUNCTORS;
 use records::sizes::RECORD_WORDS;
-use records::word;
 ghost use mathlib.Core.Path.{_≡_};
 ghost use mathlib.Core.Bool.{true, false};
 ghost use Prim.Native.Nat.{ℕ, _≤_, _<_};
@@ -52,6 +54,7 @@ pub fn leads(kind: usize, k: usize) -> bool
             k == IF_ELSE
         }
         CALL => k == CALL_ARGUMENTS,
+        TRY => k <= TRY_ELSE,
         _ => false,
     }
 }
@@ -69,6 +72,7 @@ fn is_leaf(kind: usize) -> bool
         ARM => false,
         IF => false,
         CALL => false,
+        TRY => false,
         _ => true,
     }
 }

@@ -4,7 +4,8 @@
 //! family, so that terms fit their edges; a call maps each family of the callee to one of the caller. Some types have constants only, and so no regions;
 //! now and then a file gives such a type one. Some files have a procedure that gives the lowest and the highest number, and many sums, so that these come
 //! out at the ends of the range and past them. What no chain of calls from the entry reaches is called in the end, in most files; the others keep it
-//! and are refused with 17.
+//! and are refused with 17. Conditions of tries have tests, in arms of their switches too; in some files any goal stands in conditions and tests stand
+//! anywhere, which is refused with 2.
 use crate::random::Random;
 
 const PROCEDURE: u16 = 4;
@@ -18,6 +19,10 @@ const IF: u16 = 14;
 const CALL: u16 = 15;
 const ARGUMENT: u16 = 16;
 const PRINT: u16 = 17;
+const CREATE: u16 = 18;
+const REMOVE: u16 = 19;
+const TRY: u16 = 20;
+const TEST: u16 = 21;
 
 /// A record's kind and words, each a number or the chain that it leads to.
 enum Word {
@@ -36,12 +41,13 @@ fn call_of(q: usize, names: &[u16]) -> Node {
     Node(CALL, vec![Word::Number(q as u16), Word::Chain(arguments)])
 }
 
-/// The chains of goals inside a goal.
+/// The chains of goals inside a goal, without a try's condition, which holds no call.
 fn parts(Node(kind, words): &mut Node) -> Vec<&mut Vec<Node>> {
     let chains = words.iter_mut().filter_map(|w| if let Word::Chain(c) = w { Some(c) } else { None });
     match *kind {
         SWITCH => chains.flatten().flat_map(parts).collect(),
         ARM | IF => chains.collect(),
+        TRY => chains.skip(1).collect(),
         _ => Vec::new(),
     }
 }
@@ -111,6 +117,9 @@ pub struct Generator<'a> {
     ends: Option<usize>,
     /// Whether calls lead to later procedures mostly, so that it is not the frames that end the run.
     onward: bool,
+    /// Whether goals stand in a condition, and whether the file takes no heed of it.
+    inside: bool,
+    heedless: bool,
     /// The procedure at hand.
     own: usize,
     budget: usize,
@@ -182,6 +191,12 @@ impl Generator<'_> {
         Variable { mode, ty, family: self.random.below(families) }
     }
 
+    /// The type and the family of a variable of the procedure at hand.
+    fn own_variable(&self, x: u16) -> (u16, usize) {
+        let v = &self.procedures[self.own].variables[x as usize - 1];
+        (v.ty, v.family)
+    }
+
     fn new_variable(&mut self, ty: u16, family: usize) -> Option<u16> {
         let variables = &mut self.procedures[self.own].variables;
         (variables.len() < 60).then(|| {
@@ -207,8 +222,7 @@ impl Generator<'_> {
 
     /// Gives X a value by a goal, behind those that give its arguments theirs.
     fn give(&mut self, known: &[u16], x: u16, goals: &mut Vec<Node>) {
-        let v = &self.procedures[self.own].variables[x as usize - 1];
-        let (ty, family) = (v.ty, v.family);
+        let (ty, family) = self.own_variable(x);
         let goal = if ty == 0 {
             self.number(known, x)
         } else {
@@ -256,7 +270,7 @@ impl Generator<'_> {
 
     fn goals(&mut self, known: &mut Vec<u16>, deep: usize) -> Vec<Node> {
         let mut goals = Vec::new();
-        if let Some(ends) = self.ends.filter(|_| self.random.once_in(2)) {
+        if let Some(ends) = self.ends.filter(|_| !self.inside && self.random.once_in(2)) {
             goals.extend(self.call(ends, known));
         }
         for _ in 0..self.random.below(6) + if deep == 0 { 2 } else { 0 } {
@@ -264,11 +278,14 @@ impl Generator<'_> {
                 break;
             }
             self.budget -= 1;
-            let goal = match self.random.below(10) {
+            let goal = match self.random.below(11) {
                 0 | 1 if deep < 4 => self.switch(known, deep),
+                2..=5 if self.inside => self.test(known),
                 2 if deep < 4 => self.branches(known, deep),
-                3 | 4 => self.callee().and_then(|q| self.call(q, known)),
-                5 => self.valued(known, 0, 0).map(|y| node(PRINT, &[y])),
+                3 if deep < 4 => self.attempt(known, deep),
+                4 | 5 => self.callee().and_then(|q| self.call(q, known)),
+                6 if self.heedless => self.test(known),
+                6 if !self.inside => self.valued(known, 0, 0).map(|y| node(PRINT, &[y])),
                 _ => {
                     let families = self.procedures[self.own].families;
                     let v = self.variable(0, families);
@@ -301,17 +318,15 @@ impl Generator<'_> {
     }
 
     fn switch(&mut self, known: &mut Vec<u16>, deep: usize) -> Option<Node> {
-        let own = &self.procedures[self.own].variables;
-        let terms: Vec<u16> = known.iter().copied().filter(|&x| own[x as usize - 1].ty != 0).collect();
+        let terms: Vec<u16> = known.iter().copied().filter(|&x| self.own_variable(x).0 != 0).collect();
         if terms.is_empty() {
             return None;
         }
         let x = terms[self.random.below(terms.len())];
-        let v = &self.procedures[self.own].variables[x as usize - 1];
-        let (ty, family) = (v.ty as usize, v.family);
+        let (ty, family) = self.own_variable(x);
         let common = self.common();
         let mut arms = Vec::new();
-        for (f, shape) in self.types[ty - 1].clone().into_iter().enumerate() {
+        for (f, shape) in self.types[ty as usize - 1].clone().into_iter().enumerate() {
             let names: Option<Vec<u16>> = shape.iter().map(|&t| self.new_variable(t, family)).collect();
             let names = names?;
             let mut inside = known.clone();
@@ -332,6 +347,51 @@ impl Generator<'_> {
         let no = self.part(known, common, deep);
         known.extend(common);
         Some(Node(IF, vec![Word::Number(y), Word::Number(z), Word::Chain(yes), Word::Chain(no)]))
+    }
+
+    fn test(&mut self, known: &[u16]) -> Option<Node> {
+        Some(node(TEST, &[self.valued(known, 0, 0)?, self.valued(known, 0, 0)?]))
+    }
+
+    /// A condition: its goals add to what is known. Half of them build a term where an older one lies, which the goal returned reads in the then part.
+    fn condition(&mut self, known: &mut Vec<u16>, deep: usize) -> (Vec<Node>, Option<Node>) {
+        let old: Vec<u16> = known.iter().copied().filter(|&x| self.has_regions(self.own_variable(x).0)).collect();
+        self.inside = !self.heedless;
+        let mut goals = self.goals(known, deep + 1);
+        self.inside = false;
+        let beside = (!old.is_empty() && self.random.once_in(2)).then(|| old[self.random.below(old.len())]);
+        let read = beside.and_then(|y| self.build_beside(y, known, &mut goals));
+        if !self.random.once_in(4) {
+            goals.extend(self.test(known));
+        }
+        (goals, read)
+    }
+
+    /// Builds a term of y's type in y's region; returns a goal that reads y.
+    fn build_beside(&mut self, y: u16, known: &mut Vec<u16>, goals: &mut Vec<Node>) -> Option<Node> {
+        let (ty, family) = self.own_variable(y);
+        let (x, again) = (self.new_variable(ty, family)?, self.new_variable(ty, family)?);
+        let goal = self.term(known, x, ty, family, goals);
+        goals.push(goal);
+        known.push(x);
+        Some(node(ASSIGN, &[again, y]))
+    }
+
+    /// A try: what its parts have in common is given a value by then and else part, or by condition and else part.
+    fn attempt(&mut self, known: &mut Vec<u16>, deep: usize) -> Option<Node> {
+        let mut begun = known.clone();
+        let (mut condition, read) = self.condition(&mut begun, deep);
+        let common = self.common();
+        let early = common.filter(|_| self.random.once_in(3));
+        if let Some(x) = early {
+            self.give(&begun, x, &mut condition);
+            begun.push(x);
+        }
+        let mut yes = self.part(&begun, common.filter(|_| early.is_none()), deep);
+        yes.extend(read);
+        let no = self.part(known, common, deep);
+        known.extend(common);
+        Some(Node(TRY, vec![Word::Chain(condition), Word::Chain(yes), Word::Chain(no)]))
     }
 
     /// Any procedure, or mostly a later one.
@@ -431,6 +491,7 @@ impl Generator<'_> {
 
     fn body(&mut self, q: usize) -> Vec<Node> {
         self.own = q;
+        self.inside = false;
         if self.ends == Some(q) {
             return self.ends_of_range();
         }
@@ -566,9 +627,20 @@ fn place(out: &mut Vec<[u16; 8]>, chain: Vec<Node>) -> u16 {
 /// A job file without creates and removes.
 pub fn job(random: &mut Random) -> Vec<u8> {
     let slip = random.once_in(5).then(|| SLIPS[random.below(SLIPS.len())]);
-    let mut g =
-        Generator { random, slip, types: Vec::new(), procedures: Vec::new(), ends: None, onward: false, own: 0, budget: 0 };
-    let (types, procedures) = g.program();
+    let heedless = random.once_in(20);
+    let (types, procedures) = Generator {
+        random,
+        slip,
+        types: Vec::new(),
+        procedures: Vec::new(),
+        ends: None,
+        onward: false,
+        inside: false,
+        heedless,
+        own: 0,
+        budget: 0,
+    }
+    .program();
     let mut out = vec![[1, 0, 0, 0, 0, 0, 0, 0]];
     out[0][2] = place(&mut out, types);
     out[0][1] = place(&mut out, procedures);
@@ -581,10 +653,31 @@ fn bytes(rows: &mut [[u16; 8]]) -> Vec<u8> {
     rows.iter().flatten().flat_map(|w| w.to_le_bytes()).collect()
 }
 
+fn records(file: &[u8]) -> Vec<[u16; 8]> {
+    let row = |r: &[u8]| std::array::from_fn(|k| u16::from_le_bytes([r[2 * k], r[2 * k + 1]]));
+    file.chunks_exact(16).map(row).collect()
+}
+
+/// A file with two parts of a try in each other's place, or with another region or the other kind at a create or a remove; as it is if it has neither.
+fn with_other_goal(random: &mut Random, file: &[u8]) -> Vec<u8> {
+    let mut rows = records(file);
+    let some: Vec<usize> = (1..rows.len()).filter(|&i| [CREATE, REMOVE, TRY].contains(&rows[i][0])).collect();
+    if !some.is_empty() {
+        let row = &mut rows[some[random.below(some.len())]];
+        if row[0] == TRY {
+            row.swap(2 + random.below(3), 2 + random.below(3));
+        } else if random.once_in(2) {
+            row[0] = CREATE + REMOVE - row[0];
+        } else {
+            row[2] = 1 + random.below(4) as u16;
+        }
+    }
+    bytes(&mut rows)
+}
+
 /// A file with one procedure more, which is not reached: it calls nothing, the entry or itself.
 fn with_spare(random: &mut Random, file: &[u8]) -> Vec<u8> {
-    let row = |r: &[u8]| std::array::from_fn(|k| u16::from_le_bytes([r[2 * k], r[2 * k + 1]]));
-    let mut rows: Vec<[u16; 8]> = file.chunks_exact(16).map(row).collect();
+    let mut rows = records(file);
     let (at, number) = (rows.len() as u16, rows.iter().filter(|r| r[0] == PROCEDURE).count() as u16);
     rows.iter_mut().find(|r| r[0] == PROCEDURE && r[1] == 0).expect("the last procedure")[1] = at;
     let callee = [None, Some(0), Some(number)][random.below(3)];
@@ -593,10 +686,13 @@ fn with_spare(random: &mut Random, file: &[u8]) -> Vec<u8> {
     bytes(&mut rows)
 }
 
-/// A file with a few words changed, or with a procedure more.
+/// A file with a few words changed, with another goal, or with a procedure more.
 pub fn damaged(random: &mut Random, file: &[u8]) -> Vec<u8> {
     if random.once_in(12) {
         return with_spare(random, file);
+    }
+    if random.once_in(4) {
+        return with_other_goal(random, file);
     }
     let mut out = file.to_vec();
     for _ in 0..1 + random.below(2) {
@@ -611,7 +707,7 @@ pub fn damaged(random: &mut Random, file: &[u8]) -> Vec<u8> {
             1 => old.wrapping_add(1),
             2 => old.wrapping_sub(1),
             3 => random.below(records + 1) as u16,
-            4 => random.below(20) as u16,
+            4 => random.below(22) as u16,
             _ => random.below(65536) as u16,
         };
         out[at..at + 2].copy_from_slice(&new.to_le_bytes());

@@ -7,7 +7,7 @@ use std::fmt;
 pub enum Refusal {
     /// 1: the length or the header is wrong.
     Header = 1,
-    /// 2: a reference, a kind or an unused word is wrong.
+    /// 2: a reference, a kind or an unused word is wrong; a call, print, if or try in a condition, a test outside one.
     Form = 2,
     /// 3: a number out of range, a wrong type, count or order, or a region of a type of constants only.
     Typing = 3,
@@ -47,7 +47,9 @@ impl fmt::Display for Refusal {
     fn fmt(&self, f: &mut fmt::Formatter) -> fmt::Result {
         let cause = match self {
             Refusal::Header => "the length or the header is wrong",
-            Refusal::Form => "a reference, a kind or an unused word is wrong",
+            Refusal::Form => {
+                "a reference, a kind or an unused word is wrong; a call, print, if or try in a condition, a test outside one"
+            }
             Refusal::Typing => "a number out of range, a wrong type, count or order, or a region of a type of constants only",
             Refusal::Values => "a variable read before it has a value, or given one twice",
             Refusal::Regions => "regions that do not fit at an assign, construct, arm or call",

@@ -26,6 +26,11 @@ fn live_before(program: &Program, goal: &Goal, after: Set) -> Set {
             arms.iter().fold(of(*x), |s, a| s | (live_along(program, &a.goals, after)[0] & !all_of(arguments(&a.arguments))))
         }
         Goal::If(y, z, a, b) => of(*y) | of(*z) | live_along(program, a, after)[0] | live_along(program, b, after)[0],
+        // "what the else part needs, or the condition and then part in turn"
+        Goal::Try(c, a, b) => {
+            let then = live_along(program, a, after)[0];
+            live_along(program, c, then)[0] | live_along(program, b, after)[0]
+        }
         _ => {
             let (reads, gives) = access(program, goal);
             (after & !all_of(&gives)) | all_of(&reads)
@@ -42,7 +47,8 @@ impl<'a> Place<'a> {
         let live = live_along(self.program, goals, after);
         goals.iter().enumerate().all(|(n, g)| match g {
             Goal::Switch(_, arms) => arms.iter().all(|a| self.classes_ok(&a.goals, live[n + 1])),
-            Goal::If(_, _, a, b) => self.classes_ok(a, live[n + 1]) && self.classes_ok(b, live[n + 1]),
+            // a condition holds no call
+            Goal::If(_, _, a, b) | Goal::Try(_, a, b) => self.classes_ok(a, live[n + 1]) && self.classes_ok(b, live[n + 1]),
             _ => {
                 let e = effect(self.program, self.procedure, g);
                 e.ends & self.facts.wanted(live[n + 1]) == 0 && e.bears & self.facts.wanted(live[n]) == 0 && e.unshared
@@ -78,6 +84,15 @@ impl<'a> Place<'a> {
                     let (no, _) = self.place(b, live[n + 1], held);
                     held = end;
                     out.push(Goal::If(*y, *z, yes, no));
+                }
+                Goal::Try(c, a, b) => {
+                    // the condition ends with what the then part begins with
+                    let then = live_along(self.program, a, live[n + 1])[0];
+                    let (condition, begun) = self.place(c, then, held);
+                    let (yes, end) = self.place(a, live[n + 1], begun);
+                    let (no, _) = self.place(b, live[n + 1], held);
+                    held = end;
+                    out.push(Goal::Try(condition, yes, no));
                 }
                 _ => {
                     let e = effect(self.program, self.procedure, g);

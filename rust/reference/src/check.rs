@@ -49,6 +49,7 @@ impl Checker<'_> {
                 }
                 self.join(vec![self.goals(a, s)?, self.goals(b, s)?])
             }
+            Goal::Try(c, a, b) => self.join(vec![self.goals(a, self.goals(c, s)?)?, self.goals(b, s)?]),
             _ => {
                 let (reads, gives) = access(self.program, goal);
                 let e = effect(self.program, self.procedure, goal);

@@ -44,6 +44,9 @@ pub enum Goal {
     Construct(usize, usize, [usize; 4]),
     Switch(usize, Vec<Arm>),
     If(usize, usize, Vec<Goal>, Vec<Goal>),
+    /// Condition, then part, else part (C-20).
+    Try(Vec<Goal>, Vec<Goal>, Vec<Goal>),
+    Test(usize, usize),
     Call(usize, Vec<usize>),
     Print(usize),
     Create(usize),
@@ -80,6 +83,7 @@ impl Program {
                 Goal::Create(_) | Goal::Remove(_) => true,
                 Goal::Switch(_, arms) => arms.iter().any(|a| any(&a.goals)),
                 Goal::If(_, _, a, b) => any(a) || any(b),
+                Goal::Try(c, a, b) => any(c) || any(a) || any(b),
                 _ => false,
             })
         }
@@ -163,6 +167,8 @@ fn shape(kind: u16) -> Option<(Chain, [Use; 6])> {
         15 => (Goals, [N, First(Arguments), U, U, U, U]),
         16 => (Arguments, [N, U, U, U, U, U]),
         17..=19 => (Goals, [N, U, U, U, U, U]),
+        20 => (Goals, [First(Goals), First(Goals), First(Goals), U, U, U]),
+        21 => (Goals, [N, N, U, U, U, U]),
         _ => return None,
     })
 }
@@ -234,7 +240,9 @@ fn goals(w: &Words, first: u16) -> Vec<Goal> {
             15 => Goal::Call(n(r[2]), chain(w, r[3]).map(|a| n(a[2])).collect()),
             17 => Goal::Print(n(r[2])),
             18 => Goal::Create(n(r[2])),
-            _ => Goal::Remove(n(r[2])),
+            19 => Goal::Remove(n(r[2])),
+            20 => Goal::Try(goals(w, r[2]), goals(w, r[3]), goals(w, r[4])),
+            _ => Goal::Test(n(r[2]), n(r[3])),
         })
         .collect()
 }
@@ -256,6 +264,27 @@ pub fn read(w: &Words) -> Program {
             })
             .collect(),
     }
+}
+
+/// Number 2's rule of C-20: "Conditions hold no call, print, if or try; tests stand only in conditions". An arm of a switch in a condition is part of it.
+pub fn conditions_ok(program: &Program) -> bool {
+    fn outside(goals: &[Goal]) -> bool {
+        goals.iter().all(|g| match g {
+            Goal::Test(..) => false,
+            Goal::Switch(_, arms) => arms.iter().all(|a| outside(&a.goals)),
+            Goal::If(_, _, a, b) => outside(a) && outside(b),
+            Goal::Try(c, a, b) => inside(c) && outside(a) && outside(b),
+            _ => true,
+        })
+    }
+    fn inside(goals: &[Goal]) -> bool {
+        goals.iter().all(|g| match g {
+            Goal::Call(..) | Goal::Print(_) | Goal::If(..) | Goal::Try(..) => false,
+            Goal::Switch(_, arms) => arms.iter().all(|a| inside(&a.goals)),
+            _ => true,
+        })
+    }
+    program.procedures.iter().all(|p| outside(&p.goals))
 }
 
 /// Records in written order; a chain's records are linked as they are written.
@@ -299,6 +328,7 @@ impl Writer {
             Goal::Print(y) => self.record([17, *y, 0, 0, 0, 0, 0]),
             Goal::Create(r) => self.record([18, *r, 0, 0, 0, 0, 0]),
             Goal::Remove(r) => self.record([19, *r, 0, 0, 0, 0, 0]),
+            Goal::Test(y, z) => self.record([21, *y, *z, 0, 0, 0, 0]),
             Goal::Call(q, names) => {
                 let at = self.record([15, *q, 0, 0, 0, 0, 0]);
                 self.words[at][3] = self.chain(names, |w, a| w.record([16, *a, 0, 0, 0, 0, 0]));
@@ -318,6 +348,13 @@ impl Writer {
                 let at = self.record([14, *y, *z, 0, 0, 0, 0]);
                 self.words[at][4] = self.goals(a);
                 self.words[at][5] = self.goals(b);
+                at
+            }
+            Goal::Try(c, a, b) => {
+                let at = self.record([20, 0, 0, 0, 0, 0, 0]);
+                for (word, part) in [c, a, b].into_iter().enumerate() {
+                    self.words[at][word + 2] = self.goals(part);
+                }
                 at
             }
         }

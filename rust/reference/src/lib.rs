@@ -1,15 +1,17 @@
-//! Document 01 anew, with what C-14, C-15 and C-18 of document 02 change, in Rust: what the annotator, the checker and the runner answer. It shares
+//! Document 01 anew, with what C-14, C-15, C-18 and C-20 of document 02 change, in Rust: what the annotator, the checker and the runner answer. It shares
 //! nothing with the proved programs, so that the two can be held against each other. Written for reading, not for speed or small memory.
 
 mod annotate;
 mod check;
 mod file;
+mod plain;
 mod reached;
 mod regions;
 mod run;
 mod typing;
 mod values;
 
+pub use plain::Plain;
 pub use run::{Ending, Held, Lent, Most, Run};
 
 use file::Program;
@@ -49,6 +51,11 @@ pub fn run_watched(bytes: &[u8], lent: &Lent, watch: &mut dyn FnMut(Held)) -> Ru
     }
 }
 
+/// The plain run of demand 3, of an annotated file or of its source, in so many steps at most.
+pub fn run_plainly(bytes: &[u8], steps: u64) -> Result<Plain, u8> {
+    Ok(plain::plain_run(&stages(bytes)?, steps))
+}
+
 fn accepted(bytes: &[u8]) -> Result<Program, u8> {
     let program = stages(bytes)?;
     if !regions::declared_classes_ok(&program) {
@@ -67,6 +74,9 @@ fn stages(bytes: &[u8]) -> Result<Program, u8> {
         return Err(2);
     }
     let program = file::read(&words);
+    if !file::conditions_ok(&program) {
+        return Err(2);
+    }
     if !typing::typing_ok(&program) {
         return Err(3);
     }

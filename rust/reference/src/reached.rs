@@ -12,6 +12,11 @@ fn add_called(goals: &[Goal], called: &mut Vec<usize>) {
                 add_called(a, called);
                 add_called(b, called);
             }
+            // number 2 has passed: a condition holds no call
+            Goal::Try(_, a, b) => {
+                add_called(a, called);
+                add_called(b, called);
+            }
             _ => {}
         }
     }

@@ -83,6 +83,7 @@ fn goals_ok(program: &Program, p: &Procedure, goals: &[Goal]) -> bool {
         Goal::Construct(x, f, a) => term_ok(p, *x, *f, a),
         Goal::Switch(x, arms) => arms.iter().all(|a| term_ok(p, *x, a.functor, &a.arguments) && goals_ok(program, p, &a.goals)),
         Goal::If(_, _, a, b) => goals_ok(program, p, a) && goals_ok(program, p, b),
+        Goal::Try(c, a, b) => [c, a, b].into_iter().all(|part| goals_ok(program, p, part)),
         Goal::Call(q, names) => mapping(p, &program.procedures[*q], names).is_some(),
         _ => true,
     })

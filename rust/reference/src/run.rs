@@ -3,6 +3,7 @@
 use crate::file::{arguments, Arm, Goal, Program};
 use crate::regions::{mapping, Facts};
 use crate::values::members;
+use std::collections::BTreeMap;
 
 /// Lent 32-bit words for each sort, and steps.
 #[derive(Clone, Copy, Debug)]
@@ -52,7 +53,7 @@ pub struct Run {
     pub steps: u64,
     pub printed: Vec<i32>,
     pub most: Most,
-    /// Regions made in all.
+    /// Regions made in all, without those of conditions that failed.
     pub made: usize,
 }
 
@@ -87,6 +88,29 @@ struct Cell {
     region: usize,
 }
 
+/// C-20: a condition that has begun and has not ended, in the newest frame.
+struct Condition<'a> {
+    /// How many of the frame's slices of goals lie behind it.
+    behind: usize,
+    then_part: &'a [Goal],
+    else_part: &'a [Goal],
+    /// What it removed, which still counts as held.
+    cells_removed: usize,
+    regions_removed: usize,
+    before: Before,
+}
+
+/// "variables, regions and cells exactly as before the condition"
+struct Before {
+    values: Vec<Value>,
+    regions: Vec<usize>,
+    cells: usize,
+    living: BTreeMap<usize, usize>,
+    made: usize,
+    cells_held: usize,
+    regions_held: usize,
+}
+
 struct Frame<'a> {
     procedure: usize,
     /// The goals still to do: slices, the one to go on with last.
@@ -101,10 +125,13 @@ struct Machine<'a> {
     facts: Vec<Facts>,
     frames: Vec<Frame<'a>>,
     cells: Vec<Cell>,
-    /// Cells of each region ever made; none once it is removed.
-    alive: Vec<Option<usize>>,
+    /// The regions created and not removed, with how many cells each has; they are numbered from 1 as they are made.
+    living: BTreeMap<usize, usize>,
+    made: usize,
+    /// What counts as held: also what a condition that has not ended removed.
     cells_held: usize,
     regions_held: usize,
+    condition: Option<Condition<'a>>,
     printed: Vec<i32>,
     most: Most,
 }
@@ -125,27 +152,82 @@ impl<'a> Machine<'a> {
         }
     }
 
-    /// "Whenever the newest frame has no goals left, it goes at once."
+    /// "Whenever the newest frame has no goals left, it goes at once"; the then part begins once its condition has none left.
     fn settle(&mut self) {
         while let Some(f) = self.frames.last_mut() {
             while f.goals.last().is_some_and(|g| g.is_empty()) {
                 f.goals.pop();
             }
-            if !f.goals.is_empty() {
+            if let Some(c) = self.condition.take_if(|c| f.goals.len() <= c.behind) {
+                f.goals.push(c.then_part);
+                self.cells_held -= c.cells_removed;
+                self.regions_held -= c.regions_removed;
+            } else if f.goals.is_empty() {
+                self.leave();
+            } else {
                 return;
             }
-            let gone = self.frames.pop().unwrap();
-            let Some(caller) = self.frames.last_mut() else { return };
-            let callee = &self.program.procedures[gone.procedure];
-            let images = mapping(&self.program.procedures[caller.procedure], callee, gone.call).unwrap();
-            for (&p, &a) in callee.parameters().iter().zip(gone.call) {
-                if callee.mode(p) == 2 {
-                    caller.values[a] = gone.values[p];
-                }
+        }
+    }
+
+    /// The newest frame goes, and gives the call's arguments and regions what is theirs.
+    fn leave(&mut self) {
+        let gone = self.frames.pop().unwrap();
+        let Some(caller) = self.frames.last_mut() else { return };
+        let callee = &self.program.procedures[gone.procedure];
+        let images = mapping(&self.program.procedures[caller.procedure], callee, gone.call).unwrap();
+        for (&p, &a) in callee.parameters().iter().zip(gone.call) {
+            if callee.mode(p) == 2 {
+                caller.values[a] = gone.values[p];
             }
-            for r in members(self.facts[gone.procedure].born) {
-                caller.regions[images[r]] = gone.regions[r];
-            }
+        }
+        for r in members(self.facts[gone.procedure].born) {
+            caller.regions[images[r]] = gone.regions[r];
+        }
+    }
+
+    /// A try: the condition begins.
+    fn open(&mut self, condition: &'a [Goal], then_part: &'a [Goal], else_part: &'a [Goal]) {
+        let frame = self.frames.last_mut().unwrap();
+        let before = Before {
+            values: frame.values.clone(),
+            regions: frame.regions.clone(),
+            cells: self.cells.len(),
+            living: self.living.clone(),
+            made: self.made,
+            cells_held: self.cells_held,
+            regions_held: self.regions_held,
+        };
+        let behind = frame.goals.len();
+        frame.goals.push(condition);
+        self.condition = Some(Condition { behind, then_part, else_part, cells_removed: 0, regions_removed: 0, before });
+    }
+
+    /// A test fails: the else part begins.
+    fn fail(&mut self) {
+        let Condition { behind, else_part, before, .. } = self.condition.take().expect("number 2 has passed");
+        let frame = self.frames.last_mut().unwrap();
+        frame.goals.truncate(behind);
+        frame.goals.push(else_part);
+        frame.values = before.values;
+        frame.regions = before.regions;
+        self.cells.truncate(before.cells);
+        self.living = before.living;
+        self.made = before.made;
+        self.cells_held = before.cells_held;
+        self.regions_held = before.regions_held;
+    }
+
+    /// "A removal in a condition frees nothing before the then part begins, and until then its cells and place count as held."
+    fn remove(&mut self, r: usize) {
+        let region = self.frames.last().unwrap().regions[r];
+        let cells = self.living.remove(&region).expect("removes a living region");
+        if let Some(c) = &mut self.condition {
+            c.cells_removed += cells;
+            c.regions_removed += 1;
+        } else {
+            self.cells_held -= cells;
+            self.regions_held -= 1;
         }
     }
 
@@ -200,7 +282,7 @@ impl<'a> Machine<'a> {
                 let values = arguments(a).iter().map(|&y| frame.values[y]).collect();
                 frame.values[*x] = Value::Cell(self.cells.len());
                 self.cells.push(Cell { functor: *f, values, region });
-                *self.alive[region].as_mut().expect("builds in a living region") += 1;
+                *self.living.get_mut(&region).expect("builds in a living region") += 1;
                 self.cells_held += 1;
             }
             Goal::Switch(x, arms) => {
@@ -209,7 +291,7 @@ impl<'a> Machine<'a> {
                     Value::Constant(f) => &arms[f],
                     Value::Cell(c) => {
                         let cell = &self.cells[c];
-                        assert!(self.alive[cell.region].is_some(), "reads in a living region");
+                        assert!(self.living.contains_key(&cell.region), "reads in a living region");
                         let arm = &arms[cell.functor];
                         for (&y, &v) in arguments(&arm.arguments).iter().zip(&cell.values) {
                             self.frames[top].values[y] = v;
@@ -222,6 +304,12 @@ impl<'a> Machine<'a> {
             Goal::If(y, z, a, b) => {
                 let part = if self.number(*y) < self.number(*z) { a } else { b };
                 self.frames[top].goals.push(part);
+            }
+            Goal::Try(c, a, b) => self.open(c, a, b),
+            Goal::Test(y, z) => {
+                if self.number(*y) >= self.number(*z) {
+                    self.fail();
+                }
             }
             Goal::Call(q, names) => {
                 let mut callee = self.frame(*q, names);
@@ -243,15 +331,12 @@ impl<'a> Machine<'a> {
                 self.printed.push(n);
             }
             Goal::Create(r) => {
-                self.frames[top].regions[*r] = self.alive.len();
-                self.alive.push(Some(0));
+                self.made += 1;
+                self.frames[top].regions[*r] = self.made;
+                self.living.insert(self.made, 0);
                 self.regions_held += 1;
             }
-            Goal::Remove(r) => {
-                let region = self.frames[top].regions[*r];
-                self.cells_held -= self.alive[region].take().expect("removes a living region");
-                self.regions_held -= 1;
-            }
+            Goal::Remove(r) => self.remove(*r),
         }
     }
 }
@@ -264,9 +349,11 @@ pub fn run(program: &Program, lent: &Lent, watch: &mut dyn FnMut(Held)) -> Run {
         facts,
         frames: Vec::new(),
         cells: Vec::new(),
-        alive: vec![None],
+        living: BTreeMap::new(),
+        made: 0,
         cells_held: 0,
         regions_held: 0,
+        condition: None,
         printed: Vec::new(),
         most: Most::default(),
     };
@@ -294,5 +381,5 @@ pub fn run(program: &Program, lent: &Lent, watch: &mut dyn FnMut(Held)) -> Run {
         }
         Ending::Finished
     };
-    Run { ending, steps, printed: m.printed, most: m.most, made: m.alive.len() - 1 }
+    Run { ending, steps, printed: m.printed, most: m.most, made: m.made }
 }

@@ -57,6 +57,8 @@ impl Scope<'_> {
                         .all(|(n, (a, f))| a.functor == n && self.arguments_ok(f, &a.arguments) && self.goals_ok(&a.goals))
             }
             Goal::If(y, z, a, b) => self.has_type(0, *y) && self.has_type(0, *z) && self.goals_ok(a) && self.goals_ok(b),
+            Goal::Try(c, a, b) => [c, a, b].into_iter().all(|part| self.goals_ok(part)),
+            Goal::Test(y, z) => self.has_type(0, *y) && self.has_type(0, *z),
             Goal::Call(q, names) => {
                 let Some(callee) = self.program.procedures.get(*q) else { return false };
                 let parameters = callee.parameters();

@@ -29,6 +29,7 @@ pub fn access(program: &Program, goal: &Goal) -> (Vec<usize>, Vec<usize>) {
         Goal::Assign(x, y) => (vec![*y], vec![*x]),
         Goal::Construct(x, _, a) => (arguments(a).to_vec(), vec![*x]),
         Goal::Print(y) => (vec![*y], vec![]),
+        Goal::Test(y, z) => (vec![*y, *z], vec![]),
         Goal::Call(q, names) => {
             let callee = &program.procedures[*q];
             let of_mode =
@@ -80,6 +81,11 @@ fn goal(program: &Program, g: &Goal, known: Known) -> Option<Known> {
                 return None;
             }
             Some(goals(program, a, known)?.meet(goals(program, b, known)?))
+        }
+        // "The else part starts from what had a value .. before the try, the then part from what the condition ends with."
+        Goal::Try(c, a, b) => {
+            let yes = goals(program, a, goals(program, c, known)?)?;
+            Some(yes.meet(goals(program, b, known)?))
         }
         _ => {
             let (reads, gives) = access(program, g);

@@ -1,10 +1,11 @@
 //! Packs runs in lent memory of many sizes, with the lines that each must print, for the program `lent_runs`: pack-runs TABLE.tsv PACK STDOUT
 //!
-//! TABLE has a file a line, as tools/pack-jobs takes it. Of the accepted files of up to 64 records that run to their end, or to a sum out of range, in 4 to
-//! 5,000 steps, within what `lent_runs` has: up to sixty that hold cells, twenty that hold none, and twenty more that come to such a sum or print a number
-//! of ten digits. Cells, regions, frames, printed numbers and steps are lent in turn as 0, one word, one too few, just enough and more, the others just
-//! enough. A pack is files one behind the other: the length of the name in one byte, the name, the length of the file in three, the file, how many runs in
-//! one byte, and for each the words lent for cells, regions, frames and printed numbers and the steps, in three bytes each; low bytes first.
+//! TABLE has a file a line, as tools/pack-jobs takes it. Of the accepted files of up to 64 records that run to their end, or to a sum out of range, in 4
+//! to 5,000 steps, within what `lent_runs` has: up to sixty that hold cells, twenty that hold none, sixty that have tries, and twenty more that come to
+//! such a sum or print a number of ten digits. Cells, regions, frames, printed numbers and steps are lent in turn as 0, one word, one too few, just enough
+//! and more, the others just enough. A pack is files one behind the other: the length of the name in one byte, the name, the length of the file in three,
+//! the file, how many runs in one byte, and for each the words lent for cells, regions, frames and printed numbers and the steps, in three bytes each; low
+//! bytes first.
 use reference::{run, Ending, Lent, Run};
 
 /// As many words as `lent_runs` lends at most.
@@ -19,12 +20,17 @@ fn bytes(hex: &str) -> Vec<u8> {
 }
 
 /// What runs are packed by, and how many files of each sort at most.
-const SORTS: [(&str, usize); 3] = [("with cells", 60), ("without", 20), ("with sums out of range or numbers of ten digits", 20)];
+const SORTS: [(&str, usize); 4] =
+    [("with cells", 60), ("without", 20), ("with sums out of range or numbers of ten digits", 20), ("with tries", 60)];
 
-fn sort(done: &Run) -> usize {
+const TRY: u8 = 20;
+
+fn sort(done: &Run, file: &[u8]) -> usize {
     let far = done.ending == Ending::Stopped(15) || done.printed.iter().any(|n| n.unsigned_abs() >= 1_000_000_000);
     if far {
         2
+    } else if file.iter().step_by(16).any(|&kind| kind == TRY) {
+        3
     } else if done.most.cells > 0 {
         0
     } else {
@@ -102,7 +108,7 @@ fn main() {
         let done = run(&file, &Lent::program());
         let Some(lent) = enough(&done) else { continue };
         let cases = cases(&lent);
-        let sort = sort(&done);
+        let sort = sort(&done, &file);
         if files[sort] == SORTS[sort].1 || !cases.iter().all(fits) {
             continue;
         }

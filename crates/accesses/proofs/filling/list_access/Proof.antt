@@ -3,9 +3,9 @@ use mathlib.Core.Path.{refl, sym, ap, _∙_}
 use mathlib.Core.Logic.{inl, inr}
 use Rattle.sets.specs.Tests.{_or_}
 use Rattle.sets.specs.Members.{inList}
-use Rattle.language.specs.Format.{literalKind, sumKind, assignKind, constructKind, callKind, printKind, createKind, removeKind}
+use Rattle.language.specs.Format.{literalKind, sumKind, assignKind, constructKind, callKind, printKind, createKind, removeKind, testKind}
 use Rattle.chains.specs.Formed.{counted}
-use Rattle.accesses.proofs.FittingLaws.{literal-fits, sum-fits, assign-fits, construct-fits, print-fits, create-fits, remove-fits, arm-fits}
+use Rattle.accesses.proofs.FittingLaws.{literal-fits, sum-fits, assign-fits, construct-fits, print-fits, create-fits, remove-fits, test-fits, arm-fits}
 use Rattle.accesses.proofs.NotingLaws.{found-step, listed-put, listed-none}
 use Rattle.walks.specs.Steps.{isStep, not-step}
 use borrow.Author.Needs.{needs}
@@ -60,6 +60,11 @@ put-access-requires-8 c κs =
 
 put-access-requires-9 : tie.Need-put-access-requires-9
 put-access-requires-9 c κs =
+    let p = c .before .before .before .before .before .pre in
+    omega (arith, counted (p .0) .most, p .1 .1 .1 .0 .0)
+
+put-access-requires-10 : tie.Need-put-access-requires-10
+put-access-requires-10 c κs =
     let p = c .before .before .before .before .before .pre in
     omega (arith, counted (p .0) .most, p .1 .1 .1 .0 .0)
 
@@ -144,17 +149,27 @@ returns-9 c =
     listed-put _ (p .0) (p .1 .1 .1 .0 .1) (p .1 .1 .1 .0 .0) (remove-fits _ _ (p .0) e k (c .before .no-access2 .ensures)) (c .put-access9 .ensures) (inl (found-step _ _ removeKind e k refl))
 
 returns-10 : tie.Need-returns-10
+unfolding isStep inList _or_
 returns-10 c =
+    let m = c .before .before .before in
+    let p = m .before .before .before .pre in
+    let e = m .before .word .ensures .0 in
+    let k = m .match .keys10 in
+    listed-put _ (p .0) (p .1 .1 .1 .0 .1) (p .1 .1 .1 .0 .0) (test-fits _ _ (p .0) e k (c .before .test-access .ensures)) (c .put-access10 .ensures) (inl (found-step _ _ testKind e k refl))
+
+returns-11 : tie.Need-returns-11
+returns-11 c =
     let e = c .before .word .ensures .0 in
-    let r = c .match .rest in
+    let u = c .match .rest in
+    let r = u .0 in
     let s = r .0 .0 .0 in
     let t = s .0 .0 .0 in
-    listed-none (c .before .before .before .pre .0) (sym (ap isStep e) ∙ sym (not-step (t .0 .0 .1) (t .0 .1) (t .1) (s .0 .0 .1) (s .1) (r .0 .0 .1) (r .0 .1) (r .1))) (λ k. s .0 .1 (e ∙ k))
+    listed-none (c .before .before .before .pre .0) (sym (ap isStep e) ∙ sym (not-step (t .0 .0 .1) (t .0 .1) (t .1) (s .0 .0 .1) (s .1) (r .0 .0 .1) (r .0 .1) (r .1) (u .1))) (λ k. s .0 .1 (e ∙ k))
 
 pub list-access-spec : {M : Type 1} → statement M
 list-access-spec =
     tie.close
     (tie.spec (search needs) (search needs) put-access-requires (search needs) put-access-requires-2 (search needs) put-access-requires-3
     (search needs) put-access-requires-4 (search needs) put-access-requires-5 call-access-requires put-access-requires-6 (search needs)
-    put-access-requires-7 (search needs) put-access-requires-8 (search needs) put-access-requires-9 returns returns-2 returns-3 returns-4 returns-5
-    returns-6 returns-7 returns-8 returns-9 returns-10)
+    put-access-requires-7 (search needs) put-access-requires-8 (search needs) put-access-requires-9 (search needs) put-access-requires-10 returns returns-2 returns-3 returns-4 returns-5
+    returns-6 returns-7 returns-8 returns-9 returns-10 returns-11)

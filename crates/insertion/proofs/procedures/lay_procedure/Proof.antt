@@ -18,6 +18,11 @@ lay-goals-requires c κs =
     let p = c .before .before .before .before .before .before .before .before .before .before .before .pre in
     (p .0, (here-below (p .0 .formed) (p .1 .0 .0) (p .1 .0 .1), p .1 .1))
 
+store-procedure-requires : tie.Need-store-procedure-requires
+store-procedure-requires c κs =
+    let p = c .before .before .before .before .before .before .before .before .before .before .before .before .before .pre in
+    (p .0 .formed, p .1 .0 .0 .stands .below)
+
 returns : tie.Need-returns
 returns c =
     let p = c .before .before .before .before .before .before .before .before .before .before .before .before .before .before .pre in
@@ -26,4 +31,4 @@ returns c =
 pub lay-procedure-spec : {M : Type 1} → statement M
 lay-procedure-spec =
     tie.close
-    (tie.spec (search needs) (search needs) lay-chain-requires (search needs) lay-chain-requires-2 lay-goals-requires (search needs) returns)
+    (tie.spec (search needs) (search needs) lay-chain-requires (search needs) lay-chain-requires-2 lay-goals-requires store-procedure-requires returns)

@@ -21,7 +21,7 @@ returns c =
     let ep = c .before .before .before .before .before .before .before .before .before .before .before .before .before .before .before .before .before .point-in .ensures in
     let er = c .before .before .before .before .before .before .before .before .before .before .record-in .ensures in
     rw (sym ep, sym er, e .record-is, e .point-is)
-    (step-laid _ _ _ (p .0) (p .1 .0 .0) (p .1 .0 .1) (p .1 .1 .0) (p .1 .1 .1) (c .before .before .before .before .before .before .before .before .before .before .before .before .before .before .before .before .created-at .ensures) (c .before .before .before .before .before .before .before .before .before .before .before .before .before .before .before .removed-at .ensures) (c .before .before .before .before .before .before .before .before .before .before .before .before .before .word .ensures .0) (c .before .before .before .before .before .before .before .before .before .lay-marks .ensures) (c .before .before .before .before .before .before .follows .ensures) (c .before .before .before .before .before .lay-record .ensures) (c .before .before .before .lay-marks2 .ensures) (c .before .past .ensures))
+    (step-laid _ _ _ (p .0) (p .1 .0 .0) (p .1 .0 .1) (p .1 .1 .0) (p .1 .1 .1 .0) (p .1 .1 .1 .1) (c .before .before .before .before .before .before .before .before .before .before .before .before .before .before .before .before .created-at .ensures) (c .before .before .before .before .before .before .before .before .before .before .before .before .before .before .before .removed-at .ensures) (c .before .before .before .before .before .before .before .before .before .before .before .before .before .word .ensures .0) (c .before .before .before .before .before .before .before .before .before .lay-marks .ensures) (c .before .before .before .before .before .before .follows .ensures) (c .before .before .before .before .before .lay-record .ensures) (c .before .before .before .lay-marks2 .ensures) (c .before .past .ensures))
 
 pub step-spec : {M : Type 1} → statement M
 step-spec =

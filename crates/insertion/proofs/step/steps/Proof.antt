@@ -28,13 +28,17 @@ returns c =
 
 returns-2 : tie.Need-returns-2 Inv-loop μ-loop
 returns-2 c =
-    (c .before .before .before .before .loop .inv, λ z n. sym (c .before .word .ensures .0) ∙ c .match .keys2)
+    (c .before .before .before .before .loop .inv, λ z n m. absurd (m (sym (c .before .word .ensures .0) ∙ c .match .keys2)))
+
+returns-3 : tie.Need-returns-3 Inv-loop μ-loop
+returns-3 c =
+    (c .before .before .before .before .loop .inv, λ z n m. sym (c .before .word .ensures .0) ∙ c .match .keys3)
 
 step-requires : tie.Need-step-requires Inv-loop μ-loop
 step-requires c κs =
     let v = c .before .before .before .before .before .before .loop .inv in
     let e = c .before .before .before .word .ensures .0 in
-    (c .before .before .before .before .before .before .before .pre .0, ((v .stands, c .before .before .before .before .before .loop-test .taken), (λ k. c .before .before .match .rest .0 .1 (e ∙ k), λ k. c .before .before .match .rest .1 (e ∙ k))))
+    (c .before .before .before .before .before .before .before .pre .0, ((v .stands, c .before .before .before .before .before .loop-test .taken), (λ k. c .before .before .match .rest .0 .0 .1 (e ∙ k), (λ k. c .before .before .match .rest .0 .1 (e ∙ k), λ k. c .before .before .match .rest .1 (e ∙ k)))))
 
 word-requires-2 : tie.Need-word-requires-2 Inv-loop μ-loop
 word-requires-2 c κs =
@@ -48,8 +52,8 @@ loop-again : tie.Need-loop-again Inv-loop μ-loop
 loop-again c =
     along-next (c .before .before .before .before .before .before .before .before .before .loop .inv) (c .before .before .before .before .before .before .before .before .before .before .pre .0) (c .before .before .before .before .before .before .before .before .loop-test .taken) (c .before .before .step .ensures) (c .word2 .ensures .0)
 
-returns-3 : tie.Need-returns-3 Inv-loop μ-loop
-returns-3 c =
+returns-4 : tie.Need-returns-4 Inv-loop μ-loop
+returns-4 c =
     (c .before .loop .inv, λ z. absurd (z (c .loop-test .left)))
 
 pub steps-spec : {M : Type 1} → statement M
@@ -62,8 +66,9 @@ steps-spec =
     word-requires
     returns
     returns-2
+    returns-3
     step-requires
     word-requires-2
     loop-less
     loop-again
-    returns-3)
+    returns-4)

@@ -9,4 +9,4 @@ returns c = search (if-stored, needs)
 pub store-if-spec : {M : Type 1} → statement M
 store-if-spec =
     tie.close
-    (tie.spec (search needs) (search needs) (search needs) (search needs) (search needs) (search needs) (search needs) (search needs) returns)
+    (tie.spec (λ c κs. search needs) (search needs) (λ c κs. search needs) (λ c κs. search needs) (search needs) (search needs) (search needs) (search needs) returns)

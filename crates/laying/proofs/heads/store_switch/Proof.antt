@@ -7,4 +7,4 @@ returns : tie.Need-returns
 returns c = search (switch-stored, needs)
 
 pub store-switch-spec : {M : Type 1} → statement M
-store-switch-spec = tie.close (tie.spec (search needs) (search needs) (search needs) (search needs) (search needs) (search needs) returns)
+store-switch-spec = tie.close (tie.spec (λ c κs. search needs) (search needs) (λ c κs. search needs) (search needs) (search needs) (search needs) returns)

@@ -1,23 +1,28 @@
 -- What is done so far and the steps still to come make the whole.
 use borrow.Author.Needs.{needs}
 use native.Mathlib.Omega.{arith}
-use mathlib.Core.Path.{_∙_}
+use mathlib.Core.Path.{refl, sym, _∙_}
+use mathlib.Core.Logic.{inl, inr}
+use mathlib.Core.List.{[]}
 use Rattle.plans.specs.Plan.{tablesIn}
 use Rattle.frames.specs.Strays.{whole, in-length, past-length}
 use Rattle.machine.specs.Calls.{successor-as}
 use Rattle.machine.specs.Runs.{runFirst}
-use Rattle.machine.proofs.RunsLaws.{Going, first, first-as, arrives, past-on, changed-on, went-on, run-finished, run-spent, change-stopped, went-stopped}
+use Rattle.machine.proofs.RunsLaws.{Going, placed-as, first, first-as, arrives, past-on, changed-on, went-on, run-finished, run-spent, change-stopped, went-stopped, told, tried-on, tried-stopped}
+use Rattle.machine.proofs.StepsLaws.{went-tries, stops-tries}
+use Rattle.machine.proofs.TriesLaws.{tried-apart}
+use Rattle.machine.specs.Words.{onward-placed}
 use Rattle.machine.specs.Heaps.{changed, unchanged}
 use native.Mathlib.Omega.{arith}
 use Rattle.machine.proofs.runs.run_on.Statement.{statement}
 use Rattle.machine.proofs.runs.run_on.Tie as tie
 
 abbrev Inv-loop : tie.InvT-loop
-Inv-loop file plan images callees cells₀ regions₀ frames₀ prints₀ steps heap₀ state₀ left₀ cells regions frames prints heap state left =
+Inv-loop file plan images callees cells₀ regions₀ frames₀ prints₀ log₀ own₀ steps heap₀ state₀ left₀ cells regions frames prints log own heap state left =
     Going file (tablesIn plan images callees) steps cells₀ regions₀ frames₀ prints₀ (runFirst file (tablesIn plan images callees) steps heap₀ cells₀ regions₀ frames₀ prints₀ state₀) left heap cells regions frames prints state
 
 abbrev μ-loop : tie.MeasureT-loop
-μ-loop file plan images callees cells₀ regions₀ frames₀ prints₀ steps heap₀ state₀ left₀ cells regions frames prints heap state left =
+μ-loop file plan images callees cells₀ regions₀ frames₀ prints₀ log₀ own₀ steps heap₀ state₀ left₀ cells regions frames prints log own heap state left =
     left
 
 loop-holds : tie.Need-loop-holds Inv-loop μ-loop
@@ -189,7 +194,7 @@ loop-again-3 c =
     let at-loop = at-settle .before .before in
     went-on _ _ _ _ _ _ _ _ _ _ _ _ _ _ _
     (arrives _ _ _ _ _ _ _ _ _ _ _ _ _ _ _ _ _ (at-loop .loop .inv) (at-settle .settle .ensures .0) (at-settle .settle .ensures .1) (at-settle .settle .kept .1 .1 .1 .1 .1 .0))
-    _ _ _ _ (at-if1 .if1 .left) (omega (arith, at-if2 .if2 .left)) (at-go .go .ensures) (at-went .went .given .1)
+    _ _ _ _ (at-if1 .if1 .left) (omega (arith, at-if2 .if2 .left)) (at-go .go .ensures .goes (λ z. went-tries _ (sym (at-went .went .given .1) ∙ z))) (at-went .went .given .1)
     (at-go .go .kept .1 .1 .1 .1 .1 .1 .0) (at-go .go .kept .1 .1 .1 .1 .1 .1 .1 .0)
 
 sub-ended-4 : tie.Need-sub-ended-4 Inv-loop μ-loop
@@ -222,7 +227,164 @@ returns-4 c =
     let at-first-state = at-loop .before in
     let at-empty = at-first-state .before in
     first-as _ _ _ _ _ _ _ _ _ _ _ _ _ _ _ _ (at-empty .empty .ensures) (at-first-state .first-state .ensures)
-    (went-stopped _ _ _ _ _ _ _ _ _ _ _ _ _ _ _ (arrives _ _ _ _ _ _ _ _ _ _ _ _ _ _ _ _ _ (at-loop .loop .inv) (at-settle .settle .ensures .0) (at-settle .settle .ensures .1) (at-settle .settle .kept .1 .1 .1 .1 .1 .0)) _ _ _ _ _ (at-if1 .if1 .left) (omega (arith, at-if2 .if2 .left)) (at-go .go .ensures) (at-went2 .went2 .given .1) (c .ended4 .ensures))
+    (went-stopped _ _ _ _ _ _ _ _ _ _ _ _ _ _ _ (arrives _ _ _ _ _ _ _ _ _ _ _ _ _ _ _ _ _ (at-loop .loop .inv) (at-settle .settle .ensures .0) (at-settle .settle .ensures .1) (at-settle .settle .kept .1 .1 .1 .1 .1 .0)) _ _ _ _ _ (at-if1 .if1 .left) (omega (arith, at-if2 .if2 .left)) (at-go .go .ensures .goes (λ z. stops-tries _ (sym (at-went2 .went2 .given .1) ∙ z))) (at-went2 .went2 .given .1) (c .ended4 .ensures))
+
+run-try-requires : tie.Need-run-try-requires Inv-loop μ-loop
+run-try-requires c κs =
+    let at-start = c .before .before .before .before .before .before .before in
+    let at-told = at-start .before in
+    let at-go = at-told .before .before .before .before .before .before in
+    let at-if3 = at-go .before .before .before .before .before .before .before in
+    let at-if2 = at-if3 .before in
+    let at-if1 = at-if2 .before in
+    let at-settle = at-if1 .before .before .before in
+    let start = at-settle .before .before .before .before .before .before .before .before .before .before .before .before .before in
+    let t = at-go .go .ensures .tries (at-told .enum-told .given .1) in (
+      (start .pre .0 .0, start .pre .0 .2, omega arith, omega (arith, at-if2 .if2 .left)),
+      rw (at-start .onward2 .ensures)
+          (in-length (start .pre .0 .0) _ (at-if3 .if3 .left), at-if1 .if1 .left, t .0, onward-placed _ (placed-as (at-go .go .kept .1 .1 .1 .1 .1 .1 .0) (at-settle .settle .ensures .1))),
+    )
+
+run-try-requires-2 : tie.Need-run-try-requires-2 Inv-loop μ-loop
+run-try-requires-2 c κs =
+    let at-start = c .before .before .before .before .before .before .before in
+    let at-told = at-start .before in
+    let at-go = at-told .before .before .before .before .before .before in
+    let at-if3 = at-go .before .before .before .before .before .before .before in
+    let at-if2 = at-if3 .before in
+    let at-if1 = at-if2 .before in
+    let at-settle = at-if1 .before .before .before in
+    let start = at-settle .before .before .before .before .before .before .before .before .before .before .before .before .before in
+    let t = at-go .go .ensures .tries (at-told .enum-told .given .1) in (
+      (start .pre .0 .0, start .pre .0 .2, omega arith, omega (arith, at-if2 .if2 .left)),
+      rw (at-start .onward2 .ensures)
+          (in-length (start .pre .0 .0) _ (at-if3 .if3 .left), at-if1 .if1 .left, t .0, onward-placed _ (placed-as (at-go .go .kept .1 .1 .1 .1 .1 .1 .0) (at-settle .settle .ensures .1))),
+    )
+
+loop-less-4 : tie.Need-loop-less-4 Inv-loop μ-loop
+loop-less-4 c =
+    let at-tried = c .before .before .before in
+    let at-join = at-tried .before .before in
+    elim (at-join .if5 .came) [
+      | inl t ↦ t .6 .ensures [] [] .fewer _ _ _ (sym (t .18) ∙ at-tried .tried .given .1) .0
+      | inr t ↦ t .6 .ensures [] [] .fewer _ _ _ (sym (t .18) ∙ at-tried .tried .given .1) .0
+    ]
+
+loop-again-4 : tie.Need-loop-again-4 Inv-loop μ-loop
+loop-again-4 c =
+    let at-limited = c .before in
+    let at-tried = at-limited .before .before in
+    let at-join = at-tried .before .before in
+    let at-old = at-join .before in
+    let at-start = at-old .before in
+    let at-told = at-start .before in
+    let at-go = at-told .before .before .before .before .before .before in
+    let at-settle = at-go .before .before .before .before .before .before .before .before .before .before .before .before in
+    let at-loop = at-settle .before .before in
+    let e = at-go .go .ensures .tries (at-told .enum-told .given .1) in
+    let here = told _ _ _ _ _ _ _ _ _ _ _ _ _ _ _ (arrives _ _ _ _ _ _ _ _ _ _ _ _ _ _ _ _ _ (at-loop .loop .inv) (at-settle .settle .ensures .0) (at-settle .settle .ensures .1) (at-settle .settle .kept .1 .1 .1 .1 .1 .0)) _ _ (e .1) (e .2) in
+    elim (at-join .if5 .came) [
+      | inl t ↦ rw (t .13, t .14, t .15)
+          (tried-on _ _ _ _ _ _ _ _ _ _ _ _ _ _ _ here _ _ _ _ _ _ _ _ _ (tried-apart _ _ _ _ _ _ _ _ _ _ _ _ _ _ (at-start .onward2 .ensures) (at-old .limited .ensures refl refl) (t .6 .ensures _ _)) (sym (t .18) ∙ at-tried .tried .given .1)
+          (c .onward3 .ensures) (at-limited .limited2 .ensures) (t .6 .kept .1 .1 .1 .1 .0) (t .6 .kept .1 .1 .1 .1 .1 .0) (t .6 .kept .1 .1 .1 .1 .1 .1 .0))
+      | inr t ↦ rw (t .13, t .14, t .15)
+          (tried-on _ _ _ _ _ _ _ _ _ _ _ _ _ _ _ here _ _ _ _ _ _ _ _ _ (tried-apart _ _ _ _ _ _ _ _ _ _ _ _ _ _ (at-start .onward2 .ensures) (at-old .limited .ensures refl refl) (t .6 .ensures _ _)) (sym (t .18) ∙ at-tried .tried .given .1)
+          (c .onward3 .ensures) (at-limited .limited2 .ensures) (t .6 .kept .1 .1 .1 .1 .0) (t .6 .kept .1 .1 .1 .1 .1 .0) (t .6 .kept .1 .1 .1 .1 .1 .1 .0))
+    ]
+
+sub-ended-5 : tie.Need-sub-ended-5 Inv-loop μ-loop
+sub-ended-5 c =
+    let at-tried = c .before in
+    let at-join = at-tried .before .before in
+    let at-old = at-join .before in
+    let at-start = at-old .before in
+    let at-told = at-start .before in
+    let at-go = at-told .before .before .before .before .before .before in
+    let at-settle = at-go .before .before .before .before .before .before .before .before .before .before .before .before in
+    let at-loop = at-settle .before .before in
+    elim (at-join .if5 .came) [
+      | inl t ↦ omega (arith, t .6 .ensures [] [] .most _ _ (sym (t .18) ∙ at-tried .tried2 .given .1), at-loop .loop .inv .most)
+      | inr t ↦ omega (arith, t .6 .ensures [] [] .most _ _ (sym (t .18) ∙ at-tried .tried2 .given .1), at-loop .loop .inv .most)
+    ]
+
+same-length-17 : tie.Need-same-length-17 Inv-loop μ-loop
+same-length-17 c =
+    let at-tried = c .before .before in
+    let at-join = at-tried .before .before in
+    let at-old = at-join .before in
+    let at-start = at-old .before in
+    let at-told = at-start .before in
+    let at-go = at-told .before .before .before .before .before .before in
+    let at-settle = at-go .before .before .before .before .before .before .before .before .before .before .before .before in
+    let at-loop = at-settle .before .before in
+    elim (at-join .if5 .came) [
+      | inl t ↦ rw (t .13) (t .6 .kept .1 .1 .1 .1 .0 ∙ at-loop .loop .inv .cells)
+      | inr t ↦ rw (t .13) (t .6 .kept .1 .1 .1 .1 .0 ∙ at-loop .loop .inv .cells)
+    ]
+
+same-length-18 : tie.Need-same-length-18 Inv-loop μ-loop
+same-length-18 c =
+    let at-tried = c .before .before in
+    let at-join = at-tried .before .before in
+    let at-old = at-join .before in
+    let at-start = at-old .before in
+    let at-told = at-start .before in
+    let at-go = at-told .before .before .before .before .before .before in
+    let at-settle = at-go .before .before .before .before .before .before .before .before .before .before .before .before in
+    let at-loop = at-settle .before .before in
+    elim (at-join .if5 .came) [
+      | inl t ↦ rw (t .14) (t .6 .kept .1 .1 .1 .1 .1 .0 ∙ at-loop .loop .inv .regions)
+      | inr t ↦ rw (t .14) (t .6 .kept .1 .1 .1 .1 .1 .0 ∙ at-loop .loop .inv .regions)
+    ]
+
+same-length-19 : tie.Need-same-length-19 Inv-loop μ-loop
+same-length-19 c =
+    let at-tried = c .before .before in
+    let at-join = at-tried .before .before in
+    let at-old = at-join .before in
+    let at-start = at-old .before in
+    let at-told = at-start .before in
+    let at-go = at-told .before .before .before .before .before .before in
+    let at-settle = at-go .before .before .before .before .before .before .before .before .before .before .before .before in
+    let at-loop = at-settle .before .before in
+    elim (at-join .if5 .came) [
+      | inl t ↦ rw (t .15) (t .6 .kept .1 .1 .1 .1 .1 .1 .0 ∙ at-go .go .kept .1 .1 .1 .1 .1 .1 .0 ∙ at-settle .settle .kept .1 .1 .1 .1 .1 .0 ∙ at-loop .loop .inv .frames)
+      | inr t ↦ rw (t .15) (t .6 .kept .1 .1 .1 .1 .1 .1 .0 ∙ at-go .go .kept .1 .1 .1 .1 .1 .1 .0 ∙ at-settle .settle .kept .1 .1 .1 .1 .1 .0 ∙ at-loop .loop .inv .frames)
+    ]
+
+same-length-20 : tie.Need-same-length-20 Inv-loop μ-loop
+same-length-20 c =
+    let at-tried = c .before .before in
+    let at-join = at-tried .before .before in
+    let at-old = at-join .before in
+    let at-start = at-old .before in
+    let at-told = at-start .before in
+    let at-go = at-told .before .before .before .before .before .before in
+    let at-settle = at-go .before .before .before .before .before .before .before .before .before .before .before .before in
+    let at-loop = at-settle .before .before in
+    at-go .go .kept .1 .1 .1 .1 .1 .1 .1 .0 ∙ at-loop .loop .inv .prints
+
+returns-5 : tie.Need-returns-5 Inv-loop μ-loop
+returns-5 c =
+    let at-tried = c .before .before in
+    let at-join = at-tried .before .before in
+    let at-old = at-join .before in
+    let at-start = at-old .before in
+    let at-told = at-start .before in
+    let at-go = at-told .before .before .before .before .before .before in
+    let at-settle = at-go .before .before .before .before .before .before .before .before .before .before .before .before in
+    let at-loop = at-settle .before .before in
+    let at-first-state = at-loop .before in
+    let at-empty = at-first-state .before in
+    let e = at-go .go .ensures .tries (at-told .enum-told .given .1) in
+    let here = told _ _ _ _ _ _ _ _ _ _ _ _ _ _ _ (arrives _ _ _ _ _ _ _ _ _ _ _ _ _ _ _ _ _ (at-loop .loop .inv) (at-settle .settle .ensures .0) (at-settle .settle .ensures .1) (at-settle .settle .kept .1 .1 .1 .1 .1 .0)) _ _ (e .1) (e .2) in
+    first-as _ _ _ _ _ _ _ _ _ _ _ _ _ _ _ _ (at-empty .empty .ensures) (at-first-state .first-state .ensures)
+    (elim (at-join .if5 .came) [
+      | inl t ↦ rw (t .13, t .14, t .15)
+          (tried-stopped _ _ _ _ _ _ _ _ _ _ _ _ _ _ _ here _ _ _ _ _ _ _ (tried-apart _ _ _ _ _ _ _ _ _ _ _ _ _ _ (at-start .onward2 .ensures) (at-old .limited .ensures refl refl) (t .6 .ensures _ _)) (sym (t .18) ∙ at-tried .tried2 .given .1) (c .ended5 .ensures))
+      | inr t ↦ rw (t .13, t .14, t .15)
+          (tried-stopped _ _ _ _ _ _ _ _ _ _ _ _ _ _ _ here _ _ _ _ _ _ _ (tried-apart _ _ _ _ _ _ _ _ _ _ _ _ _ _ (at-start .onward2 .ensures) (at-old .limited .ensures refl refl) (t .6 .ensures _ _)) (sym (t .18) ∙ at-tried .tried2 .given .1) (c .ended5 .ensures))
+    ])
 
 pub run-on-spec : {M : Type 1} → statement M
 run-on-spec =
@@ -232,4 +394,5 @@ run-on-spec =
     loop-less loop-again word-in-requires (search needs) change-heap-requires (search needs) successor-requires (search needs) sub-left-2 loop-less-2
     loop-again-2 (search needs) sub-ended-3 (search needs) same-length-9 same-length-10 same-length-11 same-length-12 returns-3 go-requires
     (search needs) sub-left-3 loop-less-3 loop-again-3 (search needs) sub-ended-4 (search needs) same-length-13 same-length-14 same-length-15
-    same-length-16 returns-4)
+    same-length-16 returns-4 (search needs) (λ c κs. search needs) (λ c κs. search needs) run-try-requires run-try-requires-2 (search needs) (λ c κs. search needs) (λ c κs. search needs) loop-less-4 loop-again-4
+    (search needs) sub-ended-5 (search needs) same-length-17 same-length-18 same-length-19 same-length-20 returns-5)

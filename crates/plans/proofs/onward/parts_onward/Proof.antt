@@ -14,7 +14,7 @@ returns-3 : tie.Need-returns-3
 returns-3 c = c .onto2 .ensures ∙ if-onward _ _ _ (c .before .match .keys3)
 
 returns-4 : tie.Need-returns-4
-returns-4 c = let r = c .match .rest in other-onward _ _ _ (r .0 .0 .1) (r .0 .1) (r .1)
+returns-4 c = let r = c .match .rest in other-onward _ _ _ (c .before .pre) (r .0 .0 .1) (r .0 .1) (r .1)
 
 pub parts-onward-spec : {M : Type 1} → statement M
 parts-onward-spec = tie.close (tie.spec (λ c κs. search needs) (λ c κs. search needs) returns returns-2 returns-3 returns-4)

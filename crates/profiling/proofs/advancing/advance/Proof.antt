@@ -9,11 +9,11 @@ use Rattle.profiling.proofs.advancing.advance.Statement.{statement}
 use Rattle.profiling.proofs.advancing.advance.Tie as tie
 
 abbrev Inv-loop : tie.InvT-loop
-Inv-loop file plan images callees cells₀ regions₀ frames₀ prints₀ steps out₀ here₀ at₀ cells regions frames prints out here at =
-    Under file (tablesIn plan images callees) steps cells₀ regions₀ frames₀ prints₀ here₀ out₀ cells regions frames prints out here at
+Inv-loop file plan images callees cells₀ regions₀ frames₀ prints₀ log₀ own₀ steps out₀ here₀ at₀ cells regions frames prints log own out here at =
+    Under file (tablesIn plan images callees) steps cells₀ regions₀ frames₀ prints₀ here₀ out₀ cells regions frames prints log own out here at
 
 abbrev μ-loop : tie.MeasureT-loop
-μ-loop file plan images callees cells₀ regions₀ frames₀ prints₀ steps out₀ here₀ at₀ cells regions frames prints out here at = steps - here .done
+μ-loop file plan images callees cells₀ regions₀ frames₀ prints₀ log₀ own₀ steps out₀ here₀ at₀ cells regions frames prints log own out here at = steps - here .done
 
 loop-holds : tie.Need-loop-holds Inv-loop μ-loop
 loop-holds c = under-first _ (c .before .before .before .before .before .before .before .pre .1 .1)
@@ -22,36 +22,36 @@ sub-loop : tie.Need-sub-loop Inv-loop μ-loop
 sub-loop c = omega (arith, c .loop .inv .fits)
 
 forward-requires : tie.Need-forward-requires Inv-loop μ-loop
-forward-requires c κs = (c .before .before .before .before .before .before .before .before .before .before .before .before .before .pre .0, c .before .before .before .before .before .loop .inv .stands)
+forward-requires c κs = (c .before .before .before .before .before .before .before .before .before .before .before .before .before .before .before .pre .0, c .before .before .before .before .before .before .before .loop .inv .stands)
 
 note-requires : tie.Need-note-requires Inv-loop μ-loop
-note-requires c κs = omega (arith, c .before .before .before .before .before .before .before .before .before .before .before .before .before .before .before .before .before .before .loop .inv .fits)
+note-requires c κs = omega (arith, c .before .before .before .before .before .before .before .before .before .before .before .before .before .before .before .before .before .before .before .before .loop .inv .fits, c .before .before .before .before .before .before .before .before .before .before .before .before .before .before .before .before .before .before .before .loop-test .taken)
 
 loop-less : tie.Need-loop-less Inv-loop μ-loop
 loop-less c = let m = moved-on (c .before .before .before .before .before .before .before .before .before .before .before .before .before .before .before .forward .ensures) (c .before .before .before .before .before .moved .given .1) in omega (arith, m .next, m .low)
 
 loop-again : tie.Need-loop-again Inv-loop μ-loop
 loop-again c =
-    under-next (c .before .before .before .before .before .before .before .before .before .before .before .before .before .before .before .before .before .before .before .before .before .loop .inv) (c .before .before .before .before .before .before .before .before .before .before .before .before .before .before .before .forward .kept .1 .1 .1 .1 .1 .0) (c .before .before .before .before .before .before .before .before .before .before .before .before .before .before .before .forward .kept .1 .1 .1 .1 .1 .1 .0) (c .before .before .before .before .before .before .before .before .before .before .before .before .before .before .before .forward .kept .1 .1 .1 .1 .1 .1 .1 .0) (c .before .before .before .before .before .before .before .before .before .before .before .before .before .before .before .forward .kept .1 .1 .1 .1 .1 .1 .1 .1 .0)
+    under-next (c .before .before .before .before .before .before .before .before .before .before .before .before .before .before .before .before .before .before .before .before .before .before .before .loop .inv) (c .before .before .before .before .before .before .before .before .before .before .before .before .before .before .before .forward .kept .1 .1 .1 .1 .1 .0) (c .before .before .before .before .before .before .before .before .before .before .before .before .before .before .before .forward .kept .1 .1 .1 .1 .1 .1 .0) (c .before .before .before .before .before .before .before .before .before .before .before .before .before .before .before .forward .kept .1 .1 .1 .1 .1 .1 .1 .0) (c .before .before .before .before .before .before .before .before .before .before .before .before .before .before .before .forward .kept .1 .1 .1 .1 .1 .1 .1 .1 .0)
     (moved-on (c .before .before .before .before .before .before .before .before .before .before .before .before .before .before .before .forward .ensures) (c .before .before .before .before .before .moved .given .1)) (c .before .before .note .ensures .0) (c .before .before .note .kept .0) (c .before .before .note .ensures .1)
 
 same-length : tie.Need-same-length Inv-loop μ-loop
-same-length c = c .before .before .before .before .before .before .before .before .before .before .before .forward .kept .1 .1 .1 .1 .1 .0 ∙ c .before .before .before .before .before .before .before .before .before .before .before .before .before .before .before .before .before .loop .inv .cells
+same-length c = c .before .before .before .before .before .before .before .before .before .before .before .forward .kept .1 .1 .1 .1 .1 .0 ∙ c .before .before .before .before .before .before .before .before .before .before .before .before .before .before .before .before .before .before .before .loop .inv .cells
 
 same-length-2 : tie.Need-same-length-2 Inv-loop μ-loop
-same-length-2 c = c .before .before .before .before .before .before .before .before .before .before .before .forward .kept .1 .1 .1 .1 .1 .1 .0 ∙ c .before .before .before .before .before .before .before .before .before .before .before .before .before .before .before .before .before .loop .inv .regions
+same-length-2 c = c .before .before .before .before .before .before .before .before .before .before .before .forward .kept .1 .1 .1 .1 .1 .1 .0 ∙ c .before .before .before .before .before .before .before .before .before .before .before .before .before .before .before .before .before .before .before .loop .inv .regions
 
 same-length-3 : tie.Need-same-length-3 Inv-loop μ-loop
-same-length-3 c = c .before .before .before .before .before .before .before .before .before .before .before .forward .kept .1 .1 .1 .1 .1 .1 .1 .0 ∙ c .before .before .before .before .before .before .before .before .before .before .before .before .before .before .before .before .before .loop .inv .frames
+same-length-3 c = c .before .before .before .before .before .before .before .before .before .before .before .forward .kept .1 .1 .1 .1 .1 .1 .1 .0 ∙ c .before .before .before .before .before .before .before .before .before .before .before .before .before .before .before .before .before .before .before .loop .inv .frames
 
 same-length-4 : tie.Need-same-length-4 Inv-loop μ-loop
-same-length-4 c = c .before .before .before .before .before .before .before .before .before .before .before .forward .kept .1 .1 .1 .1 .1 .1 .1 .1 .0 ∙ c .before .before .before .before .before .before .before .before .before .before .before .before .before .before .before .before .before .loop .inv .prints
+same-length-4 c = c .before .before .before .before .before .before .before .before .before .before .before .forward .kept .1 .1 .1 .1 .1 .1 .1 .1 .0 ∙ c .before .before .before .before .before .before .before .before .before .before .before .before .before .before .before .before .before .before .before .loop .inv .prints
 
 same-length-5 : tie.Need-same-length-5 Inv-loop μ-loop
-same-length-5 c = c .before .before .before .before .before .before .before .before .before .before .before .before .before .before .before .before .before .loop .inv .size
+same-length-5 c = c .before .before .before .before .before .before .before .before .before .before .before .before .before .before .before .before .before .before .before .loop .inv .size
 
 returns : tie.Need-returns Inv-loop μ-loop
-returns c = under-last (c .before .before .before .before .before .before .before .before .before .before .before .before .before .before .before .before .before .loop .inv) _ _ _ _ _ (moved-ended (c .before .before .before .before .before .before .before .before .before .before .before .forward .ensures) (c .before .moved2 .given .1))
+returns c = under-last (c .before .before .before .before .before .before .before .before .before .before .before .before .before .before .before .before .before .before .before .loop .inv) _ _ _ _ _ _ _ (moved-ended (c .before .before .before .before .before .before .before .before .before .before .before .forward .ensures) (c .before .moved2 .given .1))
 
 same-length-6 : tie.Need-same-length-6 Inv-loop μ-loop
 same-length-6 c = c .before .loop .inv .cells

@@ -1,37 +1,34 @@
 use native.Mathlib.Omega.{arith}
-use mathlib.Core.Path.{refl}
-use Rattle.profiling.specs.Beginning.{few-held}
-use Rattle.profiling.specs.Moving.{ends, file-formed, goal-within, moves-finished, moves-spent, moves-lacks, moves-on}
+use Rattle.profiling.specs.Moving.{ends, file-formed, is-ready, ready-inside}
+use Rattle.profiling.specs.Going.{moves-finished, moves-spent}
 use borrow.Author.Needs.{needs}
 use Rattle.profiling.proofs.moving.forward.Statement.{statement}
 use Rattle.profiling.proofs.moving.forward.Tie as tie
 
 returns : tie.Need-returns
-returns c = ends (moves-finished (c .before .before .before .before .before .before .before .before .before .before .pre .1) (c .if1 .taken))
+returns c = ends (moves-finished (c .before .before .before .before .before .before .before .before .before .pre .1) (c .if1 .taken))
 
 returns-2 : tie.Need-returns-2
-returns-2 c = ends (moves-spent (c .before .before .before .before .before .before .before .before .before .before .before .pre .1) (c .before .if1 .left) (c .if2 .taken))
+returns-2 c = ends (moves-spent (c .before .before .before .before .before .before .before .before .before .before .before .pre .1) (c .before .before .if1 .left) (c .if2 .taken))
 
-count-requires : tie.Need-count-requires
-count-requires c κs = let h = few-held (c .before .before .before .before .before .before .before .before .before .before .before .before .before .before .before .pre .1 .here) in (omega (arith, h .0), omega (arith, h .1))
-
-step-requires : tie.Need-step-requires
-step-requires c κs = (file-formed (c .before .before .before .before .before .before .before .before .before .before .before .before .before .before .before .before .before .before .before .before .pre .1), (c .before .before .before .before .before .before .before .before .before .before .before .before .before .before .before .before .before .before .before .before .pre .0, (goal-within (c .before .before .before .before .before .before .before .before .before .before .before .before .before .before .before .before .before .before .before .before .pre .1) (c .before .before .before .before .before .before .before .before .before .before .if1 .left), c .before .before .before .before .before .before .before .before .before .before .before .before .before .before .before .before .before .before .before .before .pre .1 .placed)))
-
-add-t40 : tie.Need-add-t40
-add-t40 c = let a = c .before .before .before .before .before .before .before .before .before .before .before .before .before .before .before .before .before .before .before .before .before .if2 .left in let b = c .before .before .before .before .before .before .before .before .before .before .before .before .before .before .before .before .before .before .before .before .before .before .before .before .before .before .before .before .before .before .before .before .fits .steps .fits in search needs
+outside-requires : tie.Need-outside-requires
+outside-requires c κs =
+    let p = c .before .before .before .before .before .before .before .before .before .before .before .before .before .before .before .before .before .before .before .pre in
+    ((file-formed (p .1), p .0 .0, p .0 .1), is-ready (p .1) (c .before .before .before .before .before .before .before .before .before .before .if1 .left) (c .before .before .before .before .before .before .before .before .if2 .left) (omega (arith, c .before .before .before .before .before .before .before .before .before .before .before .before .before .before .before .before .before .before .before .fits .steps .fits)))
 
 returns-3 : tie.Need-returns-3
-returns-3 c =
-    let r = c .before .before .before .before .before .before .before .before .before .before .before .step in
-    moves-on (c .before .before .before .before .before .before .before .before .before .before .before .before .before .before .before .before .before .before .before .before .before .before .before .before .before .before .before .before .before .before .before .before .pre .1) (c .before .before .before .before .before .before .before .before .before .before .before .before .before .before .before .before .before .before .before .before .before .before .if1 .left) (c .before .before .before .before .before .before .before .before .before .before .before .before .before .before .before .before .before .before .before .before .before .if2 .left) (r .ensures) _ _ _ _ (c .before .turn .given .1) (c .before .before .before .before .before .before .before .before .before .before .before .before .before .before .before .before .count .ensures _ _ refl) refl (r .kept .1 .1 .1 .1 .1 .1 .0)
-    (r .kept .1 .1 .1 .1 .1 .1 .1 .0) (r .kept .1 .1 .1 .1 .1 .1 .1 .1 .0) (r .kept .1 .1 .1 .1 .1 .1 .1 .1 .1 .0)
+returns-3 c = c .before .before .before .before .before .before .before .before .outside .ensures _ _ (c .before .before .before .before .before .before .before .before .before .before .before .before .before .before .before .before .before .before .before .before .before .before .before .before .before .before .before .before .pre .1) (c .before .before .before .before .before .before .before .before .before .before .before .before .before .before .if3 .taken) (c .before .before .before .before .before .before .before .before .before .before .before .before .before .before .before .before .before .if2 .left)
+
+inside-requires : tie.Need-inside-requires
+inside-requires c κs =
+    let p = c .before .before .before .before .before .before .before .before .before .before .before .before .before .before .before .before .before .before .before .pre in
+    ((file-formed (p .1), p .0 .0, p .0 .1), ready-inside (p .1) (c .before .before .before .before .before .before .before .before .before .before .if1 .left) (c .before .before .before .before .before .before .before .before .if2 .left) (omega (arith, c .before .before .before .before .before .before .before .before .before .before .before .before .before .before .before .before .before .before .before .fits .steps .fits)) (c .before .before .before .before .before .if3 .left))
 
 returns-4 : tie.Need-returns-4
-returns-4 c = ends (moves-lacks (c .before .before .before .before .before .before .before .before .before .before .before .before .before .before .before .before .before .before .before .before .before .before .before .before .before .before .before .before .before .before .before .before .pre .1) (c .before .before .before .before .before .before .before .before .before .before .before .before .before .before .before .before .before .before .before .before .before .before .if1 .left) (c .before .before .before .before .before .before .before .before .before .before .before .before .before .before .before .before .before .before .before .before .before .if2 .left) (c .before .before .before .before .before .before .before .before .before .before .before .step .ensures) _ (c .before .turn2 .given .1))
+returns-4 c = c .before .before .before .before .before .before .inside .ensures _ _ (c .before .before .before .before .before .before .before .before .before .before .before .before .before .before .before .before .before .before .before .before .before .before .before .before .before .before .pre .1) (c .before .before .before .before .before .before .before .before .before .before .before .before .before .before .before .if2 .left)
 
 pub forward-spec : {M : Type 1} → statement M
 forward-spec =
     tie.close
-    (tie.spec returns returns-2 count-requires step-requires (search needs) add-t40 (search needs) (search needs) (search needs) (search needs)
-    (search needs) returns-3 (search needs) (search needs) (search needs) (search needs) returns-4)
+    (tie.spec returns returns-2 outside-requires (search needs) (search needs) (search needs) (search needs) returns-3 inside-requires (search needs) (search needs)
+    (search needs) returns-4)

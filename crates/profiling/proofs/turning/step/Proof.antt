@@ -1,7 +1,7 @@
 use Rattle.frames.specs.Strays.{whole}
 use Rattle.machine.specs.Calls.{successor-as}
 use Rattle.machine.specs.Heaps.{changed, unchanged}
-use Rattle.profiling.specs.Turning.{placed-long, placed-onward, changed-turns, change-lacks, went-turns, went-lacks}
+use Rattle.profiling.specs.Turning.{placed-long, placed-onward, changed-turns, change-lacks, went-placed, went-turns, went-lacks, went-tries}
 use borrow.Author.Needs.{needs}
 use Rattle.profiling.proofs.turning.step.Statement.{statement}
 use Rattle.profiling.proofs.turning.step.Tie as tie
@@ -34,7 +34,7 @@ go-requires c κs =
     ((p .0, p .1 .0 .1), (p .1 .0 .0, (p .1 .1, unchanged _ _ _ (c .before .before .before .before .before .word-in .ensures .0) (c .before .before .before .before .changes-heap .ensures) (c .before .before .before .if1 .left))))
 
 settle-requires-2 : tie.Need-settle-requires-2
-settle-requires-2 c κs = ((c .before .before .before .before .before .before .before .before .before .before .before .before .before .before .before .before .before .before .before .before .before .pre .0, placed-long (c .before .before .before .before .before .before .before .before .go .kept .1 .1 .1 .1 .1 .1 .0) (c .before .before .before .before .before .before .before .before .go .ensures .stays _ (c .before .before .went .given .1))), c .before .before .before .before .before .before .before .before .before .before .before .before .before .before .before .before .before .before .before .before .before .pre .1 .0 .0)
+settle-requires-2 c κs = ((c .before .before .before .before .before .before .before .before .before .before .before .before .before .before .before .before .before .before .before .before .before .pre .0, placed-long (c .before .before .before .before .before .before .before .before .go .kept .1 .1 .1 .1 .1 .1 .0) (went-placed (c .before .before .before .before .before .before .before .before .go .ensures) (c .before .before .went .given .1))), c .before .before .before .before .before .before .before .before .before .before .before .before .before .before .before .before .before .before .before .before .before .pre .1 .0 .0)
 
 returns-3 : tie.Need-returns-3
 returns-3 c =
@@ -43,9 +43,9 @@ returns-3 c =
 returns-4 : tie.Need-returns-4
 returns-4 c = went-lacks _ _ _ _ _ _ _ _ _ _ _ (c .before .before .before .before .before .before .before .go .ensures) _ (c .before .went2 .given .1)
 
+returns-5 : tie.Need-returns-5
+returns-5 c = went-tries _ _ _ _ _ _ _ _ _ _ _ (c .before .before .before .before .before .before .go .ensures) (c .enum-told .given .1)
+
 pub step-spec : {M : Type 1} → statement M
 step-spec =
-    tie.close
-    (tie.spec word-in-requires (search needs) change-heap-requires (search needs) successor-requires (search needs) settle-requires (search needs)
-    (search needs) (search needs) returns (search needs) (search needs) (search needs) (search needs) returns-2 go-requires (search needs)
-    settle-requires-2 (search needs) (search needs) (search needs) (search needs) returns-3 (search needs) (search needs) (search needs) returns-4)
+    tie.close (tie.spec word-in-requires (search needs) change-heap-requires (search needs) successor-requires (search needs) settle-requires (search needs) (search needs) (search needs) returns (search needs) (search needs) (search needs) (search needs) returns-2 go-requires (search needs) settle-requires-2 (search needs) (search needs) (search needs) (search needs) (search needs) returns-3 (search needs) (search needs) (search needs) returns-4 (search needs) (search needs) (search needs) returns-5)

@@ -3,7 +3,7 @@ use Rattle.language.specs.Lists.{nth}
 use Rattle.language.specs.File.{kinds, kindOf}
 use Rattle.records.proofs.Decoding.{decoded, decoded-none}
 use borrow.Author.Needs.{needs}
-use Rattle.language.specs.Format.{argumentKind, armKind, assignKind, callKind, constructKind, createKind, edgeKind, functorKind, headerKind, ifKind, literalKind, printKind, procedureKind, regionKind, removeKind, sumKind, switchKind, typeKind, variableKind}
+use Rattle.language.specs.Format.{argumentKind, armKind, assignKind, callKind, constructKind, createKind, edgeKind, functorKind, headerKind, ifKind, literalKind, printKind, procedureKind, regionKind, removeKind, sumKind, switchKind, testKind, tryKind, typeKind, variableKind}
 use Rattle.records.proofs.decode.record_at.Statement.{statement}
 use Rattle.records.proofs.decode.record_at.Tie as tie
 
@@ -84,12 +84,20 @@ unfolding kindOf nth kinds
 returns-19 c = decoded _ _ removeKind (c .before .before .word .ensures .0) (c .before .match .keys19) (c .read-remove .ensures)
 
 returns-20 : tie.Need-returns-20
-returns-20 c = decoded-none _ _ (c .before .word .ensures .0) (c .match .rest)
+unfolding kindOf nth kinds
+returns-20 c = decoded _ _ tryKind (c .before .before .word .ensures .0) (c .before .match .keys20) (c .read-try .ensures)
+
+returns-21 : tie.Need-returns-21
+unfolding kindOf nth kinds
+returns-21 c = decoded _ _ testKind (c .before .before .word .ensures .0) (c .before .match .keys21) (c .read-test .ensures)
+
+returns-22 : tie.Need-returns-22
+returns-22 c = decoded-none _ _ (c .before .word .ensures .0) (c .match .rest)
 
 pub record-at-spec : {M : Type 1} → statement M
 record-at-spec =
     tie.close
     (tie.spec (search needs) (search needs) (search needs) (search needs) (search needs) (search needs) (search needs) (search needs) (search needs)
     (search needs) (search needs) (search needs) (search needs) (search needs) (search needs) (search needs) (search needs) (search needs)
-    (search needs) (search needs) returns returns-2 returns-3 returns-4 returns-5 returns-6 returns-7 returns-8 returns-9 returns-10 returns-11
-    returns-12 returns-13 returns-14 returns-15 returns-16 returns-17 returns-18 returns-19 returns-20)
+    (search needs) (search needs) (search needs) (search needs) returns returns-2 returns-3 returns-4 returns-5 returns-6 returns-7 returns-8 returns-9 returns-10 returns-11
+    returns-12 returns-13 returns-14 returns-15 returns-16 returns-17 returns-18 returns-19 returns-20 returns-21 returns-22)

@@ -33,21 +33,26 @@ lifetime-ok-requires c κs = ((c .before .before .before .pre .0 .0 .formed, c .
 lifetime-ok-requires-2 : tie.Need-lifetime-ok-requires-2
 lifetime-ok-requires-2 c κs = ((c .before .before .before .pre .0 .0 .formed, c .before .before .before .pre .0 .1), (inr (sym (c .before .word .ensures .0) ∙ c .match .keys8), c .before .before .before .pre .1 .0 .0 .below))
 
+test-ok-requires : tie.Need-test-ok-requires
+test-ok-requires c κs = ((c .before .before .before .pre .0 .0 .formed, c .before .before .before .pre .0 .1), (sym (c .before .word .ensures .0) ∙ c .match .keys9, c .before .before .before .pre .1 .0 .0 .below))
+
 returns : tie.Need-returns
 returns c = literal-is (c .before .before .before .before .pre .0 .0 .formed) _ _ (sym (c .before .before .word .ensures .0) ∙ c .before .match .keys1) (c .is-number .ensures)
 
 returns-6 : tie.Need-returns-6
 returns-6 c = print-is (c .before .before .before .before .pre .0 .0 .formed) _ _ (sym (c .before .before .word .ensures .0) ∙ c .before .match .keys6) (c .is-number2 .ensures)
 
-returns-9 : tie.Need-returns-9
-returns-9 c = let e = c .before .word .ensures .0 in
-    let n = c .match .rest in
-    absurd (no-goal-left (c .before .before .before .pre .1 .0 .0) (c .before .before .before .pre .1 .0 .1) e (n .0 .0 .0 .0 .0 .0 .0 .1) (n .0 .0 .0 .0 .0 .0 .1) (n .0 .0 .0 .0 .0 .1) (n .0 .0 .0 .0 .1)
-    (λ k. c .before .before .before .pre .1 .1 .0 (sym e ∙ k)) (λ k. c .before .before .before .pre .1 .1 .1 (sym e ∙ k)) (n .0 .0 .0 .1) (n .0 .0 .1) (n .0 .1) (n .1))
+returns-10 : tie.Need-returns-10
+returns-10 c = let e = c .before .word .ensures .0 in
+    let p = c .before .before .before .pre .1 in
+    let m = c .match .rest in
+    let n = m .0 in
+    absurd (no-goal-left (p .0 .0) (p .0 .1) e (n .0 .0 .0 .0 .0 .0 .0 .1) (n .0 .0 .0 .0 .0 .0 .1) (n .0 .0 .0 .0 .0 .1) (n .0 .0 .0 .0 .1) (λ k. p .1 .0 (sym e ∙ k))
+    (λ k. p .1 .1 (sym e ∙ k)) (n .0 .0 .0 .1) (n .0 .0 .1) (n .0 .1) (n .1) (λ k. p .1 .2 (sym e ∙ k)) (m .1))
 
 pub step-ok-spec : {M : Type 1} → statement M
 step-ok-spec =
     tie.close
     (tie.spec word-requires is-number-requires sum-ok-requires assign-ok-requires construct-ok-requires call-ok-requires is-number-requires-2
-    lifetime-ok-requires lifetime-ok-requires-2 returns (λ c. c .sum-ok .ensures) (λ c. c .assign-ok .ensures) (λ c. c .construct-ok .ensures)
-    (λ c. c .call-ok .ensures) returns-6 (λ c. c .lifetime-ok .ensures) (λ c. c .lifetime-ok2 .ensures) returns-9)
+    lifetime-ok-requires lifetime-ok-requires-2 test-ok-requires returns (λ c. c .sum-ok .ensures) (λ c. c .assign-ok .ensures) (λ c. c .construct-ok .ensures)
+    (λ c. c .call-ok .ensures) returns-6 (λ c. c .lifetime-ok .ensures) (λ c. c .lifetime-ok2 .ensures) (λ c. c .test-ok .ensures) returns-10)

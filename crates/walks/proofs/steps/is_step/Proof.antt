@@ -5,14 +5,14 @@ use Rattle.walks.specs.Steps.{isStep, not-step}
 use Rattle.walks.proofs.steps.is_step.Statement.{statement}
 use Rattle.walks.proofs.steps.is_step.Tie as tie
 
-returns-9 : tie.Need-returns-9
-returns-9 c =
+returns-10 : tie.Need-returns-10
+returns-10 c =
     let r = c .match .rest in
-    not-step (r .0 .0 .0 .0 .0 .0 .0 .1) (r .0 .0 .0 .0 .0 .0 .1) (r .0 .0 .0 .0 .0 .1) (r .0 .0 .0 .0 .1) (r .0 .0 .0 .1) (r .0 .0 .1) (r .0 .1) (r .1)
+    not-step (r .0 .0 .0 .0 .0 .0 .0 .0 .1) (r .0 .0 .0 .0 .0 .0 .0 .1) (r .0 .0 .0 .0 .0 .0 .1) (r .0 .0 .0 .0 .0 .1) (r .0 .0 .0 .0 .1) (r .0 .0 .0 .1) (r .0 .0 .1) (r .0 .1) (r .1)
 
 pub is-step-spec : {M : Type 1} → statement M
 unfolding isStep inList _or_
 is-step-spec =
     tie.close
     (tie.spec (λ c. rw (c .match .keys1) refl) (λ c. rw (c .match .keys2) refl) (λ c. rw (c .match .keys3) refl) (λ c. rw (c .match .keys4) refl)
-    (λ c. rw (c .match .keys5) refl) (λ c. rw (c .match .keys6) refl) (λ c. rw (c .match .keys7) refl) (λ c. rw (c .match .keys8) refl) returns-9)
+    (λ c. rw (c .match .keys5) refl) (λ c. rw (c .match .keys6) refl) (λ c. rw (c .match .keys7) refl) (λ c. rw (c .match .keys8) refl) (λ c. rw (c .match .keys9) refl) returns-10)

@@ -16,7 +16,7 @@ use Rattle.writer.proofs.skip.+skip_chain+skip_record.Lts-skip_chain as
 use Rattle.writer.proofs.skip.skip_record.Reads as skip-record
 use Rattle.writer.proofs.skip.skip_record.Kinds as skip-record-kinds
 use Rattle.writer.proofs.skip.+skip_chain+skip_record.Lts-skip_record as skip-record-lts
-use Rattle.records.proofs.word.Reads as word-reads
+use Rattle.chains.proofs.word.Reads as word-reads
 use Rattle.writer.proofs.skip.behind.Reads as behind-reads
 use Rattle.writer.proofs.walk.leads.Reads as leads-reads
 use Rattle.writer.proofs.skip.+skip_chain+skip_record.{statement}

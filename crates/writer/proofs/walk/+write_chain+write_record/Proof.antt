@@ -20,7 +20,7 @@ use Rattle.writer.proofs.walk.+write_chain+write_record.Lts-write_chain
 use Rattle.writer.proofs.walk.write_record.Reads as write-record
 use Rattle.writer.proofs.walk.write_record.Kinds as write-record-kinds
 use Rattle.writer.proofs.walk.+write_chain+write_record.Lts-write_record as write-record-lts
-use Rattle.records.proofs.word.Reads as word-reads
+use Rattle.chains.proofs.word.Reads as word-reads
 use Rattle.writer.proofs.put.copy_record.Reads as copy-record-reads
 use Rattle.writer.proofs.put.link.Reads as link-reads
 use Rattle.writer.proofs.put.put_word.Reads as put-word-reads

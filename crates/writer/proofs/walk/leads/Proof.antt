@@ -1,5 +1,5 @@
 -- Each arm says what the row of its kind says.
-use Rattle.writer.proofs.LeadsLaws.{header-leads, type-leads, procedure-leads, region-leads, switch-leads, arm-leads, then-leads, else-leads, call-leads, none-leads}
+use Rattle.writer.proofs.LeadsLaws.{header-leads, type-leads, procedure-leads, region-leads, switch-leads, arm-leads, then-leads, else-leads, call-leads, try-leads, none-leads}
 use Rattle.writer.proofs.walk.leads.Statement.{statement}
 use Rattle.writer.proofs.walk.leads.Tie as tie
 
@@ -31,11 +31,14 @@ returns-9 : tie.Need-returns-9
 returns-9 c = let p = c .before .pre in call-leads (p .0) (p .1) (c .match .keys8)
 
 returns-10 : tie.Need-returns-10
-returns-10 c =
+returns-10 c = let p = c .before .pre in try-leads (p .0) (p .1) (c .match .keys9)
+
+returns-11 : tie.Need-returns-11
+returns-11 c =
     let p = c .before .pre in
     let n = c .match .rest in
-    none-leads (p .0) (p .1) (n .0 .0 .0 .0 .0 .0 .0 .1) (n .0 .0 .0 .0 .0 .0 .1) (n .0 .0 .0 .0 .0 .1) (n .0 .0 .0 .0 .1) (n .0 .0 .0 .1) (n .0 .0 .1) (n .0 .1) (n .1)
+    none-leads (p .0) (p .1) (n .0 .0 .0 .0 .0 .0 .0 .0 .1) (n .0 .0 .0 .0 .0 .0 .0 .1) (n .0 .0 .0 .0 .0 .0 .1) (n .0 .0 .0 .0 .0 .1) (n .0 .0 .0 .0 .1) (n .0 .0 .0 .1) (n .0 .0 .1) (n .0 .1) (n .1)
 
 pub leads-spec : {M : Type 1} → statement M
 leads-spec =
-    tie.close (tie.spec returns returns-2 returns-3 returns-4 returns-5 returns-6 returns-7 returns-8 returns-9 returns-10)
+    tie.close (tie.spec returns returns-2 returns-3 returns-4 returns-5 returns-6 returns-7 returns-8 returns-9 returns-10 returns-11)
