@@ -61,39 +61,47 @@ module _ (f : List ℕ) (i : ℕ) (t : List ℕ) where
   unfolding given insideBy choose _&_
   tries-down e o p q r s = try-handed insideBy f i t e p q r s (rw (e, o) refl) (rw e refl) (rw (e, o) refl) (rw (e, o) refl)
 
--- ---- the loop that looks for a try or a test
+-- ---- the loop that looks for a try or a test: b says that one of the first i records is
+twice : (b : Bool) → b ≡ neg (neg b & true)
+unfolding neg _&_
+twice true = refl
+twice false = refl
+
 module _ (f : List ℕ) where
   abbrev low : ℕ → Bool
   low i = ltb (word f i kindWord) tryKind
 
-  pub record Looked (n i : ℕ) : Type 0 where
+  pub record Looked (n i : ℕ) (b : Bool) : Type 0 where
     pub count : n ≡ recordCount f
     pub most : i ≤ n
-    pub rest : all low (upFrom 0 (recordCount f)) ≡ all low (upFrom i (n - i))
+    pub rest : all low (upFrom 0 (recordCount f)) ≡ (neg b & all low (upFrom i (n - i)))
 
-  pub looked-first : {n : ℕ} → n ≡ recordCount f → Looked n 0
+  pub looked-first : {n : ℕ} → n ≡ recordCount f → Looked n 0 false
+  unfolding neg _&_
   looked-first {n} e = let z : n - 0 ≡ n = omega arith in record { count = e; most = omega arith; rest = rw (z, e) refl }
 
-  module _ {n i : ℕ} (L : Looked n i) where
-    here : i < n → all low (upFrom 0 (recordCount f)) ≡ (low i & all low (upFrom (i + 1) (n - (i + 1))))
+  module _ {n i : ℕ} {b : Bool} (L : Looked n i b) where
+    here : i < n → all low (upFrom 0 (recordCount f)) ≡ (neg b & low i & all low (upFrom (i + 1) (n - (i + 1))))
     unfolding all
-    here l = L .rest ∙ ap (all low) (from-here n i l)
+    here l = L .rest ∙ ap (λ xs. neg b & all low xs) (from-here n i l)
 
-    pub looked-found : {w : ℕ} → i < n → w ≡ word f i kindWord → tryKind ≤ w → true ≡ anyCondition f
-    unfolding anyCondition neg _&_
-    looked-found l e h =
-        let z : all low (upFrom 0 (recordCount f)) ≡ false = here l ∙ rw (le-ltb (word f i kindWord) tryKind (omega arith)) refl in
-        rw z refl
+    pub looked-found : {w : ℕ} {r : Bool} → i < n → w ≡ word f i kindWord → tryKind ≤ w → r ≡ true → Looked n (i + 1) r
+    unfolding neg _&_
+    looked-found l e h k =
+        record { count = L .count; most = omega arith; rest = here l ∙ rw (le-ltb (word f i kindWord) tryKind (omega arith), k) (stop (neg b)) }
+      where
+        stop : (c : Bool) → (c & false) ≡ false
+        stop true = refl
+        stop false = refl
 
-    pub looked-next : {w : ℕ} → i < n → w ≡ word f i kindWord → w < tryKind → Looked n (i + 1)
+    pub looked-next : {w : ℕ} {r : Bool} → i < n → w ≡ word f i kindWord → w < tryKind → r ≡ b → Looked n (i + 1) r
     unfolding _&_
-    looked-next l e h = record { count = L .count; most = omega arith; rest = here l ∙ rw (lt-ltb (word f i kindWord) tryKind (omega arith)) refl }
+    looked-next l e h k =
+        record { count = L .count; most = omega arith; rest = here l ∙ rw (lt-ltb (word f i kindWord) tryKind (omega arith), k) refl }
 
-    pub looked-last : n ≤ i → false ≡ anyCondition f
-    unfolding anyCondition neg all
-    looked-last l =
-        let z : all low (upFrom 0 (recordCount f)) ≡ true = L .rest ∙ ap (all low) (from-end n i l) in
-        rw z refl
+    pub looked-last : n ≤ i → b ≡ anyCondition f
+    unfolding anyCondition all
+    looked-last l = twice b ∙ sym (ap neg (L .rest ∙ ap (λ xs. neg b & all low xs) (from-end n i l)))
 
 -- ---- the pass: the first i records have handed down and stand where they may
 module _ (f : List ℕ) where

@@ -44,19 +44,21 @@ pub fn conditions_ok(file: &[u8]) -> bool
 }
 
 // Whether some record is a try or a test. Where none is, there is nothing to hand down.
+// The loop has no way out before its end, so that the compiler takes several records a turn.
 fn any_condition(file: &[u8]) -> bool
     requires { ⌜ Formed (now file) ⌝ }
     ensures { λ b. ⌜ b ≡ anyCondition (now (file .entry)) ⌝ }
 {
     let n = record_count(file);
     let mut i = 0;
+    let mut found = false;
     while i < n {
         if word_in(file, i, format::KIND) >= format::TRY {
-            return true;
+            found = true;
         }
         i += 1;
     }
-    false
+    found
 }
 
 // Whether a record of this kind may stand in a condition, or outside where `inside` is 0.

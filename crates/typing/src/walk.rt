@@ -129,7 +129,7 @@ fn switch(file: &[u8], table: &[u16; FILE_PLACES], own: &[u16; OWN_PLACES], i: u
     )
 }
 
-// The arms from record first on against the functors from record start on.
+// The arms from record first on against the functors from record start on. An arm without goals takes no call.
 fn arms(
     file: &[u8],
     table: &[u16; FILE_PLACES],
@@ -148,8 +148,11 @@ fn arms(
         if !arm_fits(file, own, g, n, i) {
             return false;
         }
-        if !goals(file, table, own, word(file, i, ARM_GOALS)) {
-            return false;
+        let inner = word(file, i, ARM_GOALS);
+        if inner != 0 {
+            if !goals(file, table, own, inner) {
+                return false;
+            }
         }
         n += 1;
         g = word(file, g, NEXT);

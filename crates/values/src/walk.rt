@@ -23,7 +23,6 @@ use language::format::TRY_ELSE;
 use language::format::TRY_THEN;
 use tables::ROWS;
 use walks::WALK_WORDS;
-use walks::is_step;
 ghost use mathlib.Core.Path.{_≡_};
 ghost use Rattle.language.specs.File.{goals, arms, word};
 ghost use Rattle.language.specs.Format.{kindWord, switchKind, ifKind, tryKind};
@@ -55,17 +54,11 @@ fn goal(file: &[u8], rows: &[u64; ROWS], carried: &mut [u64; WALK_WORDS], i: usi
     requires { ⌜ Stands (now file) goals i × (i ≡ 0 → ⊥) ⌝ }
     ensures { λ b. ⌜ GoalValued (now (file .entry)) i (now (carried .entry)) b (now (carried .exit)) ⌝ }
 {
-    let kind = word(file, i, KIND);
-    match kind {
+    match word(file, i, KIND) {
         SWITCH => switch(file, rows, carried, i),
         IF => branches(file, rows, carried, i),
         TRY => attempt(file, rows, carried, i),
-        _ => {
-            if !is_step(kind) {
-                return false;
-            }
-            apply(rows, i, carried)
-        }
+        _ => apply(rows, i, carried),
     }
 }
 

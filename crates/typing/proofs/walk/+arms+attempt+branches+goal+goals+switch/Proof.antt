@@ -137,9 +137,9 @@ module _ (t : ℕ) where
   abbrev arms-past-else1 : Arms arms-lts.Else1 → Arms arms-lts.After-arm-fits × Arms arms-lts.In-loop × Arms arms-lts.At-loop × Arms arms-lts.Start
   arms-past-else1 c = let (al, s) = arms-past-in-loop (c .before .before) in (c .before, c .before .before, al, s)
 
-  abbrev arms-past-else2 : Arms arms-lts.Else2 → Arms arms-lts.After-goals × Arms arms-lts.After-word × Arms arms-lts.Else1 ×
-      Arms arms-lts.After-arm-fits × Arms arms-lts.In-loop × Arms arms-lts.At-loop × Arms arms-lts.Start
-  arms-past-else2 c = let (af, il, al, s) = arms-past-else1 (c .before .before .before) in (c .before, c .before .before, c .before .before .before, af, il, al, s)
+  abbrev arms-past-joined2 : Arms arms-lts.Joined2 → Arms arms-lts.After-word × Arms arms-lts.Else1 × Arms arms-lts.After-arm-fits ×
+      Arms arms-lts.In-loop × Arms arms-lts.At-loop × Arms arms-lts.Start
+  arms-past-joined2 c = let (af, il, al, s) = arms-past-else1 (c .before .before) in (c .before, c .before .before, af, il, al, s)
 
   arms-loop-holds : Arms arms-lts.Need-loop-holds
   arms-loop-holds c = (c .before .pre .1 .1 .0, c .before .pre .1 .1 .1, omega arith, omega (arith, ahead-below (c .before .pre .1 .0 .0 .formed) (c .before .args .first)), refl)
@@ -156,30 +156,30 @@ module _ (t : ℕ) where
   arms-word-requires c κs = let (af, il, al, s) = arms-past-else1 c in (s .pre .1 .0 .0 .formed, (omega arith, al .loop .inv .0 .below))
 
   arms-goals-requires : Arms arms-lts.Need-goals-requires
-  arms-goals-requires c κs = let (af, il, al, s) = arms-past-else1 (c .before) in
-      let o = arm-goals (s .pre .1 .0 .0 .formed) (il .loop-test .taken) (al .loop .inv .0) (c .word .ensures .0) in
+  arms-goals-requires c κs = let (af, il, al, s) = arms-past-else1 (c .before .before) in
+      let o = arm-goals (s .pre .1 .0 .0 .formed) (il .loop-test .taken) (al .loop .inv .0) (c .before .word .ensures .0) in
       (omega (arith, o .falls, al .loop .inv .2, s .pre .0), (s .pre .1 .0, o .stands))
 
   arms-returns-2 : Arms arms-lts.Need-returns-2
-  arms-returns-2 c = let e1 = c .before .before .before in let (af, il, al, s) = arms-past-else1 e1 in
-      arms-goals (s .pre .1 .0 .0 .formed) _ _ _ _ (al .loop .inv .0) (il .loop-test .taken) (al .loop .inv .1) (af .arm-fits .ensures) (not-false _ (e1 .if1 .left)) (c .before .before .word .ensures .0) (c .before .goals .ensures) (not-true _ (c .if2 .taken)) ∙ al .loop .inv .4
+  arms-returns-2 c = let w = c .before .before .before in let e1 = w .before in let (af, il, al, s) = arms-past-else1 e1 in
+      arms-goals (s .pre .1 .0 .0 .formed) _ _ _ _ (al .loop .inv .0) (il .loop-test .taken) (al .loop .inv .1) (af .arm-fits .ensures) (not-false _ (e1 .if1 .left)) (w .word .ensures .0) (c .before .goals .ensures) (not-true _ (c .if3 .taken)) ∙ al .loop .inv .4
 
   arms-add-n : Arms arms-lts.Need-add-n
-  arms-add-n c = let (go, w, e1, af, il, al, s) = arms-past-else2 c in omega (arith, al .loop .inv .3)
+  arms-add-n c = let (w, e1, af, il, al, s) = arms-past-joined2 c in omega (arith, al .loop .inv .3)
 
   arms-word-requires-2 : Arms arms-lts.Need-word-requires-2
-  arms-word-requires-2 c κs = let (go, w, e1, af, il, al, s) = arms-past-else2 c in (s .pre .1 .0 .0 .formed, (omega arith, al .loop .inv .1 .below))
+  arms-word-requires-2 c κs = let (w, e1, af, il, al, s) = arms-past-joined2 c in (s .pre .1 .0 .0 .formed, (omega arith, al .loop .inv .1 .below))
 
   arms-word-requires-3 : Arms arms-lts.Need-word-requires-3
-  arms-word-requires-3 c κs = let (go, w, e1, af, il, al, s) = arms-past-else2 (c .before) in
+  arms-word-requires-3 c κs = let (w, e1, af, il, al, s) = arms-past-joined2 (c .before) in
       (s .pre .1 .0 .0 .formed, (omega arith, al .loop .inv .0 .below))
 
   arms-loop-less : Arms arms-lts.Need-loop-less
-  arms-loop-less c = let (go, w, e1, af, il, al, s) = arms-past-else2 (c .before .before) in
+  arms-loop-less c = let (w, e1, af, il, al, s) = arms-past-joined2 (c .before .before) in
       chain-next (s .pre .1 .0 .0 .formed) (al .loop .inv .0) (il .loop-test .taken) (c .word3 .ensures .0) .falls
 
   arms-loop-again : Arms arms-lts.Need-loop-again
-  arms-loop-again c = let e2 = c .before .before in let (go, w, e1, af, il, al, s) = arms-past-else2 e2 in
+  arms-loop-again c = let j = c .before .before in let (w, e1, af, il, al, s) = arms-past-joined2 j in
       let F = s .pre .1 .0 .0 .formed in
       let l = al .loop .inv in
       let z = il .loop-test .taken in
@@ -189,7 +189,7 @@ module _ (t : ℕ) where
         chain-next F (l .1) (arm-some _ _ _ _ _ (af .arm-fits .ensures) p) (c .before .word2 .ensures .0) .stands,
         omega (arith, o .falls, l .2),
         omega (arith, o .falls, l .3),
-        arms-next F _ _ _ _ (l .0) z (l .1) (af .arm-fits .ensures) p (w .word .ensures .0) (go .goals .ensures) (not-false _ (e2 .if2 .left)) (c .word3 .ensures .0) (c .before .word2 .ensures .0) (add-one (al .loop .n)) ∙ l .4,
+        arms-next F _ _ _ _ (l .0) z (l .1) (af .arm-fits .ensures) p (w .word .ensures .0) (⊎-elim (λ z. sym (not-false _ (z .2 .left)) ∙ z .1 .ensures) (λ z. goals-end _ _ (z .left)) (j .if2 .came)) refl (c .word3 .ensures .0) (c .before .word2 .ensures .0) (add-one (al .loop .n)) ∙ l .4,
       )
 
   arms-returns-3 : Arms arms-lts.Need-returns-3

@@ -11,7 +11,7 @@ use Rattle.chains.specs.Is.{chain-next}
 use Rattle.chains.specs.Shapes.{switch-here, if-here, try-here, to-arms, to-then, to-else, to-condition, to-try-then, to-try-else, arm-goals, arm-next}
 use Rattle.walks.specs.Along.{WalkedAlong, along-first, none-walked, along-last, along-stop, along-next, switch-stops, switch-walked, if-unread, if-unread-2, if-then-stops, if-else-stops, if-walked, condition-stops, try-then-stops, try-else-stops, try-walked, arms-none-walked, arm-refused, arm-stops, arm-last, arm-rest-stops, arms-walked}
 use Rattle.values.specs.Valuing.{both, valuation, valuer}
-use Rattle.walks.specs.Closed.{goal-closed, arm-closed}
+use Rattle.walks.specs.Closed.{arm-closed}
 use Rattle.values.proofs.CarryingLaws.{goal-step, row-arm, readable-is, joined, joined-back}
 use borrow.Fn.Kinds.{In, Out}
 use borrow.Fn.PlainCycle.{Measures, is, falls, and}
@@ -40,7 +40,6 @@ use Rattle.values.proofs.carried.carry.Reads as carry-reads
 use Rattle.values.proofs.carried.every_in.Reads as every-in-reads
 use Rattle.values.proofs.carried.join.Reads as join-reads
 use Rattle.values.proofs.carried.some_in.Reads as some-in-reads
-use Rattle.walks.proofs.is_step.Reads as is-step-reads
 use Rattle.values.proofs.walk.+arms+attempt+branches+goal+goals+switch.{statement}
 use Rattle.values.proofs.walk.+arms+attempt+branches+goal+goals+switch.Tie.{close}
 
@@ -114,7 +113,7 @@ branches-calls t =
 
 abbrev goal-calls : ℕ → goal-lts.Claims
 goal-calls t =
-    (word-reads.Asked, word-reads.Learnt, switch-below t, switch.Post, branches-below t, branches.Post, attempt-below t, attempt.Post, is-step-reads.Asked, is-step-reads.Learnt, apply-reads.Asked, apply-reads.Learnt)
+    (word-reads.Asked, word-reads.Learnt, switch-below t, switch.Post, branches-below t, branches.Post, attempt-below t, attempt.Post, apply-reads.Asked, apply-reads.Learnt)
 
 abbrev goals-calls : ℕ → goals-lts.Claims
 goals-calls t =
@@ -349,12 +348,8 @@ module _ (t : ℕ) where
   goal-attempt-requires c κs = let s = c .before .before .before .before in
       (omega (arith, s .pre .0), (s .pre .1 .0, (s .pre .1 .1 .0, sym (c .before .before .word .ensures .0) ∙ c .before .match .keys3)))
 
-  goal-returns : Goal goal-lts.Need-returns
-  goal-returns c = let mr = c .before .before in let (w, s) = goal-past-at-match-rest mr in
-      goal-closed (s .pre .1 .0) _ (s .pre .1 .1 .1 .0) (s .pre .1 .1 .1 .1) (w .word .ensures .0) (mr .match .rest .0 .0 .1) (mr .match .rest .0 .1) (mr .match .rest .1) (c .before .is-step .ensures) (not-true _ (c .if1 .taken))
-
-  goal-returns-5 : Goal goal-lts.Need-returns-5
-  goal-returns-5 c = let mr = c .before .before .before .before in let (w, s) = goal-past-at-match-rest mr in
+  goal-returns-4 : Goal goal-lts.Need-returns-4
+  goal-returns-4 c = let mr = c .before .before in let (w, s) = goal-past-at-match-rest mr in
       goal-step _ (s .pre .1 .1 .0) (s .pre .1 .0) _ (s .pre .1 .1 .1 .0) (s .pre .1 .1 .1 .1) (w .word .ensures .0) (mr .match .rest .0 .0 .1) (mr .match .rest .0 .1) (mr .match .rest .1) _ _ _ (c .apply .ensures)
 
 abbrev goals-Inv-loop : goals-lts.InvT-loop
@@ -437,8 +432,8 @@ pub +arms+attempt+branches+goal+goals+switch-spec : {M : Type 1} → statement M
     (branches-returns-4 t) (λ c κs. search needs) (λ c κs. search needs) (λ c κs. search needs) (branches-goals-requires-2 t) (branches-returns-5 t)
     (λ c κs. search needs) (branches-returns-6 t))
     (λ t. goal-lts.spec (goal-calls t) (goal-at t) goal.Post (λ c κs. search needs) (goal-switch-requires t) (goal-branches-requires t)
-    (goal-attempt-requires t) (λ c κs. search needs) (goal-returns t) (λ c κs. search needs) (λ c. c .switch .ensures) (λ c. c .branches .ensures)
-    (λ c. c .attempt .ensures) (goal-returns-5 t))
+    (goal-attempt-requires t) (λ c κs. search needs) (λ c. c .switch .ensures) (λ c. c .branches .ensures)
+    (λ c. c .attempt .ensures) (goal-returns-4 t))
     (λ t. goals-lts.spec (goal-below t, goal.Post, word-reads.Asked, word-reads.Learnt) (goals-at t) goals.Post goals-Inv-loop goals-μ-loop
     (λ c. along-first _ _ _ (c .before .pre .1 .1 .1)) (goals-goal-requires t) (goals-returns t) (λ c κs. search needs) (goals-loop-less t)
     (goals-loop-again t) (goals-returns-2 t))
