@@ -6,156 +6,156 @@ use mathlib.Core.List.{List, [], ◌∷◌, ◌++◌, append-nil, append_assoc}
 use lib.Dec.{eqb}
 use borrow.Author.Tests.{eqb-true}
 use Rattle.sets.specs.Tests.{clash}
-use Rattle.sets.specs.Members.{consIf, nextMember}
+use Rattle.sets.specs.Members.{cons_if, next_member}
 use Rattle.language.specs.Lists.{choose}
-use Rattle.language.specs.Program.{parametersFrom, argumentsIn, inMode, outMode, Signature, Parameter, parametersOf, parameterVariables}
+use Rattle.language.specs.Program.{parameters_from, arguments_in, in_mode, out_mode, Signature, Parameter, parameters_of, parameter_variables}
 use Rattle.tables.specs.declared.Access.{Access}
-use Rattle.accesses.specs.Gathering.{noAccess, readIn, givenIn, passedIn, Gathers}
-use Rattle.accesses.proofs.GatheringLaws.{gathers-none, gathers-read, gathers-give}
+use Rattle.accesses.specs.Gathering.{no_access, read_in, given_in, passed_in, Gathers}
+use Rattle.accesses.proofs.GatheringLaws.{gathers_none, gathers_read, gathers_give}
 use Rattle.accesses.specs.Matching.{CallMatches, passing}
 use native.Mathlib.Omega.{arith}
 use Rattle.sets.specs.Sets.{member, ◌∪◌}
-use Rattle.sets.specs.Walk.{above, above-start, above-end, above-next, next-is}
+use Rattle.sets.specs.Walk.{above, above_start, above_end, above_next, next_is}
 use Rattle.sets.specs.declared.Set.{Set}
-use Rattle.language.specs.Format.{places, argumentVariable, nextWord}
-use Rattle.accesses.specs.Parameters.{DeclaredSets, Told, in-turn, tell, told-cons, told-nil, toldMode}
+use Rattle.language.specs.Format.{places, argument_variable, next_word}
+use Rattle.accesses.specs.Parameters.{DeclaredSets, Told, in_turn, tell, told_cons, told_nil, told_mode}
 use Rattle.language.specs.File.{arguments, word}
-use Rattle.chains.specs.Formed.{Formed, Stands, argumentsAt, arguments-none}
-use Rattle.chains.specs.Shapes.{argument-here}
+use Rattle.chains.specs.Formed.{Formed, Stands, arguments_at, arguments_none}
+use Rattle.chains.specs.Shapes.{argument_here}
 
 -- no variables, and so no arguments
-pub none-matches : (ys : List ℕ) → CallMatches [] ys noAccess
-unfolding passing parametersFrom argumentsIn
-none-matches ys = gathers-none
+pub none_matches : (ys : List ℕ) → CallMatches [] ys no_access
+unfolding passing parameters_from arguments_in
+none_matches ys = gathers_none
 
 -- ---- what a variable's argument adds
-pub snoc-if : (xs : List ℕ) (b : Bool) (x : ℕ) (rest : List ℕ) → (xs ++ consIf b x []) ++ rest ≡ xs ++ consIf b x rest
-unfolding consIf
-snoc-if xs true x rest = append_assoc xs (x ∷ []) rest
-snoc-if xs false x rest = ap (λ t. t ++ rest) (append-nil xs)
+pub snoc_if : (xs : List ℕ) (b : Bool) (x : ℕ) (rest : List ℕ) → (xs ++ cons_if b x []) ++ rest ≡ xs ++ cons_if b x rest
+unfolding cons_if
+snoc_if xs true x rest = append_assoc xs (x ∷ []) rest
+snoc_if xs false x rest = ap (λ t. t ++ rest) (append-nil xs)
 
-not-both : (m : ℕ) → eqb m inMode ≡ true → eqb m outMode ≡ false
-not-both m e = rw (eqb-true m inMode e) refl
+not_both : (m : ℕ) → eqb m in_mode ≡ true → eqb m out_mode ≡ false
+not_both m e = rw (eqb-true m in_mode e) refl
 
-pub gathers-pass : {a : Access} {rs gs : List ℕ} (m y : ℕ) → Gathers a rs gs
-    → Gathers (passedIn m a y) (rs ++ consIf (eqb m inMode) y []) (gs ++ consIf (eqb m outMode) y [])
-unfolding passedIn choose consIf
-gathers-pass {a} {rs} {gs} m y h = go (eqb m inMode) (eqb m outMode) (not-both m)
+pub gathers_pass : {a : Access} {rs gs : List ℕ} (m y : ℕ) → Gathers a rs gs
+    → Gathers (passed_in m a y) (rs ++ cons_if (eqb m in_mode) y []) (gs ++ cons_if (eqb m out_mode) y [])
+unfolding passed_in choose cons_if
+gathers_pass {a} {rs} {gs} m y h = go (eqb m in_mode) (eqb m out_mode) (not_both m)
   where
     go : (b c : Bool) → (b ≡ true → c ≡ false)
-        → Gathers (choose b (readIn a y) (choose c (givenIn a y) a)) (rs ++ consIf b y []) (gs ++ consIf c y [])
+        → Gathers (choose b (read_in a y) (choose c (given_in a y) a)) (rs ++ cons_if b y []) (gs ++ cons_if c y [])
     go true true n = absurd (clash refl (n refl))
-    go true false n = rw (append-nil gs) (gathers-read h y)
-    go false true n = rw (append-nil rs) (gathers-give h y)
+    go true false n = rw (append-nil gs) (gathers_read h y)
+    go false true n = rw (append-nil rs) (gathers_give h y)
     go false false n = rw (append-nil rs, append-nil gs) h
 
 -- ---- some of the arguments are gathered: the parameters above number n and the arguments ys are left
 pub record Gathered (S : Signature) (ins both : Set) (ys₀ : List ℕ) (a : Access) (n : ℕ) (ys : List ℕ) : Type 0 where
   pub left : List Parameter
-  pub numbers : parameterVariables left ≡ above both n
+  pub numbers : parameter_variables left ≡ above both n
   pub told : Told ins left
   pub read : List ℕ
   pub given : List ℕ
   pub gathered : Gathers a read given
-  pub ins-left : read ++ argumentsIn inMode left ys ≡ passing inMode 1 S.variables ys₀
-  pub outs-left : given ++ argumentsIn outMode left ys ≡ passing outMode 1 S.variables ys₀
+  pub ins_left : read ++ arguments_in in_mode left ys ≡ passing in_mode 1 S.variables ys₀
+  pub outs_left : given ++ arguments_in out_mode left ys ≡ passing out_mode 1 S.variables ys₀
 
-pub turned-first : {S : Signature} {ins outs both : Set} (ys : List ℕ) → DeclaredSets S ins outs → both ≡ ins ∪ outs → Gathered S ins both ys noAccess 0 ys
-unfolding passing parametersOf
-turned-first {S} ys D e = record {
-  left = parametersOf S;
-  numbers = rw e (sym (in-turn D) ∙ sym (above-start _));
+pub turned_first : {S : Signature} {ins outs both : Set} (ys : List ℕ) → DeclaredSets S ins outs → both ≡ ins ∪ outs → Gathered S ins both ys no_access 0 ys
+unfolding passing parameters_of
+turned_first {S} ys D e = record {
+  left = parameters_of S;
+  numbers = rw e (sym (in_turn D) ∙ sym (above_start _));
   told = tell D;
   read = [];
   given = [];
-  gathered = gathers-none;
-  ins-left = refl;
-  outs-left = refl;
+  gathered = gathers_none;
+  ins_left = refl;
+  outs_left = refl;
 }
 
-none_left : (m : ℕ) (ps : List Parameter) → argumentsIn m ps [] ≡ []
-unfolding argumentsIn
+none_left : (m : ℕ) (ps : List Parameter) → arguments_in m ps [] ≡ []
+unfolding arguments_in
 none_left m [] = refl
 none_left m (p ∷ ps) = refl
 
 module _ {S : Signature} {ins both : Set} {ys₀ : List ℕ} {a : Access} {n : ℕ} {ys : List ℕ} (h : Gathered S ins both ys₀ a n ys) where
-  ended : ((m : ℕ) → argumentsIn m h.left ys ≡ []) → CallMatches S.variables ys₀ a
-  ended z = rw (sym h.ins-left, sym h.outs-left, z inMode, z outMode, append-nil h.read, append-nil h.given) h.gathered
+  ended : ((m : ℕ) → arguments_in m h.left ys ≡ []) → CallMatches S.variables ys₀ a
+  ended z = rw (sym h.ins_left, sym h.outs_left, z in_mode, z out_mode, append-nil h.read, append-nil h.given) h.gathered
 
-  pub turned-short : ys ≡ [] → CallMatches S.variables ys₀ a
-  turned-short e = ended (λ m. rw e (none_left m h.left))
+  pub turned_short : ys ≡ [] → CallMatches S.variables ys₀ a
+  turned_short e = ended (λ m. rw e (none_left m h.left))
 
-  pub turned-last : nextMember both n ≡ places → CallMatches S.variables ys₀ a
-  unfolding argumentsIn parameterVariables
-  turned-last e = ended (go h.left (h.numbers ∙ above-end both n e))
+  pub turned_last : next_member both n ≡ places → CallMatches S.variables ys₀ a
+  unfolding arguments_in parameter_variables
+  turned_last e = ended (go h.left (h.numbers ∙ above_end both n e))
     where
-      go : (ps : List Parameter) → parameterVariables ps ≡ [] → (m : ℕ) → argumentsIn m ps ys ≡ []
+      go : (ps : List Parameter) → parameter_variables ps ≡ [] → (m : ℕ) → arguments_in m ps ys ≡ []
       go [] z m = refl
       go (p ∷ ps) z m = absurd (let w : ◌≡◌ {A = ℕ} 0 1 = cc in omega arith)
 
-step_left : (ins both : Set) (ps : List Parameter) → Told ins ps → (x : ℕ) → parameterVariables ps ≡ x ∷ above both x
-    → (rest : List Parameter) × (ps ≡ record { mode = toldMode ins x; variable = x } ∷ rest) × (parameterVariables rest ≡ above both x) × Told ins rest
-unfolding parameterVariables
-step_left ins both [] told-nil x e = absurd (let w : ◌≡◌ {A = ℕ} 0 1 = cc in omega arith)
-step_left ins both (_ ∷ ps) (told-cons {x = z} q t) x e =
+step_left : (ins both : Set) (ps : List Parameter) → Told ins ps → (x : ℕ) → parameter_variables ps ≡ x ∷ above both x
+    → (rest : List Parameter) × (ps ≡ record { mode = told_mode ins x; variable = x } ∷ rest) × (parameter_variables rest ≡ above both x) × Told ins rest
+unfolding parameter_variables
+step_left ins both [] told_nil x e = absurd (let w : ◌≡◌ {A = ℕ} 0 1 = cc in omega arith)
+step_left ins both (_ ∷ ps) (told_cons {x = z} q t) x e =
     let i : z ≡ x = cc in
-    let j : parameterVariables ps ≡ above both x = cc in
+    let j : parameter_variables ps ≡ above both x = cc in
     (ps, rw (q, i) refl, j, t)
 
-pub turned-next : {S : Signature} {ins both : Set} {ys₀ : List ℕ} {a : Access} {n : ℕ} {ys : List ℕ} → Gathered S ins both ys₀ a n ys
-    → {x y : ℕ} {zs : List ℕ} → x ≡ nextMember both n → x < places → ys ≡ y ∷ zs → Gathered S ins both ys₀ (passedIn (toldMode ins x) a y) x zs
-unfolding argumentsIn
-turned-next {S} {ins} {both} {ys₀} {a} {n} {ys} h {x} {y} {zs} e l f =
-    let t = step_left ins both h.left h.told x (h.numbers ∙ above-next both n x (sym e) l) in
-    let step : (m : ℕ) → argumentsIn m h.left ys ≡ consIf (eqb (toldMode ins x) m) y (argumentsIn m t.0 zs) = λ m. ap₂ (argumentsIn m) t.1 f in
+pub turned_next : {S : Signature} {ins both : Set} {ys₀ : List ℕ} {a : Access} {n : ℕ} {ys : List ℕ} → Gathered S ins both ys₀ a n ys
+    → {x y : ℕ} {zs : List ℕ} → x ≡ next_member both n → x < places → ys ≡ y ∷ zs → Gathered S ins both ys₀ (passed_in (told_mode ins x) a y) x zs
+unfolding arguments_in
+turned_next {S} {ins} {both} {ys₀} {a} {n} {ys} h {x} {y} {zs} e l f =
+    let t = step_left ins both h.left h.told x (h.numbers ∙ above_next both n x (sym e) l) in
+    let step : (m : ℕ) → arguments_in m h.left ys ≡ cons_if (eqb (told_mode ins x) m) y (arguments_in m t.0 zs) = λ m. ap₂ (arguments_in m) t.1 f in
     record {
       left = t.0;
       numbers = t.2;
       told = t.3;
-      read = h.read ++ consIf (eqb (toldMode ins x) inMode) y [];
-      given = h.given ++ consIf (eqb (toldMode ins x) outMode) y [];
-      gathered = gathers-pass (toldMode ins x) y h.gathered;
-      ins-left = snoc-if h.read _ y _ ∙ ap (λ t. h.read ++ t) (sym (step inMode)) ∙ h.ins-left;
-      outs-left = snoc-if h.given _ y _ ∙ ap (λ t. h.given ++ t) (sym (step outMode)) ∙ h.outs-left;
+      read = h.read ++ cons_if (eqb (told_mode ins x) in_mode) y [];
+      given = h.given ++ cons_if (eqb (told_mode ins x) out_mode) y [];
+      gathered = gathers_pass (told_mode ins x) y h.gathered;
+      ins_left = snoc_if h.read _ y _ ∙ ap (λ t. h.read ++ t) (sym (step in_mode)) ∙ h.ins_left;
+      outs_left = snoc_if h.given _ y _ ∙ ap (λ t. h.given ++ t) (sym (step out_mode)) ∙ h.outs_left;
     }
 
 -- ---- what the code finds
-pub told_in : (ins : Set) (x : ℕ) {b : Bool} → b ≡ member ins x → b ≡ true → inMode ≡ toldMode ins x
-unfolding toldMode choose
+pub told_in : (ins : Set) (x : ℕ) {b : Bool} → b ≡ member ins x → b ≡ true → in_mode ≡ told_mode ins x
+unfolding told_mode choose
 told_in ins x e h = rw (sym e ∙ h) refl
 
-pub told-out : (ins : Set) (x : ℕ) {b : Bool} → b ≡ member ins x → b ≡ false → outMode ≡ toldMode ins x
-unfolding toldMode choose
-told-out ins x e h = rw (sym e ∙ h) refl
+pub told_out : (ins : Set) (x : ℕ) {b : Bool} → b ≡ member ins x → b ≡ false → out_mode ≡ told_mode ins x
+unfolding told_mode choose
+told_out ins x e h = rw (sym e ∙ h) refl
 
 -- ---- a call's arguments
 pub record ArgumentsGoing (f : List ℕ) (ins both : Set) (y0 : ℕ) (a : Access) (x y : ℕ) : Type 0 where
   pub passed : ℕ
-  pub next : x ≡ nextMember both passed
+  pub next : x ≡ next_member both passed
   pub argument : Stands f arguments y
-  pub turned : (S : Signature) (outs : Set) → both ≡ ins ∪ outs → DeclaredSets S ins outs → Gathered S ins both (argumentsAt f y0) a passed (argumentsAt f y)
+  pub turned : (S : Signature) (outs : Set) → both ≡ ins ∪ outs → DeclaredSets S ins outs → Gathered S ins both (arguments_at f y0) a passed (arguments_at f y)
 
-pub going-first : {f : List ℕ} (ins : Set) {both : Set} {y0 : ℕ} {a : Access} {x : ℕ} → Stands f arguments y0 → a ≡ noAccess → x ≡ nextMember both 0
+pub going_first : {f : List ℕ} (ins : Set) {both : Set} {y0 : ℕ} {a : Access} {x : ℕ} → Stands f arguments y0 → a ≡ no_access → x ≡ next_member both 0
     → ArgumentsGoing f ins both y0 a x y0
-going-first ins s e n = record { passed = 0; next = n; argument = s; turned = λ S o b D. rw e (turned-first _ D b) }
+going_first ins s e n = record { passed = 0; next = n; argument = s; turned = λ S o b D. rw e (turned_first _ D b) }
 
 module _ {f : List ℕ} {ins both : Set} {y0 : ℕ} {a : Access} {x y : ℕ} (h : ArgumentsGoing f ins both y0 a x y) where
-  pub going-short : y ≡ 0 → {outs : Set} → both ≡ ins ∪ outs → (S : Signature) → DeclaredSets S ins outs → CallMatches S.variables (argumentsAt f y0) a
-  going-short e b S D = turned-short (h.turned S _ b D) (arguments-none f e)
+  pub going_short : y ≡ 0 → {outs : Set} → both ≡ ins ∪ outs → (S : Signature) → DeclaredSets S ins outs → CallMatches S.variables (arguments_at f y0) a
+  going_short e b S D = turned_short (h.turned S _ b D) (arguments_none f e)
 
-  pub going-last : places ≤ x → {outs : Set} → both ≡ ins ∪ outs → (S : Signature) → DeclaredSets S ins outs → CallMatches S.variables (argumentsAt f y0) a
-  going-last l b S D = turned-last (h.turned S _ b D) (omega (arith, h.next, (next-is both h.passed).top))
+  pub going_last : places ≤ x → {outs : Set} → both ≡ ins ∪ outs → (S : Signature) → DeclaredSets S ins outs → CallMatches S.variables (arguments_at f y0) a
+  going_last l b S D = turned_last (h.turned S _ b D) (omega (arith, h.next, (next_is both h.passed).top))
 
-  pub going_next : Formed f → x < places → (y ≡ 0 → ⊥) → {m w u z : ℕ} {b : Access} → m ≡ toldMode ins x → w ≡ word f y argumentVariable → b ≡ passedIn m a w
-      → u ≡ word f y nextWord → z ≡ nextMember both x → ArgumentsGoing f ins both y0 b z u
+  pub going_next : Formed f → x < places → (y ≡ 0 → ⊥) → {m w u z : ℕ} {b : Access} → m ≡ told_mode ins x → w ≡ word f y argument_variable → b ≡ passed_in m a w
+      → u ≡ word f y next_word → z ≡ next_member both x → ArgumentsGoing f ins both y0 b z u
   going_next F l p {m} {w} {u} {z} {b} i j k e n =
-      let t = argument-here F p h.argument in
+      let t = argument_here F p h.argument in
       record {
         passed = x;
         next = n;
-        argument = rw e t.to-next.stands;
-        turned = λ S o q D. rw (k, i, j, e) (turned-next (h.turned S o q D) h.next l t.view);
+        argument = rw e t.to_next.stands;
+        turned = λ S o q D. rw (k, i, j, e) (turned_next (h.turned S o q D) h.next l t.view);
       }
 
-pub going-rises : (both : Set) (x : ℕ) {z : ℕ} → x < places → z ≡ nextMember both x → x < z
-going-rises both x l e = omega (arith, (next-is both x).low)
+pub going_rises : (both : Set) (x : ℕ) {z : ℕ} → x < places → z ≡ next_member both x → x < z
+going_rises both x l e = omega (arith, (next_is both x).low)

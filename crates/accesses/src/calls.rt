@@ -2,13 +2,13 @@
 ghost use Rattle.std.specs.Prelude.{◌≡◌, true, length};
 ghost use Rattle.language.specs.File.{arguments};
 ghost use Rattle.language.specs.Program.{Signature, call};
-ghost use Rattle.language.specs.Typing.{typingOk};
+ghost use Rattle.language.specs.Typing.{typing_ok};
 ghost use Rattle.language.specs.Answers.{program};
 ghost use Rattle.chains.specs.Shapes.{IsCall};
-ghost use Rattle.chains.specs.Formed.{Formed, Stands, argumentsAt};
-ghost use Rattle.accesses.specs.Gathering.{passedIn};
+ghost use Rattle.chains.specs.Formed.{Formed, Stands, arguments_at};
+ghost use Rattle.accesses.specs.Gathering.{passed_in};
 ghost use Rattle.accesses.specs.Matching.{CallMatches};
-ghost use Rattle.accesses.specs.Parameters.{toldMode, DeclaredSets};
+ghost use Rattle.accesses.specs.Parameters.{told_mode, DeclaredSets};
 ghost use Rattle.accesses.specs.Accesses.{Accesses};
 ghost use Rattle.tables.specs.Window.{FileTable};
 ghost use Rattle.accesses.specs.Fitting.{AccessFits};
@@ -23,7 +23,7 @@ use tables::{Access, INS, OUTS, TABLE, set_at, word_at};
 
 // y stands at the place of a variable of that mode.
 fn pass(a: Access, mode: usize, y: usize) -> Access
-    ensures { result ≡ passedIn mode a y }
+    ensures { result ≡ passed_in mode a y }
 {
     if mode == MODE_IN {
         return read(a, y);
@@ -40,7 +40,7 @@ pub fn call_access(file: &[u8], table: &[u64; TABLE], procedures: usize, i: usiz
     requires file_table { FileTable file.now table.now }
     requires procedures_value { procedures ≡ length (program file.now).procedures }
     requires call { IsCall file.now i }
-    requires file_value { typingOk (program file.now) ≡ true }
+    requires file_value { typing_ok (program file.now) ≡ true }
     ensures { AccessFits file.now i result }
 {
     let q = word(file, i, CALL_PROCEDURE);
@@ -54,8 +54,8 @@ fn called_access(file: &[u8], table: &[u64; TABLE], procedures: usize, q: usize,
     requires file_table { FileTable file.now table.now }
     requires procedures_value { procedures ≡ length (program file.now).procedures }
     requires stands { Stands file.now arguments y }
-    requires file_value { typingOk (program file.now) ≡ true }
-    ensures { Accesses (program file.now) (call q (argumentsAt file.now y)) result }
+    requires file_value { typing_ok (program file.now) ≡ true }
+    ensures { Accesses (program file.now) (call q (arguments_at file.now y)) result }
 {
     if q >= procedures {
         return no_access();
@@ -68,7 +68,7 @@ fn called_access(file: &[u8], table: &[u64; TABLE], procedures: usize, q: usize,
 
 // The mode of variable x, an in variable if it is in ins, else an out variable.
 fn mode_of(ins: Set, x: usize) -> usize
-    ensures { result ≡ toldMode ins x }
+    ensures { result ≡ told_mode ins x }
 {
     if ins.has(x) { MODE_IN } else { MODE_OUT }
 }
@@ -77,7 +77,7 @@ fn mode_of(ins: Set, x: usize) -> usize
 fn match_arguments(file: &[u8], ins: Set, outs: Set, y0: usize) -> Access
     requires formed { Formed file.now }
     requires stands { Stands file.now arguments y0 }
-    ensures { (S : Signature) → DeclaredSets S ins outs → CallMatches S.variables (argumentsAt file.now y0) result }
+    ensures { (S : Signature) → DeclaredSets S ins outs → CallMatches S.variables (arguments_at file.now y0) result }
 {
     let both = ins.union(outs);
     let mut a = no_access();

@@ -1,9 +1,9 @@
 // What every step and every arm reads and gives, worked out once, into the rows.
 ghost use Rattle.std.specs.Prelude.{◌≡◌, true, ◌<◌, ◌≤◌, length};
-ghost use Rattle.language.specs.File.{recordCount};
-ghost use Rattle.language.specs.Typing.{typingOk};
+ghost use Rattle.language.specs.File.{record_count};
+ghost use Rattle.language.specs.Typing.{typing_ok};
 ghost use Rattle.language.specs.Answers.{program};
-ghost use Rattle.tables.specs.TablePlaces.{rowWords};
+ghost use Rattle.tables.specs.TablePlaces.{row_words};
 ghost use Rattle.chains.specs.Formed.{Formed};
 ghost use Rattle.tables.specs.Window.{FileTable};
 ghost use Rattle.tables.specs.Filled.{Accessed};
@@ -26,8 +26,8 @@ use tables::{ROWS, TABLE, put_access};
 pub fn list_accesses(file: &[u8], table: &[u64; TABLE], rows: &mut [u64; ROWS])
     requires formed { Formed file.now }
     requires file_table { FileTable file.now table.now }
-    requires row_words_in_bounds { rowWords ≤ length rows.old }
-    requires file_value { typingOk (program file.now) ≡ true }
+    requires row_words_in_bounds { row_words ≤ length rows.old }
+    requires file_value { typing_ok (program file.now) ≡ true }
     ensures accessed { Accessed file.now rows.new }
     ensures all_noted { AllNoted file.now rows.new }
     ensures rows_kept { RowsKept file.now rows.old rows.new }
@@ -52,8 +52,8 @@ fn list_access(
     requires formed { Formed file.now }
     requires file_table { FileTable file.now table.now }
     requires procedures_value { procedures ≡ length (program file.now).procedures }
-    requires i_bound { (i < recordCount file.now) × (rowWords ≤ length rows.old) }
-    requires file_value { typingOk (program file.now) ≡ true }
+    requires i_bound { (i < record_count file.now) × (row_words ≤ length rows.old) }
+    requires file_value { typing_ok (program file.now) ≡ true }
     ensures { RowListed file.now i rows.old rows.new }
 {
     match word(file, i, KIND) {

@@ -6,45 +6,45 @@ use Rattle.std.specs.Int.{w32}
 use Rattle.language.specs.declared.Verdict.TheVariants.{Accepted}
 use Rattle.language.specs.declared.Stop.TheVariants.{Steps, Sums}
 use Rattle.language.specs.declared.Ending.TheVariants.{Finished, Stopped}
-use Rattle.language.specs.Frames.{staysAtSum}
-use Rattle.language.specs.PlainRun.{stripped, plainSteps}
+use Rattle.language.specs.Frames.{stays_at_sum}
+use Rattle.language.specs.PlainRun.{stripped, plain_steps}
 use Rattle.language.specs.AcceptedRun.{frame_of, steps}
 use Rattle.language.specs.Answers.{program, checked}
 use Rattle.lockstep.specs.Counted.{spent}
-use Rattle.soundness.specs.Lent.{lent-run}
-use Rattle.word_machine.specs.Machine.{lentWords}
+use Rattle.soundness.specs.Lent.{lent_run}
+use Rattle.word_machine.specs.Machine.{lent_words}
 use Rattle.machine.specs.declared.Outcome.{Outcome}
-use Rattle.word_machine.specs.Printing.{front-numbers}
-use Rattle.machine.specs.Joining.{RanAs, as-printed}
+use Rattle.word_machine.specs.Printing.{front_numbers}
+use Rattle.machine.specs.Joining.{RanAs, as_printed}
 
 -- The file f with l steps lent; r is the answer, px the words lent for printed numbers afterwards.
 pub record AsPlain (f : List ℕ) (l : ℕ) (r : Outcome) (px : List ℕ) : Type 0 where
   pub within : r.steps ≤ l
   -- "the numbers printed are those of the plain run .. after as many steps less those spent on creates and removes"
-  pub prints : map (to_z w32) (take r.printed px) ≡ (plainSteps (stripped (program f)) (r.steps - spent (program f) r.steps)).printed
+  pub prints : map (to_z w32) (take r.printed px) ≡ (plain_steps (stripped (program f)) (r.steps - spent (program f) r.steps)).printed
   -- finished: the run and the plain run have ended there, and "all are removed once the entry has returned"
   pub over : r.ending ≡ Finished → (steps (program f) r.steps).frames ≡ []
-  pub plain_over : r.ending ≡ Finished → (plainSteps (stripped (program f)) (r.steps - spent (program f) r.steps)).frames ≡ []
+  pub plain_over : r.ending ≡ Finished → (plain_steps (stripped (program f)) (r.steps - spent (program f) r.steps)).frames ≡ []
   pub clean : r.ending ≡ Finished → (k : ℕ) → (steps (program f) r.steps).memory.alive k ≡ false
   -- steps spent: all that were lent, and the run has not ended
   pub all : r.ending ≡ Stopped Steps → r.steps ≡ l
   pub still : r.ending ≡ Stopped Steps → (steps (program f) l).frames ≡ [] → ⊥
   -- stopped with 15: both runs stay there at a sum out of range
-  pub atSum : r.ending ≡ Stopped Sums → staysAtSum (map frame_of (steps (program f) r.steps).frames) ≡ true
-  pub plainAtSum : r.ending ≡ Stopped Sums → staysAtSum (plainSteps (stripped (program f)) (r.steps - spent (program f) r.steps)).frames ≡ true
+  pub at_sum : r.ending ≡ Stopped Sums → stays_at_sum (map frame_of (steps (program f) r.steps).frames) ≡ true
+  pub plain_at_sum : r.ending ≡ Stopped Sums → stays_at_sum (plain_steps (stripped (program f)) (r.steps - spent (program f) r.steps)).frames ≡ true
 
 pub as_plain : {f m rs fw ps px : List ℕ} {l : ℕ} {r : Outcome} → RanAs f m rs fw ps l r px → checked f ≡ Accepted → AsPlain f l r px
-unfolding lentWords
+unfolding lent_words
 as_plain {f} {m} {rs} {fw} {ps} {px} {l} {r} R a =
-    let L = lent-run f a (lentWords m rs fw ps l) in
+    let L = lent_run f a (lent_words m rs fw ps l) in
     record {
       within = rw R.steps L.within;
-      prints = rw R.steps (front-numbers (as-printed f m rs fw ps l R) ∙ L.plainPrints);
+      prints = rw R.steps (front_numbers (as_printed f m rs fw ps l R) ∙ L.plain_prints);
       over = λ e. rw R.steps (L.over (sym R.ending ∙ e));
       plain_over = λ e. rw R.steps (L.plain_over (sym R.ending ∙ e));
       clean = λ e. rw R.steps (L.clean (sym R.ending ∙ e));
       all = λ e. R.steps ∙ L.all (sym R.ending ∙ e);
       still = λ e. L.still (sym R.ending ∙ e);
-      atSum = λ e. rw R.steps (L.atSum (sym R.ending ∙ e));
-      plainAtSum = λ e. rw R.steps (L.plainAtSum (sym R.ending ∙ e));
+      at_sum = λ e. rw R.steps (L.at_sum (sym R.ending ∙ e));
+      plain_at_sum = λ e. rw R.steps (L.plain_at_sum (sym R.ending ∙ e));
     }

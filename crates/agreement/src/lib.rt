@@ -2,7 +2,7 @@
 mod runs;
 
 ghost use Rattle.std.specs.Prelude.{◌≡◌, true, length};
-ghost use Rattle.language.specs.Answers.{annotated, annotatorMemory};
+ghost use Rattle.language.specs.Answers.{annotated, annotator_memory};
 ghost use Rattle.agreement.specs.Agreement.{LeavesSound};
 
 use annotation::{Annotated, annotate};
@@ -16,7 +16,7 @@ pub use runs::runs_as_plain;
 pub fn left_is_accepted(file: &[u8], out: &mut [u8]) -> bool
     ensures value { result ≡ true }
     ensures leaves_sound { LeavesSound (annotated file.now (length out.old)) out.new }
-    ensures out_after { out.new ≡ annotatorMemory (annotated file.now (length out.old)) out.old }
+    ensures out_after { out.new ≡ annotator_memory (annotated file.now (length out.old)) out.old }
 {
     let Annotated::Written(n) = annotate(file, out) else {
         return true;

@@ -3,28 +3,28 @@
 use Rattle.std.specs.Prelude.{ℕ, Bool, true, false, List, [], ◌∷◌, ◌≡◌}
 use Rattle.std.proofs.Math.Path.{refl, sym, ap}
 use Rattle.std.proofs.Common.{◌∙◌}
-use Rattle.sets.specs.Tests.{◌&◌, and-true}
+use Rattle.sets.specs.Tests.{◌&◌, and_true}
 use Rattle.language.specs.declared.Refusal.{Refusal}
 use Rattle.language.specs.declared.Refusal.TheVariants.{Header, Form, Typing, Values, Regions, Unreached, Annotated, Classes, Rules, Room}
 use Rattle.language.specs.declared.Verdict.{Verdict}
 use Rattle.language.specs.declared.Verdict.TheVariants.{Refused, Accepted}
 use Rattle.language.specs.Lists.{choose}
-use Rattle.language.specs.Typing.{typingOk}
-use Rattle.language.specs.Values.{valuesOk}
-use Rattle.language.specs.Regions.{regionsOk}
-use Rattle.language.specs.CallChains.{reachedOk}
-use Rattle.language.specs.Lifetimes.{declaredClassesOk, callClassesOk}
+use Rattle.language.specs.Typing.{typing_ok}
+use Rattle.language.specs.Values.{values_ok}
+use Rattle.language.specs.Regions.{regions_ok}
+use Rattle.language.specs.CallChains.{reached_ok}
+use Rattle.language.specs.Lifetimes.{declared_classes_ok, call_classes_ok}
 use Rattle.language.specs.Annotation.{unannotated}
 use Rattle.language.specs.Answers.{Stage, stage, lowest, program}
-use Rattle.laws.specs.Stages.{lowest-passed}
+use Rattle.laws.specs.Stages.{lowest_passed}
 use Rattle.placement.specs.Whole.{Annotatable}
-use Rattle.stages.specs.Stages.{tableStages}
+use Rattle.stages.specs.Stages.{table_stages}
 
 -- numbers 4 to 7, with 17 behind 5
-abbrev pub markStages : List ℕ → List Stage
-markStages f =
-    stage Values (valuesOk (program f)) ∷ stage Regions (regionsOk (program f)) ∷ stage Unreached (reachedOk (program f))
-    ∷ stage Annotated (unannotated (program f)) ∷ stage Classes (declaredClassesOk (program f) & callClassesOk (program f)) ∷ []
+abbrev pub mark_stages : List ℕ → List Stage
+mark_stages f =
+    stage Values (values_ok (program f)) ∷ stage Regions (regions_ok (program f)) ∷ stage Unreached (reached_ok (program f))
+    ∷ stage Annotated (unannotated (program f)) ∷ stage Classes (declared_classes_ok (program f) & call_classes_ok (program f)) ∷ []
 
 -- where 7 is refused, 6 is looked at first
 unfoldable pub sooner : Bool → Refusal → Refusal
@@ -40,50 +40,50 @@ sooner u Rules = Rules
 sooner u Room = Room
 
 -- what the shared stages answer, with number 6 and 7's part at calls
-unfoldable withMarks : Bool → Bool → Verdict → Verdict
-withMarks u k (Refused r) = Refused (sooner u r)
-withMarks u k Accepted = lowest (stage Annotated u ∷ stage Classes k ∷ [])
+unfoldable with_marks : Bool → Bool → Verdict → Verdict
+with_marks u k (Refused r) = Refused (sooner u r)
+with_marks u k Accepted = lowest (stage Annotated u ∷ stage Classes k ∷ [])
 
-with-marks : (v r w u d k : Bool)
+with_marks_law : (v r w u d k : Bool)
     → lowest (stage Values v ∷ stage Regions r ∷ stage Unreached w ∷ stage Annotated u ∷ stage Classes (d & k) ∷ [])
-    ≡ withMarks u k (lowest (stage Values v ∷ stage Regions r ∷ stage Unreached w ∷ stage Classes d ∷ []))
-unfolding lowest withMarks sooner choose ◌&◌
-with-marks false r w u d k = refl
-with-marks true false w u d k = refl
-with-marks true true false u d k = refl
-with-marks true true true true true true = refl
-with-marks true true true true true false = refl
-with-marks true true true true false k = refl
-with-marks true true true false true k = refl
-with-marks true true true false false k = refl
+    ≡ with_marks u k (lowest (stage Values v ∷ stage Regions r ∷ stage Unreached w ∷ stage Classes d ∷ []))
+unfolding lowest with_marks sooner choose ◌&◌
+with_marks_law false r w u d k = refl
+with_marks_law true false w u d k = refl
+with_marks_law true true false u d k = refl
+with_marks_law true true true true true true = refl
+with_marks_law true true true true true false = refl
+with_marks_law true true true true false k = refl
+with_marks_law true true true false true k = refl
+with_marks_law true true true false false k = refl
 
 -- ---- one law for each way through the stages
-module _ (f : List ℕ) {v : Verdict} (e : v ≡ lowest (tableStages f)) where
-  marks : lowest (markStages f) ≡ withMarks (unannotated (program f)) (callClassesOk (program f)) v
-  marks = with-marks (valuesOk (program f)) (regionsOk (program f)) (reachedOk (program f)) (unannotated (program f)) (declaredClassesOk (program f)) (callClassesOk (program f))
-      ∙ ap (withMarks (unannotated (program f)) (callClassesOk (program f))) (sym e)
+module _ (f : List ℕ) {v : Verdict} (e : v ≡ lowest (table_stages f)) where
+  marks : lowest (mark_stages f) ≡ with_marks (unannotated (program f)) (call_classes_ok (program f)) v
+  marks = with_marks_law (values_ok (program f)) (regions_ok (program f)) (reached_ok (program f)) (unannotated (program f)) (declared_classes_ok (program f)) (call_classes_ok (program f))
+      ∙ ap (with_marks (unannotated (program f)) (call_classes_ok (program f))) (sym e)
 
-  pub refused-before : {r s : Refusal} → v ≡ Refused r → s ≡ sooner (unannotated (program f)) r → Refused s ≡ lowest (markStages f)
-  unfolding withMarks
-  refused-before g h = ap (λ (q : Refusal). Refused q) h ∙ sym (marks ∙ ap (withMarks (unannotated (program f)) (callClassesOk (program f))) g)
+  pub refused_before : {r s : Refusal} → v ≡ Refused r → s ≡ sooner (unannotated (program f)) r → Refused s ≡ lowest (mark_stages f)
+  unfolding with_marks
+  refused_before g h = ap (λ (q : Refusal). Refused q) h ∙ sym (marks ∙ ap (with_marks (unannotated (program f)) (call_classes_ok (program f))) g)
 
   module _ (g : v ≡ Accepted) {u : Bool} (eu : u ≡ unannotated (program f)) where
-    later : (k : Bool) → k ≡ callClassesOk (program f) → lowest (markStages f) ≡ lowest (stage Annotated u ∷ stage Classes k ∷ [])
-    unfolding withMarks
+    later : (k : Bool) → k ≡ call_classes_ok (program f) → lowest (mark_stages f) ≡ lowest (stage Annotated u ∷ stage Classes k ∷ [])
+    unfolding with_marks
     later k ek = marks ∙ rw (g, eu, ek) refl
 
-    pub annotated-refused : u ≡ false → Refused Annotated ≡ lowest (markStages f)
+    pub annotated_refused : u ≡ false → Refused Annotated ≡ lowest (mark_stages f)
     unfolding lowest
-    annotated-refused p = sym (later (callClassesOk (program f)) refl ∙ rw p refl)
+    annotated_refused p = sym (later (call_classes_ok (program f)) refl ∙ rw p refl)
 
-    module _ (p : u ≡ true) {k : Bool} (ek : k ≡ callClassesOk (program f)) where
-      pub calls-refused : k ≡ false → Refused Classes ≡ lowest (markStages f)
+    module _ (p : u ≡ true) {k : Bool} (ek : k ≡ call_classes_ok (program f)) where
+      pub calls_refused : k ≡ false → Refused Classes ≡ lowest (mark_stages f)
       unfolding lowest
-      calls-refused q = sym (later k ek ∙ rw (p, q) refl)
+      calls_refused q = sym (later k ek ∙ rw (p, q) refl)
 
-      pub marks-passed : k ≡ true → Accepted ≡ lowest (markStages f)
+      pub marks_passed : k ≡ true → Accepted ≡ lowest (mark_stages f)
       unfolding lowest
-      marks-passed q = sym (later k ek ∙ rw (p, q) refl)
+      marks_passed q = sym (later k ek ∙ rw (p, q) refl)
 
 -- number 6 or 7
 module _ {u b : Bool} (e : b ≡ u) where
@@ -96,8 +96,8 @@ module _ {u b : Bool} (e : b ≡ u) where
   six p = rw (sym e ∙ p) refl
 
 -- ---- what the stages have found
-pub marks-found : (f : List ℕ) {v : Verdict} → typingOk (program f) ≡ true → v ≡ lowest (markStages f) → v ≡ Accepted → Annotatable (program f)
-marks-found f t e g =
-    let p = lowest-passed (markStages f) (sym e ∙ g) in
-    let c = and-true p.1.1.1.1.0 in
+pub marks_found : (f : List ℕ) {v : Verdict} → typing_ok (program f) ≡ true → v ≡ lowest (mark_stages f) → v ≡ Accepted → Annotatable (program f)
+marks_found f t e g =
+    let p = lowest_passed (mark_stages f) (sym e ∙ g) in
+    let c = and_true p.1.1.1.1.0 in
     record { typing = t; values = p.0; regions = p.1.0; classes = c.0; calls = c.1 }

@@ -2,14 +2,14 @@
 ghost use Rattle.std.specs.Prelude.{◌≡◌, true, ◌≤◌, length};
 ghost use Rattle.language.specs.declared.Refusal.TheVariants.{Classes};
 ghost use Rattle.language.specs.declared.Verdict.TheVariants.{Accepted};
-ghost use Rattle.language.specs.Typing.{typingOk};
+ghost use Rattle.language.specs.Typing.{typing_ok};
 ghost use Rattle.language.specs.Annotation.{unannotated};
 ghost use Rattle.language.specs.Answers.{lowest, program};
-ghost use Rattle.tables.specs.TablePlaces.{fileWords, rowWords};
+ghost use Rattle.tables.specs.TablePlaces.{file_words, row_words};
 ghost use Rattle.chains.specs.Formed.{Formed};
 ghost use Rattle.tables.specs.Filled.{Prepared};
-ghost use Rattle.liveness.specs.Points.{pointWords};
-ghost use Rattle.annotation.specs.Stages.{sooner, markStages};
+ghost use Rattle.liveness.specs.Points.{point_words};
+ghost use Rattle.annotation.specs.Stages.{sooner, mark_stages};
 
 use language::{Refusal, Verdict};
 use liveness::{POINTS, call_classes_ok};
@@ -54,11 +54,11 @@ pub fn check_annotatable(
     points: &mut [u64; POINTS],
 ) -> Verdict
     requires formed { Formed file.now }
-    requires file_value { typingOk (program file.now) ≡ true }
-    requires file_words_in_bounds { (fileWords ≤ length table.old) × (rowWords ≤ length rows.old) }
-    requires points_len { length points.old ≡ pointWords }
-    ensures points_len_2 { length points.new ≡ pointWords }
-    ensures value { result ≡ lowest (markStages file.now) }
+    requires file_value { typing_ok (program file.now) ≡ true }
+    requires file_words_in_bounds { (file_words ≤ length table.old) × (row_words ≤ length rows.old) }
+    requires points_len { length points.old ≡ point_words }
+    ensures points_len_2 { length points.new ≡ point_words }
+    ensures value { result ≡ lowest (mark_stages file.now) }
     ensures prepared { result ≡ Accepted → Prepared file.now table.new rows.new }
 {
     let answer = check_classes(file, table, rows);

@@ -1,11 +1,11 @@
 // The annotator's answer to any bytes.
 ghost use Rattle.std.specs.Prelude.{◌≡◌, true, length};
-ghost use Rattle.language.specs.Typing.{typingOk};
+ghost use Rattle.language.specs.Typing.{typing_ok};
 ghost use Rattle.language.specs.Answers.{program, annotated};
 ghost use Rattle.chains.specs.Formed.{Formed};
-ghost use Rattle.liveness.specs.Points.{pointWords};
+ghost use Rattle.liveness.specs.Points.{point_words};
 ghost use Rattle.insertion.specs.Procedures.{Unrefused};
-ghost use Rattle.annotation.specs.Answer.{Annotates, RoomIn, roomAnswer, typedAnswer};
+ghost use Rattle.annotation.specs.Answer.{Annotates, RoomIn, room_answer, typed_answer};
 
 use crate::Annotated;
 use crate::annotatable::check_annotatable;
@@ -27,9 +27,9 @@ fn write_annotated(
     room: usize,
 ) -> Annotated
     requires unrefused { Unrefused file.now table.now rows.now }
-    requires points_len { length points.old ≡ pointWords }
+    requires points_len { length points.old ≡ point_words }
     requires room_in { RoomIn room (length out.old) }
-    ensures { Annotates (roomAnswer file.now (length out.old)) out.old out.new result }
+    ensures { Annotates (room_answer file.now (length out.old)) out.old out.new result }
 {
     let mut laid = blank_laid();
     let records = lay_annotated(file, table, rows, points, &mut laid);
@@ -48,8 +48,8 @@ fn write_annotated(
 // places: what has one caller the compiler puts into it, and the memory that the file is laid into would lie below number 3's walk.
 fn annotate_typed(file: &[u8], out: &mut [u8]) -> Annotated
     requires formed { Formed file.now }
-    requires file_value { typingOk (program file.now) ≡ true }
-    ensures { Annotates (typedAnswer file.now (length out.old)) out.old out.new result }
+    requires file_value { typing_ok (program file.now) ≡ true }
+    ensures { Annotates (typed_answer file.now (length out.old)) out.old out.new result }
 {
     let mut table = blank_file_table();
     let mut rows = blank_rows();

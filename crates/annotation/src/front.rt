@@ -1,7 +1,7 @@
 // The written part of the lent memory itself.
 ghost use Rattle.std.specs.Prelude.{◌≡◌, length};
 ghost use Rattle.language.specs.Answers.{annotated};
-ghost use Rattle.annotation.specs.Front.{frontOf};
+ghost use Rattle.annotation.specs.Front.{front_of};
 
 use crate::Annotated;
 use crate::answer::annotate;
@@ -9,7 +9,7 @@ use crate::answer::annotate;
 // "A good annotation is handed back as the front part of the caller's output memory": that part, which starts where the memory does; empty after a
 // refusal, whose cause `annotate` gives.
 pub fn annotated_front<'a>(file: &[u8], out: &'a mut [u8]) -> &'a mut [u8]
-    ensures result_value { result.now ≡ frontOf (annotated file.now (length out.old)) }
+    ensures result_value { result.now ≡ front_of (annotated file.now (length out.old)) }
     ensures ref_ptr_value { result.ref_ptr ≡ out.entry.ref_ptr }
 {
     match annotate(file, &mut *out) {

@@ -1,7 +1,7 @@
 // The annotator's answer on standard output.
 ghost use Rattle.std.specs.Prelude.{◌≡◌, length};
-ghost use Rattle.language.specs.Answers.{annotated, annotatorBytes};
-ghost use Rattle.language.specs.Output.{annotatorOutput};
+ghost use Rattle.language.specs.Answers.{annotated, annotator_bytes};
+ghost use Rattle.language.specs.Output.{annotator_output};
 ghost use Rattle.lines.specs.Put.{Front};
 
 use crate::print;
@@ -11,15 +11,15 @@ use lines::put_refusal;
 
 // The bytes that the annotator lends: as many as 4,096 records have.
 fn lent() -> [u8; MAX_BYTES]
-    ensures { annotatorBytes ≡ length result }
+    ensures { annotator_bytes ≡ length result }
 {
     [0; MAX_BYTES]
 }
 
 // What the annotator writes, at the front of `out`. Answers how many bytes that are.
 fn annotator_answer(file: &[u8], out: &mut [u8]) -> usize
-    requires { length out.old ≡ annotatorBytes }
-    ensures { Front (annotatorOutput (annotated file.now annotatorBytes)) out.old out.new result }
+    requires { length out.old ≡ annotator_bytes }
+    ensures { Front (annotator_output (annotated file.now annotator_bytes)) out.old out.new result }
 {
     match annotate(file, out) {
         Annotated::Refused(r) => put_refusal(out, 0, r),

@@ -4,7 +4,7 @@ mod annotated;
 mod ran;
 
 ghost use Rattle.language.specs.Answers.{checked};
-ghost use Rattle.language.specs.Output.{checkerOutput};
+ghost use Rattle.language.specs.Output.{checker_output};
 ghost use Rattle.lines.specs.Put.{Front};
 
 pub use annotated::print_annotated;
@@ -15,7 +15,7 @@ pub use ran::print_run;
 
 // What the checker prints, at the front of `out`. Answers how many bytes that are.
 fn checker_answer(file: &[u8], out: &mut [u8; REFUSAL_BYTES]) -> usize
-    ensures { Front (checkerOutput (checked file.now)) out.old out.new result }
+    ensures { Front (checker_output (checked file.now)) out.old out.new result }
 {
     checker_output(check(file), out)
 }

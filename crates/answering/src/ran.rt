@@ -1,11 +1,11 @@
 // The runner's answer on standard output.
 ghost use Rattle.std.specs.Prelude.{◌≡◌, length};
 ghost use Rattle.language.specs.declared.Verdict.TheVariants.{Accepted};
-ghost use Rattle.language.specs.Machine.{runnerLent};
+ghost use Rattle.language.specs.Machine.{runner_lent};
 ghost use Rattle.language.specs.Answers.{checked, ran};
-ghost use Rattle.language.specs.Output.{runnerOutput};
+ghost use Rattle.language.specs.Output.{runner_output};
 ghost use Rattle.lines.specs.Put.{Front};
-ghost use Rattle.answering.specs.Ran.{outputBytes};
+ghost use Rattle.answering.specs.Ran.{output_bytes};
 
 use crate::print;
 use checking::check;
@@ -19,7 +19,7 @@ use running::run_accepted;
 const OUTPUT_BYTES: usize = NUMBER_BYTES * PRINTS + ENDING_BYTES;
 
 fn output() -> [u8; OUTPUT_BYTES]
-    ensures { outputBytes ≡ length result }
+    ensures { output_bytes ≡ length result }
 {
     [0; OUTPUT_BYTES]
 }
@@ -28,8 +28,8 @@ fn output() -> [u8; OUTPUT_BYTES]
 // the checker's walks is given back.
 fn accepted_answer(file: &[u8], out: &mut [u8]) -> usize
     requires file_value { checked file.now ≡ Accepted }
-    requires output_bytes_value { outputBytes ≡ length out.old }
-    ensures { Front (runnerOutput (ran file.now runnerLent)) out.old out.new result }
+    requires output_bytes_value { output_bytes ≡ length out.old }
+    ensures { Front (runner_output (ran file.now runner_lent)) out.old out.new result }
 {
     let mut cells = cell_words();
     let mut regions = region_words();
@@ -51,8 +51,8 @@ fn accepted_answer(file: &[u8], out: &mut [u8]) -> usize
 // What the runner prints for any bytes. The run is called in two places, by the file's length: what has one caller the compiler puts into it, and the
 // run's tables would lie on the stack beside the checker's, below its walks.
 fn runner_answer(file: &[u8], out: &mut [u8]) -> usize
-    requires { outputBytes ≡ length out.old }
-    ensures { Front (runnerOutput (ran file.now runnerLent)) out.old out.new result }
+    requires { output_bytes ≡ length out.old }
+    ensures { Front (runner_output (ran file.now runner_lent)) out.old out.new result }
 {
     if let Verdict::Refused(r) = check(file) {
         return put_refusal(out, 0, r);

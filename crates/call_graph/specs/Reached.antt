@@ -10,155 +10,155 @@ use Rattle.std.proofs.Math.Path.{refl, ap}
 use Rattle.std.proofs.Common.{sym, ◌∙◌}
 use Rattle.std.proofs.Math.ListN.{length}
 use Rattle.sets.specs.Tests.{clash, same_truth}
-use Rattle.sets.specs.Members.{inList, nil-in, cons-here, cons-later, cons-in}
-use Rattle.sets.specs.MemberLaws.{filtered-in, filtered-mk}
+use Rattle.sets.specs.Members.{in_list, nil_in, cons_here, cons_later, cons_in}
+use Rattle.sets.specs.MemberLaws.{filtered_in, filtered_mk}
 use Rattle.language.specs.Lists.{up_from}
-use Rattle.language.specs.Format.{entryProcedure}
+use Rattle.language.specs.Format.{entry_procedure}
 use Rattle.language.specs.Program.{Program}
-use Rattle.language.specs.CallChains.{callees, CallChain, calledFrom, oneCallOn, reachedWithin, reached, reachedOk}
-use Rattle.laws.specs.Numbers.{upFrom-in, upFrom-mk, upFrom-length, all-at, at_all, at-fails}
-use Rattle.laws.specs.Lists.{append-in, append_left, append_right}
-use Rattle.laws.specs.Rounds.{rounds, filtered-most, same-or-more}
-use Rattle.call_graph.specs.Chains.{caller-below, chain-start, chain-on, chain-holds, chain_same}
+use Rattle.language.specs.CallChains.{callees, CallChain, called_from, one_call_on, reached_within, reached, reached_ok}
+use Rattle.laws.specs.Numbers.{up_from_in, up_from_mk, up_from_length, all_at, at_all, at_fails}
+use Rattle.laws.specs.Lists.{append_in, append_left, append_right}
+use Rattle.laws.specs.Rounds.{rounds, filtered_most, same_or_more}
+use Rattle.call_graph.specs.Chains.{caller_below, chain_start, chain_on, chain_holds, chain_same}
 
 module _ (P : Program) where
   -- ---- one call further
-  called-in : (ps : List ℕ) (q : ℕ) → inList q (calledFrom P ps) ≡ true → (p : ℕ) × (inList p ps ≡ true) × (inList q (callees P p) ≡ true)
-  unfolding calledFrom
-  called-in [] q e = absurd (nil-in q e)
-  called-in (p ∷ ps) q e =
-      ⊎_elim (λ c. (p, cons-here p p ps refl, c)) (λ r. let h = called-in ps q r in (h.0, cons-later h.0 p ps h.1, h.2))
-      (append-in q (callees P p) (calledFrom P ps) e)
+  called_in : (ps : List ℕ) (q : ℕ) → in_list q (called_from P ps) ≡ true → (p : ℕ) × (in_list p ps ≡ true) × (in_list q (callees P p) ≡ true)
+  unfolding called_from
+  called_in [] q e = absurd (nil_in q e)
+  called_in (p ∷ ps) q e =
+      ⊎_elim (λ c. (p, cons_here p p ps refl, c)) (λ r. let h = called_in ps q r in (h.0, cons_later h.0 p ps h.1, h.2))
+      (append_in q (callees P p) (called_from P ps) e)
 
-  called-mk : (ps : List ℕ) (p q : ℕ) → inList p ps ≡ true → inList q (callees P p) ≡ true → inList q (calledFrom P ps) ≡ true
-  unfolding calledFrom
-  called-mk [] p q h e = absurd (nil-in p h)
-  called-mk (r ∷ ps) p q h e =
-      ⊎_elim (λ z. append_left q (callees P r) (calledFrom P ps) (ap (λ (n : ℕ). inList q (callees P n)) z ∙ e))
-      (λ l. append_right q (callees P r) (calledFrom P ps) (called-mk ps p q l e)) (cons-in p r ps h)
+  called_mk : (ps : List ℕ) (p q : ℕ) → in_list p ps ≡ true → in_list q (callees P p) ≡ true → in_list q (called_from P ps) ≡ true
+  unfolding called_from
+  called_mk [] p q h e = absurd (nil_in p h)
+  called_mk (r ∷ ps) p q h e =
+      ⊎_elim (λ z. append_left q (callees P r) (called_from P ps) (ap (λ (n : ℕ). in_list q (callees P n)) z ∙ e))
+      (λ l. append_right q (callees P r) (called_from P ps) (called_mk ps p q l e)) (cons_in p r ps h)
 
   module _ (ps : List ℕ) where
-    on_in : (q : ℕ) → inList q (oneCallOn P ps) ≡ true
-        → (inList q ps ≡ true) ⊎ ((p : ℕ) × (inList p ps ≡ true) × (inList q (callees P p) ≡ true))
-    unfolding oneCallOn
+    on_in : (q : ℕ) → in_list q (one_call_on P ps) ≡ true
+        → (in_list q ps ≡ true) ⊎ ((p : ℕ) × (in_list p ps ≡ true) × (in_list q (callees P p) ≡ true))
+    unfolding one_call_on
     on_in q e =
-        let h = filtered-in (λ (n : ℕ). inList n (ps ++ calledFrom P ps)) (up_from 0 (length P.procedures)) q e in
-        ⊎_elim (λ o. inl o) (λ c. inr (called-in ps q c)) (append-in q ps (calledFrom P ps) h.1)
+        let h = filtered_in (λ (n : ℕ). in_list n (ps ++ called_from P ps)) (up_from 0 (length P.procedures)) q e in
+        ⊎_elim (λ o. inl o) (λ c. inr (called_in ps q c)) (append_in q ps (called_from P ps) h.1)
 
-    on-mk : (q : ℕ) → q < length P.procedures → inList q (ps ++ calledFrom P ps) ≡ true → inList q (oneCallOn P ps) ≡ true
-    unfolding oneCallOn
-    on-mk q l e =
-        filtered-mk (λ (n : ℕ). inList n (ps ++ calledFrom P ps)) (up_from 0 (length P.procedures)) q
-        (upFrom-mk 0 (length P.procedures) q (omega arith) (omega arith)) e
+    on_mk : (q : ℕ) → q < length P.procedures → in_list q (ps ++ called_from P ps) ≡ true → in_list q (one_call_on P ps) ≡ true
+    unfolding one_call_on
+    on_mk q l e =
+        filtered_mk (λ (n : ℕ). in_list n (ps ++ called_from P ps)) (up_from 0 (length P.procedures)) q
+        (up_from_mk 0 (length P.procedures) q (omega arith) (omega arith)) e
 
-    on-old : (q : ℕ) → q < length P.procedures → inList q ps ≡ true → inList q (oneCallOn P ps) ≡ true
-    on-old q l h = on-mk q l (append_left q ps (calledFrom P ps) h)
+    on_old : (q : ℕ) → q < length P.procedures → in_list q ps ≡ true → in_list q (one_call_on P ps) ≡ true
+    on_old q l h = on_mk q l (append_left q ps (called_from P ps) h)
 
-    on-new : (p q : ℕ) → q < length P.procedures → inList p ps ≡ true → inList q (callees P p) ≡ true → inList q (oneCallOn P ps) ≡ true
-    on-new p q l h e = on-mk q l (append_right q ps (calledFrom P ps) (called-mk ps p q h e))
+    on_new : (p q : ℕ) → q < length P.procedures → in_list p ps ≡ true → in_list q (callees P p) ≡ true → in_list q (one_call_on P ps) ≡ true
+    on_new p q l h e = on_mk q l (append_right q ps (called_from P ps) (called_mk ps p q h e))
 
   -- ---- what is found in n rounds, a chain reaches
-  pub found-chain : (n q : ℕ) → inList q (reachedWithin P n) ≡ true → CallChain P q
-  unfolding reachedWithin
-  found-chain zero q e = ⊎_elim (λ z. rw (← z) (chain-start P)) (λ o. absurd (nil-in q o)) (cons-in q entryProcedure [] e)
-  found-chain (suc n) q e =
-      ⊎_elim (λ o. found-chain n q o) (λ c. chain-on P (found-chain n c.0 c.1) c.2) (on_in (reachedWithin P n) q e)
+  pub found_chain : (n q : ℕ) → in_list q (reached_within P n) ≡ true → CallChain P q
+  unfolding reached_within
+  found_chain zero q e = ⊎_elim (λ z. rw (← z) (chain_start P)) (λ o. absurd (nil_in q o)) (cons_in q entry_procedure [] e)
+  found_chain (suc n) q e =
+      ⊎_elim (λ o. found_chain n q o) (λ c. chain_on P (found_chain n c.0 c.1) c.2) (on_in (reached_within P n) q e)
 
   -- ---- with as many rounds as there are procedures all are found
-  some-length : (n : ℕ) (xs : List ℕ) → inList n xs ≡ true → 1 ≤ length xs
-  some-length n [] e = absurd (nil-in n e)
-  some-length n (x ∷ xs) e = omega arith
+  some_length : (n : ℕ) (xs : List ℕ) → in_list n xs ≡ true → 1 ≤ length xs
+  some_length n [] e = absurd (nil_in n e)
+  some_length n (x ∷ xs) e = omega arith
 
-  entry_found : (n : ℕ) → 0 < length P.procedures → inList entryProcedure (reachedWithin P n) ≡ true
-  unfolding reachedWithin
-  entry_found zero l = cons-here entryProcedure entryProcedure [] refl
-  entry_found (suc n) l = on-old (reachedWithin P n) entryProcedure l (entry_found n l)
+  entry_found : (n : ℕ) → 0 < length P.procedures → in_list entry_procedure (reached_within P n) ≡ true
+  unfolding reached_within
+  entry_found zero l = cons_here entry_procedure entry_procedure [] refl
+  entry_found (suc n) l = on_old (reached_within P n) entry_procedure l (entry_found n l)
 
   -- from the first round on, a round adds a procedure or none is left to add
-  on-grows : (ps : List ℕ) → (oneCallOn P (oneCallOn P ps) ≡ oneCallOn P ps) ⊎ (length (oneCallOn P ps) < length (oneCallOn P (oneCallOn P ps)))
-  unfolding oneCallOn
-  on-grows ps =
+  on_grows : (ps : List ℕ) → (one_call_on P (one_call_on P ps) ≡ one_call_on P ps) ⊎ (length (one_call_on P ps) < length (one_call_on P (one_call_on P ps)))
+  unfolding one_call_on
+  on_grows ps =
       ⊎_elim (λ e. inl (sym e)) (λ l. inr l)
-      (same-or-more (λ q. inList q (ps ++ calledFrom P ps)) (λ q. inList q (oneCallOn P ps ++ calledFrom P (oneCallOn P ps))) numbers
-      (λ q l e. append_left q (oneCallOn P ps) (calledFrom P (oneCallOn P ps)) (on-mk ps q (let h = upFrom-in 0 (length P.procedures) q l in omega arith) e)))
+      (same_or_more (λ q. in_list q (ps ++ called_from P ps)) (λ q. in_list q (one_call_on P ps ++ called_from P (one_call_on P ps))) numbers
+      (λ q l e. append_left q (one_call_on P ps) (called_from P (one_call_on P ps)) (on_mk ps q (let h = up_from_in 0 (length P.procedures) q l in omega arith) e)))
     where
       numbers : List ℕ
       numbers = up_from 0 (length P.procedures)
 
-  on-most : (ps : List ℕ) → length (oneCallOn P ps) ≤ length P.procedures
-  unfolding oneCallOn
-  on-most ps =
+  on_most : (ps : List ℕ) → length (one_call_on P ps) ≤ length P.procedures
+  unfolding one_call_on
+  on_most ps =
       omega (
         arith,
-        filtered-most (λ (q : ℕ). inList q (ps ++ calledFrom P ps)) (up_from 0 (length P.procedures)),
-        upFrom-length 0 (length P.procedures),
+        filtered_most (λ (q : ℕ). in_list q (ps ++ called_from P ps)) (up_from 0 (length P.procedures)),
+        up_from_length 0 (length P.procedures),
       )
 
   -- after the first round and n more, no round adds, or n + 1 procedures have been found
-  found-rounds : (n : ℕ) → 0 < length P.procedures
-      → (oneCallOn P (reachedWithin P (suc n)) ≡ reachedWithin P (suc n)) ⊎ (suc n ≤ length (reachedWithin P (suc n)))
-  unfolding reachedWithin
-  found-rounds n l =
-      rounds (oneCallOn P) length (λ k. reachedWithin P (suc k)) (λ k. refl) (λ k. on-grows (reachedWithin P k))
-      (some-length entryProcedure (reachedWithin P 1) (entry_found 1 l)) n
+  found_rounds : (n : ℕ) → 0 < length P.procedures
+      → (one_call_on P (reached_within P (suc n)) ≡ reached_within P (suc n)) ⊎ (suc n ≤ length (reached_within P (suc n)))
+  unfolding reached_within
+  found_rounds n l =
+      rounds (one_call_on P) length (λ k. reached_within P (suc k)) (λ k. refl) (λ k. on_grows (reached_within P k))
+      (some_length entry_procedure (reached_within P 1) (entry_found 1 l)) n
 
   -- so no round adds then
-  settled : (n : ℕ) → length P.procedures ≡ suc n → oneCallOn P (reachedWithin P (suc n)) ≡ reachedWithin P (suc n)
-  unfolding reachedWithin
+  settled : (n : ℕ) → length P.procedures ≡ suc n → one_call_on P (reached_within P (suc n)) ≡ reached_within P (suc n)
+  unfolding reached_within
   settled n e =
       ⊎_elim (λ s. s)
-      (λ m. ⊎_elim (λ s. s) (λ l. absurd (omega (arith, on-most (oneCallOn P (reachedWithin P n))))) (on-grows (reachedWithin P n)))
-      (found-rounds n (omega arith))
+      (λ m. ⊎_elim (λ s. s) (λ l. absurd (omega (arith, on_most (one_call_on P (reached_within P n))))) (on_grows (reached_within P n)))
+      (found_rounds n (omega arith))
 
-  reached-settled : (n : ℕ) → length P.procedures ≡ n → 0 < n → oneCallOn P (reached P) ≡ reached P
+  reached_settled : (n : ℕ) → length P.procedures ≡ n → 0 < n → one_call_on P (reached P) ≡ reached P
   unfolding reached
-  reached-settled zero e l = absurd (omega arith)
-  reached-settled (suc n) e l = rw e (settled n e)
+  reached_settled zero e l = absurd (omega arith)
+  reached_settled (suc n) e l = rw e (settled n e)
 
   -- ---- THE THEOREM
-  pub chain-reached : {q : ℕ} → CallChain P q → q < length P.procedures → inList q (reached P) ≡ true
+  pub chain_reached : {q : ℕ} → CallChain P q → q < length P.procedures → in_list q (reached P) ≡ true
   unfolding reached
-  chain-reached = chain-holds P (λ q. q < length P.procedures → inList q (reached P) ≡ true) onward (entry_found (length P.procedures))
+  chain_reached = chain_holds P (λ q. q < length P.procedures → in_list q (reached P) ≡ true) onward (entry_found (length P.procedures))
     where
-      onward : (p q : ℕ) → (p < length P.procedures → inList p (reached P) ≡ true) → inList q (callees P p) ≡ true
-          → q < length P.procedures → inList q (reached P) ≡ true
+      onward : (p q : ℕ) → (p < length P.procedures → in_list p (reached P) ≡ true) → in_list q (callees P p) ≡ true
+          → q < length P.procedures → in_list q (reached P) ≡ true
       onward p q h e l =
-          ap (inList q) (sym (reached-settled (length P.procedures) refl (omega arith)))
-          ∙ on-new (reached P) p q l (h (caller-below P p q e)) e
+          ap (in_list q) (sym (reached_settled (length P.procedures) refl (omega arith)))
+          ∙ on_new (reached P) p q l (h (caller_below P p q e)) e
 
-  pub reached-chain : {q : ℕ} → inList q (reached P) ≡ true → CallChain P q
+  pub reached_chain : {q : ℕ} → in_list q (reached P) ≡ true → CallChain P q
   unfolding reached
-  reached-chain {q} e = found-chain (length P.procedures) q e
+  reached_chain {q} e = found_chain (length P.procedures) q e
 
   -- ---- number 17
   -- every procedure "other than the entry" is reached by a chain
   abbrev pub AllReached : Type 0
-  AllReached = (q : ℕ) → q < length P.procedures → (q ≡ entryProcedure → ⊥) → CallChain P q
+  AllReached = (q : ℕ) → q < length P.procedures → (q ≡ entry_procedure → ⊥) → CallChain P q
 
-  pub ok-reached : reachedOk P ≡ true → AllReached
-  unfolding reachedOk
-  ok-reached e q l z = reached-chain (all-at (length P.procedures) 0 (λ q. inList q (reached P)) e q (omega arith) (omega arith))
+  pub ok_reached : reached_ok P ≡ true → AllReached
+  unfolding reached_ok
+  ok_reached e q l z = reached_chain (all_at (length P.procedures) 0 (λ q. in_list q (reached P)) e q (omega arith) (omega arith))
 
-  pub reached-ok : AllReached → reachedOk P ≡ true
-  unfolding reachedOk
-  reached-ok h =
-      at_all (length P.procedures) 0 (λ q. inList q (reached P))
-      (λ q b l. chain-reached (elim (ℕ_discrete q entryProcedure) [ yes e ↦ rw e (chain-start P) | no z ↦ h q (omega arith) z ]) (omega arith))
+  pub reached_ok_law : AllReached → reached_ok P ≡ true
+  unfolding reached_ok
+  reached_ok_law h =
+      at_all (length P.procedures) 0 (λ q. in_list q (reached P))
+      (λ q b l. chain_reached (elim (ℕ_discrete q entry_procedure) [ yes e ↦ rw e (chain_start P) | no z ↦ h q (omega arith) z ]) (omega arith))
 
   -- a file is refused for a procedure that there is
-  pub unreached-one : reachedOk P ≡ false → (q : ℕ) × (q < length P.procedures) × (q ≡ entryProcedure → ⊥) × (CallChain P q → ⊥)
-  unfolding reachedOk
-  unreached-one e =
-      let r = at-fails (length P.procedures) 0 (λ q. inList q (reached P)) e in
+  pub unreached_one : reached_ok P ≡ false → (q : ℕ) × (q < length P.procedures) × (q ≡ entry_procedure → ⊥) × (CallChain P q → ⊥)
+  unfolding reached_ok
+  unreached_one e =
+      let r = at_fails (length P.procedures) 0 (λ q. in_list q (reached P)) e in
       let l : r.0 < length P.procedures = omega arith in (
         r.0,
         l,
-        (λ z. clash (chain-reached (rw z (chain-start P)) l) r.3),
-        λ c. clash (chain-reached c l) r.3,
+        (λ z. clash (chain_reached (rw z (chain_start P)) l) r.3),
+        λ c. clash (chain_reached c l) r.3,
       )
 
 -- the same calls, the same answer
-pub same-reached : (P Q : Program) → length P.procedures ≡ length Q.procedures → ((p : ℕ) → callees P p ≡ callees Q p) → reachedOk P ≡ reachedOk Q
-same-reached P Q n same =
-    same_truth (λ e. reached-ok Q (λ q l z. chain_same P Q same (ok-reached P e q (omega arith) z)))
-    (λ e. reached-ok P (λ q l z. chain_same Q P (λ p. sym (same p)) (ok-reached Q e q (omega arith) z)))
+pub same_reached : (P Q : Program) → length P.procedures ≡ length Q.procedures → ((p : ℕ) → callees P p ≡ callees Q p) → reached_ok P ≡ reached_ok Q
+same_reached P Q n same =
+    same_truth (λ e. reached_ok_law Q (λ q l z. chain_same P Q same (ok_reached P e q (omega arith) z)))
+    (λ e. reached_ok_law P (λ q l z. chain_same Q P (λ p. sym (same p)) (ok_reached Q e q (omega arith) z)))

@@ -9,229 +9,229 @@ use mathlib.Core.Path.{◌≡◌, refl, sym, ap, ◌∙◌, fun_ext}
 use borrow.Author.Tests.{eq-eqb, ne_eqb, ltb-true}
 use lib.Dec.{eqb}
 use lib.ListN.{length}
-use Rattle.sets.specs.Tests.{neg, truth, clash, false_of, and-true, true-and, neg-true, true-neg}
-use Rattle.sets.specs.Members.{inList, cons-here, cons-in, nil-in}
+use Rattle.sets.specs.Tests.{neg, truth, clash, false_of, and_true, true_and, neg_true, true_neg}
+use Rattle.sets.specs.Members.{in_list, cons_here, cons_in, nil_in}
 use Rattle.language.specs.Lists.{choose}
-use Rattle.language.specs.Format.{kindWord, callProcedure, maxProcedures}
-use Rattle.language.specs.File.{kLiteral, kSum, kAssign, kConstruct, kSwitch, kIf, kCall, kPrint, kCreate, kRemove, kTry, kTest, Kind, kNone, kHeader, kType, kFunctor, kProcedure, kVariable, kRegion, kEdge, kArm, kArgument, kGoal, kind_of, word, recordCount}
-use Rattle.language.specs.Program.{Goals, done, ◌then◌, Goal, step, switch, ifLess, try, Arms, noArms, arm, Program, procedureAt, signature_of}
-use Rattle.language.specs.Typing.{stepOk, goalOk, typingOk}
-use Rattle.language.specs.CallChains.{stepCallees, goalsCallees, goalCallees, armsCallees, callees}
+use Rattle.language.specs.Format.{kind_word, call_procedure, max_procedures}
+use Rattle.language.specs.File.{k_literal, k_sum, k_assign, k_construct, k_switch, k_if, k_call, k_print, k_create, k_remove, k_try, k_test, Kind, k_none, k_header, k_type, k_functor, k_procedure, k_variable, k_region, k_edge, k_arm, k_argument, k_goal, kind_of, word, record_count}
+use Rattle.language.specs.Program.{Goals, done, ◌then◌, Goal, step, switch, if_less, try, Arms, no_arms, arm, Program, procedure_at, signature_of}
+use Rattle.language.specs.Typing.{step_ok, goal_ok, typing_ok}
+use Rattle.language.specs.CallChains.{step_callees, goals_callees, goal_callees, arms_callees, callees}
 use Rattle.language.specs.Answers.{program}
-use Rattle.laws.specs.Choices.{choose-true, choose-false}
-use Rattle.laws.specs.Numbers.{at-fails}
-use Rattle.laws.specs.Lists.{append-in, append_left, append_right}
-use Rattle.laws.specs.Typed.{procedures-count}
-use Rattle.call_graph.specs.Chains.{caller-below}
-use Rattle.chains.specs.Layout.{all-rows, number_is}
-use Rattle.chains.specs.Formed.{Formed, goalAt}
+use Rattle.laws.specs.Choices.{choose_true, choose_false}
+use Rattle.laws.specs.Numbers.{at_fails}
+use Rattle.laws.specs.Lists.{append_in, append_left, append_right}
+use Rattle.laws.specs.Typed.{procedures_count}
+use Rattle.call_graph.specs.Chains.{caller_below}
+use Rattle.chains.specs.Layout.{all_rows, number_is}
+use Rattle.chains.specs.Formed.{Formed, goal_at}
 use Rattle.chains.specs.Kinds.{same_read}
-use Rattle.chains.specs.Goals.{literal-at, sum-at, assign-at, construct-at, print-at, create-at, remove-at, test_at}
-use Rattle.chains.specs.Parts.{switch-at, if-at, try-at, call_at}
-use Rattle.chains.specs.Shapes.{goal-number, call-here}
-use Rattle.owners.specs.Owner.{ownerOf}
-use Rattle.owners.specs.Owners.{kind-goals}
-use Rattle.owners.specs.Below.{goals-pass, goal-owner-below}
-use Rattle.owners.specs.Typed.{typed-goal}
-use Rattle.owners.specs.Everywhere.{allGoals, allGoal, allArms, everyGoal, ifGoal, recordTest, everyRecord}
-use Rattle.owners.specs.Numbered.{at_every, every-at}
-use Rattle.owners.specs.TreeLaw.{record-kind, goals-records, every-record}
+use Rattle.chains.specs.Goals.{literal_at, sum_at_law, assign_at, construct_at, print_at, create_at, remove_at, test_at}
+use Rattle.chains.specs.Parts.{switch_at, if_at, try_at, call_at}
+use Rattle.chains.specs.Shapes.{goal_number, call_here}
+use Rattle.owners.specs.Owner.{owner_of}
+use Rattle.owners.specs.Owners.{kind_goals}
+use Rattle.owners.specs.Below.{goals_pass, goal_owner_below}
+use Rattle.owners.specs.Typed.{typed_goal}
+use Rattle.owners.specs.Everywhere.{all_goals, all_goal, all_arms, every_goal, if_goal, record_test, every_record}
+use Rattle.owners.specs.Numbered.{at_every, every_at}
+use Rattle.owners.specs.TreeLaw.{record_kind, goals_records, every_record_law}
 use Rattle.called.specs.Calls.{CallOf}
 
 -- ---- one goal, its parts aside, does not call q
 unfoldable spares : ℕ → Goal → Bool
-spares q (step s) = neg (inList q (stepCallees s))
+spares q (step s) = neg (in_list q (step_callees s))
 spares q (switch x cs) = true
-spares q (ifLess y z a b) = true
+spares q (if_less y z a b) = true
 spares q (try c a b) = true
 
 -- .. and no goal of a chain, nor of their parts
 module _ (q : ℕ) where
   mutual
-    unfolding allGoals spares goalsCallees
+    unfolding all_goals spares goals_callees
 
-    goals-spare : (gs : Goals) → (inList q (goalsCallees gs) ≡ true → ⊥) → allGoals (spares q) gs ≡ true
-    goals-spare done n = refl
-    goals-spare (g then gs) n =
-        true-and (goal-spares g (λ e. n (append_left q (goalCallees g) (goalsCallees gs) e))) (goals-spare gs (λ e. n (append_right q (goalCallees g) (goalsCallees gs) e)))
+    goals_spare : (gs : Goals) → (in_list q (goals_callees gs) ≡ true → ⊥) → all_goals (spares q) gs ≡ true
+    goals_spare done n = refl
+    goals_spare (g then gs) n =
+        true_and (goal_spares g (λ e. n (append_left q (goal_callees g) (goals_callees gs) e))) (goals_spare gs (λ e. n (append_right q (goal_callees g) (goals_callees gs) e)))
 
-    goal-spares : (g : Goal) → (inList q (goalCallees g) ≡ true → ⊥) → allGoal (spares q) g ≡ true
-    goal-spares (step s) n = true-neg (false_of n)
-    goal-spares (switch x cs) n = true-and refl (arms-spare cs n)
-    goal-spares (ifLess y z a b) n =
-        true-and refl
-        (true-and (goals-spare a (λ e. n (append_left q (goalsCallees a) (goalsCallees b) e))) (goals-spare b (λ e. n (append_right q (goalsCallees a) (goalsCallees b) e))))
-    goal-spares (try c a b) n =
-        let m : inList q (goalsCallees c ++ goalsCallees a) ≡ true → ⊥ = λ e. n (append_left q (goalsCallees c ++ goalsCallees a) (goalsCallees b) e) in
-        true-and refl
-        (true-and (goals-spare c (λ e. m (append_left q (goalsCallees c) (goalsCallees a) e)))
-        (true-and (goals-spare a (λ e. m (append_right q (goalsCallees c) (goalsCallees a) e)))
-        (goals-spare b (λ e. n (append_right q (goalsCallees c ++ goalsCallees a) (goalsCallees b) e)))))
+    goal_spares : (g : Goal) → (in_list q (goal_callees g) ≡ true → ⊥) → all_goal (spares q) g ≡ true
+    goal_spares (step s) n = true_neg (false_of n)
+    goal_spares (switch x cs) n = true_and refl (arms_spare cs n)
+    goal_spares (if_less y z a b) n =
+        true_and refl
+        (true_and (goals_spare a (λ e. n (append_left q (goals_callees a) (goals_callees b) e))) (goals_spare b (λ e. n (append_right q (goals_callees a) (goals_callees b) e))))
+    goal_spares (try c a b) n =
+        let m : in_list q (goals_callees c ++ goals_callees a) ≡ true → ⊥ = λ e. n (append_left q (goals_callees c ++ goals_callees a) (goals_callees b) e) in
+        true_and refl
+        (true_and (goals_spare c (λ e. m (append_left q (goals_callees c) (goals_callees a) e)))
+        (true_and (goals_spare a (λ e. m (append_right q (goals_callees c) (goals_callees a) e)))
+        (goals_spare b (λ e. n (append_right q (goals_callees c ++ goals_callees a) (goals_callees b) e)))))
 
-    arms-spare : (cs : Arms) → (inList q (armsCallees cs) ≡ true → ⊥) → allArms (spares q) cs ≡ true
-    arms-spare noArms n = refl
-    arms-spare (arm f ys gs cs) n =
-        true-and (goals-spare gs (λ e. n (append_left q (goalsCallees gs) (armsCallees cs) e))) (arms-spare cs (λ e. n (append_right q (goalsCallees gs) (armsCallees cs) e)))
+    arms_spare : (cs : Arms) → (in_list q (arms_callees cs) ≡ true → ⊥) → all_arms (spares q) cs ≡ true
+    arms_spare no_arms n = refl
+    arms_spare (arm f ys gs cs) n =
+        true_and (goals_spare gs (λ e. n (append_left q (goals_callees gs) (arms_callees cs) e))) (arms_spare cs (λ e. n (append_right q (goals_callees gs) (arms_callees cs) e)))
 
   mutual
-    unfolding allGoals spares goalsCallees
+    unfolding all_goals spares goals_callees
 
-    spared-goals : (gs : Goals) → allGoals (spares q) gs ≡ true → inList q (goalsCallees gs) ≡ true → ⊥
-    spared-goals done h e = nil-in q e
-    spared-goals (g then gs) h e = ⊎_elim (λ c. spared-goal g (and-true h).0 c) (λ c. spared-goals gs (and-true h).1 c) (append-in q (goalCallees g) (goalsCallees gs) e)
+    spared_goals : (gs : Goals) → all_goals (spares q) gs ≡ true → in_list q (goals_callees gs) ≡ true → ⊥
+    spared_goals done h e = nil_in q e
+    spared_goals (g then gs) h e = ⊎_elim (λ c. spared_goal g (and_true h).0 c) (λ c. spared_goals gs (and_true h).1 c) (append_in q (goal_callees g) (goals_callees gs) e)
 
-    spared-goal : (g : Goal) → allGoal (spares q) g ≡ true → inList q (goalCallees g) ≡ true → ⊥
-    spared-goal (step s) h e = clash e (neg-true h)
-    spared-goal (switch x cs) h e = spared-arms cs (and-true h).1 e
-    spared-goal (ifLess y z a b) h e =
-        let r = and-true (and-true h).1 in
-        ⊎_elim (λ c. spared-goals a r.0 c) (λ c. spared-goals b r.1 c) (append-in q (goalsCallees a) (goalsCallees b) e)
-    spared-goal (try c a b) h e =
-        let r = and-true (and-true h).1 in
-        let t = and-true r.1 in
-        ⊎_elim (λ d. ⊎_elim (λ k. spared-goals c r.0 k) (λ k. spared-goals a t.0 k) (append-in q (goalsCallees c) (goalsCallees a) d)) (λ d. spared-goals b t.1 d)
-        (append-in q (goalsCallees c ++ goalsCallees a) (goalsCallees b) e)
+    spared_goal : (g : Goal) → all_goal (spares q) g ≡ true → in_list q (goal_callees g) ≡ true → ⊥
+    spared_goal (step s) h e = clash e (neg_true h)
+    spared_goal (switch x cs) h e = spared_arms cs (and_true h).1 e
+    spared_goal (if_less y z a b) h e =
+        let r = and_true (and_true h).1 in
+        ⊎_elim (λ c. spared_goals a r.0 c) (λ c. spared_goals b r.1 c) (append_in q (goals_callees a) (goals_callees b) e)
+    spared_goal (try c a b) h e =
+        let r = and_true (and_true h).1 in
+        let t = and_true r.1 in
+        ⊎_elim (λ d. ⊎_elim (λ k. spared_goals c r.0 k) (λ k. spared_goals a t.0 k) (append_in q (goals_callees c) (goals_callees a) d)) (λ d. spared_goals b t.1 d)
+        (append_in q (goals_callees c ++ goals_callees a) (goals_callees b) e)
 
-    spared-arms : (cs : Arms) → allArms (spares q) cs ≡ true → inList q (armsCallees cs) ≡ true → ⊥
-    spared-arms noArms h e = nil-in q e
-    spared-arms (arm f ys gs cs) h e = ⊎_elim (λ c. spared-goals gs (and-true h).0 c) (λ c. spared-arms cs (and-true h).1 c) (append-in q (goalsCallees gs) (armsCallees cs) e)
+    spared_arms : (cs : Arms) → all_arms (spares q) cs ≡ true → in_list q (arms_callees cs) ≡ true → ⊥
+    spared_arms no_arms h e = nil_in q e
+    spared_arms (arm f ys gs cs) h e = ⊎_elim (λ c. spared_goals gs (and_true h).0 c) (λ c. spared_arms cs (and_true h).1 c) (append_in q (goals_callees gs) (arms_callees cs) e)
 
 -- ---- no goal of procedure p calls q, asked of every goal
-unfoldable sparesIn : ℕ → ℕ → ℕ → Goal → Bool
-sparesIn p q o g = choose (eqb o p) (spares q g) true
+unfoldable spares_in : ℕ → ℕ → ℕ → Goal → Bool
+spares_in p q o g = choose (eqb o p) (spares q g) true
 
 module _ (p q : ℕ) where
-  own-test : sparesIn p q p ≡ spares q
-  unfolding sparesIn
-  own-test = fun_ext λ g. choose-true (eqb p p) (spares q g) true (eq-eqb p p refl)
+  own_test : spares_in p q p ≡ spares q
+  unfolding spares_in
+  own_test = fun_ext λ g. choose_true (eqb p p) (spares q g) true (eq-eqb p p refl)
 
-  other_test : (o : ℕ) (g : Goal) → (o ≡ p → ⊥) → sparesIn p q o g ≡ true
-  unfolding sparesIn
-  other_test o g z = choose-false (eqb o p) (spares q g) true (ne_eqb o p z)
+  other_test : (o : ℕ) (g : Goal) → (o ≡ p → ⊥) → spares_in p q o g ≡ true
+  unfolding spares_in
+  other_test o g z = choose_false (eqb o p) (spares q g) true (ne_eqb o p z)
 
   module _ (P : Program) where
-    none-calls : (inList q (callees P p) ≡ true → ⊥) → everyGoal (sparesIn p q) P ≡ true
+    none_calls : (in_list q (callees P p) ≡ true → ⊥) → every_goal (spares_in p q) P ≡ true
     unfolding callees
-    none-calls n = at_every (sparesIn p q) P (λ o l. here o (ℕ_discrete o p))
+    none_calls n = at_every (spares_in p q) P (λ o l. here o (ℕ_discrete o p))
       where
-        here : (o : ℕ) → Dec (o ≡ p) → allGoals (sparesIn p q o) (procedureAt P o).body ≡ true
-        here o (yes e) = rw (e, own-test) (goals-spare q (procedureAt P p).body n)
-        here o (no z) = goals-pass (sparesIn p q o) (λ g. other_test o g z) (procedureAt P o).body
+        here : (o : ℕ) → Dec (o ≡ p) → all_goals (spares_in p q o) (procedure_at P o).body ≡ true
+        here o (yes e) = rw (e, own_test) (goals_spare q (procedure_at P p).body n)
+        here o (no z) = goals_pass (spares_in p q o) (λ g. other_test o g z) (procedure_at P o).body
 
-    some-calls : everyGoal (sparesIn p q) P ≡ true → inList q (callees P p) ≡ true → ⊥
+    some_calls : every_goal (spares_in p q) P ≡ true → in_list q (callees P p) ≡ true → ⊥
     unfolding callees
-    some-calls h e =
-        spared-goals q (procedureAt P p).body
-        (ap (λ (L : Goal → Bool). allGoals L (procedureAt P p).body) (sym own-test) ∙ every-at (sparesIn p q) P h p (caller-below P p q e)) e
+    some_calls h e =
+        spared_goals q (procedure_at P p).body
+        (ap (λ (L : Goal → Bool). all_goals L (procedure_at P p).body) (sym own_test) ∙ every_at (spares_in p q) P h p (caller_below P p q e)) e
 
 -- ---- a record that calls: record i is a call in the goals of procedure p
-call-goal : {f : List ℕ} {p i : ℕ} → CallOf f p i → kind_of (word f i kindWord) ≡ kGoal kCall
-unfolding all-rows
-call-goal {f} {p} {i} c = number_is (kGoal kCall) (word f i kindWord) c.kind
+call_goal : {f : List ℕ} {p i : ℕ} → CallOf f p i → kind_of (word f i kind_word) ≡ k_goal k_call
+unfolding all_rows
+call_goal {f} {p} {i} c = number_is (k_goal k_call) (word f i kind_word) c.kind
 
-goal-passed : (k : Kind) → ifGoal k true ≡ true
-unfolding ifGoal
-goal-passed kNone = refl
-goal-passed kHeader = refl
-goal-passed kType = refl
-goal-passed kFunctor = refl
-goal-passed kProcedure = refl
-goal-passed kVariable = refl
-goal-passed kRegion = refl
-goal-passed kEdge = refl
-goal-passed kArm = refl
-goal-passed kArgument = refl
-goal-passed (kGoal g) = refl
+goal_passed : (k : Kind) → if_goal k true ≡ true
+unfolding if_goal
+goal_passed k_none = refl
+goal_passed k_header = refl
+goal_passed k_type = refl
+goal_passed k_functor = refl
+goal_passed k_procedure = refl
+goal_passed k_variable = refl
+goal_passed k_region = refl
+goal_passed k_edge = refl
+goal_passed k_arm = refl
+goal_passed k_argument = refl
+goal_passed (k_goal g) = refl
 
 module _ {f : List ℕ} (F : Formed f) (p q : ℕ) where
   -- a record that does not pass is a call of q
-  call-kind : (i : ℕ) (k : Kind) → kind_of (word f i kindWord) ≡ k → ifGoal k (spares q (goalAt f i)) ≡ false
-      → (k ≡ kGoal kCall) × (word f i callProcedure ≡ q)
-  unfolding ifGoal spares stepCallees neg inList
-  call-kind i kNone e h = absurd (clash refl h)
-  call-kind i kHeader e h = absurd (clash refl h)
-  call-kind i kType e h = absurd (clash refl h)
-  call-kind i kFunctor e h = absurd (clash refl h)
-  call-kind i kProcedure e h = absurd (clash refl h)
-  call-kind i kVariable e h = absurd (clash refl h)
-  call-kind i kRegion e h = absurd (clash refl h)
-  call-kind i kEdge e h = absurd (clash refl h)
-  call-kind i kArm e h = absurd (clash refl h)
-  call-kind i kArgument e h = absurd (clash refl h)
-  call-kind i (kGoal kLiteral) e h = absurd (clash (ap (spares q) (literal-at F refl (same_read f i refl e)).goal) h)
-  call-kind i (kGoal kSum) e h = absurd (clash (ap (spares q) (sum-at F refl (same_read f i refl e)).goal) h)
-  call-kind i (kGoal kAssign) e h = absurd (clash (ap (spares q) (assign-at F refl (same_read f i refl e)).goal) h)
-  call-kind i (kGoal kConstruct) e h = absurd (clash (ap (spares q) (construct-at F refl (same_read f i refl e)).goal) h)
-  call-kind i (kGoal kSwitch) e h = absurd (clash (ap (spares q) (switch-at F refl (same_read f i refl e)).goal) h)
-  call-kind i (kGoal kIf) e h = absurd (clash (ap (spares q) (if-at F refl (same_read f i refl e)).goal) h)
-  call-kind i (kGoal kCall) e h = (refl, called (ap (spares q) (sym (call_at F refl (same_read f i refl e)).goal) ∙ h))
+  call_kind_law : (i : ℕ) (k : Kind) → kind_of (word f i kind_word) ≡ k → if_goal k (spares q (goal_at f i)) ≡ false
+      → (k ≡ k_goal k_call) × (word f i call_procedure ≡ q)
+  unfolding if_goal spares step_callees neg in_list
+  call_kind_law i k_none e h = absurd (clash refl h)
+  call_kind_law i k_header e h = absurd (clash refl h)
+  call_kind_law i k_type e h = absurd (clash refl h)
+  call_kind_law i k_functor e h = absurd (clash refl h)
+  call_kind_law i k_procedure e h = absurd (clash refl h)
+  call_kind_law i k_variable e h = absurd (clash refl h)
+  call_kind_law i k_region e h = absurd (clash refl h)
+  call_kind_law i k_edge e h = absurd (clash refl h)
+  call_kind_law i k_arm e h = absurd (clash refl h)
+  call_kind_law i k_argument e h = absurd (clash refl h)
+  call_kind_law i (k_goal k_literal) e h = absurd (clash (ap (spares q) (literal_at F refl (same_read f i refl e)).goal) h)
+  call_kind_law i (k_goal k_sum) e h = absurd (clash (ap (spares q) (sum_at_law F refl (same_read f i refl e)).goal) h)
+  call_kind_law i (k_goal k_assign) e h = absurd (clash (ap (spares q) (assign_at F refl (same_read f i refl e)).goal) h)
+  call_kind_law i (k_goal k_construct) e h = absurd (clash (ap (spares q) (construct_at F refl (same_read f i refl e)).goal) h)
+  call_kind_law i (k_goal k_switch) e h = absurd (clash (ap (spares q) (switch_at F refl (same_read f i refl e)).goal) h)
+  call_kind_law i (k_goal k_if) e h = absurd (clash (ap (spares q) (if_at F refl (same_read f i refl e)).goal) h)
+  call_kind_law i (k_goal k_call) e h = (refl, called (ap (spares q) (sym (call_at F refl (same_read f i refl e)).goal) ∙ h))
     where
-      called : neg (inList q (word f i callProcedure ∷ [])) ≡ false → word f i callProcedure ≡ q
-      called n = only (truth (inList q (word f i callProcedure ∷ [])))
+      called : neg (in_list q (word f i call_procedure ∷ [])) ≡ false → word f i call_procedure ≡ q
+      called n = only (truth (in_list q (word f i call_procedure ∷ [])))
         where
-          only : (inList q (word f i callProcedure ∷ []) ≡ true) ⊎ (inList q (word f i callProcedure ∷ []) ≡ false) → word f i callProcedure ≡ q
-          only (inl t) = ⊎_elim (λ z. z) (λ z. absurd (nil-in q z)) (cons-in q (word f i callProcedure) [] t)
-          only (inr t) = absurd (clash (true-neg t) n)
-  call-kind i (kGoal kPrint) e h = absurd (clash (ap (spares q) (print-at F refl (same_read f i refl e)).goal) h)
-  call-kind i (kGoal kCreate) e h = absurd (clash (ap (spares q) (create-at F refl (same_read f i refl e)).goal) h)
-  call-kind i (kGoal kRemove) e h = absurd (clash (ap (spares q) (remove-at F refl (same_read f i refl e)).goal) h)
-  call-kind i (kGoal kTry) e h = absurd (clash (ap (spares q) (try-at F refl (same_read f i refl e)).goal) h)
-  call-kind i (kGoal kTest) e h = absurd (clash (ap (spares q) (test_at F refl (same_read f i refl e)).goal) h)
+          only : (in_list q (word f i call_procedure ∷ []) ≡ true) ⊎ (in_list q (word f i call_procedure ∷ []) ≡ false) → word f i call_procedure ≡ q
+          only (inl t) = ⊎_elim (λ z. z) (λ z. absurd (nil_in q z)) (cons_in q (word f i call_procedure) [] t)
+          only (inr t) = absurd (clash (true_neg t) n)
+  call_kind_law i (k_goal k_print) e h = absurd (clash (ap (spares q) (print_at F refl (same_read f i refl e)).goal) h)
+  call_kind_law i (k_goal k_create) e h = absurd (clash (ap (spares q) (create_at F refl (same_read f i refl e)).goal) h)
+  call_kind_law i (k_goal k_remove) e h = absurd (clash (ap (spares q) (remove_at F refl (same_read f i refl e)).goal) h)
+  call_kind_law i (k_goal k_try) e h = absurd (clash (ap (spares q) (try_at F refl (same_read f i refl e)).goal) h)
+  call_kind_law i (k_goal k_test) e h = absurd (clash (ap (spares q) (test_at F refl (same_read f i refl e)).goal) h)
 
-  failed-call : (i : ℕ) → 0 < i → i < recordCount f → recordTest (sparesIn p q) f i ≡ false → CallOf f p i × (word f i callProcedure ≡ q)
-  unfolding all-rows
-  failed-call i a b h = go (ℕ_discrete (ownerOf f i) p)
+  failed_call : (i : ℕ) → 0 < i → i < record_count f → record_test (spares_in p q) f i ≡ false → CallOf f p i × (word f i call_procedure ≡ q)
+  unfolding all_rows
+  failed_call i a b h = go (ℕ_discrete (owner_of f i) p)
     where
       k : Kind
-      k = kind_of (word f i kindWord)
+      k = kind_of (word f i kind_word)
 
-      fails : ifGoal k (sparesIn p q (ownerOf f i) (goalAt f i)) ≡ false
-      fails = sym (record-kind (sparesIn p q) F i k refl) ∙ h
+      fails : if_goal k (spares_in p q (owner_of f i) (goal_at f i)) ≡ false
+      fails = sym (record_kind (spares_in p q) F i k refl) ∙ h
 
-      go : Dec (ownerOf f i ≡ p) → CallOf f p i × (word f i callProcedure ≡ q)
+      go : Dec (owner_of f i ≡ p) → CallOf f p i × (word f i call_procedure ≡ q)
       go (yes e) =
-          let c = call-kind i k refl (ap (λ (L : Goal → Bool). ifGoal k (L (goalAt f i))) (sym (own-test p q)) ∙ ap (λ (o : ℕ). ifGoal k (sparesIn p q o (goalAt f i))) (sym e) ∙ fails) in
-          (record { some = a; below = b; kind = goal-number (word f i kindWord) kCall c.0; owner = e }, c.1)
-      go (no z) = absurd (clash (ap (ifGoal k) (other_test p q (ownerOf f i) (goalAt f i) z) ∙ goal-passed k) fails)
+          let c = call_kind_law i k refl (ap (λ (L : Goal → Bool). if_goal k (L (goal_at f i))) (sym (own_test p q)) ∙ ap (λ (o : ℕ). if_goal k (spares_in p q o (goal_at f i))) (sym e) ∙ fails) in
+          (record { some = a; below = b; kind = goal_number (word f i kind_word) k_call c.0; owner = e }, c.1)
+      go (no z) = absurd (clash (ap (if_goal k) (other_test p q (owner_of f i) (goal_at f i) z) ∙ goal_passed k) fails)
 
   -- ---- what p calls, a record of it calls
-  pub called-record : inList q (callees (program f) p) ≡ true → (i : ℕ) × CallOf f p i × (word f i callProcedure ≡ q)
-  unfolding everyRecord
-  called-record e =
-      let r = at-fails (recordCount f - 1) 1 (recordTest (sparesIn p q) f) (false_of (λ t. some-calls p q (program f) (every-record (sparesIn p q) F ∙ t) e)) in
-      let c = failed-call r.0 (omega arith) (omega arith) r.3 in
+  pub called_record : in_list q (callees (program f) p) ≡ true → (i : ℕ) × CallOf f p i × (word f i call_procedure ≡ q)
+  unfolding every_record
+  called_record e =
+      let r = at_fails (record_count f - 1) 1 (record_test (spares_in p q) f) (false_of (λ t. some_calls p q (program f) (every_record_law (spares_in p q) F ∙ t) e)) in
+      let c = failed_call r.0 (omega arith) (omega arith) r.3 in
       (r.0, c.0, c.1)
 
 -- .. and the other way round
 module _ {f : List ℕ} (F : Formed f) {p i : ℕ} (c : CallOf f p i) where
   abbrev named : ℕ
-  named = word f i callProcedure
+  named = word f i call_procedure
 
-  call-test : recordTest (sparesIn p named) f i ≡ false
-  unfolding ifGoal spares stepCallees neg
-  call-test =
-      let a = call-here F refl c.kind in
-      record-kind (sparesIn p named) F i (kGoal kCall) (call-goal c)
-      ∙ ap (λ (o : ℕ). sparesIn p named o (goalAt f i)) c.owner
-      ∙ ap (λ (L : Goal → Bool). L (goalAt f i)) (own-test p named)
+  call_test : record_test (spares_in p named) f i ≡ false
+  unfolding if_goal spares step_callees neg
+  call_test =
+      let a = call_here F refl c.kind in
+      record_kind (spares_in p named) F i (k_goal k_call) (call_goal c)
+      ∙ ap (λ (o : ℕ). spares_in p named o (goal_at f i)) c.owner
+      ∙ ap (λ (L : Goal → Bool). L (goal_at f i)) (own_test p named)
       ∙ ap (spares named) a.goal
-      ∙ ap neg (cons-here named named [] refl)
+      ∙ ap neg (cons_here named named [] refl)
 
-  pub record-called : inList named (callees (program f) p) ≡ true
-  record-called =
-      elim (truth (inList named (callees (program f) p))) [
+  pub record_called : in_list named (callees (program f) p) ≡ true
+  record_called =
+      elim (truth (in_list named (callees (program f) p))) [
         | inl t ↦ t
-        | inr n ↦ absurd (clash (goals-records (sparesIn p named) F (none-calls p named (program f) (λ t. clash t n)) i c.some c.below) call-test)
+        | inr n ↦ absurd (clash (goals_records (spares_in p named) F (none_calls p named (program f) (λ t. clash t n)) i c.some c.below) call_test)
       ]
 
 -- ---- what number 3 says of it
-module _ {f : List ℕ} (F : Formed f) (ok : typingOk (program f) ≡ true) {p i : ℕ} (c : CallOf f p i) where
-  pub owner-low : p < maxProcedures
-  owner-low =
-      omega (arith, c.owner, goal-owner-below F {i = i} (λ z. omega (arith, c.some)) (kind-goals c.below kCall (call-goal c)), (procedures-count (program f) ok).1)
+module _ {f : List ℕ} (F : Formed f) (ok : typing_ok (program f) ≡ true) {p i : ℕ} (c : CallOf f p i) where
+  pub owner_low : p < max_procedures
+  owner_low =
+      omega (arith, c.owner, goal_owner_below F {i = i} (λ z. omega (arith, c.some)) (kind_goals c.below k_call (call_goal c)), (procedures_count (program f) ok).1)
 
-  pub callee-low : word f i callProcedure < length (program f).procedures
-  unfolding goalOk stepOk
-  callee-low =
-      ltb-true (word f i callProcedure) (length (program f).procedures)
-      (and-true (ap (goalOk (program f) (signature_of (program f) (ownerOf f i))) (sym (call-here F refl c.kind).goal) ∙ typed-goal F ok i c.some c.below kCall (call-goal c))).0
+  pub callee_low : word f i call_procedure < length (program f).procedures
+  unfolding goal_ok step_ok
+  callee_low =
+      ltb-true (word f i call_procedure) (length (program f).procedures)
+      (and_true (ap (goal_ok (program f) (signature_of (program f) (owner_of f i))) (sym (call_here F refl c.kind).goal) ∙ typed_goal F ok i c.some c.below k_call (call_goal c))).0

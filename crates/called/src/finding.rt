@@ -1,7 +1,7 @@
 // The procedures that chains of calls from the entry reach: a worklist of them, where each one's calls are looked at once.
 ghost use Rattle.std.specs.Prelude.{◌≡◌, true, length, ◌<◌};
-ghost use Rattle.language.specs.CallChains.{CallChain, reachedOk};
-ghost use Rattle.language.specs.Typing.{typingOk};
+ghost use Rattle.language.specs.CallChains.{CallChain, reached_ok};
+ghost use Rattle.language.specs.Typing.{typing_ok};
 ghost use Rattle.language.specs.Answers.{program};
 ghost use Rattle.chains.specs.Formed.{Formed};
 ghost use Rattle.called.specs.Linked.{CallsLinked};
@@ -26,7 +26,7 @@ fn look_at(
     n: usize,
 ) -> usize
     requires formed { Formed file.now }
-    requires file_value { typingOk (program file.now) ≡ true }
+    requires file_value { typing_ok (program file.now) ≡ true }
     requires calls_linked { CallsLinked file.now links.now lasts.now }
     requires p_in_bounds { (p < length (program file.now).procedures) × CallChain (program file.now) p }
     requires found { Found file.now marks.old order.old n }
@@ -49,9 +49,9 @@ fn look_at(
 // Whether chains of calls from the entry reach every procedure: as many were found as there are.
 pub fn reaches_all(file: &[u8], links: &[u16; MAX_RECORDS], lasts: &[u16; MAX_PROCEDURES]) -> bool
     requires formed { Formed file.now }
-    requires file_value { typingOk (program file.now) ≡ true }
+    requires file_value { typing_ok (program file.now) ≡ true }
     requires calls_linked { CallsLinked file.now links.now lasts.now }
-    ensures { result ≡ reachedOk (program file.now) }
+    ensures { result ≡ reached_ok (program file.now) }
 {
     let mut marks = blank_procedures();
     let mut order = blank_procedures();

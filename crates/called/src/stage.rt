@@ -1,7 +1,7 @@
 // Number 17 as a stage.
 ghost use Rattle.std.specs.Prelude.{◌≡◌, true};
-ghost use Rattle.language.specs.CallChains.{reachedOk};
-ghost use Rattle.language.specs.Typing.{typingOk};
+ghost use Rattle.language.specs.CallChains.{reached_ok};
+ghost use Rattle.language.specs.Typing.{typing_ok};
 ghost use Rattle.language.specs.Answers.{program};
 ghost use Rattle.chains.specs.Formed.{Formed};
 ghost use Rattle.called.specs.Linked.{OwnersIn, LinksLeft};
@@ -15,9 +15,9 @@ use records::blank::blank_procedures;
 // the call before it of the same procedure.
 pub fn all_reached(file: &[u8], owners: &mut [u16; MAX_RECORDS]) -> bool
     requires formed { Formed file.now }
-    requires file_value { typingOk (program file.now) ≡ true }
+    requires file_value { typing_ok (program file.now) ≡ true }
     requires owners_in { OwnersIn file.now owners.old }
-    ensures value { result ≡ reachedOk (program file.now) }
+    ensures value { result ≡ reached_ok (program file.now) }
     ensures links_left { LinksLeft file.now owners.old owners.new }
 {
     let mut lasts = blank_procedures();

@@ -1,265 +1,265 @@
 -- Records by the number of their kind, for code that reads words: what the record is, what stands there and where its words lead.
--- A contract says `IsSwitch f i`; code that has read the kind into w and tested it has `w ≡ word f i kindWord` and `w ≡ switchKind`.
+-- A contract says `IsSwitch f i`; code that has read the kind into w and tested it has `w ≡ word f i kind_word` and `w ≡ switch_kind`.
 use Rattle.std.specs.Prelude.{ℕ, ◌+◌, ◌≡◌, List, ◌⊎◌}
 use Rattle.std.proofs.Common.{arith, sym, ap, ◌∙◌, inl, inr}
 use Rattle.std.proofs.Math.Path.{refl}
 use Rattle.language.specs.Format
-use Rattle.language.specs.Format.{kindWord, nextWord, variableKind, literalKind, sumKind, assignKind, constructKind, switchKind, ifKind, callKind, printKind, createKind, removeKind, tryKind, testKind, argumentVariable, armGoals, assignY, callArguments, callProcedure, goalX, ifElse, ifThen, ifY, ifZ, lifetimeRegion, literalValue, printY, sumOperation, sumY, sumZ, switchArms, termArguments, termFunctor, testY, testZ, tryCondition, tryElse, tryThen}
-use Rattle.language.specs.File.{GoalKind, kLiteral, kSum, kAssign, kConstruct, kSwitch, kIf, kCall, kPrint, kCreate, kRemove, kTry, kTest, Kind, kNone, kVariable, kGoal, procedures, variables, regions, edges, goals, arms, arguments, row, kind_of, word, recordCount}
+use Rattle.language.specs.Format.{kind_word, next_word, variable_kind, literal_kind, sum_kind, assign_kind, construct_kind, switch_kind, if_kind, call_kind, print_kind, create_kind, remove_kind, try_kind, test_kind, argument_variable, arm_goals, assign_y, call_arguments, call_procedure, goal_x, if_else, if_then, if_y, if_z, lifetime_region, literal_value, print_y, sum_operation, sum_y, sum_z, switch_arms, term_arguments, term_functor, test_y, test_z, try_condition, try_else, try_then}
+use Rattle.language.specs.File.{GoalKind, k_literal, k_sum, k_assign, k_construct, k_switch, k_if, k_call, k_print, k_create, k_remove, k_try, k_test, Kind, k_none, k_variable, k_goal, procedures, variables, regions, edges, goals, arms, arguments, row, kind_of, word, record_count}
 use Rattle.language.specs.Program.{Step, ◌then◌, Goal, step}
-use Rattle.layout.specs.Table.{all-rows, number_is, number-kind}
-use Rattle.layout.specs.Chains.{starts-kind, variables-kind, goals-kind}
-use Rattle.records.specs.Records.{recordAs, recordAt}
-use Rattle.chains.specs.Formed.{Formed, Stands, stands-starts, Onward, goalsAt}
+use Rattle.layout.specs.Table.{all_rows, number_is, number_kind}
+use Rattle.layout.specs.Chains.{starts_kind, variables_kind, goals_kind}
+use Rattle.records.specs.Records.{record_as, record_at}
+use Rattle.chains.specs.Formed.{Formed, Stands, stands_starts, Onward, goals_at}
 use Rattle.chains.specs.Kinds.{same_read}
-use Rattle.chains.specs.Declared.{ProcedureAt, VariableAt, RegionAt, EdgeAt, procedure-at, variable-at, region-at, edge_at}
-use Rattle.chains.specs.Goals.{LiteralAt, SumAt, AssignAt, ConstructAt, PrintAt, CreateAt, RemoveAt, TestAt, literal-at, sum-at, assign-at, construct-at, print-at, create-at, remove-at, test_at}
-use Rattle.chains.specs.Parts.{SwitchAt, IfAt, TryAt, CallAt, ArmAt, ArgumentAt, switch-at, if-at, try-at, call_at, arm_at, argument-at}
-use Rattle.chains.specs.Is.{procedure-is, variable-is, region-is, edge-is, arm_is, argument_is}
+use Rattle.chains.specs.Declared.{ProcedureAt, VariableAt, RegionAt, EdgeAt, procedure_at_law, variable_at_law, region_at_law, edge_at}
+use Rattle.chains.specs.Goals.{LiteralAt, SumAt, AssignAt, ConstructAt, PrintAt, CreateAt, RemoveAt, TestAt, literal_at, sum_at_law, assign_at, construct_at, print_at, create_at, remove_at, test_at}
+use Rattle.chains.specs.Parts.{SwitchAt, IfAt, TryAt, CallAt, ArmAt, ArgumentAt, switch_at, if_at, try_at, call_at, arm_at, argument_at}
+use Rattle.chains.specs.Is.{procedure_is, variable_is, region_is, edge_is, arm_is, argument_is}
 
 -- ---- record i is of this kind
 module _ (f : List ℕ) (i : ℕ) where
   abbrev pub IsLiteral : Type 0
-  IsLiteral = word f i kindWord ≡ literalKind
+  IsLiteral = word f i kind_word ≡ literal_kind
 
   abbrev pub IsSum : Type 0
-  IsSum = word f i kindWord ≡ sumKind
+  IsSum = word f i kind_word ≡ sum_kind
 
   abbrev pub IsAssign : Type 0
-  IsAssign = word f i kindWord ≡ assignKind
+  IsAssign = word f i kind_word ≡ assign_kind
 
   abbrev pub IsConstruct : Type 0
-  IsConstruct = word f i kindWord ≡ constructKind
+  IsConstruct = word f i kind_word ≡ construct_kind
 
   abbrev pub IsSwitch : Type 0
-  IsSwitch = word f i kindWord ≡ switchKind
+  IsSwitch = word f i kind_word ≡ switch_kind
 
   abbrev pub IsIf : Type 0
-  IsIf = word f i kindWord ≡ ifKind
+  IsIf = word f i kind_word ≡ if_kind
 
   abbrev pub IsCall : Type 0
-  IsCall = word f i kindWord ≡ callKind
+  IsCall = word f i kind_word ≡ call_kind
 
   abbrev pub IsPrint : Type 0
-  IsPrint = word f i kindWord ≡ printKind
+  IsPrint = word f i kind_word ≡ print_kind
 
   abbrev pub IsCreate : Type 0
-  IsCreate = word f i kindWord ≡ createKind
+  IsCreate = word f i kind_word ≡ create_kind
 
   abbrev pub IsRemove : Type 0
-  IsRemove = word f i kindWord ≡ removeKind
+  IsRemove = word f i kind_word ≡ remove_kind
 
   abbrev pub IsTry : Type 0
-  IsTry = word f i kindWord ≡ tryKind
+  IsTry = word f i kind_word ≡ try_kind
 
   abbrev pub IsTest : Type 0
-  IsTest = word f i kindWord ≡ testKind
+  IsTest = word f i kind_word ≡ test_kind
 
 -- ---- a kind and its number
-pub kind-number : (w : ℕ) (k : Kind) → kind_of w ≡ k → (k ≡ kNone → ⊥) → w ≡ (row k).kind
-kind-number w k e n = go (number-kind w)
+pub kind_number : (w : ℕ) (k : Kind) → kind_of w ≡ k → (k ≡ k_none → ⊥) → w ≡ (row k).kind
+kind_number w k e n = go (number_kind w)
   where
-    go : (kind_of w ≡ kNone) ⊎ (w ≡ (row (kind_of w)).kind) → w ≡ (row k).kind
+    go : (kind_of w ≡ k_none) ⊎ (w ≡ (row (kind_of w)).kind) → w ≡ (row k).kind
     go (inl z) = absurd (n (sym e ∙ z))
     go (inr z) = z ∙ ap (λ l. (row l).kind) e
 
-goal-some : (g : GoalKind) → kGoal g ≡ kNone → ⊥
-goal-some g e = let z : ◌≡◌ {A = ℕ} 0 1 = cc in omega arith
+goal_some : (g : GoalKind) → k_goal g ≡ k_none → ⊥
+goal_some g e = let z : ◌≡◌ {A = ℕ} 0 1 = cc in omega arith
 
-pub goal-number : (w : ℕ) (g : GoalKind) → kind_of w ≡ kGoal g → w ≡ (row (kGoal g)).kind
-goal-number w g e = kind-number w (kGoal g) e (goal-some g)
+pub goal_number : (w : ℕ) (g : GoalKind) → kind_of w ≡ k_goal g → w ≡ (row (k_goal g)).kind
+goal_number w g e = kind_number w (k_goal g) e (goal_some g)
 
-pub variable-number : {f : List ℕ} {i : ℕ} → Stands f variables i → (i ≡ 0 → ⊥) → word f i kindWord ≡ variableKind
-unfolding all-rows
-variable-number {f} {i} s z =
-    kind-number (word f i kindWord) kVariable (variables-kind (starts-kind (word f) (recordCount f) i variables (omega arith) (stands-starts s)).1)
+pub variable_number : {f : List ℕ} {i : ℕ} → Stands f variables i → (i ≡ 0 → ⊥) → word f i kind_word ≡ variable_kind
+unfolding all_rows
+variable_number {f} {i} s z =
+    kind_number (word f i kind_word) k_variable (variables_kind (starts_kind (word f) (record_count f) i variables (omega arith) (stands_starts s)).1)
     λ e. let q : ◌≡◌ {A = ℕ} 0 1 = cc in omega arith
 
 -- the record that a number stands for
-pub by_number : (f : List ℕ) (i : ℕ) {w : ℕ} (k : Kind) → w ≡ word f i kindWord → w ≡ (row k).kind → recordAt f i ≡ recordAs k (word f i)
-by_number f i k e n = same_read f i refl (number_is k (word f i kindWord) (sym e ∙ n))
+pub by_number : (f : List ℕ) (i : ℕ) {w : ℕ} (k : Kind) → w ≡ word f i kind_word → w ≡ (row k).kind → record_at f i ≡ record_as k (word f i)
+by_number f i k e n = same_read f i refl (number_is k (word f i kind_word) (sym e ∙ n))
 
 -- ---- what stands at a record of each kind
-module _ {f : List ℕ} {i : ℕ} (F : Formed f) {w : ℕ} (e : w ≡ word f i kindWord) where
-  pub literal-here : w ≡ literalKind → LiteralAt f i (word f i nextWord) (word f i goalX) (word f i literalValue)
-  unfolding all-rows
-  literal-here k = literal-at F refl (by_number f i (kGoal kLiteral) e k)
+module _ {f : List ℕ} {i : ℕ} (F : Formed f) {w : ℕ} (e : w ≡ word f i kind_word) where
+  pub literal_here : w ≡ literal_kind → LiteralAt f i (word f i next_word) (word f i goal_x) (word f i literal_value)
+  unfolding all_rows
+  literal_here k = literal_at F refl (by_number f i (k_goal k_literal) e k)
 
-  pub sum-here : w ≡ sumKind → SumAt f i (word f i nextWord) (word f i goalX) (word f i sumOperation) (word f i sumY) (word f i sumZ)
-  unfolding all-rows
-  sum-here k = sum-at F refl (by_number f i (kGoal kSum) e k)
+  pub sum_here : w ≡ sum_kind → SumAt f i (word f i next_word) (word f i goal_x) (word f i sum_operation) (word f i sum_y) (word f i sum_z)
+  unfolding all_rows
+  sum_here k = sum_at_law F refl (by_number f i (k_goal k_sum) e k)
 
-  pub assign-here : w ≡ assignKind → AssignAt f i (word f i nextWord) (word f i goalX) (word f i assignY)
-  unfolding all-rows
-  assign-here k = assign-at F refl (by_number f i (kGoal kAssign) e k)
+  pub assign_here : w ≡ assign_kind → AssignAt f i (word f i next_word) (word f i goal_x) (word f i assign_y)
+  unfolding all_rows
+  assign_here k = assign_at F refl (by_number f i (k_goal k_assign) e k)
 
-  pub construct-here : w ≡ constructKind
-      → ConstructAt f i (word f i nextWord) (word f i goalX) (word f i termFunctor) (word f i termArguments)
-      (word f i (termArguments + 1)) (word f i (termArguments + 2)) (word f i (termArguments + 3))
-  unfolding all-rows
-  construct-here k = construct-at F refl (by_number f i (kGoal kConstruct) e k)
+  pub construct_here : w ≡ construct_kind
+      → ConstructAt f i (word f i next_word) (word f i goal_x) (word f i term_functor) (word f i term_arguments)
+      (word f i (term_arguments + 1)) (word f i (term_arguments + 2)) (word f i (term_arguments + 3))
+  unfolding all_rows
+  construct_here k = construct_at F refl (by_number f i (k_goal k_construct) e k)
 
-  pub switch-here : w ≡ switchKind → SwitchAt f i (word f i nextWord) (word f i goalX) (word f i switchArms)
-  unfolding all-rows
-  switch-here k = switch-at F refl (by_number f i (kGoal kSwitch) e k)
+  pub switch_here : w ≡ switch_kind → SwitchAt f i (word f i next_word) (word f i goal_x) (word f i switch_arms)
+  unfolding all_rows
+  switch_here k = switch_at F refl (by_number f i (k_goal k_switch) e k)
 
-  pub if_here : w ≡ ifKind → IfAt f i (word f i nextWord) (word f i ifY) (word f i ifZ) (word f i ifThen) (word f i ifElse)
-  unfolding all-rows
-  if_here k = if-at F refl (by_number f i (kGoal kIf) e k)
+  pub if_here : w ≡ if_kind → IfAt f i (word f i next_word) (word f i if_y) (word f i if_z) (word f i if_then) (word f i if_else)
+  unfolding all_rows
+  if_here k = if_at F refl (by_number f i (k_goal k_if) e k)
 
-  pub call-here : w ≡ callKind → CallAt f i (word f i nextWord) (word f i callProcedure) (word f i callArguments)
-  unfolding all-rows
-  call-here k = call_at F refl (by_number f i (kGoal kCall) e k)
+  pub call_here : w ≡ call_kind → CallAt f i (word f i next_word) (word f i call_procedure) (word f i call_arguments)
+  unfolding all_rows
+  call_here k = call_at F refl (by_number f i (k_goal k_call) e k)
 
-  pub print-here : w ≡ printKind → PrintAt f i (word f i nextWord) (word f i printY)
-  unfolding all-rows
-  print-here k = print-at F refl (by_number f i (kGoal kPrint) e k)
+  pub print_here : w ≡ print_kind → PrintAt f i (word f i next_word) (word f i print_y)
+  unfolding all_rows
+  print_here k = print_at F refl (by_number f i (k_goal k_print) e k)
 
-  pub create-here : w ≡ createKind → CreateAt f i (word f i nextWord) (word f i lifetimeRegion)
-  unfolding all-rows
-  create-here k = create-at F refl (by_number f i (kGoal kCreate) e k)
+  pub create_here : w ≡ create_kind → CreateAt f i (word f i next_word) (word f i lifetime_region)
+  unfolding all_rows
+  create_here k = create_at F refl (by_number f i (k_goal k_create) e k)
 
-  pub remove-here : w ≡ removeKind → RemoveAt f i (word f i nextWord) (word f i lifetimeRegion)
-  unfolding all-rows
-  remove-here k = remove-at F refl (by_number f i (kGoal kRemove) e k)
+  pub remove_here : w ≡ remove_kind → RemoveAt f i (word f i next_word) (word f i lifetime_region)
+  unfolding all_rows
+  remove_here k = remove_at F refl (by_number f i (k_goal k_remove) e k)
 
-  pub try-here : w ≡ tryKind → TryAt f i (word f i nextWord) (word f i tryCondition) (word f i tryThen) (word f i tryElse)
-  unfolding all-rows
-  try-here k = try-at F refl (by_number f i (kGoal kTry) e k)
+  pub try_here : w ≡ try_kind → TryAt f i (word f i next_word) (word f i try_condition) (word f i try_then) (word f i try_else)
+  unfolding all_rows
+  try_here k = try_at F refl (by_number f i (k_goal k_try) e k)
 
-  pub test-here : w ≡ testKind → TestAt f i (word f i nextWord) (word f i testY) (word f i testZ)
-  unfolding all-rows
-  test-here k = test_at F refl (by_number f i (kGoal kTest) e k)
+  pub test_here : w ≡ test_kind → TestAt f i (word f i next_word) (word f i test_y) (word f i test_z)
+  unfolding all_rows
+  test_here k = test_at F refl (by_number f i (k_goal k_test) e k)
 
 -- ---- what stands at a record of each kind of declaration
 module _ {f : List ℕ} {i : ℕ} (F : Formed f) (z : i ≡ 0 → ⊥) where
-  pub procedure-here : Stands f procedures i
-      → ProcedureAt f i (word f i nextWord) (word f i Format.procedureVariables) (word f i Format.procedureRegions) (word f i Format.procedureGoals)
-  procedure-here s = procedure-at F refl (procedure-is s z)
+  pub procedure_here : Stands f procedures i
+      → ProcedureAt f i (word f i next_word) (word f i Format.procedure_variables) (word f i Format.procedure_regions) (word f i Format.procedure_goals)
+  procedure_here s = procedure_at_law F refl (procedure_is s z)
 
-  pub variable-here : Stands f variables i
-      → VariableAt f i (word f i nextWord) (word f i Format.variableMode) (word f i Format.variableType) (word f i Format.variableRegion)
-  variable-here s = variable-at F refl (variable-is s z)
+  pub variable_here : Stands f variables i
+      → VariableAt f i (word f i next_word) (word f i Format.variable_mode) (word f i Format.variable_type) (word f i Format.variable_region)
+  variable_here s = variable_at_law F refl (variable_is s z)
 
-  pub region-here : Stands f regions i
-      → RegionAt f i (word f i nextWord) (word f i Format.regionType) (word f i Format.regionClass) (word f i Format.regionEdges)
-  region-here s = region-at F refl (region-is s z)
+  pub region_here : Stands f regions i
+      → RegionAt f i (word f i next_word) (word f i Format.region_type) (word f i Format.region_class) (word f i Format.region_edges)
+  region_here s = region_at_law F refl (region_is s z)
 
-  pub edge_here : Stands f edges i → EdgeAt f i (word f i nextWord) (word f i Format.edgeFunctor) (word f i Format.edgePosition) (word f i Format.edgeTarget)
-  edge_here s = edge_at F refl (edge-is s z)
+  pub edge_here : Stands f edges i → EdgeAt f i (word f i next_word) (word f i Format.edge_functor) (word f i Format.edge_position) (word f i Format.edge_target)
+  edge_here s = edge_at F refl (edge_is s z)
 
 -- ---- where the words of a switch, an if, a try and a call lead
 module _ {f : List ℕ} {i : ℕ} (F : Formed f) {w : ℕ} where
-  pub to-arms : IsSwitch f i → w ≡ word f i Format.switchArms → Onward f arms i w
-  to-arms k e = rw e (switch-here F refl k).to-arms
+  pub to_arms : IsSwitch f i → w ≡ word f i Format.switch_arms → Onward f arms i w
+  to_arms k e = rw e (switch_here F refl k).to_arms
 
-  pub to-then : IsIf f i → w ≡ word f i Format.ifThen → Onward f goals i w
-  to-then k e = rw e (if_here F refl k).to-then
+  pub to_then : IsIf f i → w ≡ word f i Format.if_then → Onward f goals i w
+  to_then k e = rw e (if_here F refl k).to_then
 
-  pub to-else : IsIf f i → w ≡ word f i Format.ifElse → Onward f goals i w
-  to-else k e = rw e (if_here F refl k).to-else
+  pub to_else : IsIf f i → w ≡ word f i Format.if_else → Onward f goals i w
+  to_else k e = rw e (if_here F refl k).to_else
 
-  pub to-condition : IsTry f i → w ≡ word f i Format.tryCondition → Onward f goals i w
-  to-condition k e = rw e (try-here F refl k).to-condition
+  pub to_condition : IsTry f i → w ≡ word f i Format.try_condition → Onward f goals i w
+  to_condition k e = rw e (try_here F refl k).to_condition
 
-  pub to-try-then : IsTry f i → w ≡ word f i Format.tryThen → Onward f goals i w
-  to-try-then k e = rw e (try-here F refl k).to-then
+  pub to_try_then : IsTry f i → w ≡ word f i Format.try_then → Onward f goals i w
+  to_try_then k e = rw e (try_here F refl k).to_then
 
-  pub to-try-else : IsTry f i → w ≡ word f i Format.tryElse → Onward f goals i w
-  to-try-else k e = rw e (try-here F refl k).to-else
+  pub to_try_else : IsTry f i → w ≡ word f i Format.try_else → Onward f goals i w
+  to_try_else k e = rw e (try_here F refl k).to_else
 
-  pub to-arguments : IsCall f i → w ≡ word f i Format.callArguments → Onward f arguments i w
-  to-arguments k e = rw e (call-here F refl k).to-arguments
+  pub to_arguments : IsCall f i → w ≡ word f i Format.call_arguments → Onward f arguments i w
+  to_arguments k e = rw e (call_here F refl k).to_arguments
 
 -- ---- an arm, an argument
 module _ {f : List ℕ} {i : ℕ} (F : Formed f) (z : i ≡ 0 → ⊥) where
-  pub arm-here : Stands f arms i
-      → ArmAt f i (word f i nextWord) (word f i armGoals) (word f i termFunctor) (word f i termArguments)
-      (word f i (termArguments + 1)) (word f i (termArguments + 2)) (word f i (termArguments + 3))
-  arm-here s = arm_at F refl (arm_is s z)
+  pub arm_here : Stands f arms i
+      → ArmAt f i (word f i next_word) (word f i arm_goals) (word f i term_functor) (word f i term_arguments)
+      (word f i (term_arguments + 1)) (word f i (term_arguments + 2)) (word f i (term_arguments + 3))
+  arm_here s = arm_at F refl (arm_is s z)
 
-  pub arm-goals : {w : ℕ} → Stands f arms i → w ≡ word f i Format.armGoals → Onward f goals i w
-  arm-goals s e = rw e (arm-here s).to-goals
+  pub arm_goals_law : {w : ℕ} → Stands f arms i → w ≡ word f i Format.arm_goals → Onward f goals i w
+  arm_goals_law s e = rw e (arm_here s).to_goals
 
-  pub arm-next : {w : ℕ} → Stands f arms i → w ≡ word f i nextWord → Onward f arms i w
-  arm-next s e = rw e (arm-here s).to-next
+  pub arm_next : {w : ℕ} → Stands f arms i → w ≡ word f i next_word → Onward f arms i w
+  arm_next s e = rw e (arm_here s).to_next
 
-  pub argument-here : Stands f arguments i → ArgumentAt f i (word f i nextWord) (word f i argumentVariable)
-  argument-here s = argument-at F refl (argument_is s z)
+  pub argument_here : Stands f arguments i → ArgumentAt f i (word f i next_word) (word f i argument_variable)
+  argument_here s = argument_at F refl (argument_is s z)
 
 -- ---- any goal: its kind is one of the twelve
 pub record GoalAt (f : List ℕ) (i : ℕ) : Type 0 where
   pub goal : Goal
-  pub view : goalsAt f i ≡ goal then goalsAt f (word f i nextWord)
-  pub to-next : Onward f goals i (word f i nextWord)
+  pub view : goals_at f i ≡ goal then goals_at f (word f i next_word)
+  pub to_next : Onward f goals i (word f i next_word)
 
 -- neither a switch, nor an if, nor a try
 pub record StepAt (f : List ℕ) (i : ℕ) : Type 0 where
   pub one : Step
-  pub view : goalsAt f i ≡ step one then goalsAt f (word f i nextWord)
+  pub view : goals_at f i ≡ step one then goals_at f (word f i next_word)
 
 module _ {f : List ℕ} {i : ℕ} (s : Stands f goals i) (z : i ≡ 0 → ⊥) where
-  pub goal-kind : (g : GoalKind) × (kind_of (word f i kindWord) ≡ kGoal g)
-  goal-kind = goals-kind (starts-kind (word f) (recordCount f) i goals (omega arith) (stands-starts s)).1
+  pub goal_kind : (g : GoalKind) × (kind_of (word f i kind_word) ≡ k_goal g)
+  goal_kind = goals_kind (starts_kind (word f) (record_count f) i goals (omega arith) (stands_starts s)).1
 
 module _ {u w : ℕ} (e : w ≡ u) where
-  not-kind : (g : GoalKind) → kind_of u ≡ kGoal g → (w ≡ (row (kGoal g)).kind → ⊥) → ⊥
-  not-kind g k n = n (e ∙ goal-number u g k)
+  not_kind : (g : GoalKind) → kind_of u ≡ k_goal g → (w ≡ (row (k_goal g)).kind → ⊥) → ⊥
+  not_kind g k n = n (e ∙ goal_number u g k)
 
-  none_left : (g : GoalKind) → kind_of u ≡ kGoal g → (w ≡ literalKind → ⊥) → (w ≡ sumKind → ⊥) → (w ≡ assignKind → ⊥) → (w ≡ constructKind → ⊥)
-      → (w ≡ switchKind → ⊥) → (w ≡ ifKind → ⊥) → (w ≡ callKind → ⊥) → (w ≡ printKind → ⊥) → (w ≡ createKind → ⊥) → (w ≡ removeKind → ⊥) → (w ≡ tryKind → ⊥) → (w ≡ testKind → ⊥) → ⊥
-  unfolding all-rows
-  none_left kLiteral k n8 n9 n10 n11 n12 n14 n15 n17 n18 n19 n20 n21 = not-kind kLiteral k n8
-  none_left kSum k n8 n9 n10 n11 n12 n14 n15 n17 n18 n19 n20 n21 = not-kind kSum k n9
-  none_left kAssign k n8 n9 n10 n11 n12 n14 n15 n17 n18 n19 n20 n21 = not-kind kAssign k n10
-  none_left kConstruct k n8 n9 n10 n11 n12 n14 n15 n17 n18 n19 n20 n21 = not-kind kConstruct k n11
-  none_left kSwitch k n8 n9 n10 n11 n12 n14 n15 n17 n18 n19 n20 n21 = not-kind kSwitch k n12
-  none_left kIf k n8 n9 n10 n11 n12 n14 n15 n17 n18 n19 n20 n21 = not-kind kIf k n14
-  none_left kCall k n8 n9 n10 n11 n12 n14 n15 n17 n18 n19 n20 n21 = not-kind kCall k n15
-  none_left kPrint k n8 n9 n10 n11 n12 n14 n15 n17 n18 n19 n20 n21 = not-kind kPrint k n17
-  none_left kCreate k n8 n9 n10 n11 n12 n14 n15 n17 n18 n19 n20 n21 = not-kind kCreate k n18
-  none_left kRemove k n8 n9 n10 n11 n12 n14 n15 n17 n18 n19 n20 n21 = not-kind kRemove k n19
-  none_left kTry k n8 n9 n10 n11 n12 n14 n15 n17 n18 n19 n20 n21 = not-kind kTry k n20
-  none_left kTest k n8 n9 n10 n11 n12 n14 n15 n17 n18 n19 n20 n21 = not-kind kTest k n21
+  none_left : (g : GoalKind) → kind_of u ≡ k_goal g → (w ≡ literal_kind → ⊥) → (w ≡ sum_kind → ⊥) → (w ≡ assign_kind → ⊥) → (w ≡ construct_kind → ⊥)
+      → (w ≡ switch_kind → ⊥) → (w ≡ if_kind → ⊥) → (w ≡ call_kind → ⊥) → (w ≡ print_kind → ⊥) → (w ≡ create_kind → ⊥) → (w ≡ remove_kind → ⊥) → (w ≡ try_kind → ⊥) → (w ≡ test_kind → ⊥) → ⊥
+  unfolding all_rows
+  none_left k_literal k n8 n9 n10 n11 n12 n14 n15 n17 n18 n19 n20 n21 = not_kind k_literal k n8
+  none_left k_sum k n8 n9 n10 n11 n12 n14 n15 n17 n18 n19 n20 n21 = not_kind k_sum k n9
+  none_left k_assign k n8 n9 n10 n11 n12 n14 n15 n17 n18 n19 n20 n21 = not_kind k_assign k n10
+  none_left k_construct k n8 n9 n10 n11 n12 n14 n15 n17 n18 n19 n20 n21 = not_kind k_construct k n11
+  none_left k_switch k n8 n9 n10 n11 n12 n14 n15 n17 n18 n19 n20 n21 = not_kind k_switch k n12
+  none_left k_if k n8 n9 n10 n11 n12 n14 n15 n17 n18 n19 n20 n21 = not_kind k_if k n14
+  none_left k_call k n8 n9 n10 n11 n12 n14 n15 n17 n18 n19 n20 n21 = not_kind k_call k n15
+  none_left k_print k n8 n9 n10 n11 n12 n14 n15 n17 n18 n19 n20 n21 = not_kind k_print k n17
+  none_left k_create k n8 n9 n10 n11 n12 n14 n15 n17 n18 n19 n20 n21 = not_kind k_create k n18
+  none_left k_remove k n8 n9 n10 n11 n12 n14 n15 n17 n18 n19 n20 n21 = not_kind k_remove k n19
+  none_left k_try k n8 n9 n10 n11 n12 n14 n15 n17 n18 n19 n20 n21 = not_kind k_try k n20
+  none_left k_test k n8 n9 n10 n11 n12 n14 n15 n17 n18 n19 n20 n21 = not_kind k_test k n21
 
 -- code that has tested the twelve kinds has no other case left
-pub no-goal-left : {f : List ℕ} {i w : ℕ} → Stands f goals i → (i ≡ 0 → ⊥) → w ≡ word f i kindWord → (w ≡ literalKind → ⊥) → (w ≡ sumKind → ⊥) → (w ≡ assignKind → ⊥) → (w ≡ constructKind → ⊥)
-    → (w ≡ switchKind → ⊥) → (w ≡ ifKind → ⊥) → (w ≡ callKind → ⊥) → (w ≡ printKind → ⊥) → (w ≡ createKind → ⊥) → (w ≡ removeKind → ⊥) → (w ≡ tryKind → ⊥) → (w ≡ testKind → ⊥) → ⊥
-no-goal-left s z e = let g = goal-kind s z in none_left e g.0 g.1
+pub no_goal_left : {f : List ℕ} {i w : ℕ} → Stands f goals i → (i ≡ 0 → ⊥) → w ≡ word f i kind_word → (w ≡ literal_kind → ⊥) → (w ≡ sum_kind → ⊥) → (w ≡ assign_kind → ⊥) → (w ≡ construct_kind → ⊥)
+    → (w ≡ switch_kind → ⊥) → (w ≡ if_kind → ⊥) → (w ≡ call_kind → ⊥) → (w ≡ print_kind → ⊥) → (w ≡ create_kind → ⊥) → (w ≡ remove_kind → ⊥) → (w ≡ try_kind → ⊥) → (w ≡ test_kind → ⊥) → ⊥
+no_goal_left s z e = let g = goal_kind s z in none_left e g.0 g.1
 
 module _ {f : List ℕ} {i : ℕ} (F : Formed f) where
-  goal-of : (g : GoalKind) → kind_of (word f i kindWord) ≡ kGoal g → GoalAt f i
-  goal-of kLiteral k = let h = literal-at F refl (same_read f i refl k) in record { goal = _; view = h.view; to-next = h.to-next }
-  goal-of kSum k = let h = sum-at F refl (same_read f i refl k) in record { goal = _; view = h.view; to-next = h.to-next }
-  goal-of kAssign k = let h = assign-at F refl (same_read f i refl k) in record { goal = _; view = h.view; to-next = h.to-next }
-  goal-of kConstruct k = let h = construct-at F refl (same_read f i refl k) in record { goal = _; view = h.view; to-next = h.to-next }
-  goal-of kSwitch k = let h = switch-at F refl (same_read f i refl k) in record { goal = _; view = h.view; to-next = h.to-next }
-  goal-of kIf k = let h = if-at F refl (same_read f i refl k) in record { goal = _; view = h.view; to-next = h.to-next }
-  goal-of kCall k = let h = call_at F refl (same_read f i refl k) in record { goal = _; view = h.view; to-next = h.to-next }
-  goal-of kPrint k = let h = print-at F refl (same_read f i refl k) in record { goal = _; view = h.view; to-next = h.to-next }
-  goal-of kCreate k = let h = create-at F refl (same_read f i refl k) in record { goal = _; view = h.view; to-next = h.to-next }
-  goal-of kRemove k = let h = remove-at F refl (same_read f i refl k) in record { goal = _; view = h.view; to-next = h.to-next }
-  goal-of kTry k = let h = try-at F refl (same_read f i refl k) in record { goal = _; view = h.view; to-next = h.to-next }
-  goal-of kTest k = let h = test_at F refl (same_read f i refl k) in record { goal = _; view = h.view; to-next = h.to-next }
+  goal_of_law : (g : GoalKind) → kind_of (word f i kind_word) ≡ k_goal g → GoalAt f i
+  goal_of_law k_literal k = let h = literal_at F refl (same_read f i refl k) in record { goal = _; view = h.view; to_next = h.to_next }
+  goal_of_law k_sum k = let h = sum_at_law F refl (same_read f i refl k) in record { goal = _; view = h.view; to_next = h.to_next }
+  goal_of_law k_assign k = let h = assign_at F refl (same_read f i refl k) in record { goal = _; view = h.view; to_next = h.to_next }
+  goal_of_law k_construct k = let h = construct_at F refl (same_read f i refl k) in record { goal = _; view = h.view; to_next = h.to_next }
+  goal_of_law k_switch k = let h = switch_at F refl (same_read f i refl k) in record { goal = _; view = h.view; to_next = h.to_next }
+  goal_of_law k_if k = let h = if_at F refl (same_read f i refl k) in record { goal = _; view = h.view; to_next = h.to_next }
+  goal_of_law k_call k = let h = call_at F refl (same_read f i refl k) in record { goal = _; view = h.view; to_next = h.to_next }
+  goal_of_law k_print k = let h = print_at F refl (same_read f i refl k) in record { goal = _; view = h.view; to_next = h.to_next }
+  goal_of_law k_create k = let h = create_at F refl (same_read f i refl k) in record { goal = _; view = h.view; to_next = h.to_next }
+  goal_of_law k_remove k = let h = remove_at F refl (same_read f i refl k) in record { goal = _; view = h.view; to_next = h.to_next }
+  goal_of_law k_try k = let h = try_at F refl (same_read f i refl k) in record { goal = _; view = h.view; to_next = h.to_next }
+  goal_of_law k_test k = let h = test_at F refl (same_read f i refl k) in record { goal = _; view = h.view; to_next = h.to_next }
 
-  step_of : (g : GoalKind) → kind_of (word f i kindWord) ≡ kGoal g → (IsSwitch f i → ⊥) → (IsIf f i → ⊥) → (IsTry f i → ⊥) → StepAt f i
-  unfolding all-rows
-  step_of kLiteral k p q t = record { one = _; view = (literal-at F refl (same_read f i refl k)).view }
-  step_of kSum k p q t = record { one = _; view = (sum-at F refl (same_read f i refl k)).view }
-  step_of kAssign k p q t = record { one = _; view = (assign-at F refl (same_read f i refl k)).view }
-  step_of kConstruct k p q t = record { one = _; view = (construct-at F refl (same_read f i refl k)).view }
-  step_of kSwitch k p q t = absurd (p (goal-number (word f i kindWord) kSwitch k))
-  step_of kIf k p q t = absurd (q (goal-number (word f i kindWord) kIf k))
-  step_of kCall k p q t = record { one = _; view = (call_at F refl (same_read f i refl k)).view }
-  step_of kPrint k p q t = record { one = _; view = (print-at F refl (same_read f i refl k)).view }
-  step_of kCreate k p q t = record { one = _; view = (create-at F refl (same_read f i refl k)).view }
-  step_of kRemove k p q t = record { one = _; view = (remove-at F refl (same_read f i refl k)).view }
-  step_of kTry k p q t = absurd (t (goal-number (word f i kindWord) kTry k))
-  step_of kTest k p q t = record { one = _; view = (test_at F refl (same_read f i refl k)).view }
+  step_of : (g : GoalKind) → kind_of (word f i kind_word) ≡ k_goal g → (IsSwitch f i → ⊥) → (IsIf f i → ⊥) → (IsTry f i → ⊥) → StepAt f i
+  unfolding all_rows
+  step_of k_literal k p q t = record { one = _; view = (literal_at F refl (same_read f i refl k)).view }
+  step_of k_sum k p q t = record { one = _; view = (sum_at_law F refl (same_read f i refl k)).view }
+  step_of k_assign k p q t = record { one = _; view = (assign_at F refl (same_read f i refl k)).view }
+  step_of k_construct k p q t = record { one = _; view = (construct_at F refl (same_read f i refl k)).view }
+  step_of k_switch k p q t = absurd (p (goal_number (word f i kind_word) k_switch k))
+  step_of k_if k p q t = absurd (q (goal_number (word f i kind_word) k_if k))
+  step_of k_call k p q t = record { one = _; view = (call_at F refl (same_read f i refl k)).view }
+  step_of k_print k p q t = record { one = _; view = (print_at F refl (same_read f i refl k)).view }
+  step_of k_create k p q t = record { one = _; view = (create_at F refl (same_read f i refl k)).view }
+  step_of k_remove k p q t = record { one = _; view = (remove_at F refl (same_read f i refl k)).view }
+  step_of k_try k p q t = absurd (t (goal_number (word f i kind_word) k_try k))
+  step_of k_test k p q t = record { one = _; view = (test_at F refl (same_read f i refl k)).view }
 
   module _ (s : Stands f goals i) (z : i ≡ 0 → ⊥) where
-    pub goal-here : GoalAt f i
-    goal-here = let g = goal-kind s z in goal-of g.0 g.1
+    pub goal_here : GoalAt f i
+    goal_here = let g = goal_kind s z in goal_of_law g.0 g.1
 
-    pub step-here : {w : ℕ} → w ≡ word f i kindWord → (w ≡ switchKind → ⊥) → (w ≡ ifKind → ⊥) → (w ≡ tryKind → ⊥) → StepAt f i
-    step-here e p q t = let g = goal-kind s z in step_of g.0 g.1 (λ k. p (e ∙ k)) (λ k. q (e ∙ k)) λ k. t (e ∙ k)
+    pub step_here : {w : ℕ} → w ≡ word f i kind_word → (w ≡ switch_kind → ⊥) → (w ≡ if_kind → ⊥) → (w ≡ try_kind → ⊥) → StepAt f i
+    step_here e p q t = let g = goal_kind s z in step_of g.0 g.1 (λ k. p (e ∙ k)) (λ k. q (e ∙ k)) λ k. t (e ∙ k)

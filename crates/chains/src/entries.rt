@@ -1,6 +1,6 @@
 // An entry of a table, and a word of a record, each 0 where there is none.
 ghost use Rattle.std.specs.Prelude.{◌≡◌, ◌<◌, get_or};
-ghost use Rattle.records.specs.Sizes.{recordWords};
+ghost use Rattle.records.specs.Sizes.{record_words};
 ghost use Rattle.chains.specs.Fields.{field_of};
 
 use records::word;
@@ -14,7 +14,7 @@ pub fn entry(table: &[usize], n: usize) -> usize
 
 // Word k of record i; 0 for record 0, which stands for "none".
 pub fn field(file: &[u8], i: usize, k: usize) -> usize
-    requires { k < recordWords }
+    requires { k < record_words }
     ensures { result ≡ field_of file.now i k }
 {
     if i == 0 { 0 } else { word(file, i, k) }

@@ -5,31 +5,31 @@ use mathlib.Core.Path.{◌≡◌, refl, sym, ap, ◌∙◌}
 use Rattle.language.specs.declared.Refusal.{Refusal}
 use Rattle.language.specs.declared.Verdict.{Verdict}
 use Rattle.language.specs.declared.Verdict.TheVariants.{Refused, Accepted}
-use Rattle.language.specs.Answers.{lowest, fileStages, reachedStages, checkerStages, checkerNumber, checked}
-use Rattle.records.specs.Verdicts.{formStages, after, lowest-append}
-use Rattle.stages.specs.Stages.{typingStages}
-use Rattle.checking.specs.Answer.{ruleStages}
+use Rattle.language.specs.Answers.{lowest, file_stages, reached_stages, checker_stages, checker_number, checked}
+use Rattle.records.specs.Verdicts.{form_stages, after, lowest_append}
+use Rattle.stages.specs.Stages.{typing_stages}
+use Rattle.checking.specs.Answer.{rule_stages}
 
-all-stages : (f : List ℕ) → typingStages f ++ ruleStages f ≡ checkerStages f
-unfolding checkerStages reachedStages fileStages formStages
-all-stages f = refl
+all_stages : (f : List ℕ) → typing_stages f ++ rule_stages f ≡ checker_stages f
+unfolding checker_stages reached_stages file_stages form_stages
+all_stages f = refl
 
-checked-by : (f : List ℕ) → checked f ≡ after (lowest (typingStages f)) (lowest (ruleStages f))
+checked_by : (f : List ℕ) → checked f ≡ after (lowest (typing_stages f)) (lowest (rule_stages f))
 unfolding checked
-checked-by f = ap lowest (sym (all-stages f)) ∙ lowest-append (typingStages f) (ruleStages f)
+checked_by f = ap lowest (sym (all_stages f)) ∙ lowest_append (typing_stages f) (rule_stages f)
 
 -- the answer, with its number
 abbrev pub Checks : List ℕ → Verdict → Type 0
-Checks f v = (v ≡ checked f) × (checkerNumber v ≡ checkerNumber (checked f))
+Checks f v = (v ≡ checked f) × (checker_number v ≡ checker_number (checked f))
 
 numbered : (f : List ℕ) {v : Verdict} → v ≡ checked f → Checks f v
-numbered f e = (e, ap checkerNumber e)
+numbered f e = (e, ap checker_number e)
 
-module _ (f : List ℕ) {v : Verdict} (e : v ≡ lowest (typingStages f)) where
-  pub checker-refuses : {r : Refusal} → v ≡ Refused r → Checks f v
+module _ (f : List ℕ) {v : Verdict} (e : v ≡ lowest (typing_stages f)) where
+  pub checker_refuses : {r : Refusal} → v ≡ Refused r → Checks f v
   unfolding after
-  checker-refuses g = numbered f (g ∙ sym (checked-by f ∙ ap (λ (w : Verdict). after w (lowest (ruleStages f))) (sym e ∙ g)))
+  checker_refuses g = numbered f (g ∙ sym (checked_by f ∙ ap (λ (w : Verdict). after w (lowest (rule_stages f))) (sym e ∙ g)))
 
-  pub checker-goes : {w : Verdict} → v ≡ Accepted → w ≡ lowest (ruleStages f) → Checks f w
+  pub checker_goes : {w : Verdict} → v ≡ Accepted → w ≡ lowest (rule_stages f) → Checks f w
   unfolding after
-  checker-goes g h = numbered f (h ∙ sym (checked-by f ∙ ap (λ (u : Verdict). after u (lowest (ruleStages f))) (sym e ∙ g)))
+  checker_goes g h = numbered f (h ∙ sym (checked_by f ∙ ap (λ (u : Verdict). after u (lowest (rule_stages f))) (sym e ∙ g)))

@@ -5,18 +5,18 @@ use Rattle.sets.specs.declared.Set.{Set}
 use Rattle.checking.specs.Checker.{CheckState, carrying}
 
 -- the two words
-abbrev pub heldPlace : ℕ
-heldPlace = 0
+abbrev pub held_place : ℕ
+held_place = 0
 
-abbrev pub soundPlace : ℕ
-soundPlace = 1
+abbrev pub sound_place : ℕ
+sound_place = 1
 
-unfoldable pub heldIn : List ℕ → Set
-heldIn c = loaded (get_or c heldPlace 0)
+unfoldable pub held_in : List ℕ → Set
+held_in c = loaded (get_or c held_place 0)
 
-unfoldable pub soundIn : List ℕ → Set
-soundIn c = loaded (get_or c soundPlace 0)
+unfoldable pub sound_in : List ℕ → Set
+sound_in c = loaded (get_or c sound_place 0)
 
 -- what is carried then
 abbrev pub state : List ℕ → CheckState
-state c = carrying (heldIn c) (soundIn c)
+state c = carrying (held_in c) (sound_in c)

@@ -1,9 +1,9 @@
 // The checker's answer to any bytes.
 ghost use Rattle.std.specs.Prelude.{◌≡◌, true};
-ghost use Rattle.language.specs.Typing.{typingOk};
-ghost use Rattle.language.specs.Answers.{lowest, program, checkerNumber, checked};
+ghost use Rattle.language.specs.Typing.{typing_ok};
+ghost use Rattle.language.specs.Answers.{lowest, program, checker_number, checked};
 ghost use Rattle.chains.specs.Formed.{Formed};
-ghost use Rattle.checking.specs.Answer.{ruleStages};
+ghost use Rattle.checking.specs.Answer.{rule_stages};
 
 use crate::procedures::rules_ok;
 use language::{Refusal, Verdict};
@@ -13,8 +13,8 @@ use tables::{blank_file_table, blank_rows};
 // Numbers 4, 5, 17, 7 and 8 of a file that passed number 3. The tables are made here, where the stack of number 3's walk is given back.
 fn check_rules(file: &[u8]) -> Verdict
     requires formed { Formed file.now }
-    requires file_value { typingOk (program file.now) ≡ true }
-    ensures { result ≡ lowest (ruleStages file.now) }
+    requires file_value { typing_ok (program file.now) ≡ true }
+    ensures { result ≡ lowest (rule_stages file.now) }
 {
     let mut table = blank_file_table();
     let mut rows = blank_rows();
@@ -30,7 +30,7 @@ fn check_rules(file: &[u8]) -> Verdict
 
 pub fn check(file: &[u8]) -> Verdict
     ensures value { result ≡ checked file.now }
-    ensures result_value { checkerNumber result ≡ checkerNumber (checked file.now) }
+    ensures result_value { checker_number result ≡ checker_number (checked file.now) }
 {
     let answer = check_typing(file);
     let Verdict::Accepted = answer else {

@@ -2,9 +2,9 @@
 ghost use Rattle.std.specs.Prelude.{◌≡◌, ◌≤◌, length};
 ghost use Rattle.language.specs.Program.{Signature, Program};
 ghost use Rattle.walks.specs.Walk.{outcome};
-ghost use Rattle.walks.specs.Carried.{walkWords};
+ghost use Rattle.walks.specs.Carried.{walk_words};
 ghost use Rattle.checking.specs.Checker.{carrying, checker};
-ghost use Rattle.checking.specs.Carried.{heldIn, soundIn, state};
+ghost use Rattle.checking.specs.Carried.{held_in, sound_in, state};
 
 use sets::Set;
 use walks::WALK_WORDS;
@@ -15,20 +15,20 @@ const HELD: usize = 0;
 const SOUND: usize = 1;
 
 pub fn held_in(carried: &[u64; WALK_WORDS]) -> Set
-    ensures { result ≡ heldIn carried.now }
+    ensures { result ≡ held_in carried.now }
 {
     Set::loaded(carried[HELD])
 }
 
 pub fn sound_in(carried: &[u64; WALK_WORDS]) -> Set
-    ensures { result ≡ soundIn carried.now }
+    ensures { result ≡ sound_in carried.now }
 {
     Set::loaded(carried[SOUND])
 }
 
 pub fn carry(carried: &mut [u64], held: Set, sound: Set)
-    requires { walkWords ≤ length carried.old }
-    ensures { (heldIn carried.new ≡ held) × (soundIn carried.new ≡ sound) }
+    requires { walk_words ≤ length carried.old }
+    ensures { (held_in carried.new ≡ held) × (sound_in carried.new ≡ sound) }
 {
     carried[HELD] = held.stored();
     carried[SOUND] = sound.stored();

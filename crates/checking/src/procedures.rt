@@ -1,11 +1,11 @@
 // Number 8, procedure by procedure.
 ghost use Rattle.std.specs.Prelude.{◌≡◌, ◌<◌, length, get_or};
 ghost use Rattle.language.specs.File;
-ghost use Rattle.language.specs.Program.{procedureAt};
-ghost use Rattle.language.specs.Checking.{procedureRules, rulesOk};
+ghost use Rattle.language.specs.Program.{procedure_at};
+ghost use Rattle.language.specs.Checking.{procedure_rules, rules_ok};
 ghost use Rattle.language.specs.Answers.{program};
 ghost use Rattle.chains.specs.Formed.{Formed, Stands};
-ghost use Rattle.tables.specs.Window.{bodyPlace};
+ghost use Rattle.tables.specs.Window.{body_place};
 ghost use Rattle.tables.specs.Filled.{Prepared};
 ghost use Rattle.checking.specs.Procedures.{WindowChecked};
 
@@ -20,7 +20,7 @@ use walks::blank_walk;
 // the end: born and kept regions held, no other; out variables sound."
 fn window_ok(file: &[u8], rows: &[u64; ROWS], own: &[u64]) -> bool
     requires formed { Formed file.now }
-    requires stands { Stands file.now File.goals (get_or own.now bodyPlace 0) }
+    requires stands { Stands file.now File.goals (get_or own.now body_place 0) }
     ensures { WindowChecked file.now rows.now own.now result }
 {
     let kept = set_at(own, KEPT);
@@ -44,7 +44,7 @@ fn procedure_ok(file: &[u8], table: &[u64], rows: &[u64; ROWS], q: usize) -> boo
     requires formed { Formed file.now }
     requires prepared { Prepared file.now table.now rows.now }
     requires q_in_bounds { q < length (program file.now).procedures }
-    ensures { result ≡ procedureRules (program file.now) (procedureAt (program file.now) q) }
+    ensures { result ≡ procedure_rules (program file.now) (procedure_at (program file.now) q) }
 {
     let start = word_at(table, q);
     window_ok(file, rows, &table[start..])
@@ -54,7 +54,7 @@ fn procedure_ok(file: &[u8], table: &[u64], rows: &[u64; ROWS], q: usize) -> boo
 pub fn rules_ok(file: &[u8], table: &[u64; TABLE], rows: &[u64; ROWS]) -> bool
     requires formed { Formed file.now }
     requires prepared { Prepared file.now table.now rows.now }
-    ensures { result ≡ rulesOk (program file.now) }
+    ensures { result ≡ rules_ok (program file.now) }
 {
     let mut i = word(file, 0, HEADER_PROCEDURES);
     let mut q = 0;

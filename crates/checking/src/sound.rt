@@ -1,7 +1,7 @@
 // Which variables are sound, by the window of their procedure.
 ghost use Rattle.std.specs.Prelude.{◌≡◌};
 ghost use Rattle.language.specs.Program.{Signature};
-ghost use Rattle.language.specs.Checking.{soundGiven, soundWithout};
+ghost use Rattle.language.specs.Checking.{sound_given, sound_without};
 ghost use Rattle.checking.specs.Sound.{ReachesAll};
 
 use sets::Set;
@@ -9,7 +9,7 @@ use tables::reach;
 
 // "A variable given a value is sound if its whole reach is then held."
 pub fn sound_given(own: &[u64], given: Set, held: Set, sound: Set) -> Set
-    ensures { (S : Signature) → ReachesAll S own.now → result ≡ soundGiven S given held sound }
+    ensures { (S : Signature) → ReachesAll S own.now → result ≡ sound_given S given held sound }
 {
     let mut found = Set::EMPTY;
     let mut left = given;
@@ -25,7 +25,7 @@ pub fn sound_given(own: &[u64], given: Set, held: Set, sound: Set) -> Set
 
 // "variables reaching it stop being sound": those that reach none of the regions `gone` stay.
 pub fn sound_without(own: &[u64], gone: Set, sound: Set) -> Set
-    ensures { (S : Signature) → ReachesAll S own.now → result ≡ soundWithout S gone sound }
+    ensures { (S : Signature) → ReachesAll S own.now → result ≡ sound_without S gone sound }
 {
     if gone.same(Set::EMPTY) {
         return sound;
@@ -34,7 +34,7 @@ pub fn sound_without(own: &[u64], gone: Set, sound: Set) -> Set
 }
 
 fn without_some(own: &[u64], gone: Set, sound: Set) -> Set
-    ensures { (S : Signature) → ReachesAll S own.now → result ≡ soundWithout S gone sound }
+    ensures { (S : Signature) → ReachesAll S own.now → result ≡ sound_without S gone sound }
 {
     let mut found = Set::EMPTY;
     let mut left = sound;

@@ -1,6 +1,6 @@
 // The checker's rules for a step, by its row and the window of its procedure.
 ghost use Rattle.std.specs.Prelude.{◌≡◌};
-ghost use Rattle.checking.specs.Rules.{rulesAt, StepChecked, Entered};
+ghost use Rattle.checking.specs.Rules.{rules_at, StepChecked, Entered};
 
 use crate::carried::{carry, held_in, sound_in};
 use crate::sound::{sound_given, sound_without};
@@ -12,7 +12,7 @@ use walks::WALK_WORDS;
 // regions are held. Images of dead ones are not kept by the caller. Images of born ones are not held. An image of a dead or born one is no other
 // region's image."
 fn allowed(rows: &[u64; ROWS], own: &[u64], i: usize, held: Set, sound: Set) -> bool
-    ensures { result ≡ rulesAt rows.now own.now i held sound }
+    ensures { result ≡ rules_at rows.now own.now i held sound }
 {
     if !reads_at(rows, i).is_subset(sound) {
         return false;

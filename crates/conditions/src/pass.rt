@@ -1,15 +1,15 @@
 // One pass over the records: whether a record stands in a condition is handed down to the records that it refers to, which stand behind it.
 ghost use Rattle.std.specs.Prelude.{◌≡◌, ◌≤◌, ◌<◌, eqb, length, get_or};
-ghost use Rattle.language.specs.File.{recordCount};
-ghost use Rattle.language.specs.Conditions.{conditionsOk};
+ghost use Rattle.language.specs.File.{record_count};
+ghost use Rattle.language.specs.Conditions.{conditions_ok};
 ghost use Rattle.language.specs.Answers.{program};
 ghost use Rattle.records.specs.Table.{table_of};
 ghost use Rattle.chains.specs.Formed.{Formed};
 ghost use Rattle.chains.specs.Shapes.{IsTry};
-ghost use Rattle.owners.specs.Handed.{partDigits, handDown};
-ghost use Rattle.conditions.specs.Inside.{insideBy};
-ghost use Rattle.conditions.specs.Standing.{mayStand};
-ghost use Rattle.conditions.specs.Without.{anyCondition};
+ghost use Rattle.owners.specs.Handed.{part_digits, hand_down};
+ghost use Rattle.conditions.specs.Inside.{inside_by};
+ghost use Rattle.conditions.specs.Standing.{may_stand};
+ghost use Rattle.conditions.specs.Without.{any_condition};
 
 use chains::record_count;
 use language::format;
@@ -21,7 +21,7 @@ use records::word_in;
 // Whether every record stands where its kind may, in a condition or outside.
 pub fn conditions_ok(file: &[u8]) -> bool
     requires { Formed file.now }
-    ensures { result ≡ conditionsOk (program file.now) }
+    ensures { result ≡ conditions_ok (program file.now) }
 {
     if !any_condition(file) {
         return true;
@@ -44,7 +44,7 @@ pub fn conditions_ok(file: &[u8]) -> bool
 // The loop has no way out before its end, so that the compiler takes several records a turn.
 fn any_condition(file: &[u8]) -> bool
     requires { Formed file.now }
-    ensures { result ≡ anyCondition file.now }
+    ensures { result ≡ any_condition file.now }
 {
     let n = record_count(file);
     let mut i = 0;
@@ -60,7 +60,7 @@ fn any_condition(file: &[u8]) -> bool
 
 // Whether a record of this kind may stand in a condition, or outside where `inside` is 0.
 fn may_stand(inside: u16, kind: usize) -> bool
-    ensures { result ≡ mayStand (eqb inside 1) kind }
+    ensures { result ≡ may_stand (eqb inside 1) kind }
 {
     if inside == 1 {
         match kind {
@@ -78,9 +78,9 @@ fn may_stand(inside: u16, kind: usize) -> bool
 // Hands down the mark of record i.
 fn hand_down(parts: &[usize; KINDS_END], file: &[u8], i: usize, inside: &mut [u16])
     requires formed { Formed file.now }
-    requires parts_value { parts.now ≡ table_of partDigits }
-    requires i_bound { (i < recordCount file.now) × (recordCount file.now ≤ length inside.old) }
-    ensures { inside.new ≡ handDown insideBy file.now i inside.old }
+    requires parts_value { parts.now ≡ table_of part_digits }
+    requires i_bound { (i < record_count file.now) × (record_count file.now ≤ length inside.old) }
+    ensures { inside.new ≡ hand_down inside_by file.now i inside.old }
 {
     let own = inside[i];
     let kind = word_in(file, i, format::KIND);
@@ -94,9 +94,9 @@ fn hand_down(parts: &[usize; KINDS_END], file: &[u8], i: usize, inside: &mut [u1
 // A try hands its own mark on, but for its condition.
 fn hand_try(file: &[u8], i: usize, own: u16, inside: &mut [u16])
     requires formed { Formed file.now }
-    requires i_bound { (i < recordCount file.now) × (recordCount file.now ≤ length inside.old) }
+    requires i_bound { (i < record_count file.now) × (record_count file.now ≤ length inside.old) }
     requires fact { IsTry file.now i × (own ≡ get_or inside.old i 0) }
-    ensures { inside.new ≡ handDown insideBy file.now i inside.old }
+    ensures { inside.new ≡ hand_down inside_by file.now i inside.old }
 {
     let next = word_in(file, i, format::NEXT);
     let condition = word_in(file, i, format::TRY_CONDITION);

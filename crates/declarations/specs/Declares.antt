@@ -4,94 +4,94 @@ use Rattle.std.specs.Prelude.{ℕ, ◌≡◌, true, List, ltb, length, get_or}
 use Rattle.std.proofs.Common.{arith, lt-ltb, le-ltb, ◌∙◌}
 use Rattle.std.proofs.Math.Decide.{dec_lt}
 use Rattle.std.proofs.Math.Path.{refl, ap, sym}
-use Rattle.language.specs.Format.{nextWord, headerTypes, headerProcedures, typeFunctors, procedureVariables}
+use Rattle.language.specs.Format.{next_word, header_types, header_procedures, type_functors, procedure_variables}
 use Rattle.language.specs.Lists.{nth, nth1}
 use Rattle.language.specs.File.{Chain, types, functors, procedures, variables, word}
-use Rattle.language.specs.Program.{functorsOf, functorAt, signature_of}
-use Rattle.language.specs.Typing.{typesOk}
+use Rattle.language.specs.Program.{functors_of, functor_at, signature_of}
+use Rattle.language.specs.Typing.{types_ok}
 use Rattle.language.specs.Answers.{program}
 use Rattle.chains.specs.Layout.{real}
-use Rattle.chains.specs.Fields.{field_of, field-some}
-use Rattle.chains.specs.Formed.{Formed, Stands, types-stand, procedures-stand, program-types, program-procedures, functorsAt, variablesAt}
-use Rattle.chains.specs.Records.{chainRecords, records-some, records-none, records-step}
-use Rattle.chains.specs.Elements.{functors-count, procedures-count}
-use Rattle.chains.specs.Reached.{stands-nth, stands-nth1, type-functors, place-below, place-past}
-use Rattle.chains.specs.Lookups.{functors-of, functor-of, procedure-of}
-use Rattle.declarations.specs.Functors.{functorAtRecord, functor-same}
-use Rattle.declarations.specs.Regioned.{regionedStart}
+use Rattle.chains.specs.Fields.{field_of, field_some}
+use Rattle.chains.specs.Formed.{Formed, Stands, types_stand, procedures_stand, program_types, program_procedures, functors_at, variables_at}
+use Rattle.chains.specs.Records.{chain_records, records_some, records_none, records_step}
+use Rattle.chains.specs.Elements.{functors_count, procedures_count}
+use Rattle.chains.specs.Reached.{stands_nth, stands_nth1, type_functors_law, place_below, place_past}
+use Rattle.chains.specs.Lookups.{functors_of_law, functor_of, procedure_of_law}
+use Rattle.declarations.specs.Functors.{functor_at_record, functor_same}
+use Rattle.declarations.specs.Regioned.{regioned_start}
 use Rattle.declarations.specs.Parameters.{ParameterFrom}
-use Rattle.declarations.specs.DeclaredPlaces.{regionedIn, functorIn, procedureIn}
+use Rattle.declarations.specs.DeclaredPlaces.{regioned_in, functor_in, procedure_in}
 
 -- the first functor of type ty
-unfoldable pub typeStart : List ℕ → ℕ → ℕ
-typeStart f ty = field_of f (nth1 0 (chainRecords f (word f 0 headerTypes)) ty) typeFunctors
+unfoldable pub type_start : List ℕ → ℕ → ℕ
+type_start f ty = field_of f (nth1 0 (chain_records f (word f 0 header_types)) ty) type_functors
 
 pub record Declares (f t : List ℕ) : Type 0 where
   pub formed : Formed f
-  pub types-ok : typesOk (program f).types ≡ true
-  pub functors : (ty n : ℕ) → functorIn t ty n ≡ nth 0 (chainRecords f (typeStart f ty)) n
-  pub starts : (ty : ℕ) → regionedIn t ty ≡ regionedStart f (typeStart f ty)
-  pub procedures : (q : ℕ) → procedureIn t q ≡ nth 0 (chainRecords f (word f 0 headerProcedures)) q
+  pub types_ok_law : types_ok (program f).types ≡ true
+  pub functors : (ty n : ℕ) → functor_in t ty n ≡ nth 0 (chain_records f (type_start f ty)) n
+  pub starts : (ty : ℕ) → regioned_in t ty ≡ regioned_start f (type_start f ty)
+  pub procedures : (q : ℕ) → procedure_in t q ≡ nth 0 (chain_records f (word f 0 header_procedures)) q
   pub parameters : (v : ℕ) → Stands f variables v → ParameterFrom f v (get_or t v 0)
 
 -- ---- the types of the file
 module _ {f : List ℕ} (F : Formed f) (ty : ℕ) where
-  pub start-stands : Stands f functors (typeStart f ty)
-  unfolding typeStart real
-  start-stands = type-functors F _ (stands-nth1 F types refl _ (types-stand F) ty)
+  pub start_stands : Stands f functors (type_start f ty)
+  unfolding type_start real
+  start_stands = type_functors_law F _ (stands_nth1 F types refl _ (types_stand F) ty)
 
-  pub functors-are : functorsAt f (typeStart f ty) ≡ functorsOf (program f).types ty
-  unfolding typeStart
-  functors-are = sym (functors-of F (types-stand F) (program-types F) ty refl)
+  pub functors_are : functors_at f (type_start f ty) ≡ functors_of (program f).types ty
+  unfolding type_start
+  functors_are = sym (functors_of_law F (types_stand F) (program_types F) ty refl)
 
-  pub functors-length : length (chainRecords f (typeStart f ty)) ≡ length (functorsOf (program f).types ty)
-  functors-length = sym (functors-count F (typeStart f ty) start-stands) ∙ ap length functors-are
+  pub functors_length : length (chain_records f (type_start f ty)) ≡ length (functors_of (program f).types ty)
+  functors_length = sym (functors_count F (type_start f ty) start_stands) ∙ ap length functors_are
 
 -- there is an n-th record where the chain is that long
-record-listed : (f : List ℕ) (i n : ℕ) → ltb 0 (nth 0 (chainRecords f i) n) ≡ ltb n (length (chainRecords f i))
-record-listed f i n =
-    elim (dec_lt 0 (nth 0 (chainRecords f i) n)) [
-      | yes l ↦ lt-ltb 0 (nth 0 (chainRecords f i) n) l ∙ sym (lt-ltb n (length (chainRecords f i)) (place-below (chainRecords f i) n (λ z. omega arith)))
-      | no l ↦ le-ltb 0 (nth 0 (chainRecords f i) n) (omega arith) ∙ sym (le-ltb n (length (chainRecords f i)) (place-past (chainRecords f i) (records-some f i) n (omega arith)))
+record_listed : (f : List ℕ) (i n : ℕ) → ltb 0 (nth 0 (chain_records f i) n) ≡ ltb n (length (chain_records f i))
+record_listed f i n =
+    elim (dec_lt 0 (nth 0 (chain_records f i) n)) [
+      | yes l ↦ lt-ltb 0 (nth 0 (chain_records f i) n) l ∙ sym (lt-ltb n (length (chain_records f i)) (place_below (chain_records f i) n (λ z. omega arith)))
+      | no l ↦ le-ltb 0 (nth 0 (chain_records f i) n) (omega arith) ∙ sym (le-ltb n (length (chain_records f i)) (place_past (chain_records f i) (records_some f i) n (omega arith)))
     ]
 
 -- the first record of a chain is where it starts
-pub first-record : {f : List ℕ} → Formed f → {c : Chain} {i : ℕ} → Stands f c i → nth 0 (chainRecords f i) 0 ≡ i
+pub first_record : {f : List ℕ} → Formed f → {c : Chain} {i : ℕ} → Stands f c i → nth 0 (chain_records f i) 0 ≡ i
 unfolding nth
-first-record {f} F {i = i} s =
+first_record {f} F {i = i} s =
     elim (dec_lt 0 i) [
-      | yes l ↦ ap (λ xs. nth 0 xs 0) (records-step {w = word f i nextWord} F (λ z. omega arith) s.below refl)
-      | no l ↦ let z : i ≡ 0 = omega arith in ap (λ xs. nth 0 xs 0) (records-none f z) ∙ sym z
+      | yes l ↦ ap (λ xs. nth 0 xs 0) (records_step {w = word f i next_word} F (λ z. omega arith) s.below refl)
+      | no l ↦ let z : i ≡ 0 = omega arith in ap (λ xs. nth 0 xs 0) (records_none f z) ∙ sym z
     ]
 
 module _ {f t : List ℕ} (D : Declares f t) where
-  pub functor-stands : (ty n : ℕ) → Stands f functors (functorIn t ty n)
+  pub functor_stands : (ty n : ℕ) → Stands f functors (functor_in t ty n)
   unfolding real
-  functor-stands ty n = rw (D.functors ty n) (stands-nth D.formed functors refl (typeStart f ty) (start-stands D.formed ty) n)
+  functor_stands ty n = rw (D.functors ty n) (stands_nth D.formed functors refl (type_start f ty) (start_stands D.formed ty) n)
 
-  pub functor-listed : (ty n : ℕ) → ltb 0 (functorIn t ty n) ≡ ltb n (length (functorsOf (program f).types ty))
-  functor-listed ty n = ap (ltb 0) (D.functors ty n) ∙ record-listed f (typeStart f ty) n ∙ ap (ltb n) (functors-length D.formed ty)
+  pub functor_listed : (ty n : ℕ) → ltb 0 (functor_in t ty n) ≡ ltb n (length (functors_of (program f).types ty))
+  functor_listed ty n = ap (ltb 0) (D.functors ty n) ∙ record_listed f (type_start f ty) n ∙ ap (ltb n) (functors_length D.formed ty)
 
-  module _ (ty : ℕ) {g : ℕ} (e : g ≡ functorIn t ty 0) where
+  module _ (ty : ℕ) {g : ℕ} (e : g ≡ functor_in t ty 0) where
     -- the functors from the first of a type on
-    pub functors-here : functorsAt f g ≡ functorsOf (program f).types ty
-    functors-here = ap (functorsAt f) (e ∙ D.functors ty 0 ∙ first-record D.formed (start-stands D.formed ty)) ∙ functors-are D.formed ty
+    pub functors_here : functors_at f g ≡ functors_of (program f).types ty
+    functors_here = ap (functors_at f) (e ∙ D.functors ty 0 ∙ first_record D.formed (start_stands D.formed ty)) ∙ functors_are D.formed ty
 
   -- ---- types with regions
-  pub functor-here : (ty n : ℕ) {g : ℕ} → g ≡ functorIn t ty n → (g ≡ 0 → ⊥) → functorAt (functorsOf (program f).types ty) n ≡ functorAtRecord f g
-  functor-here ty n {g} e z = functor-of D.formed (start-stands D.formed ty) (sym (functors-are D.formed ty)) n (e ∙ D.functors ty n) ∙ functor-same f g z
+  pub functor_here : (ty n : ℕ) {g : ℕ} → g ≡ functor_in t ty n → (g ≡ 0 → ⊥) → functor_at (functors_of (program f).types ty) n ≡ functor_at_record f g
+  functor_here ty n {g} e z = functor_of D.formed (start_stands D.formed ty) (sym (functors_are D.formed ty)) n (e ∙ D.functors ty n) ∙ functor_same f g z
 
-  pub procedure-stands : (q : ℕ) → Stands f procedures (procedureIn t q)
+  pub procedure_stands : (q : ℕ) → Stands f procedures (procedure_in t q)
   unfolding real
-  procedure-stands q = rw (D.procedures q) (stands-nth D.formed procedures refl _ (procedures-stand D.formed) q)
+  procedure_stands q = rw (D.procedures q) (stands_nth D.formed procedures refl _ (procedures_stand D.formed) q)
 
-  pub procedure-listed : (q : ℕ) → ltb 0 (procedureIn t q) ≡ ltb q (length (program f).procedures)
-  procedure-listed q =
-      ap (ltb 0) (D.procedures q) ∙ record-listed f (word f 0 headerProcedures) q
-      ∙ ap (ltb q) (sym (ap length (program-procedures D.formed) ∙ procedures-count D.formed _ (procedures-stand D.formed)))
+  pub procedure_listed : (q : ℕ) → ltb 0 (procedure_in t q) ≡ ltb q (length (program f).procedures)
+  procedure_listed q =
+      ap (ltb 0) (D.procedures q) ∙ record_listed f (word f 0 header_procedures) q
+      ∙ ap (ltb q) (sym (ap length (program_procedures D.formed) ∙ procedures_count D.formed _ (procedures_stand D.formed)))
 
-  pub callee-variables : (q : ℕ) {j : ℕ} → j ≡ procedureIn t q → (j ≡ 0 → ⊥) → (signature_of (program f) q).variables ≡ variablesAt f (word f j procedureVariables)
+  pub callee_variables : (q : ℕ) {j : ℕ} → j ≡ procedure_in t q → (j ≡ 0 → ⊥) → (signature_of (program f) q).variables ≡ variables_at f (word f j procedure_variables)
   unfolding signature_of
-  callee-variables q {j} e z =
-      ap (λ p. p.signature.variables) (procedure-of D.formed (program f) (procedures-stand D.formed) (program-procedures D.formed) q (e ∙ D.procedures q))
-      ∙ ap (variablesAt f) (sym (field-some f j 2 z))
+  callee_variables q {j} e z =
+      ap (λ p. p.signature.variables) (procedure_of_law D.formed (program f) (procedures_stand D.formed) (program_procedures D.formed) q (e ∙ D.procedures q))
+      ∙ ap (variables_at f) (sym (field_some f j 2 z))

@@ -3,22 +3,22 @@ use Rattle.std.specs.Prelude.{ℕ, ◌≡◌, Bool, false, List, [], ◌∷◌, 
 use Rattle.language.specs.File.{edges}
 use Rattle.language.specs.Program.{Signature}
 use Rattle.language.specs.Answers.{program}
-use Rattle.language.specs.Typing.{Place, placeIf, regioned, types_in, placesIn, placesFrom, edgesOk}
-use Rattle.chains.specs.Formed.{Stands, functorsAt, edges_at}
-use Rattle.declarations.specs.Functors.{functorAtRecord}
+use Rattle.language.specs.Typing.{Place, place_if, regioned, types_in, places_in, places_from, edges_ok}
+use Rattle.chains.specs.Formed.{Stands, functors_at, edges_at}
+use Rattle.declarations.specs.Functors.{functor_at_record}
 use Rattle.declarations.specs.Own.{declared}
 use Rattle.declarations.specs.declared.Rest.{Rest}
 use Rattle.declarations.specs.declared.Rest.TheVariants.{At, Wrong}
 
 -- the edges that are left against the places that are left
-unfoldable pub goesOn : List ℕ → Signature → Rest → List Place → Bool
-goesOn f S (At e) qs = edgesOk (program f).types S qs (edges_at f e)
-goesOn f S Wrong qs = false
+unfoldable pub goes_on : List ℕ → Signature → Rest → List Place → Bool
+goes_on f S (At e) qs = edges_ok (program f).types S qs (edges_at f e)
+goes_on f S Wrong qs = false
 
 -- the places ps were matched from record e on, with the rest r
 pub record EdgesMatch (f : List ℕ) (S : Signature) (ps : List Place) (e : ℕ) (r : Rest) : Type 0 where
   pub stands : (e' : ℕ) → r ≡ At e' → Stands f edges e'
-  pub same : (qs : List Place) → edgesOk (program f).types S (ps ++ qs) (edges_at f e) ≡ goesOn f S r qs
+  pub same : (qs : List Place) → edges_ok (program f).types S (ps ++ qs) (edges_at f e) ≡ goes_on f S r qs
 
 -- the same for the regions that a procedure's table has, and of the places of functor g, which record i holds
 module _ (f own : List ℕ) where
@@ -29,12 +29,12 @@ module _ (f own : List ℕ) where
   PlacesMatch ps e r = EdgesMatch f (declared f own) ps e r
 
   abbrev pub FunctorMatch : ℕ → ℕ → ℕ → Rest → Type 0
-  FunctorMatch g i e r = EdgesMatch f (declared f own) (placesIn (program f).types g 1 (types_in (functorAtRecord f i))) e r
+  FunctorMatch g i e r = EdgesMatch f (declared f own) (places_in (program f).types g 1 (types_in (functor_at_record f i))) e r
 
 -- the place of functor g at position k, where its type has regions
-unfoldable pub placeAt : List ℕ → ℕ → ℕ → ℕ → List Place
-placeAt f g k t = placeIf (regioned (program f).types t) (record { functor = g; position = k; type = t }) []
+unfoldable pub place_at : List ℕ → ℕ → ℕ → ℕ → List Place
+place_at f g k t = place_if (regioned (program f).types t) (record { functor = g; position = k; type = t }) []
 
 -- all places of the functors from record start on
 abbrev pub AllMatch : List ℕ → List ℕ → ℕ → ℕ → Bool → Type 0
-AllMatch f own start e r = r ≡ edgesOk (program f).types (declared f own) (placesFrom (program f).types 0 (functorsAt f start)) (edges_at f e)
+AllMatch f own start e r = r ≡ edges_ok (program f).types (declared f own) (places_from (program f).types 0 (functors_at f start)) (edges_at f e)

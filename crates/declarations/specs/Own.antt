@@ -4,75 +4,75 @@ use Rattle.std.proofs.Common.{arith, lt-ltb, le-ltb, ◌∙◌}
 use Rattle.std.proofs.Math.Decide.{dec_lt}
 use Rattle.std.proofs.Math.Path.{refl, ap, sym}
 use Rattle.sets.specs.Tests.{◌&◌}
-use Rattle.language.specs.Format.{procedureVariables, procedureRegions, variableType, maxVariables, maxRegions}
+use Rattle.language.specs.Format.{procedure_variables, procedure_regions, variable_type, max_variables, max_regions}
 use Rattle.language.specs.Lists.{among, nth1}
 use Rattle.language.specs.File.{variables, regions, word}
 use Rattle.language.specs.Program.{Signature, type_of}
-use Rattle.language.specs.Typing.{isVariable, isRegion}
+use Rattle.language.specs.Typing.{is_variable, is_region}
 use Rattle.chains.specs.Layout.{real}
-use Rattle.chains.specs.Fields.{field-some}
-use Rattle.chains.specs.Formed.{Formed, Stands, variablesAt, regionsAt}
-use Rattle.chains.specs.Records.{chainRecords, records-some}
-use Rattle.chains.specs.Elements.{variables-count, regions-count}
-use Rattle.chains.specs.Reached.{stands-nth1, among-place, among-past}
-use Rattle.chains.specs.Lookups.{variable-of}
-use Rattle.declarations.specs.DeclaredPlaces.{variableIn, regionIn}
+use Rattle.chains.specs.Fields.{field_some}
+use Rattle.chains.specs.Formed.{Formed, Stands, variables_at, regions_at}
+use Rattle.chains.specs.Records.{chain_records, records_some}
+use Rattle.chains.specs.Elements.{variables_count, regions_count}
+use Rattle.chains.specs.Reached.{stands_nth1, among_place, among_past}
+use Rattle.chains.specs.Lookups.{variable_of}
+use Rattle.declarations.specs.DeclaredPlaces.{variable_in, region_in}
 
 pub record Own (f t : List ℕ) : Type 0 where
-  pub variables-stand : Stands f variables (variableIn t 1)
-  pub regions-stand : Stands f regions (regionIn t 1)
-  pub variables : (x : ℕ) → variableIn t x ≡ nth1 0 (chainRecords f (variableIn t 1)) x
-  pub regions : (r : ℕ) → regionIn t r ≡ nth1 0 (chainRecords f (regionIn t 1)) r
+  pub variables_stand : Stands f variables (variable_in t 1)
+  pub regions_stand : Stands f regions (region_in t 1)
+  pub variables : (x : ℕ) → variable_in t x ≡ nth1 0 (chain_records f (variable_in t 1)) x
+  pub regions : (r : ℕ) → region_in t r ≡ nth1 0 (chain_records f (region_in t 1)) r
 
 -- the variables from record v on and the regions from record r on
-unfoldable pub signatureFrom : List ℕ → ℕ → ℕ → Signature
-signatureFrom f v r = record { variables = variablesAt f v; regions = regionsAt f r }
+unfoldable pub signature_from : List ℕ → ℕ → ℕ → Signature
+signature_from f v r = record { variables = variables_at f v; regions = regions_at f r }
 
 -- the procedure's signature: the first variable and the first region start its chains
 unfoldable pub declared : List ℕ → List ℕ → Signature
-declared f t = signatureFrom f (variableIn t 1) (regionIn t 1)
+declared f t = signature_from f (variable_in t 1) (region_in t 1)
 
 -- of the procedure of record i
 unfoldable pub signature_at : List ℕ → ℕ → Signature
-signature_at f i = signatureFrom f (word f i procedureVariables) (word f i procedureRegions)
+signature_at f i = signature_from f (word f i procedure_variables) (word f i procedure_regions)
 
 -- the table is of that procedure
 abbrev pub OwnOf : List ℕ → List ℕ → ℕ → Type 0
 OwnOf f t i = Own f t × (declared f t ≡ signature_at f i)
 
 -- "64 variables and 64 regions a procedure"
-unfoldable pub fewDeclared : Signature → Bool
-fewDeclared S = leb (length S.variables) maxVariables & leb (length S.regions) maxRegions
+unfoldable pub few_declared : Signature → Bool
+few_declared S = leb (length S.variables) max_variables & leb (length S.regions) max_regions
 
 -- there is a record numbered x, from 1, where the chain is that long
-record-listed1 : (f : List ℕ) (i x : ℕ) {n : ℕ} → length (chainRecords f i) ≡ n → ltb 0 (nth1 0 (chainRecords f i) x) ≡ among n x
-record-listed1 f i x {n} e =
-    elim (dec_lt 0 (nth1 0 (chainRecords f i) x)) [
-      | yes l ↦ lt-ltb 0 (nth1 0 (chainRecords f i) x) l ∙ sym (among-place (chainRecords f i) n x e (λ z. omega arith))
-      | no l ↦ le-ltb 0 (nth1 0 (chainRecords f i) x) (omega arith) ∙ sym (among-past (chainRecords f i) (records-some f i) n x e (omega arith))
+record_listed1 : (f : List ℕ) (i x : ℕ) {n : ℕ} → length (chain_records f i) ≡ n → ltb 0 (nth1 0 (chain_records f i) x) ≡ among n x
+record_listed1 f i x {n} e =
+    elim (dec_lt 0 (nth1 0 (chain_records f i) x)) [
+      | yes l ↦ lt-ltb 0 (nth1 0 (chain_records f i) x) l ∙ sym (among_place (chain_records f i) n x e (λ z. omega arith))
+      | no l ↦ le-ltb 0 (nth1 0 (chain_records f i) x) (omega arith) ∙ sym (among_past (chain_records f i) (records_some f i) n x e (omega arith))
     ]
 
 module _ {f t : List ℕ} (F : Formed f) (O : Own f t) where
-  pub variable-stands : (x : ℕ) → Stands f variables (variableIn t x)
+  pub variable_stands : (x : ℕ) → Stands f variables (variable_in t x)
   unfolding real
-  variable-stands x = rw (O.variables x) (stands-nth1 F variables refl _ O.variables-stand x)
+  variable_stands x = rw (O.variables x) (stands_nth1 F variables refl _ O.variables_stand x)
 
-  pub variable-listed : (x : ℕ) → ltb 0 (variableIn t x) ≡ isVariable (declared f t) x
-  unfolding isVariable declared signatureFrom
-  variable-listed x = ap (ltb 0) (O.variables x) ∙ record-listed1 f (variableIn t 1) x (sym (variables-count F _ O.variables-stand))
+  pub variable_listed : (x : ℕ) → ltb 0 (variable_in t x) ≡ is_variable (declared f t) x
+  unfolding is_variable declared signature_from
+  variable_listed x = ap (ltb 0) (O.variables x) ∙ record_listed1 f (variable_in t 1) x (sym (variables_count F _ O.variables_stand))
 
-  pub region-listed : (r : ℕ) → ltb 0 (regionIn t r) ≡ isRegion (declared f t) r
-  unfolding isRegion declared signatureFrom
-  region-listed r = ap (ltb 0) (O.regions r) ∙ record-listed1 f (regionIn t 1) r (sym (regions-count F _ O.regions-stand))
+  pub region_listed : (r : ℕ) → ltb 0 (region_in t r) ≡ is_region (declared f t) r
+  unfolding is_region declared signature_from
+  region_listed r = ap (ltb 0) (O.regions r) ∙ record_listed1 f (region_in t 1) r (sym (regions_count F _ O.regions_stand))
 
-  module _ (x : ℕ) {v : ℕ} (e : v ≡ variableIn t x) where
-    pub variable-none : v ≡ 0 → isVariable (declared f t) x ≡ false
-    variable-none z = sym (variable-listed x) ∙ le-ltb 0 (variableIn t x) (omega arith)
+  module _ (x : ℕ) {v : ℕ} (e : v ≡ variable_in t x) where
+    pub variable_none : v ≡ 0 → is_variable (declared f t) x ≡ false
+    variable_none z = sym (variable_listed x) ∙ le-ltb 0 (variable_in t x) (omega arith)
 
     module _ (z : v ≡ 0 → ⊥) where
-      pub variable-some : isVariable (declared f t) x ≡ true
-      variable-some = sym (variable-listed x) ∙ lt-ltb 0 (variableIn t x) (omega arith)
+      pub variable_some : is_variable (declared f t) x ≡ true
+      variable_some = sym (variable_listed x) ∙ lt-ltb 0 (variable_in t x) (omega arith)
 
-      pub variable-type : type_of (declared f t) x ≡ word f v variableType
-      unfolding type_of declared signatureFrom
-      variable-type = ap (λ u. u.type) (variable-of F (declared f t) O.variables-stand refl x (e ∙ O.variables x)) ∙ sym (field-some f v variableType z)
+      pub variable_type_law : type_of (declared f t) x ≡ word f v variable_type
+      unfolding type_of declared signature_from
+      variable_type_law = ap (λ u. u.type) (variable_of F (declared f t) O.variables_stand refl x (e ∙ O.variables x)) ∙ sym (field_some f v variable_type z)

@@ -2,12 +2,12 @@
 use Rattle.std.specs.Prelude.{ℕ, Bool, List, eqb}
 use Rattle.sets.specs.Tests.{neg}
 use Rattle.language.specs.Lists.{all, choose}
-use Rattle.chains.specs.Formed.{functorsAt}
+use Rattle.chains.specs.Formed.{functors_at}
 
 -- the functors from record i on are constants
-unfoldable pub constantsAt : List ℕ → ℕ → Bool
-constantsAt f i = all (λ g. eqb g.arity 0) (functorsAt f i)
+unfoldable pub constants_at : List ℕ → ℕ → Bool
+constants_at f i = all (λ g. eqb g.arity 0) (functors_at f i)
 
 -- where the functors of a type with regions start: at record i, unless all from there on are constants
-unfoldable pub regionedStart : List ℕ → ℕ → ℕ
-regionedStart f i = choose (neg (constantsAt f i)) i 0
+unfoldable pub regioned_start : List ℕ → ℕ → ℕ
+regioned_start f i = choose (neg (constants_at f i)) i 0

@@ -2,41 +2,41 @@
 use Rattle.std.specs.Prelude.{ℕ, ◌≡◌, Bool, List}
 use Rattle.sets.specs.Tests.{◌&◌}
 use Rattle.laws.specs.Tests.{and_assoc}
-use Rattle.language.specs.Format.{variableMode, variableType, variableRegion, regionType, regionClass, regionEdges}
+use Rattle.language.specs.Format.{variable_mode, variable_type, variable_region, region_type, region_class, region_edges}
 use Rattle.language.specs.Lists.{all}
 use Rattle.language.specs.File.{word}
 use Rattle.language.specs.Program.{Functor, Variable, Region, Signature}
 use Rattle.language.specs.Answers.{program}
-use Rattle.language.specs.Typing.{variableOk, regionOk, signatureOk}
-use Rattle.chains.specs.Formed.{edges_at, variablesAt, regionsAt}
-use Rattle.declarations.specs.Own.{declared, fewDeclared}
+use Rattle.language.specs.Typing.{variable_ok, region_ok, signature_ok}
+use Rattle.chains.specs.Formed.{edges_at, variables_at, regions_at}
+use Rattle.declarations.specs.Own.{declared, few_declared}
 
-unfoldable pub variableAtRecord : List ℕ → ℕ → Variable
-variableAtRecord f i = record { mode = word f i variableMode; type = word f i variableType; region = word f i variableRegion }
+unfoldable pub variable_at_record : List ℕ → ℕ → Variable
+variable_at_record f i = record { mode = word f i variable_mode; type = word f i variable_type; region = word f i variable_region }
 
-unfoldable pub regionAtRecord : List ℕ → ℕ → Region
-regionAtRecord f i = record { type = word f i regionType; class = word f i regionClass; edges = edges_at f (word f i regionEdges) }
+unfoldable pub region_at_record : List ℕ → ℕ → Region
+region_at_record f i = record { type = word f i region_type; class = word f i region_class; edges = edges_at f (word f i region_edges) }
 
 -- each variable and each region
-unfoldable pub eachDeclared : List (List Functor) → Signature → Bool
-eachDeclared T S = all (variableOk T S) S.variables & all (regionOk T S) S.regions
+unfoldable pub each_declared : List (List Functor) → Signature → Bool
+each_declared T S = all (variable_ok T S) S.variables & all (region_ok T S) S.regions
 
 -- ---- what the code tests, with what the procedure's table declares
 module _ (f own : List ℕ) where
   abbrev pub VariableTested : ℕ → Bool → Type 0
-  VariableTested i b = b ≡ variableOk (program f).types (declared f own) (variableAtRecord f i)
+  VariableTested i b = b ≡ variable_ok (program f).types (declared f own) (variable_at_record f i)
 
   abbrev pub VariablesTested : ℕ → Bool → Type 0
-  VariablesTested i b = b ≡ all (variableOk (program f).types (declared f own)) (variablesAt f i)
+  VariablesTested i b = b ≡ all (variable_ok (program f).types (declared f own)) (variables_at f i)
 
   abbrev pub RegionTested : ℕ → Bool → Type 0
-  RegionTested i b = b ≡ regionOk (program f).types (declared f own) (regionAtRecord f i)
+  RegionTested i b = b ≡ region_ok (program f).types (declared f own) (region_at_record f i)
 
   abbrev pub RegionsTested : ℕ → Bool → Type 0
-  RegionsTested i b = b ≡ all (regionOk (program f).types (declared f own)) (regionsAt f i)
+  RegionsTested i b = b ≡ all (region_ok (program f).types (declared f own)) (regions_at f i)
 
 -- ---- all of it
 -- the definition's two parts
-pub signature-parts : (T : List (List Functor)) (S : Signature) → (fewDeclared S & eachDeclared T S) ≡ signatureOk T S
-unfolding fewDeclared eachDeclared signatureOk
-signature-parts T S = and_assoc _ _ _
+pub signature_parts : (T : List (List Functor)) (S : Signature) → (few_declared S & each_declared T S) ≡ signature_ok T S
+unfolding few_declared each_declared signature_ok
+signature_parts T S = and_assoc _ _ _

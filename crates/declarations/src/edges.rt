@@ -4,12 +4,12 @@ ghost use Rattle.language.specs.Format.{places};
 ghost use Rattle.language.specs.Lists.{all};
 ghost use Rattle.language.specs.File.{functors, edges};
 ghost use Rattle.language.specs.Answers.{program};
-ghost use Rattle.language.specs.Typing.{functorOk};
-ghost use Rattle.chains.specs.Formed.{Formed, Stands, functorsAt};
-ghost use Rattle.declarations.specs.Functors.{functorAtRecord};
+ghost use Rattle.language.specs.Typing.{functor_ok};
+ghost use Rattle.chains.specs.Formed.{Formed, Stands, functors_at};
+ghost use Rattle.declarations.specs.Functors.{functor_at_record};
 ghost use Rattle.declarations.specs.Declares.{Declares};
 ghost use Rattle.declarations.specs.Own.{Own};
-ghost use Rattle.declarations.specs.Edges.{placeAt, PlaceMatch, PlacesMatch, FunctorMatch, AllMatch};
+ghost use Rattle.declarations.specs.Edges.{place_at, PlaceMatch, PlacesMatch, FunctorMatch, AllMatch};
 
 use crate::Rest;
 use crate::names::{first_functor, is_region_of};
@@ -61,7 +61,7 @@ fn position_ok(
     requires declares { Declares file.now table.now × Own file.now own.now }
     requires stands { Stands file.now edges e }
     requires t_lt_places { t < places }
-    ensures { PlacesMatch file.now own.now (placeAt file.now g k t) e result }
+    ensures { PlacesMatch file.now own.now (place_at file.now g k t) e result }
 {
     if table[first_functor(table, t)] == 0 {
         return Rest::At(e);
@@ -82,7 +82,7 @@ fn functor_edges(
     requires declares { Declares file.now table.now × Own file.now own.now }
     requires stands { Stands file.now edges e }
     requires stands_2 { Stands file.now functors i × (i ≡ 0 → ⊥) }
-    requires i_value { functorOk (program file.now).types (functorAtRecord file.now i) ≡ true }
+    requires i_value { functor_ok (program file.now).types (functor_at_record file.now i) ≡ true }
     ensures { FunctorMatch file.now own.now g i e result }
 {
     if word(file, i, FUNCTOR_ARITY) == 0 {
@@ -120,7 +120,7 @@ pub fn edges_ok(
     first: usize,
 ) -> bool
     requires declares { Declares file.now table.now × Own file.now own.now }
-    requires stands { Stands file.now functors start × (all (functorOk (program file.now).types) (functorsAt file.now start) ≡ true) }
+    requires stands { Stands file.now functors start × (all (functor_ok (program file.now).types) (functors_at file.now start) ≡ true) }
     requires stands_2 { Stands file.now edges first }
     ensures { AllMatch file.now own.now start first result }
 {

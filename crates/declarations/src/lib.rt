@@ -1,5 +1,5 @@
-// Number 3 for what a file declares: its types and functors, and each procedure's variables, regions and edges, as the definitions `typesOk`
-// and `signatureOk` say; and the two tables that the goals are tested by.
+// Number 3 for what a file declares: its types and functors, and each procedure's variables, regions and edges, as the definitions `types_ok`
+// and `signature_ok` say; and the two tables that the goals are tested by.
 mod edges;
 mod listing;
 mod names;

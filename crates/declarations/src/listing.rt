@@ -1,18 +1,18 @@
 // The records of chains, listed in a table.
 ghost use Rattle.std.specs.Prelude.{◌≡◌, true, ℕ, ◌+◌, ◌≤◌, ◌<◌, length, get_or, replicate};
-ghost use Rattle.language.specs.Format.{maxProcedures};
-ghost use Rattle.language.specs.File.{functors, procedures, recordCount};
-ghost use Rattle.language.specs.Typing.{typesOk};
+ghost use Rattle.language.specs.Format.{max_procedures};
+ghost use Rattle.language.specs.File.{functors, procedures, record_count};
+ghost use Rattle.language.specs.Typing.{types_ok};
 ghost use Rattle.language.specs.Answers.{program};
 ghost use Rattle.chains.specs.Formed.{Formed, Stands};
-ghost use Rattle.chains.specs.Records.{chainRecords};
-ghost use Rattle.declarations.specs.DeclaredPlaces.{filePlaces, functorPlaces, ownPlaces};
+ghost use Rattle.chains.specs.Records.{chain_records};
+ghost use Rattle.declarations.specs.DeclaredPlaces.{file_places, functor_places, own_places};
 ghost use Rattle.declarations.specs.Listing.{Lists};
 ghost use Rattle.declarations.specs.Parameters.{link_of, Linked};
 ghost use Rattle.declarations.specs.Filling.{Functors};
-ghost use Rattle.declarations.specs.Regioned.{regionedStart};
+ghost use Rattle.declarations.specs.Regioned.{regioned_start};
 ghost use Rattle.declarations.specs.Declares.{Declares};
-ghost use Rattle.declarations.specs.Own.{signature_at, fewDeclared, OwnOf};
+ghost use Rattle.declarations.specs.Own.{signature_at, few_declared, OwnOf};
 
 use crate::places::{FILE_PLACES, FUNCTOR_PLACES, OWN_PLACES, PROCEDURE_PLACES, REGION_PLACES};
 use chains::{record_count, word};
@@ -25,8 +25,8 @@ use records::narrow;
 // Lists the chain at record start in the places from `at` on.
 fn list_records(file: &[u8], start: usize, at: usize, table: &mut [u16])
     requires formed { Formed file.now }
-    requires start_bound { start < recordCount file.now }
-    requires start_in_bounds { at + length (chainRecords file.now start) ≤ length table.old }
+    requires start_bound { start < record_count file.now }
+    requires start_in_bounds { at + length (chain_records file.now start) ≤ length table.old }
     ensures { Lists file.now start at table.old table.new }
 {
     let mut i = start;
@@ -42,7 +42,7 @@ fn list_records(file: &[u8], start: usize, at: usize, table: &mut [u16])
 fn regioned_start(file: &[u8], start: usize) -> u16
     requires formed { Formed file.now }
     requires stands { Stands file.now functors start }
-    ensures { result ≡ regionedStart file.now start }
+    ensures { result ≡ regioned_start file.now start }
 {
     let mut i = start;
     while i != 0 {
@@ -57,8 +57,8 @@ fn regioned_start(file: &[u8], start: usize) -> u16
 // The functors of every type, and the first one of each type with regions.
 fn list_functors(file: &[u8], table: &mut [u16; FILE_PLACES])
     requires formed { Formed file.now }
-    requires file_value { typesOk (program file.now).types ≡ true }
-    requires file_places_in_bounds { (filePlaces ≤ length table.old) × (get_or table.old 0 0 ≡ 0) × ((k : ℕ) → functorPlaces ≤ k → get_or table.old k 0 ≡ 0) }
+    requires file_value { types_ok (program file.now).types ≡ true }
+    requires file_places_in_bounds { (file_places ≤ length table.old) × (get_or table.old 0 0 ≡ 0) × ((k : ℕ) → functor_places ≤ k → get_or table.old k 0 ≡ 0) }
     ensures { Functors file.now table.old table.new }
 {
     let mut i = word(file, 0, HEADER_TYPES);
@@ -75,7 +75,7 @@ fn list_functors(file: &[u8], table: &mut [u16; FILE_PLACES])
 // The first in or out variable from the variable at record i on, by the links of the records behind.
 fn link(file: &[u8], table: &[u16; FILE_PLACES], i: usize) -> u16
     requires formed { Formed file.now }
-    requires i_nonzero { (0 < i) × (i < recordCount file.now) }
+    requires i_nonzero { (0 < i) × (i < record_count file.now) }
     ensures { result ≡ link_of file.now table.now i }
 {
     if word(file, i, VARIABLE_MODE) == 0 {
@@ -87,7 +87,7 @@ fn link(file: &[u8], table: &[u16; FILE_PLACES], i: usize) -> u16
 // For each variable the first in or out variable from there on, from the last record to the first: a chain goes up.
 fn list_parameters(file: &[u8], table: &mut [u16; FILE_PLACES])
     requires formed { Formed file.now }
-    requires file_places_in_bounds { (filePlaces ≤ length table.old) × (get_or table.old 0 0 ≡ 0) }
+    requires file_places_in_bounds { (file_places ≤ length table.old) × (get_or table.old 0 0 ≡ 0) }
     ensures { Linked file.now table.old table.new 1 }
 {
     let mut i = record_count(file);
@@ -102,8 +102,8 @@ fn list_parameters(file: &[u8], table: &mut [u16; FILE_PLACES])
 // Lists all that a file declares that has types in order and no more procedures than there are places. The table is blank before.
 pub fn list_file(file: &[u8], table: &mut [u16; FILE_PLACES])
     requires formed { Formed file.now }
-    requires file_value { (typesOk (program file.now).types ≡ true) × (length (program file.now).procedures ≤ maxProcedures) }
-    requires table_value { table.old ≡ replicate filePlaces 0 }
+    requires file_value { (types_ok (program file.now).types ≡ true) × (length (program file.now).procedures ≤ max_procedures) }
+    requires table_value { table.old ≡ replicate file_places 0 }
     ensures { Declares file.now table.new }
 {
     let first = word(file, 0, HEADER_PROCEDURES);
@@ -116,7 +116,7 @@ pub fn list_file(file: &[u8], table: &mut [u16; FILE_PLACES])
 pub fn list_own(file: &[u8], i: usize, own: &mut [u16; OWN_PLACES])
     requires formed { Formed file.now }
     requires stands { Stands file.now procedures i × (i ≡ 0 → ⊥) }
-    requires i_value { (fewDeclared (signature_at file.now i) ≡ true) × (own.old ≡ replicate ownPlaces 0) }
+    requires i_value { (few_declared (signature_at file.now i) ≡ true) × (own.old ≡ replicate own_places 0) }
     ensures { OwnOf file.now own.new i }
 {
     list_records(file, word(file, i, PROCEDURE_VARIABLES), 1, own);

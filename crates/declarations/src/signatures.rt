@@ -4,8 +4,8 @@ ghost use Rattle.language.specs.File.{procedures, variables, regions};
 ghost use Rattle.language.specs.Answers.{program};
 ghost use Rattle.chains.specs.Formed.{Formed, Stands};
 ghost use Rattle.declarations.specs.Declares.{Declares};
-ghost use Rattle.declarations.specs.Own.{Own, declared, signature_at, fewDeclared};
-ghost use Rattle.declarations.specs.Signatures.{eachDeclared, VariableTested, VariablesTested, RegionTested, RegionsTested};
+ghost use Rattle.declarations.specs.Own.{Own, declared, signature_at, few_declared};
+ghost use Rattle.declarations.specs.Signatures.{each_declared, VariableTested, VariablesTested, RegionTested, RegionsTested};
 
 use crate::edges::edges_ok;
 use crate::names::{functor, is_region_of, region, regioned, variable};
@@ -99,7 +99,7 @@ fn regions_ok(
 pub fn counts_ok(file: &[u8], i: usize) -> bool
     requires formed { Formed file.now }
     requires stands { Stands file.now procedures i × (i ≡ 0 → ⊥) }
-    ensures { result ≡ fewDeclared (signature_at file.now i) }
+    ensures { result ≡ few_declared (signature_at file.now i) }
 {
     if MAX_VARIABLES < chain_length(file, word(file, i, PROCEDURE_VARIABLES)) {
         return false;
@@ -110,7 +110,7 @@ pub fn counts_ok(file: &[u8], i: usize) -> bool
 // All that the procedure at hand declares.
 pub fn signature_ok(file: &[u8], table: &[u16; FILE_PLACES], own: &[u16; OWN_PLACES]) -> bool
     requires { Declares file.now table.now × Own file.now own.now }
-    ensures { result ≡ eachDeclared (program file.now).types (declared file.now own.now) }
+    ensures { result ≡ each_declared (program file.now).types (declared file.now own.now) }
 {
     if !variables_ok(file, table, own, variable(own, 1)) {
         return false;

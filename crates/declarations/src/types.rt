@@ -4,9 +4,9 @@ ghost use Rattle.language.specs.Lists.{all};
 ghost use Rattle.language.specs.File.{types, functors};
 ghost use Rattle.language.specs.Program.{four};
 ghost use Rattle.language.specs.Answers.{program};
-ghost use Rattle.language.specs.Typing.{typesOk};
-ghost use Rattle.chains.specs.Formed.{Formed, Stands, functorsAt, types_at};
-ghost use Rattle.declarations.specs.Types.{typeSlot, functorFits, typeFits};
+ghost use Rattle.language.specs.Typing.{types_ok};
+ghost use Rattle.chains.specs.Formed.{Formed, Stands, functors_at, types_at};
+ghost use Rattle.declarations.specs.Types.{type_slot, functor_fits, type_fits};
 
 use chains::chain_length;
 use language::format::{HEADER_TYPES, MAX_ARITY, MAX_FUNCTORS, MAX_TYPES};
@@ -14,7 +14,7 @@ use records::{Record, record_at, word};
 
 // Word k, counted from 0, of the argument types: a type within the arity, 0 past it.
 fn slot_ok(n: usize, arity: usize, k: usize, t: usize) -> bool
-    ensures { result ≡ typeSlot n arity k t }
+    ensures { result ≡ type_slot n arity k t }
 {
     if k < arity {
         return t <= n;
@@ -23,7 +23,7 @@ fn slot_ok(n: usize, arity: usize, k: usize, t: usize) -> bool
 }
 
 fn functor_ok(n: usize, arity: usize, t1: usize, t2: usize, t3: usize, t4: usize) -> bool
-    ensures { result ≡ functorFits n (record { arity = arity; argumentTypes = four t1 t2 t3 t4 }) }
+    ensures { result ≡ functor_fits n (record { arity = arity; argument_types = four t1 t2 t3 t4 }) }
 {
     if MAX_ARITY < arity {
         return false;
@@ -43,7 +43,7 @@ fn functor_ok(n: usize, arity: usize, t1: usize, t2: usize, t3: usize, t4: usize
 fn functors_ok(file: &[u8], n: usize, start: usize) -> bool
     requires formed { Formed file.now }
     requires stands { Stands file.now functors start }
-    ensures { result ≡ all (functorFits n) (functorsAt file.now start) }
+    ensures { result ≡ all (functor_fits n) (functors_at file.now start) }
 {
     let mut i = start;
     while i != 0 {
@@ -69,7 +69,7 @@ fn functors_ok(file: &[u8], n: usize, start: usize) -> bool
 fn type_ok(file: &[u8], n: usize, start: usize) -> bool
     requires formed { Formed file.now }
     requires stands { Stands file.now functors start }
-    ensures { result ≡ typeFits n (functorsAt file.now start) }
+    ensures { result ≡ type_fits n (functors_at file.now start) }
 {
     let count = chain_length(file, start);
     if count == 0 {
@@ -84,7 +84,7 @@ fn type_ok(file: &[u8], n: usize, start: usize) -> bool
 fn each_type_ok(file: &[u8], n: usize, start: usize) -> bool
     requires formed { Formed file.now }
     requires stands { Stands file.now types start }
-    ensures { result ≡ all (typeFits n) (types_at file.now start) }
+    ensures { result ≡ all (type_fits n) (types_at file.now start) }
 {
     let mut i = start;
     while i != 0 {
@@ -102,7 +102,7 @@ fn each_type_ok(file: &[u8], n: usize, start: usize) -> bool
 // All types of the file.
 pub fn types_ok(file: &[u8]) -> bool
     requires { Formed file.now }
-    ensures { result ≡ typesOk (program file.now).types }
+    ensures { result ≡ types_ok (program file.now).types }
 {
     let first = word(file, 0, HEADER_TYPES);
     let n = chain_length(file, first);

@@ -1,6 +1,6 @@
 // Zeros where a callee's values will stand. A few stores side by side are quicker than a loop over the callee's variables.
 ghost use Rattle.std.specs.Prelude.{◌≡◌, ◌+◌, ◌≤◌, length};
-ghost use Rattle.language.specs.Format.{maxVariables};
+ghost use Rattle.language.specs.Format.{max_variables};
 ghost use Rattle.word_machine.specs.Machine.{cleared, blocks};
 
 use crate::words::store;
@@ -46,8 +46,8 @@ fn clear_half(frames: &mut [u32], at: usize)
 }
 
 fn clear_all(frames: &mut [u32], at: usize)
-    requires { at + maxVariables ≤ length frames.old }
-    ensures { frames.new ≡ cleared at maxVariables frames.old }
+    requires { at + max_variables ≤ length frames.old }
+    ensures { frames.new ≡ cleared at max_variables frames.old }
 {
     clear_half(&mut frames[..], at);
     clear_half(&mut frames[..], at + 32);
@@ -55,7 +55,7 @@ fn clear_all(frames: &mut [u32], at: usize)
 
 // Zero in the words of n values from a place on: in 8, 16 or all 64.
 pub fn clear(frames: &mut [u32], first: usize, n: usize)
-    requires { first + maxVariables ≤ length frames.old }
+    requires { first + max_variables ≤ length frames.old }
     ensures { frames.new ≡ cleared first (blocks n) frames.old }
 {
     if n < 9 {

@@ -1,8 +1,8 @@
 // What a callee's regions stand for, at a call and at a return. `images` has the caller's region for region r of the callee at place side + r.
 ghost use Rattle.std.specs.Prelude.{◌≡◌, ◌+◌, ◌*◌, ◌≤◌, ◌<◌, length, get_or};
 ghost use Rattle.sets.specs.Members.{members};
-ghost use Rattle.word_machine.specs.Machine.{frameWords};
-ghost use Rattle.frames.specs.Naming.{Pictured, named_in, namedOut};
+ghost use Rattle.word_machine.specs.Machine.{frame_words};
+ghost use Rattle.frames.specs.Naming.{Pictured, named_in, named_out};
 
 use crate::words::{FRAME_WORDS, name_region, region};
 use sets::Set;
@@ -23,7 +23,7 @@ fn image_of(images: &[u8], side: usize, r: usize) -> usize
 
 // "A callee's dead and kept numbers stand for what their images do": the caller's frame is at a place, the callee's behind it.
 pub fn regions_in(rs: Set, images: &[u8], side: usize, at: usize, frames: &mut [u32])
-    requires { Pictured images.now side × (at + 2 * frameWords ≤ length frames.old) }
+    requires { Pictured images.now side × (at + 2 * frame_words ≤ length frames.old) }
     ensures { frames.new ≡ named_in images.now side at (members rs) frames.old }
 {
     let mut left = rs;
@@ -38,8 +38,8 @@ pub fn regions_in(rs: Set, images: &[u8], side: usize, at: usize, frames: &mut [
 
 // "When its frame goes, the images of born ones stand for what those did."
 pub fn regions_out(rs: Set, images: &[u8], side: usize, at: usize, frames: &mut [u32])
-    requires { Pictured images.now side × (at + 2 * frameWords ≤ length frames.old) }
-    ensures { frames.new ≡ namedOut images.now side at (members rs) frames.old }
+    requires { Pictured images.now side × (at + 2 * frame_words ≤ length frames.old) }
+    ensures { frames.new ≡ named_out images.now side at (members rs) frames.old }
 {
     let mut left = rs;
     while !left.is_empty() {

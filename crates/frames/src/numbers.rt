@@ -2,9 +2,9 @@
 ghost use Rattle.std.specs.Prelude.{◌≡◌, true, ◌<◌};
 ghost use Rattle.std.specs.Int.{w32};
 ghost use Rattle.std.proofs.Common.{to_z};
-ghost use Rattle.language.specs.Numbers.{literalNumber, residue, in_range, less};
-ghost use Rattle.records.specs.Sizes.{wordEnd};
-ghost use Rattle.word_machine.specs.Machine.{literalWord, sumOfWords};
+ghost use Rattle.language.specs.Numbers.{literal_number, residue, in_range, less};
+ghost use Rattle.records.specs.Sizes.{word_end};
+ghost use Rattle.word_machine.specs.Machine.{literal_word, sum_of_words};
 
 // A literal from here on is negative, and the last one is -1.
 const NEGATIVE_LITERALS: u32 = 32768;
@@ -26,8 +26,8 @@ const WORDS: i64 = 4294967296;
 
 // "A literal's 16 bits are read as two's complement."
 fn literal_number(v: u32) -> i32
-    requires { v < wordEnd }
-    ensures { result ≡ literalNumber v }
+    requires { v < word_end }
+    ensures { result ≡ literal_number v }
 {
     if v < NEGATIVE_LITERALS {
         v as i32
@@ -37,15 +37,15 @@ fn literal_number(v: u32) -> i32
 }
 
 pub fn literal_word(v: u32) -> u32
-    requires { v < wordEnd }
-    ensures { result ≡ literalWord v }
+    requires { v < word_end }
+    ensures { result ≡ literal_word v }
 {
     word_of(literal_number(v) as i64)
 }
 
 // The sum or difference of two words' numbers, in full.
 pub fn sum_of(operation: usize, a: u32, b: u32) -> i64
-    ensures { result ≡ sumOfWords operation a b }
+    ensures { result ≡ sum_of_words operation a b }
 {
     let y = signed(a) as i64;
     let z = signed(b) as i64;

@@ -8,7 +8,7 @@ use Rattle.language.specs.declared.Verdict.TheVariants.{Refused, Accepted}
 use Rattle.language.specs.declared.Stop.{Stop}
 use Rattle.language.specs.declared.Ending.{Ending}
 use Rattle.language.specs.declared.Ending.TheVariants.{Refused as RunRefused, Finished, Stopped}
-use Rattle.language.specs.Answers.{refusalNumber, stopNumber, checkerNumber, endingNumber, AnnotatorAnswer, refuses, writes, annotatorNumber, writtenBytes, annotatorMemory}
+use Rattle.language.specs.Answers.{refusal_number, stop_number, checker_number, ending_number, AnnotatorAnswer, refuses, writes, annotator_number, written_bytes, annotator_memory}
 use Rattle.annotation.specs.declared.Annotated.{Annotated}
 use Rattle.annotation.specs.declared.Annotated.TheVariants.{Refused as NotAnnotated, Written}
 use Rattle.annotation.specs.Answer.{told, Annotates}
@@ -18,35 +18,35 @@ abbrev pub version : ℕ
 version = 40200
 
 -- ---- from what the functions below promise to the numbers
-module _ {n : ℕ} {q : Refusal} (k : n ≡ refusalNumber q) where
-  pub annotator-refuses : (a : AnnotatorAnswer) (before : List ℕ) {after : List ℕ} {r : Annotated} → Annotates a before after r → r ≡ NotAnnotated q
-      → (n ≡ annotatorNumber a) × ((after ≡ annotatorMemory a before) × (0 ≡ writtenBytes a))
-  unfolding told annotatorNumber writtenBytes
-  annotator-refuses (refuses p) before h e = (let s : q ≡ p = cc in k ∙ ap refusalNumber s, (h.1, refl))
-  annotator-refuses (writes g) before h e = let z : ◌≡◌ {A = ℕ} 0 1 = cc in absurd (omega arith)
+module _ {n : ℕ} {q : Refusal} (k : n ≡ refusal_number q) where
+  pub annotator_refuses : (a : AnnotatorAnswer) (before : List ℕ) {after : List ℕ} {r : Annotated} → Annotates a before after r → r ≡ NotAnnotated q
+      → (n ≡ annotator_number a) × ((after ≡ annotator_memory a before) × (0 ≡ written_bytes a))
+  unfolding told annotator_number written_bytes
+  annotator_refuses (refuses p) before h e = (let s : q ≡ p = cc in k ∙ ap refusal_number s, (h.1, refl))
+  annotator_refuses (writes g) before h e = let z : ◌≡◌ {A = ℕ} 0 1 = cc in absurd (omega arith)
 
-  pub checker-refuses : {v w : Verdict} → v ≡ w → v ≡ Refused q → n ≡ checkerNumber w
-  unfolding checkerNumber
-  checker-refuses e g = k ∙ ap checkerNumber (sym g ∙ e)
+  pub checker_refuses : {v w : Verdict} → v ≡ w → v ≡ Refused q → n ≡ checker_number w
+  unfolding checker_number
+  checker_refuses e g = k ∙ ap checker_number (sym g ∙ e)
 
-  pub run-refuses : {e : Ending} → e ≡ RunRefused q → n ≡ endingNumber e
-  unfolding endingNumber
-  run-refuses g = k ∙ ap endingNumber (sym g)
+  pub run_refuses : {e : Ending} → e ≡ RunRefused q → n ≡ ending_number e
+  unfolding ending_number
+  run_refuses g = k ∙ ap ending_number (sym g)
 
-pub annotator-writes : (a : AnnotatorAnswer) (before : List ℕ) {after : List ℕ} {r : Annotated} {m : ℕ} → Annotates a before after r → r ≡ Written m
-    → (0 ≡ annotatorNumber a) × ((after ≡ annotatorMemory a before) × (m ≡ writtenBytes a))
-unfolding told annotatorNumber writtenBytes
-annotator-writes (refuses p) before h e = let z : ◌≡◌ {A = ℕ} 0 1 = cc in absurd (omega arith)
-annotator-writes (writes g) before h e = (refl, (h.1, (cc)))
+pub annotator_writes : (a : AnnotatorAnswer) (before : List ℕ) {after : List ℕ} {r : Annotated} {m : ℕ} → Annotates a before after r → r ≡ Written m
+    → (0 ≡ annotator_number a) × ((after ≡ annotator_memory a before) × (m ≡ written_bytes a))
+unfolding told annotator_number written_bytes
+annotator_writes (refuses p) before h e = let z : ◌≡◌ {A = ℕ} 0 1 = cc in absurd (omega arith)
+annotator_writes (writes g) before h e = (refl, (h.1, (cc)))
 
-pub checker-accepts : {v w : Verdict} → v ≡ w → v ≡ Accepted → 0 ≡ checkerNumber w
-unfolding checkerNumber
-checker-accepts e g = ap checkerNumber (sym g ∙ e)
+pub checker_accepts : {v w : Verdict} → v ≡ w → v ≡ Accepted → 0 ≡ checker_number w
+unfolding checker_number
+checker_accepts e g = ap checker_number (sym g ∙ e)
 
-pub run-finishes : {e : Ending} → e ≡ Finished → 0 ≡ endingNumber e
-unfolding endingNumber
-run-finishes g = ap endingNumber (sym g)
+pub run_finishes : {e : Ending} → e ≡ Finished → 0 ≡ ending_number e
+unfolding ending_number
+run_finishes g = ap ending_number (sym g)
 
-pub run-stops : {e : Ending} {n : ℕ} {c : Stop} → n ≡ stopNumber c → e ≡ Stopped c → n ≡ endingNumber e
-unfolding endingNumber
-run-stops k g = k ∙ ap endingNumber (sym g)
+pub run_stops : {e : Ending} {n : ℕ} {c : Stop} → n ≡ stop_number c → e ≡ Stopped c → n ≡ ending_number e
+unfolding ending_number
+run_stops k g = k ∙ ap ending_number (sym g)

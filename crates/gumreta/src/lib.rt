@@ -1,9 +1,9 @@
 // The annotator, the checker and the runner for C and Rust to link. Each answers a number: 0, a refusal's or a stop's. A slice comes as its pointer and its
 // length; what else there is to say goes into lent places.
 ghost use Rattle.std.specs.Prelude.{◌≡◌, length};
-ghost use Rattle.language.specs.Machine.{printPlaces};
-ghost use Rattle.language.specs.Answers.{checkerNumber, endingNumber, annotatorNumber, writtenBytes, annotated, annotatorMemory, checked, ran};
-ghost use Rattle.word_machine.specs.Machine.{lentWords};
+ghost use Rattle.language.specs.Machine.{print_places};
+ghost use Rattle.language.specs.Answers.{checker_number, ending_number, annotator_number, written_bytes, annotated, annotator_memory, checked, ran};
+ghost use Rattle.word_machine.specs.Machine.{lent_words};
 ghost use Rattle.running.specs.Answer.{LentAfter};
 ghost use Rattle.gumreta.specs.Numbers.{version};
 
@@ -27,9 +27,9 @@ pub extern "C" fn gumreta_version() -> u64
 // 0, and how many bytes at the front of `out` are the annotated file; or the number of a refusal, no bytes, and `out` as it was.
 #[unsafe(no_mangle)]
 pub extern "C" fn gumreta_annotate(file: &[u8], out: &mut [u8], written: &mut usize) -> u64
-    ensures value { result ≡ annotatorNumber (annotated file.now (length out.old)) }
-    ensures out_after { out.new ≡ annotatorMemory (annotated file.now (length out.old)) out.old }
-    ensures written_after { written.new ≡ writtenBytes (annotated file.now (length out.old)) }
+    ensures value { result ≡ annotator_number (annotated file.now (length out.old)) }
+    ensures out_after { out.new ≡ annotator_memory (annotated file.now (length out.old)) out.old }
+    ensures written_after { written.new ≡ written_bytes (annotated file.now (length out.old)) }
 {
     match annotate(file, &mut *out) {
         Annotated::Refused(r) => {
@@ -46,7 +46,7 @@ pub extern "C" fn gumreta_annotate(file: &[u8], out: &mut [u8], written: &mut us
 // 0 where the file is accepted, or the number of a refusal.
 #[unsafe(no_mangle)]
 pub extern "C" fn gumreta_check(file: &[u8]) -> u64
-    ensures { result ≡ checkerNumber (checked file.now) }
+    ensures { result ≡ checker_number (checked file.now) }
 {
     let Verdict::Refused(r) = check(file) else {
         return 0;
@@ -55,7 +55,7 @@ pub extern "C" fn gumreta_check(file: &[u8]) -> u64
 }
 
 fn ending_number(e: Ending) -> u64
-    ensures { result ≡ endingNumber e }
+    ensures { result ≡ ending_number e }
 {
     match e {
         Ending::Refused(r) => refusal_number(r),
@@ -77,14 +77,14 @@ pub extern "C" fn gumreta_run(
     done: &mut usize,
     printed: &mut usize,
 ) -> u64
-    ensures value { result ≡ endingNumber (ran file.now
-        (lentWords cells.old regions.old frames.old prints.old steps)).ending }
+    ensures value { result ≡ ending_number (ran file.now
+        (lent_words cells.old regions.old frames.old prints.old steps)).ending }
     ensures done_after { done.new ≡ (ran file.now
-        (lentWords cells.old regions.old frames.old prints.old steps)).steps }
+        (lent_words cells.old regions.old frames.old prints.old steps)).steps }
     ensures printed_after { printed.new ≡ length (ran file.now
-        (lentWords cells.old regions.old frames.old prints.old steps)).printed }
-    ensures prints_after { prints.new ≡ printPlaces (ran file.now
-        (lentWords cells.old regions.old frames.old prints.old steps)) prints.old }
+        (lent_words cells.old regions.old frames.old prints.old steps)).printed }
+    ensures prints_after { prints.new ≡ print_places (ran file.now
+        (lent_words cells.old regions.old frames.old prints.old steps)) prints.old }
     ensures lent_after { LentAfter file.now cells.old regions.old frames.old prints.old
         cells.new regions.new frames.new prints.new }
 {

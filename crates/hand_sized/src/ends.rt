@@ -1,6 +1,6 @@
 // Files whose runs come to both ends of the range of numbers, and past them (C-15), each proved equal to the file of `language`'s Table.
 ghost use Rattle.std.specs.Prelude.{◌≡◌};
-ghost use Rattle.language.specs.Table.{toTheEnds, over as fileOver};
+ghost use Rattle.language.specs.Table.{to_the_ends, over as fileOver};
 
 use language::format::RECORD_BYTES;
 
@@ -70,7 +70,7 @@ pub fn over() -> [u8; 784]
 
 // -2,147,483,648 less 1.
 pub fn under() -> [u8; 784]
-    ensures { result ≡ toTheEnds 1 1 17 20 }
+    ensures { result ≡ to_the_ends 1 1 17 20 }
 {
     let mut file = over();
     file[SUM_AT + 6] = 1;
@@ -80,7 +80,7 @@ pub fn under() -> [u8; 784]
 
 // 2,147,483,647 + 0, and -2,147,483,648 less 0.
 pub fn both_ends() -> [u8; 784]
-    ensures { result ≡ toTheEnds 0 0 19 20 }
+    ensures { result ≡ to_the_ends 0 0 19 20 }
 {
     let mut file = over();
     file[LITERAL_AT + 6] = 0;

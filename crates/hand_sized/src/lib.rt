@@ -11,11 +11,11 @@ ghost use Rattle.language.specs.declared.Refusal.TheVariants.{Header, Form, Typi
 ghost use Rattle.language.specs.declared.Verdict.TheVariants.{Refused, Accepted};
 ghost use Rattle.language.specs.declared.Stop.TheVariants.{Steps, Frames, Sums};
 ghost use Rattle.language.specs.declared.Ending.TheVariants.{Refused as NotRun, Finished, Stopped};
-ghost use Rattle.language.specs.Answers.{refusalNumber, stopNumber};
+ghost use Rattle.language.specs.Answers.{refusal_number, stop_number};
 ghost use Rattle.language.specs.Table.{new_u};
 ghost use Rattle.annotation.specs.declared.Annotated.TheVariants.{Refused as NotAnnotated, Written};
 ghost use Rattle.running.specs.Answer.{Free, Untouched};
-ghost use Rattle.hand_sized.specs.Joined.{outcome, quiet, refusedBy, IfAllRefuse};
+ghost use Rattle.hand_sized.specs.Joined.{outcome, quiet, refused_by, IfAllRefuse};
 
 use annotation::{Annotated, annotate};
 use checking::check;
@@ -41,7 +41,7 @@ pub struct Answers {
 // U annotated with 144 bytes: 3, "old files that give such a type a region get 3".
 pub fn annotate_u_in_144(out: &mut [u8; 144]) -> Annotated
     ensures value { result ≡ NotAnnotated Typing }
-    ensures refusal_number_value { refusalNumber Typing ≡ 3 }
+    ensures refusal_number_value { refusal_number Typing ≡ 3 }
     ensures out_unchanged { out.new ≡ out.old }
 {
     annotate(&u(), out)
@@ -50,7 +50,7 @@ pub fn annotate_u_in_144(out: &mut [u8; 144]) -> Annotated
 // .. with 143: 3.
 pub fn annotate_u_in_143(out: &mut [u8; 143]) -> Annotated
     ensures value { result ≡ NotAnnotated Typing }
-    ensures refusal_number_value { refusalNumber Typing ≡ 3 }
+    ensures refusal_number_value { refusal_number Typing ≡ 3 }
     ensures out_unchanged { out.new ≡ out.old }
 {
     annotate(&u(), out)
@@ -59,7 +59,7 @@ pub fn annotate_u_in_143(out: &mut [u8; 143]) -> Annotated
 // A to the annotator: 3.
 pub fn annotate_a(out: &mut [u8; MAX_BYTES]) -> Annotated
     ensures value { result ≡ NotAnnotated Typing }
-    ensures refusal_number_value { refusalNumber Typing ≡ 3 }
+    ensures refusal_number_value { refusal_number Typing ≡ 3 }
     ensures out_unchanged { out.new ≡ out.old }
 {
     annotate(&a(), out)
@@ -160,7 +160,7 @@ pub fn annotate_new_u_in_96(out: &mut [u8; 96]) -> Annotated
 // .. with 95 bytes: 9.
 pub fn annotate_new_u_in_95(out: &mut [u8; 95]) -> Annotated
     ensures value { result ≡ NotAnnotated Room }
-    ensures refusal_number_value { refusalNumber Room ≡ 9 }
+    ensures refusal_number_value { refusal_number Room ≡ 9 }
     ensures out_unchanged { out.new ≡ out.old }
 {
     annotate(&new_u(), out)
@@ -195,7 +195,7 @@ pub fn run_new_u_no_steps(
     prints: &mut [u32; PRINTS],
 ) -> Outcome
     ensures value { result ≡ quiet (Stopped Steps) 0 }
-    ensures stop_number_value { stopNumber Steps ≡ 10 }
+    ensures stop_number_value { stop_number Steps ≡ 10 }
     ensures prints_unchanged { prints.new ≡ prints.old }
     ensures free { Free cells.old regions.old frames.old cells.new regions.new frames.new }
 {
@@ -224,7 +224,7 @@ pub fn run_new_u_no_frame(
     prints: &mut [u32; PRINTS],
 ) -> Outcome
     ensures value { result ≡ quiet (Stopped Frames) 0 }
-    ensures stop_number_value { stopNumber Frames ≡ 13 }
+    ensures stop_number_value { stop_number Frames ≡ 13 }
     ensures prints_unchanged { prints.new ≡ prints.old }
     ensures free { Free cells.old regions.old frames.old cells.new regions.new frames.new }
 {
@@ -239,7 +239,7 @@ pub fn run_over(
     prints: &mut [u32; PRINTS],
 ) -> Outcome
     ensures value { result ≡ outcome (Stopped Sums) 21 1 }
-    ensures stop_number_value { stopNumber Sums ≡ 15 }
+    ensures stop_number_value { stop_number Sums ≡ 15 }
     ensures prints_after { prints.new ≡ 2147483647 ∷ drop 1 prints.old }
     ensures free { Free cells.old regions.old frames.old cells.new regions.new frames.new }
 {
@@ -315,8 +315,8 @@ pub fn empty_file(
     frames: &mut [u32; FRAMES],
     prints: &mut [u32; PRINTS],
 ) -> Answers
-    ensures value { result ≡ refusedBy Header }
-    ensures refusal_number_value { refusalNumber Header ≡ 1 }
+    ensures value { result ≡ refused_by Header }
+    ensures refusal_number_value { refusal_number Header ≡ 1 }
     ensures out_unchanged { out.new ≡ out.old }
     ensures untouched { Untouched cells.old regions.old frames.old prints.old
         cells.new regions.new frames.new prints.new }
@@ -332,8 +332,8 @@ pub fn unused_word_not_0(
     frames: &mut [u32; FRAMES],
     prints: &mut [u32; PRINTS],
 ) -> Answers
-    ensures value { result ≡ refusedBy Form }
-    ensures refusal_number_value { refusalNumber Form ≡ 2 }
+    ensures value { result ≡ refused_by Form }
+    ensures refusal_number_value { refusal_number Form ≡ 2 }
     ensures out_unchanged { out.new ≡ out.old }
     ensures untouched { Untouched cells.old regions.old frames.old prints.old
         cells.new regions.new frames.new prints.new }
@@ -349,8 +349,8 @@ pub fn word_past_arity(
     frames: &mut [u32; FRAMES],
     prints: &mut [u32; PRINTS],
 ) -> Answers
-    ensures value { result ≡ refusedBy Typing }
-    ensures refusal_number_value { refusalNumber Typing ≡ 3 }
+    ensures value { result ≡ refused_by Typing }
+    ensures refusal_number_value { refusal_number Typing ≡ 3 }
     ensures out_unchanged { out.new ≡ out.old }
     ensures untouched { Untouched cells.old regions.old frames.old prints.old
         cells.new regions.new frames.new prints.new }

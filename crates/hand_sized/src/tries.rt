@@ -2,8 +2,8 @@
 ghost use Rattle.std.specs.Prelude.{◌≡◌};
 ghost use Rattle.language.specs.declared.Stop.TheVariants.{Places};
 ghost use Rattle.language.specs.declared.Ending.TheVariants.{Finished, Stopped};
-ghost use Rattle.language.specs.Answers.{stopNumber};
-ghost use Rattle.language.specs.Conditional.{numbersComeBack, removeCreateInCondition, removeAtConditionEndThenCreate};
+ghost use Rattle.language.specs.Answers.{stop_number};
+ghost use Rattle.language.specs.Conditional.{numbers_come_back, remove_create_in_condition, remove_at_condition_end_then_create};
 ghost use Rattle.running.specs.Answer.{Free};
 ghost use Rattle.hand_sized.specs.Joined.{quiet};
 
@@ -57,19 +57,19 @@ const AT_THE_END: [u8; 208] = *b"\x01\0\x04\0\x01\0\x0d\0\0\0\0\0\0\0\0\0\
     \x13\0\0\0\x01\0\0\0\0\0\0\0\0\0\0\0";
 
 fn comes_back() -> [u8; 256]
-    ensures { result ≡ numbersComeBack }
+    ensures { result ≡ numbers_come_back }
 {
     COMES_BACK
 }
 
 fn waits() -> [u8; 208]
-    ensures { result ≡ removeCreateInCondition }
+    ensures { result ≡ remove_create_in_condition }
 {
     WAITS
 }
 
 fn at_the_end() -> [u8; 208]
-    ensures { result ≡ removeAtConditionEndThenCreate }
+    ensures { result ≡ remove_at_condition_end_then_create }
 {
     AT_THE_END
 }
@@ -96,7 +96,7 @@ pub fn run_waits_in_one_place(
     prints: &mut [u32; PRINTS],
 ) -> Outcome
     ensures value { result ≡ quiet (Stopped Places) 3 }
-    ensures stop_number_value { stopNumber Places ≡ 12 }
+    ensures stop_number_value { stop_number Places ≡ 12 }
     ensures prints_unchanged { prints.new ≡ prints.old }
     ensures free { Free cells.old regions.old frames.old cells.new regions.new frames.new }
 {

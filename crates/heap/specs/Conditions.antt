@@ -5,21 +5,21 @@ use Rattle.std.proofs.Common.{sym, subst, ◌∙◌, arith}
 use Rattle.language.specs.Lists.{put}
 use Rattle.language.specs.Program.{Goals}
 use Rattle.language.specs.Frames.{Value, Cell, Condition, closed, opened}
-use Rattle.language.specs.AcceptedRun.{RegionFrame, RegionCell, Memory, withCell, withRegion, withoutRegion, restored}
-use Rattle.language.specs.Machine.{Room, cellsHeld, regionsHeld, countedIn}
+use Rattle.language.specs.AcceptedRun.{RegionFrame, RegionCell, Memory, with_cell, with_region, without_region, restored}
+use Rattle.language.specs.Machine.{Room, cells_held, regions_held, counted_in}
 use Rattle.memory.specs.declared.Contents.{Contents}
 use Rattle.memory.specs.declared.Heap.{Heap}
 use Rattle.memory.specs.declared.Made.{Made}
 use Rattle.memory.specs.declared.Made.TheVariants.{At, NoRoom}
-use Rattle.memory.specs.Memory.{created, createdRegions, built, builtCells, builtRegions}
-use Rattle.memory.specs.Log.{builtIn, madeAt, removedAt, entry, Stored, stored, undone, freed}
+use Rattle.memory.specs.Memory.{created, created_regions, built, built_cells, built_regions}
+use Rattle.memory.specs.Log.{built_in, made_at, removed_at, entry, Stored, stored, undone, freed}
 use Rattle.heap.specs.Words.{words_of}
 use Rattle.heap.specs.Standing.{StandEach}
-use Rattle.heap.specs.Represents.{Represents, Creates, stops-12, creates, Builds, stops-11, builds}
-use Rattle.heap.specs.Creating.{create-ok}
-use Rattle.heap.specs.Building.{build-ok}
-use Rattle.heap.specs.Undoing.{closed-by}
-use Rattle.heap.specs.Logged.{Stands, Logged, none, undo-ok, free-ok, alike, without-logged, living, living-was, Without, cells-counted, regions-counted, logs-cell, logs-region, logs-removal}
+use Rattle.heap.specs.Represents.{Represents, Creates, stops_12, creates, Builds, stops_11, builds}
+use Rattle.heap.specs.Creating.{create_ok}
+use Rattle.heap.specs.Building.{build_ok}
+use Rattle.heap.specs.Undoing.{closed_by}
+use Rattle.heap.specs.Logged.{Stands, Logged, none, undo_ok, free_ok, alike, without_logged, living, living_was, Without, cells_counted, regions_counted, logs_cell, logs_region, logs_removal}
 
 -- with i entries in the log, what is kept stands for memory m in an open condition, to go back to n
 pub record Opened (k : Room) (s : Stored) (log : List ℕ) (i : ℕ) (n m : Memory) (ρ χ : ℕ → ℕ) : Type 0 where
@@ -35,75 +35,75 @@ module _ {k : Room} {s : Stored} {log : List ℕ} {i : ℕ} {n m : Memory} {ρ �
   -- ---- a failing test
   pub fails : Stands k (undone log i s) (restored n m) ρ χ
   unfolding restored
-  fails = alike k _ _ _ ρ χ n (restored n m) refl refl (λ q. refl) (undo-ok log O.logged s O.stands)
+  fails = alike k _ _ _ ρ χ n (restored n m) refl refl (λ q. refl) (undo_ok log O.logged s O.stands)
 
   -- ---- the condition ends
   pub ends : Stands k (freed log i s) m ρ χ
-  ends = free-ok log O.logged s O.stands
+  ends = free_ok log O.logged s O.stands
 
   -- ---- what lives is held
-  pub held-alive : (r : ℕ) → m.alive r ≡ true → O.held.alive r ≡ true
-  held-alive r e = living-was _ O.held.alive r (sym ((without-logged O.logged).alive r) ∙ e)
+  pub held_alive : (r : ℕ) → m.alive r ≡ true → O.held.alive r ≡ true
+  held_alive r e = living_was _ O.held.alive r (sym ((without_logged O.logged).alive r) ∙ e)
 
   held_low : (r : ℕ) → m.alive r ≡ true → r ≤ O.held.made
-  held_low r e = (O.stands.low r (held-alive r e)).1
+  held_low r e = (O.stands.low r (held_alive r e)).1
 
-  pub same-made : m.made ≡ O.held.made
-  same-made = (without-logged O.logged).made
+  pub same_made : m.made ≡ O.held.made
+  same_made = (without_logged O.logged).made
 
-  pub same-cells : m.cells ≡ O.held.cells
-  same-cells = (without-logged O.logged).cells
+  pub same_cells : m.cells ≡ O.held.cells
+  same_cells = (without_logged O.logged).cells
 
   module _ (room : i < length log) where
     -- ---- a remove: no word changes, but the log grows
-    pub removes-later : (r : ℕ) → m.alive r ≡ true → Opened k s (set log i (entry (ρ r) removedAt)) (suc i) n (withoutRegion m r) ρ χ
-    removes-later r e = record { held = O.held; logged = logs-removal O.logged room r e (held_low r e); stands = O.stands }
+    pub removes_later : (r : ℕ) → m.alive r ≡ true → Opened k s (set log i (entry (ρ r) removed_at)) (suc i) n (without_region m r) ρ χ
+    removes_later r e = record { held = O.held; logged = logs_removal O.logged room r e (held_low r e); stands = O.stands }
 
     -- ---- a create: it stops exactly if no region fits, as they count
     module _ (a : Goals) (f : RegionFrame) where
       pub data CreatesIn : Made → List ℕ → Type 0 where
-        stops : ltb (regionsHeld (countedIn (opened a f n) m)) k.regions ≡ false → CreatesIn NoRoom s.regions
-        makes : {p : ℕ} {h' : Heap} {rs' : List ℕ} → ltb (regionsHeld (countedIn (opened a f n) m)) k.regions ≡ true
-            → Opened k (stored h' s.cells rs') (set log i (entry p madeAt)) (suc i) n (withRegion m) (put ρ (suc m.made) p) χ
+        stops : ltb (regions_held (counted_in (opened a f n) m)) k.regions ≡ false → CreatesIn NoRoom s.regions
+        makes : {p : ℕ} {h' : Heap} {rs' : List ℕ} → ltb (regions_held (counted_in (opened a f n) m)) k.regions ≡ true
+            → Opened k (stored h' s.cells rs') (set log i (entry p made_at)) (suc i) n (with_region m) (put ρ (suc m.made) p) χ
             → CreatesIn (At p h') rs'
 
-      create-by : (o : Made) (rs' : List ℕ) → Creates k s.cells s.regions O.held ρ χ o rs' → CreatesIn o rs'
-      create-by NoRoom rs' (stops-12 e) = stops (rw (regions-counted O.logged (closed-by O.stands) a f) e)
-      create-by (At p h') rs' (creates e R) =
-          makes {p = p} {h' = h'} {rs' = rs'} (rw (regions-counted O.logged (closed-by O.stands) a f) e)
-          (subst (λ (d : ℕ). Opened k (stored h' s.cells rs') (set log i (entry p madeAt)) (suc i) n (withRegion m) (put ρ (suc d) p) χ) (sym same-made)
-          (record { held = withRegion O.held; logged = logs-region O.logged room (closed-by O.stands) p; stands = R }))
+      create_by : (o : Made) (rs' : List ℕ) → Creates k s.cells s.regions O.held ρ χ o rs' → CreatesIn o rs'
+      create_by NoRoom rs' (stops_12 e) = stops (rw (regions_counted O.logged (closed_by O.stands) a f) e)
+      create_by (At p h') rs' (creates e R) =
+          makes {p = p} {h' = h'} {rs' = rs'} (rw (regions_counted O.logged (closed_by O.stands) a f) e)
+          (subst (λ (d : ℕ). Opened k (stored h' s.cells rs') (set log i (entry p made_at)) (suc i) n (with_region m) (put ρ (suc d) p) χ) (sym same_made)
+          (record { held = with_region O.held; logged = logs_region O.logged room (closed_by O.stands) p; stands = R }))
 
-      pub creates-in : CreatesIn (created s.heap s.regions) (createdRegions s.heap s.regions)
-      creates-in = create-by (created s.heap s.regions) (createdRegions s.heap s.regions) (create-ok O.stands)
+      pub creates_in : CreatesIn (created s.heap s.regions) (created_regions s.heap s.regions)
+      creates_in = create_by (created s.heap s.regions) (created_regions s.heap s.regions) (create_ok O.stands)
 
       -- ---- a construct
       pub data BuildsIn (r : ℕ) (c : Cell) : Made → List ℕ → List ℕ → Type 0 where
-        stops : ltb (cellsHeld (countedIn (opened a f n) m).alive (countedIn (opened a f n) m).cells) k.cells ≡ false
+        stops : ltb (cells_held (counted_in (opened a f n) m).alive (counted_in (opened a f n) m).cells) k.cells ≡ false
             → BuildsIn r c NoRoom s.cells s.regions
         makes : {x : ℕ} {h' : Heap} {m' rs' : List ℕ}
-            → ltb (cellsHeld (countedIn (opened a f n) m).alive (countedIn (opened a f n) m).cells) k.cells ≡ true
-            → Opened k (stored h' m' rs') (set log i (entry (ρ r) builtIn)) (suc i) n (withCell m (record { cell = c; region = r })) ρ (put χ (length m.cells) x)
+            → ltb (cells_held (counted_in (opened a f n) m).alive (counted_in (opened a f n) m).cells) k.cells ≡ true
+            → Opened k (stored h' m' rs') (set log i (entry (ρ r) built_in)) (suc i) n (with_cell m (record { cell = c; region = r })) ρ (put χ (length m.cells) x)
             → BuildsIn r c (At x h') m' rs'
 
       module _ (r : ℕ) (er : m.alive r ≡ true) (c : Contents) (vs : List Value) (ws : StandEach χ (length m.cells) (words_of c) vs) where
         abbrev new : Cell
         new = record { functor = c.functor; contents = vs }
 
-        build-by : (o : Made) (m' rs' : List ℕ) → Builds k s.cells s.regions O.held ρ χ r new o m' rs' → BuildsIn r new o m' rs'
-        build-by NoRoom m' rs' (stops-11 e) = stops (rw (cells-counted O.logged (closed-by O.stands) a f) e)
-        build-by (At x h') m' rs' (builds e R) =
-            makes {x = x} {h' = h'} {m' = m'} {rs' = rs'} (rw (cells-counted O.logged (closed-by O.stands) a f) e)
+        build_by : (o : Made) (m' rs' : List ℕ) → Builds k s.cells s.regions O.held ρ χ r new o m' rs' → BuildsIn r new o m' rs'
+        build_by NoRoom m' rs' (stops_11 e) = stops (rw (cells_counted O.logged (closed_by O.stands) a f) e)
+        build_by (At x h') m' rs' (builds e R) =
+            makes {x = x} {h' = h'} {m' = m'} {rs' = rs'} (rw (cells_counted O.logged (closed_by O.stands) a f) e)
             (subst
-            (λ (cs : List RegionCell). Opened k (stored h' m' rs') (set log i (entry (ρ r) builtIn)) (suc i) n (withCell m (record { cell = new; region = r })) ρ (put χ (length cs) x))
-            (sym same-cells)
+            (λ (cs : List RegionCell). Opened k (stored h' m' rs') (set log i (entry (ρ r) built_in)) (suc i) n (with_cell m (record { cell = new; region = r })) ρ (put χ (length cs) x))
+            (sym same_cells)
             (record {
-              held = withCell O.held (record { cell = new; region = r });
-              logged = logs-cell O.logged room (record { cell = new; region = r }) (held-alive r er) (held_low r er);
+              held = with_cell O.held (record { cell = new; region = r });
+              logged = logs_cell O.logged room (record { cell = new; region = r }) (held_alive r er) (held_low r er);
               stands = R;
             }))
 
-        pub builds-in : BuildsIn r new (built s.heap s.cells) (builtCells s.heap s.cells s.regions (ρ r) c) (builtRegions s.heap s.cells s.regions (ρ r))
-        builds-in =
-            build-by (built s.heap s.cells) (builtCells s.heap s.cells s.regions (ρ r) c) (builtRegions s.heap s.cells s.regions (ρ r))
-            (build-ok O.stands r (held-alive r er) c vs (subst (λ (cs : List RegionCell). StandEach χ (length cs) (words_of c) vs) same-cells ws))
+        pub builds_in : BuildsIn r new (built s.heap s.cells) (built_cells s.heap s.cells s.regions (ρ r) c) (built_regions s.heap s.cells s.regions (ρ r))
+        builds_in =
+            build_by (built s.heap s.cells) (built_cells s.heap s.cells s.regions (ρ r) c) (built_regions s.heap s.cells s.regions (ρ r))
+            (build_ok O.stands r (held_alive r er) c vs (subst (λ (cs : List RegionCell). StandEach χ (length cs) (words_of c) vs) same_cells ws))

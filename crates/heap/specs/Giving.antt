@@ -40,13 +40,13 @@ module _ {own own' : Labels} {next next' : ℕ → ℕ} {p : Pool} {f : ℕ} {G 
       head zero P e = P.front
       head (suc n) P e = absurd (omega arith)
 
-  final-given : (y j : ℕ) → G y j → 0 ≡ j + f → next' y ≡ p.top
-  final-given y zero g e = ends y g (omega arith)
-  final-given y (suc j) g e = absurd (omega arith)
+  final_given : (y j : ℕ) → G y j → 0 ≡ j + f → next' y ≡ p.top
+  final_given y zero g e = ends y g (omega arith)
+  final_given y (suc j) g e = absurd (omega arith)
 
   final' : (y : ℕ) → Source own f G y 0 → next' y ≡ p.top
   final' y (inl e) = W.links y 0 e ∙ P.final y e
-  final' y (inr g) = final-given y g.0 g.1 g.2
+  final' y (inr g) = final_given y g.0 g.1 g.2
 
   step_given : (y i j : ℕ) → G y j → suc i ≡ j + f → own' (next' y) ≡ free i
   step_given y i zero g e = behind y i g (omega arith)
@@ -69,8 +69,8 @@ module _ {own own' : Labels} {next next' : ℕ → ℕ} {p : Pool} {f : ℕ} {G 
       same : (a b : ℕ) → i ≡ a + f → i ≡ b + f → a ≡ b
       same a b e d = omega arith
 
-  pub give-ok : PoolOk own' next' (headed p first) (suc (k + f))
-  give-ok = record {
+  pub give_ok : PoolOk own' next' (headed p first) (suc (k + f))
+  give_ok = record {
     high = P.high;
     above = λ x h. W.freshes x (P.above x h);
     front = W.joins first k W.front;

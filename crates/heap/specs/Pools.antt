@@ -6,8 +6,8 @@ use Rattle.memory.specs.declared.Pool.{Pool}
 use Rattle.memory.specs.declared.Taken.{Taken}
 use Rattle.memory.specs.declared.Taken.TheVariants.{Place, Full}
 use Rattle.memory.specs.Memory.{unused, taken, headed, raised}
-use Rattle.memory.specs.Laws.{take-full, take-top, take_link}
-use Rattle.heap.specs.Labels.{fresh, free, busy, Labels, Vacant, was-fresh, was_free, fresh-free, free-busy, vacant-busy, free-height}
+use Rattle.memory.specs.Laws.{take_full, take_top, take_link}
+use Rattle.heap.specs.Labels.{fresh, free, busy, Labels, Vacant, was_fresh, was_free, fresh_free, free_busy, vacant_busy, free_height}
 
 -- the front of a chain of f free places that ends at top
 abbrev pub FreeFront : Labels → ℕ → ℕ → ℕ → Type 0
@@ -28,16 +28,16 @@ pub record PoolOk (own : Labels) (next : ℕ → ℕ) (p : Pool) (f : ℕ) : Typ
 pub below : {own : Labels} {next : ℕ → ℕ} {p : Pool} {f : ℕ} → PoolOk own next p f → (x : ℕ) → (own x ≡ fresh → ⊥) → x < p.top
 below {p = p} P x ne = elim (dec_le p.top x) [ yes h ↦ absurd (ne (P.above x h)) | no h ↦ omega arith ]
 
-pub start-pool : (n : ℕ) (next : ℕ → ℕ) → PoolOk (λ x. fresh) next (unused n) 0
+pub start_pool : (n : ℕ) (next : ℕ → ℕ) → PoolOk (λ x. fresh) next (unused n) 0
 unfolding unused
-start-pool n next = record {
+start_pool n next = record {
   high = omega arith;
   above = λ x h. refl;
   front = refl;
-  final = λ x e. absurd (fresh-free e);
-  step = λ x k e. absurd (fresh-free e);
-  small = λ x k e. absurd (fresh-free e);
-  inj = λ x y k e d. absurd (fresh-free e);
+  final = λ x e. absurd (fresh_free e);
+  step = λ x k e. absurd (fresh_free e);
+  small = λ x k e. absurd (fresh_free e);
+  inj = λ x y k e d. absurd (fresh_free e);
 }
 
 -- other words and labels that agree with these but for place x, which is busy now
@@ -49,11 +49,11 @@ pub record NowBusy (own own' : Labels) (next next' : ℕ → ℕ) (x : ℕ) : Ty
   pub links : (y : ℕ) → y ≢ x → next' y ≡ next y
 
 module _ {own own' : Labels} {next next' : ℕ → ℕ} {x : ℕ} (U : NowBusy own own' next next' x) where
-  free-not : {y k : ℕ} → own' y ≡ free k → y ≢ x
-  free-not e q = free-busy (sym e ∙ ap own' q ∙ U.here)
+  free_not : {y k : ℕ} → own' y ≡ free k → y ≢ x
+  free_not e q = free_busy (sym e ∙ ap own' q ∙ U.here)
 
   free_was : {y k : ℕ} → own' y ≡ free k → own y ≡ free k
-  free_was {y} e = sym (U.labels y (free-not e)) ∙ e
+  free_was {y} e = sym (U.labels y (free_not e)) ∙ e
 
 -- ---- what a pool gives: place x, and the pool that is left once the place is used
 pub record Gave (own : Labels) (next : ℕ → ℕ) (p : Pool) (f x : ℕ) (p' : Pool) : Type 0 where
@@ -76,22 +76,22 @@ module _ {own : Labels} {next : ℕ → ℕ} {p : Pool} where
     lower : (x j : ℕ) → own' x ≡ free j → j < k
     lower x j e =
         let d : own x ≡ free j = free_was U e in
-        let q : j ≢ k = λ z. free-not U e (P.inj x p.head k (d ∙ ap free z) P.front) in
+        let q : j ≢ k = λ z. free_not U e (P.inj x p.head k (d ∙ ap free z) P.front) in
         omega (arith, P.small x j d)
 
     kept : (y j : ℕ) → own y ≡ free j → j < k → own' y ≡ free j
-    kept y j e h = U.labels y (λ q. omega (arith, free-height (sym e ∙ ap own q ∙ P.front))) ∙ e
+    kept y j e h = U.labels y (λ q. omega (arith, free_height (sym e ∙ ap own q ∙ P.front))) ∙ e
 
-    head-low : p.head < p.top
-    head-low = below P p.head (λ z. fresh-free (sym z ∙ P.front))
+    head_low : p.head < p.top
+    head_low = below P p.head (λ z. fresh_free (sym z ∙ P.front))
 
-    took-free : PoolOk own' next' (headed p (next p.head)) k
-    took-free = record {
+    took_free : PoolOk own' next' (headed p (next p.head)) k
+    took_free = record {
       high = P.high;
-      above = λ x h. U.labels x (λ e. omega (arith, head-low)) ∙ P.above x h;
+      above = λ x h. U.labels x (λ e. omega (arith, head_low)) ∙ P.above x h;
       front = front k P kept;
-      final = λ x e. U.links x (free-not U e) ∙ P.final x (free_was U e);
-      step = λ x j e. ap own' (U.links x (free-not U e)) ∙ kept (next x) j (P.step x j (free_was U e)) (omega (arith, lower x (suc j) e));
+      final = λ x e. U.links x (free_not U e) ∙ P.final x (free_was U e);
+      step = λ x j e. ap own' (U.links x (free_not U e)) ∙ kept (next x) j (P.step x j (free_was U e)) (omega (arith, lower x (suc j) e));
       small = lower;
       inj = λ x y j e d. P.inj x y j (free_was U e) (free_was U d);
     }
@@ -102,9 +102,9 @@ module _ {own : Labels} {next : ℕ → ℕ} {p : Pool} where
         front (suc j) P g = g (next p.head) j (P.step p.head j P.front) (omega arith)
 
   -- the chain is empty: the first place that was never used is taken
-  took-top : PoolOk own next p 0 → p.top < p.limit → {own' : Labels} {next' : ℕ → ℕ} → NowBusy own own' next next' p.head
+  took_top : PoolOk own next p 0 → p.top < p.limit → {own' : Labels} {next' : ℕ → ℕ} → NowBusy own own' next next' p.head
       → PoolOk own' next' (raised p) 0
-  took-top P h {own'} U = record {
+  took_top P h {own'} U = record {
     high = omega (arith, P.front);
     above = λ x h. U.labels x (λ e. omega (arith, P.front)) ∙ P.above x (omega (arith, P.front));
     front = refl;
@@ -117,50 +117,50 @@ module _ {own : Labels} {next : ℕ → ℕ} {p : Pool} where
       no : {A : Type 0} (x k : ℕ) → own' x ≡ free k → A
       no x k e = absurd (omega (arith, P.small x k (free_was U e)))
 
-  gave-top : PoolOk own next p 0 → p.head < p.limit → Gave own next p 0 p.head (raised p)
-  gave-top P h = record {
+  gave_top : PoolOk own next p 0 → p.head < p.limit → Gave own next p 0 p.head (raised p)
+  gave_top P h = record {
     left = 0;
     low = h;
-    vacant = rw (P.above p.head (omega (arith, P.front))) was-fresh;
+    vacant = rw (P.above p.head (omega (arith, P.front))) was_fresh;
     high = omega arith;
     same = refl;
     count = omega (arith, P.front);
-    ok = λ own' next' U. took-top P (omega (arith, P.front)) U;
+    ok = λ own' next' U. took_top P (omega (arith, P.front)) U;
   }
 
-  gave-free : (k : ℕ) → PoolOk own next p (suc k) → p.head < p.top → Gave own next p (suc k) p.head (headed p (next p.head))
-  gave-free k P lo = record {
+  gave_free : (k : ℕ) → PoolOk own next p (suc k) → p.head < p.top → Gave own next p (suc k) p.head (headed p (next p.head))
+  gave_free k P lo = record {
     left = k;
     low = omega (arith, P.high);
     vacant = rw P.front was_free;
     high = P.high;
     same = refl;
     count = omega arith;
-    ok = λ own' next' U. took-free k P U;
+    ok = λ own' next' U. took_free k P U;
   }
 
-  pub take-ok : (f : ℕ) → PoolOk own next p f → Takes own next p f (taken p (next p.head))
-  take-ok zero P = elim (dec_le p.limit p.head) [
-    | yes h ↦ rw (take-full p (next p.head) h) (full refl (omega (arith, P.front, P.high)))
-    | no h ↦ rw (take-top p (next p.head) (omega arith) P.front) (gave (gave-top P (omega arith)))
+  pub take_ok : (f : ℕ) → PoolOk own next p f → Takes own next p f (taken p (next p.head))
+  take_ok zero P = elim (dec_le p.limit p.head) [
+    | yes h ↦ rw (take_full p (next p.head) h) (full refl (omega (arith, P.front, P.high)))
+    | no h ↦ rw (take_top p (next p.head) (omega arith) P.front) (gave (gave_top P (omega arith)))
   ]
-  take-ok (suc k) P =
-      let lo : p.head < p.top = below P p.head (λ e. fresh-free (sym e ∙ P.front)) in
-      rw (take_link p (next p.head) (omega (arith, P.high)) (λ e. omega arith)) (gave (gave-free k P lo))
+  take_ok (suc k) P =
+      let lo : p.head < p.top = below P p.head (λ e. fresh_free (sym e ∙ P.front)) in
+      rw (take_link p (next p.head) (omega (arith, P.high)) (λ e. omega arith)) (gave (gave_free k P lo))
 
 -- ---- a busy place that stays busy is none of the pool's
 module _ {own own' : Labels} {next next' : ℕ → ℕ} {p : Pool} {f x a b : ℕ} (P : PoolOk own next p f) (e : own x ≡ busy a b)
     (U : NowBusy own own' next next' x) where
   still : (y k : ℕ) → own y ≡ free k → own' y ≡ free k
-  still y k d = U.labels y (λ q. free-busy (sym d ∙ ap own q ∙ e)) ∙ d
+  still y k d = U.labels y (λ q. free_busy (sym d ∙ ap own q ∙ e)) ∙ d
 
-  pub stays-ok : PoolOk own' next' p f
-  stays-ok = record {
+  pub stays_ok : PoolOk own' next' p f
+  stays_ok = record {
     high = P.high;
-    above = λ y h. U.labels y (λ q. vacant-busy was-fresh (sym (P.above y h) ∙ ap own q ∙ e)) ∙ P.above y h;
+    above = λ y h. U.labels y (λ q. vacant_busy was_fresh (sym (P.above y h) ∙ ap own q ∙ e)) ∙ P.above y h;
     front = front f P;
-    final = λ y d. U.links y (free-not U d) ∙ P.final y (free_was U d);
-    step = λ y k d. ap own' (U.links y (free-not U d)) ∙ still (next y) k (P.step y k (free_was U d));
+    final = λ y d. U.links y (free_not U d) ∙ P.final y (free_was U d);
+    step = λ y k d. ap own' (U.links y (free_not U d)) ∙ still (next y) k (P.step y k (free_was U d));
     small = λ y k d. P.small y k (free_was U d);
     inj = λ y z k d g. P.inj y z k (free_was U d) (free_was U g);
   }

@@ -1,27 +1,27 @@
 -- The lent words stand for the definition's memory: places for numbers of cells and regions.
 use Rattle.std.specs.Prelude.{ℕ, suc, ◌≤◌, ◌<◌, ◌≡◌, true, false, List, ltb, length}
 use Rattle.language.specs.Lists.{nth, all, put}
-use Rattle.language.specs.Frames.{Cell, noCell}
-use Rattle.language.specs.AcceptedRun.{RegionCell, Memory, withCell, withRegion}
-use Rattle.language.specs.Machine.{Room, cellsHeld, regionsHeld}
+use Rattle.language.specs.Frames.{Cell, no_cell}
+use Rattle.language.specs.AcceptedRun.{RegionCell, Memory, with_cell, with_region}
+use Rattle.language.specs.Machine.{Room, cells_held, regions_held}
 use Rattle.memory.specs.declared.Heap.{Heap}
 use Rattle.memory.specs.declared.Made.{Made}
 use Rattle.memory.specs.declared.Made.TheVariants.{At, NoRoom}
-use Rattle.memory.specs.Memory.{cellWord}
+use Rattle.memory.specs.Memory.{cell_word}
 use Rattle.heap.specs.Labels.{Labels, busy, having}
-use Rattle.heap.specs.Words.{argumentWords}
+use Rattle.heap.specs.Words.{argument_words}
 use Rattle.heap.specs.Counts.{cells_in, earlier, within}
 use Rattle.heap.specs.Labelled.{Labelled}
 use Rattle.heap.specs.Standing.{StandEach}
 
 -- the cell numbered j
 abbrev pub numbered : List RegionCell → ℕ → RegionCell
-numbered cells j = nth (record { cell = noCell; region = 0 }) cells j
+numbered cells j = nth (record { cell = no_cell; region = 0 }) cells j
 
 -- the words at place w say what cell c has; n cells are made, and χ has the place of each by its number
 pub record Reads (m : List ℕ) (χ : ℕ → ℕ) (n w : ℕ) (c : Cell) : Type 0 where
-  pub functor : cellWord m w 0 ≡ c.functor
-  pub contents : StandEach χ n (argumentWords m w) c.contents
+  pub functor : cell_word m w 0 ≡ c.functor
+  pub contents : StandEach χ n (argument_words m w) c.contents
 
 -- cell c stands at place x, in the region at place p, with t cells of the region behind it
 pub record Spot (own : Labels) (m : List ℕ) (χ : ℕ → ℕ) (n x p t : ℕ) (c : Cell) : Type 0 where
@@ -37,25 +37,25 @@ SpotOf own m ρ χ cells j =
 pub record Represents (k : Room) (h : Heap) (m rs : List ℕ) (M : Memory) (ρ χ : ℕ → ℕ) : Type 0 where
   pub own : Labels
   pub reg : Labels
-  pub cellRoom : h.cells.limit ≡ k.cells
-  pub regionRoom : h.regions.limit ≡ k.regions
-  pub labelled : Labelled h m rs own reg (cellsHeld M.alive M.cells) (regionsHeld M)
+  pub cell_room : h.cells.limit ≡ k.cells
+  pub region_room : h.regions.limit ≡ k.regions
+  pub labelled : Labelled h m rs own reg (cells_held M.alive M.cells) (regions_held M)
   pub low : (r : ℕ) → M.alive r ≡ true → (1 ≤ r) × (r ≤ M.made)
   pub made : all (within M.made) M.cells ≡ true
   pub lives : (r : ℕ) → M.alive r ≡ true → reg (ρ r) ≡ having (cells_in r M.cells)
   pub apart : (r q : ℕ) → M.alive r ≡ true → M.alive q ≡ true → ρ r ≡ ρ q → r ≡ q
   pub spots : (j : ℕ) → j < length M.cells → M.alive (numbered M.cells j).region ≡ true → SpotOf own m ρ χ M.cells j
 
--- ---- what is proved of it: `starts`, `reads`, `place-low` and `prints` in Reading, `create-ok`, `build-ok` and `remove-ok` in the modules of their names
+-- ---- what is proved of it: `starts`, `reads`, `place_low` and `prints` in Reading, `create_ok`, `build_ok` and `remove_ok` in the modules of their names
 -- a create stops exactly if no region fits, and then nothing changes; else the new region's number has the new place
 pub data Creates (k : Room) (m rs : List ℕ) (M : Memory) (ρ χ : ℕ → ℕ) : Made → List ℕ → Type 0 where
-  stops-12 : ltb (regionsHeld M) k.regions ≡ false → Creates k m rs M ρ χ NoRoom rs
-  creates : {p : ℕ} {h' : Heap} {rs' : List ℕ} → ltb (regionsHeld M) k.regions ≡ true
-      → Represents k h' m rs' (withRegion M) (put ρ (suc M.made) p) χ → Creates k m rs M ρ χ (At p h') rs'
+  stops_12 : ltb (regions_held M) k.regions ≡ false → Creates k m rs M ρ χ NoRoom rs
+  creates : {p : ℕ} {h' : Heap} {rs' : List ℕ} → ltb (regions_held M) k.regions ≡ true
+      → Represents k h' m rs' (with_region M) (put ρ (suc M.made) p) χ → Creates k m rs M ρ χ (At p h') rs'
 
 -- a construct of cell c in region r stops exactly if no cell fits, and then nothing changes; else the new cell's number has the new place
 pub data Builds (k : Room) (m rs : List ℕ) (M : Memory) (ρ χ : ℕ → ℕ) (r : ℕ) (c : Cell) : Made → List ℕ → List ℕ → Type 0 where
-  stops-11 : ltb (cellsHeld M.alive M.cells) k.cells ≡ false → Builds k m rs M ρ χ r c NoRoom m rs
-  builds : {x : ℕ} {h' : Heap} {m' rs' : List ℕ} → ltb (cellsHeld M.alive M.cells) k.cells ≡ true
-      → Represents k h' m' rs' (withCell M (record { cell = c; region = r })) ρ (put χ (length M.cells) x)
+  stops_11 : ltb (cells_held M.alive M.cells) k.cells ≡ false → Builds k m rs M ρ χ r c NoRoom m rs
+  builds : {x : ℕ} {h' : Heap} {m' rs' : List ℕ} → ltb (cells_held M.alive M.cells) k.cells ≡ true
+      → Represents k h' m' rs' (with_cell M (record { cell = c; region = r })) ρ (put χ (length M.cells) x)
       → Builds k m rs M ρ χ r c (At x h') m' rs'

@@ -12,5 +12,5 @@ Taken at Failed bytes = Unit {0}
 pub taken : {at : ℕ} (n : ℕ) (bytes : List ℕ) → n ≤ length bytes → at ≤ n → Taken at (Bytes n) bytes
 taken n bytes l h = (l, sym (length-take-le n bytes l), h)
 
-pub bytes-taken : (at : ℕ) (r : Input) (n : ℕ) (bytes : List ℕ) → r ≡ Bytes n → Taken at r bytes → Taken at (Bytes n) bytes
-bytes-taken at r n bytes e t = rw e at t
+pub bytes_taken : (at : ℕ) (r : Input) (n : ℕ) (bytes : List ℕ) → r ≡ Bytes n → Taken at r bytes → Taken at (Bytes n) bytes
+bytes_taken at r n bytes e t = rw e at t

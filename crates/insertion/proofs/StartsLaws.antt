@@ -5,24 +5,24 @@ use mathlib.Core.Path.{◌≡◌, refl, sym, ◌∙◌}
 use Rattle.sets.specs.Sets.{◌∖◌}
 use Rattle.sets.specs.Members.{members}
 use Rattle.sets.specs.declared.Set.{Set}
-use Rattle.language.specs.Format.{removeKind}
-use Rattle.liveness.specs.Table.{beforeAt, after_at}
+use Rattle.language.specs.Format.{remove_kind}
+use Rattle.liveness.specs.Table.{before_at, after_at}
 use Rattle.laying.specs.Lays.{Lays}
 use Rattle.laying.specs.Marks.{marks}
-use Rattle.insertion.specs.Cursor.{recordIn, pointIn, CursorAt}
+use Rattle.insertion.specs.Cursor.{record_in, point_in, CursorAt}
 use Rattle.insertion.specs.Starts.{first_of, LaysStart}
 
-pub first-none : {x : ℕ} (y : ℕ) → x ≡ 0 → y ≡ first_of x y
+pub first_none : {x : ℕ} (y : ℕ) → x ≡ 0 → y ≡ first_of x y
 unfolding first_of
-first-none y z = rw z refl
+first_none y z = rw z refl
 
 pub first_some : (x y : ℕ) → (x ≡ 0 → ⊥) → x ≡ first_of x y
 unfolding first_of
 first_some zero y z = absurd (z refl)
 first_some (suc x) y z = refl
 
-pub lays-start : (t : List ℕ) (whole first on : ℕ) {a b c d : List ℕ} {p m n : ℕ} {rs : Set} → p ≡ pointIn c → (first ≡ 0 → rs ≡ beforeAt t whole ∖ after_at t whole)
-    → ((first ≡ 0 → ⊥) → rs ≡ beforeAt t whole ∖ beforeAt t p) → m ≡ recordIn c → Lays a b m n (marks removeKind (members rs) on m) → CursorAt d n p
+pub lays_start : (t : List ℕ) (whole first on : ℕ) {a b c d : List ℕ} {p m n : ℕ} {rs : Set} → p ≡ point_in c → (first ≡ 0 → rs ≡ before_at t whole ∖ after_at t whole)
+    → ((first ≡ 0 → ⊥) → rs ≡ before_at t whole ∖ before_at t p) → m ≡ record_in c → Lays a b m n (marks remove_kind (members rs) on m) → CursorAt d n p
     → LaysStart t whole first on a b c d
-lays-start t whole first on ep x y em L C =
-    record { point-is = C.point-is ∙ ep; laid = rw (sym ep, sym em, C.record_is) (record { removed = _; last = x; more = y; laid = L }) }
+lays_start t whole first on ep x y em L C =
+    record { point_is = C.point_is ∙ ep; laid = rw (sym ep, sym em, C.record_is) (record { removed = _; last = x; more = y; laid = L }) }

@@ -3,9 +3,9 @@ use mathlib.Core.Path.{◌≡◌, ap₂, ◌∙◌}
 use Rattle.sets.specs.Sets.{◌∪◌}
 use Rattle.sets.specs.declared.Set.{Set}
 use Rattle.language.specs.Program.{Signature}
-use Rattle.language.specs.Regions.{reachAll}
+use Rattle.language.specs.Regions.{reach_all}
 use Rattle.language.specs.Lifetimes.{kept, wanted}
 
-pub wanted-is : (S : Signature) (live : Set) {k reached w : Set} → k ≡ kept S → reached ≡ reachAll S live → w ≡ k ∪ reached → w ≡ wanted S live
+pub wanted_is : (S : Signature) (live : Set) {k reached w : Set} → k ≡ kept S → reached ≡ reach_all S live → w ≡ k ∪ reached → w ≡ wanted S live
 unfolding wanted
-wanted-is S live e g h = h ∙ ap₂ ◌∪◌ e g
+wanted_is S live e g h = h ∙ ap₂ ◌∪◌ e g

@@ -2,14 +2,14 @@
 use Rattle.std.specs.Prelude.{ℕ, List, ◌≡◌, length}
 use Rattle.language.specs.Tree.{Tree}
 use Rattle.language.specs.Layout.{lay}
-use Rattle.language.specs.Records.{goalTree}
+use Rattle.language.specs.Records.{goal_tree}
 use Rattle.language.specs.Program.{Goals, done, ◌then◌}
 use Rattle.laying.specs.Lays.{Lays, GoesOn}
 
 -- goals in front of a tree
 unfoldable pub onto : Goals → Tree → Tree
 onto done t = t
-onto (g then gs) t = goalTree g (onto gs t)
+onto (g then gs) t = goal_tree g (onto gs t)
 
 -- the goals gs were laid from place c up to place r in front of a chain that goes on where `on` is not 0: with whatever is laid behind them, they
 -- make one chain

@@ -3,11 +3,11 @@ use Rattle.std.specs.Prelude.{ℕ, zero, suc, List, ◌≡◌}
 use Rattle.sets.specs.Sets.{◌∖◌}
 use Rattle.sets.specs.Members.{members}
 use Rattle.sets.specs.declared.Set.{Set}
-use Rattle.language.specs.Format.{removeKind}
-use Rattle.liveness.specs.Table.{beforeAt, after_at}
+use Rattle.language.specs.Format.{remove_kind}
+use Rattle.liveness.specs.Table.{before_at, after_at}
 use Rattle.laying.specs.Lays.{Lays}
 use Rattle.laying.specs.Marks.{marks}
-use Rattle.insertion.specs.Cursor.{recordIn, pointIn}
+use Rattle.insertion.specs.Cursor.{record_in, point_in}
 
 -- the first goal of a condition and its then part in turn; 0 where both have none
 unfoldable pub first_of : ℕ → ℕ → ℕ
@@ -18,11 +18,11 @@ first_of (suc x) y = suc x
 -- at `at`, where goal `first` comes next, or after the whole goal, where that is none. The part goes on where `on` is not 0.
 pub record StartLaid (t : List ℕ) (whole first on at : ℕ) (a b : List ℕ) (c r : ℕ) : Type 0 where
   pub removed : Set
-  pub last : first ≡ 0 → removed ≡ beforeAt t whole ∖ after_at t whole
-  pub more : (first ≡ 0 → ⊥) → removed ≡ beforeAt t whole ∖ beforeAt t at
-  pub laid : Lays a b c r (marks removeKind (members removed) on c)
+  pub last : first ≡ 0 → removed ≡ before_at t whole ∖ after_at t whole
+  pub more : (first ≡ 0 → ⊥) → removed ≡ before_at t whole ∖ before_at t at
+  pub laid : Lays a b c r (marks remove_kind (members removed) on c)
 
 -- the same as the contract says it, where the walk stands at `c` before and at `d` behind
 pub record LaysStart (t : List ℕ) (whole first on : ℕ) (a b c d : List ℕ) : Type 0 where
-  pub point-is : pointIn d ≡ pointIn c
-  pub laid : StartLaid t whole first on (pointIn c) a b (recordIn c) (recordIn d)
+  pub point_is : point_in d ≡ point_in c
+  pub laid : StartLaid t whole first on (point_in c) a b (record_in c) (record_in d)

@@ -2,11 +2,11 @@
 use Rattle.std.specs.Prelude.{ℕ, List}
 use Rattle.sets.specs.Sets.{◌∪◌, ◌∖◌}
 use Rattle.sets.specs.declared.Set.{Set}
-use Rattle.tables.specs.Rows.{needsIn, bearsIn, endsIn}
-use Rattle.liveness.specs.Table.{beforeAt, after_at}
+use Rattle.tables.specs.Rows.{needs_in, bears_in, ends_in}
+use Rattle.liveness.specs.Table.{before_at, after_at}
 
-unfoldable pub createdIn : List ℕ → List ℕ → ℕ → ℕ → Set
-createdIn rows t i at = ((needsIn rows i ∪ after_at t at) ∖ beforeAt t at) ∖ bearsIn rows i
+unfoldable pub created_in : List ℕ → List ℕ → ℕ → ℕ → Set
+created_in rows t i at = ((needs_in rows i ∪ after_at t at) ∖ before_at t at) ∖ bears_in rows i
 
-unfoldable pub removedIn : List ℕ → List ℕ → ℕ → ℕ → Set → Set
-removedIn rows t i at created = (((beforeAt t at ∪ created) ∖ endsIn rows i) ∪ bearsIn rows i) ∖ after_at t at
+unfoldable pub removed_in : List ℕ → List ℕ → ℕ → ℕ → Set → Set
+removed_in rows t i at created = (((before_at t at ∪ created) ∖ ends_in rows i) ∪ bears_in rows i) ∖ after_at t at

@@ -3,11 +3,11 @@ ghost use Rattle.std.specs.Prelude.{◌≡◌, List, ℕ, length, get_or};
 ghost use Rattle.sets.specs.Sets.{◌∖◌};
 ghost use Rattle.language.specs.File;
 ghost use Rattle.language.specs.Program.{Signature};
-ghost use Rattle.language.specs.Lifetimes.{startHeld, wanted};
+ghost use Rattle.language.specs.Lifetimes.{start_held, wanted};
 ghost use Rattle.chains.specs.Formed.{Formed, Stands};
-ghost use Rattle.tables.specs.Window.{Window, bodyPlace};
+ghost use Rattle.tables.specs.Window.{Window, body_place};
 ghost use Rattle.tables.specs.Filled.{Accessed};
-ghost use Rattle.liveness.specs.Points.{pointWords};
+ghost use Rattle.liveness.specs.Points.{point_words};
 ghost use Rattle.insertion.specs.Bodies.{PointsFilled, BodyLaid};
 
 use crate::cursor::{cursor, record_in};
@@ -25,8 +25,8 @@ use tables::{BODY, DEAD, KEPT, OUTS, ROWS, set_at, word_at};
 fn fill_points(file: &[u8], rows: &[u64; ROWS], own: &[u64], points: &mut [u64; POINTS]) -> Filled
     requires formed { Formed file.now }
     requires accessed { Accessed file.now rows.now }
-    requires stands { Stands file.now File.goals (get_or own.now bodyPlace 0) }
-    requires points_len { length points.old ≡ pointWords }
+    requires stands { Stands file.now File.goals (get_or own.now body_place 0) }
+    requires points_len { length points.old ≡ point_words }
     ensures { PointsFilled file.now own.now points.new result.start result.live }
 {
     let body = word_at(own, BODY);
@@ -38,7 +38,7 @@ fn fill_points(file: &[u8], rows: &[u64; ROWS], own: &[u64], points: &mut [u64; 
 
 // What is held and not wanted at the procedure's start. "A procedure starts with its dead and kept regions held."
 fn start_removed(own: &[u64], live: Set) -> Set
-    ensures { (f : List ℕ) (S : Signature) → Window f S own.now → result ≡ startHeld S ∖ wanted S live }
+    ensures { (f : List ℕ) (S : Signature) → Window f S own.now → result ≡ start_held S ∖ wanted S live }
 {
     let kept = set_at(own, KEPT);
     let held = set_at(own, DEAD).union(kept);
@@ -56,9 +56,9 @@ pub fn lay_body(
 ) -> usize
     requires formed { Formed file.now }
     requires accessed { Accessed file.now rows.now }
-    requires stands { Stands file.now File.goals (get_or own.now bodyPlace 0) }
-    requires points_len { length points.old ≡ pointWords }
-    ensures points_len_2 { length points.new ≡ pointWords }
+    requires stands { Stands file.now File.goals (get_or own.now body_place 0) }
+    requires points_len { length points.old ≡ point_words }
+    ensures points_len_2 { length points.new ≡ point_words }
     ensures body_laid { BodyLaid file.now rows.now own.now out.old out.new first result }
 {
     let filled = fill_points(file, rows, own, points);

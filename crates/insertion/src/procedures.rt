@@ -1,12 +1,12 @@
 // Procedures: their variables and regions as they are, their goals annotated.
 ghost use Rattle.std.specs.Prelude.{◌≡◌, ◌<◌, length};
 ghost use Rattle.language.specs.Layout.{lay};
-ghost use Rattle.language.specs.Records.{goalsTree};
+ghost use Rattle.language.specs.Records.{goals_tree};
 ghost use Rattle.language.specs.Answers.{program};
 ghost use Rattle.chains.specs.Turns.{Turn};
-ghost use Rattle.liveness.specs.Points.{pointWords};
+ghost use Rattle.liveness.specs.Points.{point_words};
 ghost use Rattle.laying.specs.Lays.{Lays};
-ghost use Rattle.insertion.specs.Procedures.{Unrefused, placedBody, procedureHead, proceduresTree};
+ghost use Rattle.insertion.specs.Procedures.{Unrefused, placed_body, procedure_head, procedures_tree};
 
 use crate::bodies::lay_body;
 use language::format::{
@@ -30,9 +30,9 @@ fn lay_goals(
 ) -> usize
     requires unrefused { Unrefused file.now table.now rows.now }
     requires q_in_bounds { q < length (program file.now).procedures }
-    requires points_len { length points.old ≡ pointWords }
-    ensures points_len_2 { length points.new ≡ pointWords }
-    ensures lays { Lays out.old out.new first result (lay (goalsTree (placedBody (program file.now) q)) first) }
+    requires points_len { length points.old ≡ point_words }
+    ensures points_len_2 { length points.new ≡ point_words }
+    ensures lays { Lays out.old out.new first result (lay (goals_tree (placed_body (program file.now) q)) first) }
 {
     let start = start_of(table, q);
     lay_body(file, rows, &table[start..], points, out, first)
@@ -51,9 +51,9 @@ fn lay_procedure(
 ) -> usize
     requires unrefused { Unrefused file.now table.now rows.now }
     requires turn { Turn file.now i q × (i ≡ 0 → ⊥) }
-    requires points_len { length points.old ≡ pointWords }
-    ensures points_len_2 { length points.new ≡ pointWords }
-    ensures lays { Lays out.old out.new first result (procedureHead file.now i q first) }
+    requires points_len { length points.old ≡ point_words }
+    ensures points_len_2 { length points.new ≡ point_words }
+    ensures lays { Lays out.old out.new first result (procedure_head file.now i q first) }
 {
     let start = behind(first);
     let variables = word(file, i, PROCEDURE_VARIABLES);
@@ -74,9 +74,9 @@ pub fn lay_procedures(
     first: usize,
 ) -> usize
     requires unrefused { Unrefused file.now table.now rows.now }
-    requires points_len { length points.old ≡ pointWords }
-    ensures points_len_2 { length points.new ≡ pointWords }
-    ensures lays { Lays out.old out.new first result (lay (proceduresTree (program file.now) (program file.now).procedures) first) }
+    requires points_len { length points.old ≡ point_words }
+    ensures points_len_2 { length points.new ≡ point_words }
+    ensures lays { Lays out.old out.new first result (lay (procedures_tree (program file.now) (program file.now).procedures) first) }
 {
     let mut i = word(file, 0, HEADER_PROCEDURES);
     let mut q = 0;

@@ -5,7 +5,7 @@ ghost use Rattle.chains.specs.Formed.{Formed, Stands};
 ghost use Rattle.chains.specs.Shapes.{IsSwitch, IsIf, IsTry};
 ghost use Rattle.insertion.specs.Done.{LaysGoal};
 ghost use Rattle.insertion.specs.Along.{LaysAlong, HasParts};
-ghost use Rattle.insertion.specs.Steps.{createdIn, removedIn};
+ghost use Rattle.insertion.specs.Steps.{created_in, removed_in};
 
 use crate::CURSOR;
 use crate::cursor::{point_in, put, record_in};
@@ -20,7 +20,7 @@ use tables::{ROWS, bears_at, ends_at, needs_at};
 
 // What is created before the step at record i, whose point is at that place.
 fn created_at(rows: &[u64; ROWS], points: &[u64; POINTS], i: usize, point: usize) -> Set
-    ensures { result ≡ createdIn rows.now points.now i point }
+    ensures { result ≡ created_in rows.now points.now i point }
 {
     let before = before_at(points, point);
     let after = after_at(points, point);
@@ -35,7 +35,7 @@ fn removed_at(
     point: usize,
     created: Set,
 ) -> Set
-    ensures { result ≡ removedIn rows.now points.now i point created }
+    ensures { result ≡ removed_in rows.now points.now i point created }
 {
     let held = before_at(points, point).union(created);
     let after = after_at(points, point);

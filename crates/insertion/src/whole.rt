@@ -1,13 +1,13 @@
 // The annotated file: how many records it has, and its bytes.
 ghost use Rattle.std.specs.Prelude.{◌≡◌, ℕ, ◌*◌, ◌≤◌, ◌<◌, length, get_or, take};
-ghost use Rattle.language.specs.Format.{recordBytes, maxRecords, maxBytes};
-ghost use Rattle.language.specs.Lists.{frontWritten};
+ghost use Rattle.language.specs.Format.{record_bytes, max_records, max_bytes};
+ghost use Rattle.language.specs.Lists.{front_written};
 ghost use Rattle.language.specs.Layout.{size, lay};
-ghost use Rattle.language.specs.Records.{programTree};
+ghost use Rattle.language.specs.Records.{program_tree};
 ghost use Rattle.language.specs.Annotation.{annotate};
-ghost use Rattle.language.specs.Answers.{program, fileOf};
-ghost use Rattle.records.specs.Sizes.{byteEnd};
-ghost use Rattle.liveness.specs.Points.{pointWords};
+ghost use Rattle.language.specs.Answers.{program, file_of};
+ghost use Rattle.records.specs.Sizes.{byte_end};
+ghost use Rattle.liveness.specs.Points.{point_words};
 ghost use Rattle.laying.specs.Lays.{Lays};
 ghost use Rattle.insertion.specs.Procedures.{Unrefused};
 ghost use Rattle.insertion.specs.Whole.{HeaderStored};
@@ -38,9 +38,9 @@ fn lay_file(
     out: &mut [u8; MAX_BYTES],
 ) -> usize
     requires unrefused { Unrefused file.now table.now rows.now }
-    requires points_len { length points.old ≡ pointWords }
-    ensures points_len_2 { length points.new ≡ pointWords }
-    ensures lays { Lays out.old out.new 0 result (lay (programTree (annotate (program file.now))) 0) }
+    requires points_len { length points.old ≡ point_words }
+    ensures points_len_2 { length points.new ≡ point_words }
+    ensures lays { Lays out.old out.new 0 result (lay (program_tree (annotate (program file.now))) 0) }
 {
     let types = word(file, 0, HEADER_TYPES);
     let procedures = lay_chain(file, out, types, 1);
@@ -53,14 +53,14 @@ fn lent(memory: &[u8]) {}
 
 // What stands in memory are bytes: that is known of a slice that is lent on, and not of an array.
 fn are_bytes(memory: &[u8])
-    ensures { (j : ℕ) → get_or memory.now j 0 < byteEnd }
+    ensures { (j : ℕ) → get_or memory.now j 0 < byte_end }
 {
     lent(memory);
 }
 
 // Memory for the longest annotated file.
 pub fn blank_laid() -> [u8; MAX_BYTES]
-    ensures { maxBytes ≡ length result }
+    ensures { max_bytes ≡ length result }
 {
     [0; MAX_BYTES]
 }
@@ -74,13 +74,13 @@ pub fn lay_annotated(
     laid: &mut [u8; MAX_BYTES],
 ) -> usize
     requires unrefused { Unrefused file.now table.now rows.now }
-    requires points_len { length points.old ≡ pointWords }
-    requires max_bytes_value { maxBytes ≡ length laid.old }
-    ensures points_len_2 { length points.new ≡ pointWords }
-    ensures max_bytes_value_2 { maxBytes ≡ length laid.new }
-    ensures value { size (programTree (annotate (program file.now))) ≤ maxRecords → result ≡ size (programTree (annotate (program file.now))) }
-    ensures lower_bound { maxRecords < size (programTree (annotate (program file.now))) → maxRecords < result }
-    ensures laid_after { result ≤ maxRecords → take (recordBytes * result) laid.new ≡ fileOf (annotate (program file.now)) }
+    requires points_len { length points.old ≡ point_words }
+    requires max_bytes_value { max_bytes ≡ length laid.old }
+    ensures points_len_2 { length points.new ≡ point_words }
+    ensures max_bytes_value_2 { max_bytes ≡ length laid.new }
+    ensures value { size (program_tree (annotate (program file.now))) ≤ max_records → result ≡ size (program_tree (annotate (program file.now))) }
+    ensures lower_bound { max_records < size (program_tree (annotate (program file.now))) → max_records < result }
+    ensures laid_after { result ≤ max_records → take (record_bytes * result) laid.new ≡ file_of (annotate (program file.now)) }
 {
     let records = lay_file(file, table, rows, points, laid);
     are_bytes(laid);
@@ -89,10 +89,10 @@ pub fn lay_annotated(
 
 // Copies that many bytes of what was laid to the front part of the slice, which has room for them. Bytes behind them stay as they are.
 pub fn write(laid: &[u8; MAX_BYTES], bytes: usize, out: &mut [u8])
-    requires bytes_le_max_bytes { bytes ≤ maxBytes }
-    requires max_bytes_value { maxBytes ≡ length laid.now }
+    requires bytes_le_max_bytes { bytes ≤ max_bytes }
+    requires max_bytes_value { max_bytes ≡ length laid.now }
     requires bytes_in_bounds { bytes ≤ length out.old }
-    ensures { out.new ≡ frontWritten (take bytes laid.now) out.old }
+    ensures { out.new ≡ front_written (take bytes laid.now) out.old }
 {
     let mut k = 0;
     while k < bytes {

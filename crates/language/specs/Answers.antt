@@ -9,54 +9,54 @@ use Rattle.language.specs.declared.Stop.{Stop}
 use Rattle.language.specs.declared.Stop.TheVariants.{Steps, Cells, Places, Frames, Prints, Sums}
 use Rattle.language.specs.declared.Ending.{Ending}
 use Rattle.language.specs.declared.Ending.TheVariants.{Refused as RunRefused, Finished, Stopped}
-use Rattle.language.specs.Lists.{frontWritten}
-use Rattle.language.specs.Format.{maxRecords}
-use Rattle.language.specs.File.{word, recordCount, headerOk, formOk}
+use Rattle.language.specs.Lists.{front_written}
+use Rattle.language.specs.Format.{max_records}
+use Rattle.language.specs.File.{word, record_count, header_ok, form_ok}
 use Rattle.language.specs.Tree.{tree_of}
 use Rattle.language.specs.Layout.{size, written}
 use Rattle.language.specs.Program.{Program}
 use Rattle.language.specs.Reading.{program_of}
-use Rattle.language.specs.Records.{programTree}
-use Rattle.language.specs.Conditions.{conditionsOk}
-use Rattle.language.specs.Typing.{typingOk}
-use Rattle.language.specs.Values.{valuesOk}
-use Rattle.language.specs.Regions.{regionsOk}
-use Rattle.language.specs.CallChains.{reachedOk}
-use Rattle.language.specs.Lifetimes.{declaredClassesOk, callClassesOk}
+use Rattle.language.specs.Records.{program_tree}
+use Rattle.language.specs.Conditions.{conditions_ok}
+use Rattle.language.specs.Typing.{typing_ok}
+use Rattle.language.specs.Values.{values_ok}
+use Rattle.language.specs.Regions.{regions_ok}
+use Rattle.language.specs.CallChains.{reached_ok}
+use Rattle.language.specs.Lifetimes.{declared_classes_ok, call_classes_ok}
 use Rattle.language.specs.Annotation.{unannotated, annotate}
-use Rattle.language.specs.Checking.{rulesOk}
+use Rattle.language.specs.Checking.{rules_ok}
 use Rattle.language.specs.Machine.{Lent, Run, run}
 
 -- the table's numbers
-unfoldable pub refusalNumber : Refusal → ℕ
-refusalNumber Header = 1
-refusalNumber Form = 2
-refusalNumber Typing = 3
-refusalNumber Values = 4
-refusalNumber Regions = 5
-refusalNumber Unreached = 17
-refusalNumber Annotated = 6
-refusalNumber Classes = 7
-refusalNumber Rules = 8
-refusalNumber Room = 9
+unfoldable pub refusal_number : Refusal → ℕ
+refusal_number Header = 1
+refusal_number Form = 2
+refusal_number Typing = 3
+refusal_number Values = 4
+refusal_number Regions = 5
+refusal_number Unreached = 17
+refusal_number Annotated = 6
+refusal_number Classes = 7
+refusal_number Rules = 8
+refusal_number Room = 9
 
-unfoldable pub stopNumber : Stop → ℕ
-stopNumber Steps = 10
-stopNumber Cells = 11
-stopNumber Places = 12
-stopNumber Frames = 13
-stopNumber Prints = 14
-stopNumber Sums = 15
+unfoldable pub stop_number : Stop → ℕ
+stop_number Steps = 10
+stop_number Cells = 11
+stop_number Places = 12
+stop_number Frames = 13
+stop_number Prints = 14
+stop_number Sums = 15
 
 -- the number of an answer: 0 where the file is accepted, or run to its end
-unfoldable pub checkerNumber : Verdict → ℕ
-checkerNumber (Refused r) = refusalNumber r
-checkerNumber Accepted = 0
+unfoldable pub checker_number : Verdict → ℕ
+checker_number (Refused r) = refusal_number r
+checker_number Accepted = 0
 
-unfoldable pub endingNumber : Ending → ℕ
-endingNumber (RunRefused r) = refusalNumber r
-endingNumber Finished = 0
-endingNumber (Stopped c) = stopNumber c
+unfoldable pub ending_number : Ending → ℕ
+ending_number (RunRefused r) = refusal_number r
+ending_number Finished = 0
+ending_number (Stopped c) = stop_number c
 
 -- a test of a file and the refusal that it stands for
 pub data Stage : Type 0 where
@@ -74,33 +74,33 @@ unfoldable pub program : List ℕ → Program
 program f = program_of (tree_of f)
 
 -- the stages of every program, in the table's order
-unfoldable pub fileStages : List ℕ → List Stage
-fileStages f =
-    stage Header (headerOk f) ∷ stage Form (formOk (word f) (recordCount f)) ∷ stage Form (conditionsOk (program f))
-    ∷ stage Typing (typingOk (program f)) ∷ stage Values (valuesOk (program f))
-    ∷ stage Regions (regionsOk (program f)) ∷ []
+unfoldable pub file_stages : List ℕ → List Stage
+file_stages f =
+    stage Header (header_ok f) ∷ stage Form (form_ok (word f) (record_count f)) ∷ stage Form (conditions_ok (program f))
+    ∷ stage Typing (typing_ok (program f)) ∷ stage Values (values_ok (program f))
+    ∷ stage Regions (regions_ok (program f)) ∷ []
 
 -- number 17 is "looked at after 5 and before 6" (C-18): the stages of the programs that refuse procedures which no chain of calls reaches
-unfoldable pub reachedStages : List ℕ → List Stage
-reachedStages f = fileStages f ++ (stage Unreached (reachedOk (program f)) ∷ [])
+unfoldable pub reached_stages : List ℕ → List Stage
+reached_stages f = file_stages f ++ (stage Unreached (reached_ok (program f)) ∷ [])
 
 -- the bytes of a program, in written order
-unfoldable pub fileOf : Program → List ℕ
-fileOf P = written (programTree P)
+unfoldable pub file_of : Program → List ℕ
+file_of P = written (program_tree P)
 
 -- "annotated file over 4,096 records or longer than the memory lent"
-unfoldable pub roomOk : Program → ℕ → Bool
-roomOk P lent = leb (size (programTree P)) maxRecords & leb (length (fileOf P)) lent
+unfoldable pub room_ok : Program → ℕ → Bool
+room_ok P lent = leb (size (program_tree P)) max_records & leb (length (file_of P)) lent
 
 -- the stages of the annotator; and of the checker, which the runner shares
-unfoldable pub annotatorStages : List ℕ → ℕ → List Stage
-annotatorStages f lent =
-    reachedStages f
-    ++ (stage Annotated (unannotated (program f)) ∷ stage Classes (declaredClassesOk (program f) & callClassesOk (program f))
-    ∷ stage Room (roomOk (annotate (program f)) lent) ∷ [])
+unfoldable pub annotator_stages : List ℕ → ℕ → List Stage
+annotator_stages f lent =
+    reached_stages f
+    ++ (stage Annotated (unannotated (program f)) ∷ stage Classes (declared_classes_ok (program f) & call_classes_ok (program f))
+    ∷ stage Room (room_ok (annotate (program f)) lent) ∷ [])
 
-unfoldable pub checkerStages : List ℕ → List Stage
-checkerStages f = reachedStages f ++ (stage Classes (declaredClassesOk (program f)) ∷ stage Rules (rulesOk (program f)) ∷ [])
+unfoldable pub checker_stages : List ℕ → List Stage
+checker_stages f = reached_stages f ++ (stage Classes (declared_classes_ok (program f)) ∷ stage Rules (rules_ok (program f)) ∷ [])
 
 -- the annotator's answer: a refusal, or what stands in "the front part of the caller's output memory"
 pub data AnnotatorAnswer : Type 0 where
@@ -108,39 +108,39 @@ pub data AnnotatorAnswer : Type 0 where
   writes : List ℕ → AnnotatorAnswer
 
 -- its number, 0 where the file is written, and how many bytes are
-unfoldable pub annotatorNumber : AnnotatorAnswer → ℕ
-annotatorNumber (refuses r) = refusalNumber r
-annotatorNumber (writes g) = 0
+unfoldable pub annotator_number : AnnotatorAnswer → ℕ
+annotator_number (refuses r) = refusal_number r
+annotator_number (writes g) = 0
 
-unfoldable pub writtenBytes : AnnotatorAnswer → ℕ
-writtenBytes (refuses r) = 0
-writtenBytes (writes g) = length g
+unfoldable pub written_bytes : AnnotatorAnswer → ℕ
+written_bytes (refuses r) = 0
+written_bytes (writes g) = length g
 
-unfoldable pub writesUnless : Verdict → List ℕ → AnnotatorAnswer
-writesUnless (Refused r) g = refuses r
-writesUnless Accepted g = writes g
+unfoldable pub writes_unless : Verdict → List ℕ → AnnotatorAnswer
+writes_unless (Refused r) g = refuses r
+writes_unless Accepted g = writes g
 
 -- what the annotator answers to the bytes f with `lent` bytes of output memory
 unfoldable pub annotated : List ℕ → ℕ → AnnotatorAnswer
-annotated f lent = writesUnless (lowest (annotatorStages f lent)) (fileOf (annotate (program f)))
+annotated f lent = writes_unless (lowest (annotator_stages f lent)) (file_of (annotate (program f)))
 
 -- "handed back as the front part of the caller's output memory; bytes behind it keep their contents": that memory afterwards
-unfoldable pub annotatorMemory : AnnotatorAnswer → List ℕ → List ℕ
-annotatorMemory (refuses r) before = before
-annotatorMemory (writes g) before = frontWritten g before
+unfoldable pub annotator_memory : AnnotatorAnswer → List ℕ → List ℕ
+annotator_memory (refuses r) before = before
+annotator_memory (writes g) before = front_written g before
 
 -- the bytes that the annotator program lends
-abbrev pub annotatorBytes : ℕ
-annotatorBytes = 65536
+abbrev pub annotator_bytes : ℕ
+annotator_bytes = 65536
 
 -- what the checker answers
 unfoldable pub checked : List ℕ → Verdict
-checked f = lowest (checkerStages f)
+checked f = lowest (checker_stages f)
 
-unfoldable pub runFor : Verdict → List ℕ → Lent → Run
-runFor (Refused r) f l = record { ending = RunRefused r; steps = 0; printed = [] }
-runFor Accepted f l = run (program f) l
+unfoldable pub run_for : Verdict → List ℕ → Lent → Run
+run_for (Refused r) f l = record { ending = RunRefused r; steps = 0; printed = [] }
+run_for Accepted f l = run (program f) l
 
 -- what the runner answers, lent words and steps
 unfoldable pub ran : List ℕ → Lent → Run
-ran f l = runFor (checked f) f l
+ran f l = run_for (checked f) f l

@@ -1,77 +1,77 @@
 -- C-18: chains of calls from the entry, the procedures that they reach, and number 17.
 use Rattle.std.specs.Prelude.{ℕ, zero, suc, Bool, true, List, [], ◌∷◌, ◌++◌, ◌≡◌, length}
 use Rattle.sets.specs.Tests.{◌&◌}
-use Rattle.sets.specs.Members.{inList, filtered}
+use Rattle.sets.specs.Members.{in_list, filtered}
 use Rattle.language.specs.Lists.{all, up_from}
-use Rattle.language.specs.Format.{entryProcedure}
-use Rattle.language.specs.Program.{Step, literal, sum, assign, construct, call, print, create, remove, test, Goals, done, ◌then◌, Goal, step, switch, ifLess, try, Arms, noArms, arm, Program, procedureAt}
+use Rattle.language.specs.Format.{entry_procedure}
+use Rattle.language.specs.Program.{Step, literal, sum, assign, construct, call, print, create, remove, test, Goals, done, ◌then◌, Goal, step, switch, if_less, try, Arms, no_arms, arm, Program, procedure_at}
 
 -- the procedures that a step calls, that goals call, that arms do: the calls of the text, in arms that no run takes too
-unfoldable pub stepCallees : Step → List ℕ
-stepCallees (literal x v) = []
-stepCallees (sum x o y z) = []
-stepCallees (assign x y) = []
-stepCallees (construct x f ys) = []
-stepCallees (call q ys) = q ∷ []
-stepCallees (print y) = []
-stepCallees (create r) = []
-stepCallees (remove r) = []
-stepCallees (test y z) = []
+unfoldable pub step_callees : Step → List ℕ
+step_callees (literal x v) = []
+step_callees (sum x o y z) = []
+step_callees (assign x y) = []
+step_callees (construct x f ys) = []
+step_callees (call q ys) = q ∷ []
+step_callees (print y) = []
+step_callees (create r) = []
+step_callees (remove r) = []
+step_callees (test y z) = []
 
 unfoldable mutual
-  pub goalsCallees : Goals → List ℕ
-  goalsCallees done = []
-  goalsCallees (g then gs) = goalCallees g ++ goalsCallees gs
+  pub goals_callees : Goals → List ℕ
+  goals_callees done = []
+  goals_callees (g then gs) = goal_callees g ++ goals_callees gs
 
-  pub goalCallees : Goal → List ℕ
-  goalCallees (step g) = stepCallees g
-  goalCallees (switch x cs) = armsCallees cs
-  goalCallees (ifLess y z a b) = goalsCallees a ++ goalsCallees b
-  goalCallees (try c a b) = goalsCallees c ++ goalsCallees a ++ goalsCallees b
+  pub goal_callees : Goal → List ℕ
+  goal_callees (step g) = step_callees g
+  goal_callees (switch x cs) = arms_callees cs
+  goal_callees (if_less y z a b) = goals_callees a ++ goals_callees b
+  goal_callees (try c a b) = goals_callees c ++ goals_callees a ++ goals_callees b
 
-  pub armsCallees : Arms → List ℕ
-  armsCallees noArms = []
-  armsCallees (arm f ys gs cs) = goalsCallees gs ++ armsCallees cs
+  pub arms_callees : Arms → List ℕ
+  arms_callees no_arms = []
+  arms_callees (arm f ys gs cs) = goals_callees gs ++ arms_callees cs
 
 -- where the chain that goes from p through qs ends
-unfoldable pub chainEnd : ℕ → List ℕ → ℕ
-chainEnd p [] = p
-chainEnd p (q ∷ qs) = chainEnd q qs
+unfoldable pub chain_end : ℕ → List ℕ → ℕ
+chain_end p [] = p
+chain_end p (q ∷ qs) = chain_end q qs
 
 module _ (P : Program) where
   -- the procedures that procedure p calls
   unfoldable pub callees : ℕ → List ℕ
-  callees p = goalsCallees (procedureAt P p).body
+  callees p = goals_callees (procedure_at P p).body
 
   -- a "chain of calls": p calls the first of qs, and each of them calls the next
-  unfoldable pub isCallChain : ℕ → List ℕ → Bool
-  isCallChain p [] = true
-  isCallChain p (q ∷ qs) = inList q (callees p) & isCallChain q qs
+  unfoldable pub is_call_chain : ℕ → List ℕ → Bool
+  is_call_chain p [] = true
+  is_call_chain p (q ∷ qs) = in_list q (callees p) & is_call_chain q qs
 
   -- a "chain of calls from the entry reaches" q; the entry is reached by the chain of none
   pub record CallChain (q : ℕ) : Type 0 where
     pub through : List ℕ
-    pub chain : isCallChain entryProcedure through ≡ true
-    pub end : chainEnd entryProcedure through ≡ q
+    pub chain : is_call_chain entry_procedure through ≡ true
+    pub end : chain_end entry_procedure through ≡ q
 
   -- the same to compute, of all procedures at once: those that a list of procedures calls;
-  unfoldable pub calledFrom : List ℕ → List ℕ
-  calledFrom [] = []
-  calledFrom (p ∷ ps) = callees p ++ calledFrom ps
+  unfoldable pub called_from : List ℕ → List ℕ
+  called_from [] = []
+  called_from (p ∷ ps) = callees p ++ called_from ps
 
   -- the procedures of a list, and those one call further;
-  unfoldable pub oneCallOn : List ℕ → List ℕ
-  oneCallOn ps = filtered (λ q. inList q (ps ++ calledFrom ps)) (up_from 0 (length P.procedures))
+  unfoldable pub one_call_on : List ℕ → List ℕ
+  one_call_on ps = filtered (λ q. in_list q (ps ++ called_from ps)) (up_from 0 (length P.procedures))
 
   -- those that a chain of at most n calls reaches;
-  unfoldable pub reachedWithin : ℕ → List ℕ
-  reachedWithin zero = entryProcedure ∷ []
-  reachedWithin (suc n) = oneCallOn (reachedWithin n)
+  unfoldable pub reached_within : ℕ → List ℕ
+  reached_within zero = entry_procedure ∷ []
+  reached_within (suc n) = one_call_on (reached_within n)
 
   -- and no procedure needs a chain of more calls than there are procedures
   unfoldable pub reached : List ℕ
-  reached = reachedWithin (length P.procedures)
+  reached = reached_within (length P.procedures)
 
   -- Number 17: "a procedure, other than the entry, that no chain of calls from the entry reaches"
-  unfoldable pub reachedOk : Bool
-  reachedOk = all (λ q. inList q reached) (up_from 0 (length P.procedures))
+  unfoldable pub reached_ok : Bool
+  reached_ok = all (λ q. in_list q reached) (up_from 0 (length P.procedures))

@@ -27,98 +27,98 @@ use Rattle.language.specs.Machine as Machine
 use Rattle.language.specs.Answers as Answers
 use Rattle.language.specs.Output as Output
 
-unfoldable pub setsOpen : Unit {0}
-unfolding Digits.bit Tests.◌&◌ Tests.◌or◌ Tests.neg Sets.member Sets.one_at Sets.single Sets.◌∪◌ Sets.◌∩◌ Sets.◌∖◌ Sets.sameSet Sets.subset Sets.apart Members.consIf Members.membersFrom Members.members Members.firstOr65 Members.nextMember Members.setOf Members.filtered Members.keep Members.unionAll Members.unionOver Members.image Members.all_of Members.every Members.inList
-setsOpen = tt
+unfoldable pub sets_open : Unit {0}
+unfolding Digits.bit Tests.◌&◌ Tests.◌or◌ Tests.neg Sets.member Sets.one_at Sets.single Sets.◌∪◌ Sets.◌∩◌ Sets.◌∖◌ Sets.same_set Sets.subset Sets.apart Members.cons_if Members.members_from Members.members Members.first_or65 Members.next_member Members.set_of Members.filtered Members.keep Members.union_all Members.union_over Members.image Members.all_of Members.every Members.in_list
+sets_open = tt
 
-unfoldable pub listsOpen : Unit {0}
-unfolding Lists.nth Lists.nth1 Lists.all Lists.up_from Lists.one Lists.count Lists.frontWritten Lists.among Lists.choose Lists.put Lists.is_none
-listsOpen = tt
+unfoldable pub lists_open : Unit {0}
+unfolding Lists.nth Lists.nth1 Lists.all Lists.up_from Lists.one Lists.count Lists.front_written Lists.among Lists.choose Lists.put Lists.is_none
+lists_open = tt
 
-unfoldable pub numbersOpen : Unit {0}
-unfolding Numbers.literalNumber Numbers.residue Numbers.sumNumber Numbers.in_range Numbers.less
-numbersOpen = tt
+unfoldable pub numbers_open : Unit {0}
+unfolding Numbers.literal_number Numbers.residue Numbers.sum_number Numbers.in_range Numbers.less
+numbers_open = tt
 
-unfoldable pub fileOpen : Unit {0}
-unfolding File.word File.recordCount File.padded File.row_in File.row File.kinds File.kind_of File.code File.standsIn File.headerOk File.kind_at File.referenceOk File.wordsOk File.recordOk File.leading File.references File.referencesOf File.onceIn File.formOk
-fileOpen = tt
+unfoldable pub file_open : Unit {0}
+unfolding File.word File.record_count File.padded File.row_in File.row File.kinds File.kind_of File.code File.stands_in File.header_ok File.kind_at File.reference_ok File.words_ok File.record_ok File.leading File.references File.references_of File.once_in File.form_ok
+file_open = tt
 
-unfoldable pub treeOpen : Unit {0}
-unfolding Tree.readWords Tree.readRecord Tree.readChain Tree.readTree Tree.tree_of
-treeOpen = tt
+unfoldable pub tree_open : Unit {0}
+unfolding Tree.read_words Tree.read_record Tree.read_chain Tree.read_tree Tree.tree_of
+tree_open = tt
 
-unfoldable pub layoutOpen : Unit {0}
-unfolding Layout.size Layout.sizeWords Layout.reference Layout.wordList Layout.lay Layout.layWords Layout.bytesOfWords Layout.bytes_of Layout.written
-layoutOpen = tt
+unfoldable pub layout_open : Unit {0}
+unfolding Layout.size Layout.size_words Layout.reference Layout.word_list Layout.lay Layout.lay_words Layout.bytes_of_words Layout.bytes_of Layout.written
+layout_open = tt
 
-unfoldable pub programOpen : Unit {0}
-unfolding Program.◌before◌ Program.fourWords Program.trimOnto Program.trimmed Program.argumentsOf Program.variableAt Program.type_of Program.regionOf Program.regionAt Program.procedureAt Program.signature_of Program.functorsOf Program.functorAt Program.parameterIn Program.parametersFrom Program.parametersOf Program.parameterVariables Program.argumentsIn Program.variablesIn
-programOpen = tt
+unfoldable pub program_open : Unit {0}
+unfolding Program.◌before◌ Program.four_words Program.trim_onto Program.trimmed Program.arguments_of Program.variable_at Program.type_of Program.region_of Program.region_at Program.procedure_at Program.signature_of Program.functors_of Program.functor_at Program.parameter_in Program.parameters_from Program.parameters_of Program.parameter_variables Program.arguments_in Program.variables_in
+program_open = tt
 
-unfoldable pub readingOpen : Unit {0}
-unfolding Reading.word_at Reading.chainAt Reading.each Reading.readFunctor Reading.readType Reading.readVariable Reading.readEdge Reading.readRegion Reading.noSense Reading.number_in Reading.senseIn Reading.num Reading.sub Reading.goalOf Reading.inFront Reading.senseOf Reading.parts_of Reading.readProcedure Reading.program_of
-readingOpen = tt
+unfoldable pub reading_open : Unit {0}
+unfolding Reading.word_at Reading.chain_at Reading.each Reading.read_functor Reading.read_type Reading.read_variable Reading.read_edge Reading.read_region Reading.no_sense Reading.number_in Reading.sense_in Reading.num Reading.sub Reading.goal_of Reading.in_front Reading.sense_of Reading.parts_of Reading.read_procedure Reading.program_of
+reading_open = tt
 
-unfoldable pub recordsOpen : Unit {0}
-unfolding Records.zeros Records.fourPlain Records.chainOf Records.functorWords Records.typeWords Records.variableWords Records.edgeWords Records.regionWords Records.argumentWords Records.stepTree Records.goalsTree Records.goalTree Records.armsTree Records.procedureWords Records.headed Records.programTree
-recordsOpen = tt
+unfoldable pub records_open : Unit {0}
+unfolding Records.zeros Records.four_plain Records.chain_of Records.functor_words Records.type_words Records.variable_words Records.edge_words Records.region_words Records.argument_words Records.step_tree Records.goals_tree Records.goal_tree Records.arms_tree Records.procedure_words Records.headed Records.program_tree
+records_open = tt
 
-unfoldable pub conditionsOpen : Unit {0}
-unfolding Conditions.stepStands Conditions.goalsStand Conditions.goalStands Conditions.armsStand Conditions.conditionsOk
-conditionsOpen = tt
+unfoldable pub conditions_open : Unit {0}
+unfolding Conditions.step_stands Conditions.goals_stand Conditions.goal_stands Conditions.arms_stand Conditions.conditions_ok
+conditions_open = tt
 
-unfoldable pub typingOpen : Unit {0}
-unfolding Typing.types_in Typing.placeIf Typing.isVariable Typing.isRegion Typing.hasType Typing.isRegionOf Typing.haveTypes Typing.argumentsOk Typing.is_type Typing.regioned Typing.functorOk Typing.typeOk Typing.typesOk Typing.placesIn Typing.placesFrom Typing.variableOk Typing.edgesOk Typing.regionOk Typing.signatureOk Typing.types_of Typing.parameterTypes Typing.functorsFor Typing.stepOk Typing.goalsOk Typing.goalOk Typing.armsOk Typing.procedureOk Typing.typingOk
-typingOpen = tt
+unfoldable pub typing_open : Unit {0}
+unfolding Typing.types_in Typing.place_if Typing.is_variable Typing.is_region Typing.has_type Typing.is_region_of Typing.have_types Typing.arguments_ok Typing.is_type Typing.regioned Typing.functor_ok Typing.type_ok Typing.types_ok Typing.places_in Typing.places_from Typing.variable_ok Typing.edges_ok Typing.region_ok Typing.signature_ok Typing.types_of Typing.parameter_types Typing.functors_for Typing.step_ok Typing.goals_ok Typing.goal_ok Typing.arms_ok Typing.procedure_ok Typing.typing_ok
+typing_open = tt
 
-unfoldable pub valuesOpen : Unit {0}
-unfolding Values.insOf Values.outsOf Values.accessing Values.access Values.reads Values.gives Values.requireValues Values.afterValues Values.meetValues Values.distinct Values.giveValues Values.stepValues Values.goalsValues Values.goalValues Values.armsValues Values.outsValued Values.procedureValues Values.valuesOk
-valuesOpen = tt
+unfoldable pub values_open : Unit {0}
+unfolding Values.ins_of Values.outs_of Values.accessing Values.access Values.reads Values.gives Values.require_values Values.after_values Values.meet_values Values.distinct Values.give_values Values.step_values Values.goals_values Values.goal_values Values.arms_values Values.outs_valued Values.procedure_values Values.values_ok
+values_open = tt
 
-unfoldable pub regionsOpen : Unit {0}
-unfolding Regions.targetsIn Regions.targets Regions.grown Regions.grownBy Regions.reachFrom Regions.reach Regions.reachAll Regions.pairs Regions.afterMapping Regions.mapEach Regions.agreeing Regions.visit Regions.mapRegion Regions.regionsOf Regions.mapping Regions.imageIn Regions.oneWay Regions.targetFor Regions.inTargets Regions.stepRegions Regions.goalsRegions Regions.goalRegions Regions.armsRegions Regions.regionsOk
-regionsOpen = tt
+unfoldable pub regions_open : Unit {0}
+unfolding Regions.targets_in Regions.targets Regions.grown Regions.grown_by Regions.reach_from Regions.reach Regions.reach_all Regions.pairs Regions.after_mapping Regions.map_each Regions.agreeing Regions.visit Regions.map_region Regions.regions_of Regions.mapping Regions.image_in Regions.one_way Regions.target_for Regions.in_targets Regions.step_regions Regions.goals_regions Regions.goal_regions Regions.arms_regions Regions.regions_ok
+regions_open = tt
 
-unfoldable pub callChainsOpen : Unit {0}
-unfolding CallChains.stepCallees CallChains.goalsCallees CallChains.goalCallees CallChains.armsCallees CallChains.callees CallChains.calledFrom CallChains.oneCallOn CallChains.reachedWithin CallChains.reached CallChains.reachedOk
-callChainsOpen = tt
+unfoldable pub call_chains_open : Unit {0}
+unfolding CallChains.step_callees CallChains.goals_callees CallChains.goal_callees CallChains.arms_callees CallChains.callees CallChains.called_from CallChains.one_call_on CallChains.reached_within CallChains.reached CallChains.reached_ok
+call_chains_open = tt
 
-unfoldable pub lifetimesOpen : Unit {0}
-unfolding Lifetimes.inputs Lifetimes.outputs Lifetimes.ofClass Lifetimes.declared Lifetimes.born Lifetimes.dead Lifetimes.kept Lifetimes.startHeld Lifetimes.wanted Lifetimes.classesOk Lifetimes.liveStep Lifetimes.live Lifetimes.liveGoal Lifetimes.liveArms Lifetimes.noEffect Lifetimes.unsharedIn Lifetimes.callEffect Lifetimes.effect Lifetimes.heldAfter Lifetimes.stepClasses Lifetimes.goalsClasses Lifetimes.goalClasses Lifetimes.armsClasses Lifetimes.declaredClassesOk Lifetimes.callClassesOk
-lifetimesOpen = tt
+unfoldable pub lifetimes_open : Unit {0}
+unfolding Lifetimes.inputs Lifetimes.outputs Lifetimes.of_class Lifetimes.declared Lifetimes.born Lifetimes.dead Lifetimes.kept Lifetimes.start_held Lifetimes.wanted Lifetimes.classes_ok Lifetimes.live_step Lifetimes.live Lifetimes.live_goal Lifetimes.live_arms Lifetimes.no_effect Lifetimes.unshared_in Lifetimes.call_effect Lifetimes.effect Lifetimes.held_after Lifetimes.step_classes Lifetimes.goals_classes Lifetimes.goal_classes Lifetimes.arms_classes Lifetimes.declared_classes_ok Lifetimes.call_classes_ok
+lifetimes_open = tt
 
-unfoldable pub annotationOpen : Unit {0}
-unfolding Annotation.plainStep Annotation.plainGoals Annotation.plainGoal Annotation.plainArms Annotation.unannotated Annotation.creates Annotation.removes Annotation.goingOn Annotation.removing Annotation.placedIf Annotation.placedTry Annotation.placedSwitch Annotation.placedArm Annotation.createdFor Annotation.placeStep Annotation.placeGoals Annotation.placeGoal Annotation.placeArms Annotation.annotateProcedure Annotation.annotate
-annotationOpen = tt
+unfoldable pub annotation_open : Unit {0}
+unfolding Annotation.plain_step Annotation.plain_goals Annotation.plain_goal Annotation.plain_arms Annotation.unannotated Annotation.creates Annotation.removes Annotation.going_on Annotation.removing Annotation.placed_if Annotation.placed_try Annotation.placed_switch Annotation.placed_arm Annotation.created_for Annotation.place_step Annotation.place_goals Annotation.place_goal Annotation.place_arms Annotation.annotate_procedure Annotation.annotate
+annotation_open = tt
 
-unfoldable pub checkingOpen : Unit {0}
-unfolding Checking.requireRule Checking.carryOn Checking.joinArms Checking.soundGiven Checking.soundWithout Checking.stepRules Checking.checkStep Checking.checkGoals Checking.checkGoal Checking.checkArms Checking.endRules Checking.procedureRules Checking.rulesOk
-checkingOpen = tt
+unfoldable pub checking_open : Unit {0}
+unfolding Checking.require_rule Checking.carry_on Checking.join_arms Checking.sound_given Checking.sound_without Checking.step_rules Checking.check_step Checking.check_goals Checking.check_goal Checking.check_arms Checking.end_rules Checking.procedure_rules Checking.rules_ok
+checking_open = tt
 
-unfoldable pub framesOpen : Unit {0}
-unfolding Frames.number_in Frames.giveEach Frames.withGoals Frames.giving Frames.literalIn Frames.sum_of Frames.sumIn Frames.assignIn Frames.cellFor Frames.builtValue Frames.buildIn Frames.fitsStep Frames.fits Frames.overAhead Frames.staysAtSum Frames.ahead Frames.lessIn Frames.branchIn Frames.pick Frames.enterArm Frames.noCell Frames.cellIn Frames.openCell Frames.calleeFrame Frames.returning Frames.entryFrame Frames.settle
-framesOpen = tt
+unfoldable pub frames_open : Unit {0}
+unfolding Frames.number_in Frames.give_each Frames.with_goals Frames.giving Frames.literal_in Frames.sum_of Frames.sum_in Frames.assign_in Frames.cell_for Frames.built_value Frames.build_in Frames.fits_step Frames.fits Frames.over_ahead Frames.stays_at_sum Frames.ahead Frames.less_in Frames.branch_in Frames.pick Frames.enter_arm Frames.no_cell Frames.cell_in Frames.open_cell Frames.callee_frame Frames.returning Frames.entry_frame Frames.settle
+frames_open = tt
 
-unfoldable pub plainRunOpen : Unit {0}
-unfolding PlainRun.thenIf PlainRun.stripGoals PlainRun.stripGoal PlainRun.stripArms PlainRun.stripProcedure PlainRun.stripped PlainRun.builtCells PlainRun.wholeFrame PlainRun.plainState PlainRun.plainWithin PlainRun.plainStateIn PlainRun.plainFailed PlainRun.plainStart PlainRun.plainTake PlainRun.plainNext PlainRun.plainFrom PlainRun.plainStepOf PlainRun.plainSteps
-plainRunOpen = tt
+unfoldable pub plain_run_open : Unit {0}
+unfolding PlainRun.then_if PlainRun.strip_goals PlainRun.strip_goal PlainRun.strip_arms PlainRun.strip_procedure PlainRun.stripped PlainRun.built_cells PlainRun.whole_frame PlainRun.plain_state PlainRun.plain_within PlainRun.plain_state_in PlainRun.plain_failed PlainRun.plain_start PlainRun.plain_take PlainRun.plain_next PlainRun.plain_from PlainRun.plain_step_of PlainRun.plain_steps
+plain_run_open = tt
 
-unfoldable pub acceptedRunOpen : Unit {0}
-unfolding AcceptedRun.cell_of AcceptedRun.frame_of AcceptedRun.liesIn AcceptedRun.readable AcceptedRun.withCell AcceptedRun.withBuilt AcceptedRun.withPrinted AcceptedRun.withRegion AcceptedRun.withoutRegion AcceptedRun.restored AcceptedRun.standEach AcceptedRun.withFrame AcceptedRun.whole AcceptedRun.calleeStands AcceptedRun.returnStands AcceptedRun.mappingFrom AcceptedRun.calleeRegions AcceptedRun.returningRegions AcceptedRun.state AcceptedRun.within AcceptedRun.stateIn AcceptedRun.failed AcceptedRun.start AcceptedRun.regionFor AcceptedRun.allowed AcceptedRun.take AcceptedRun.next AcceptedRun.stepFrom AcceptedRun.step_of AcceptedRun.steps
-acceptedRunOpen = tt
+unfoldable pub accepted_run_open : Unit {0}
+unfolding AcceptedRun.cell_of AcceptedRun.frame_of AcceptedRun.lies_in AcceptedRun.readable AcceptedRun.with_cell AcceptedRun.with_built AcceptedRun.with_printed AcceptedRun.with_region AcceptedRun.without_region AcceptedRun.restored AcceptedRun.stand_each AcceptedRun.with_frame AcceptedRun.whole AcceptedRun.callee_stands AcceptedRun.return_stands AcceptedRun.mapping_from AcceptedRun.callee_regions AcceptedRun.returning_regions AcceptedRun.state AcceptedRun.within AcceptedRun.state_in AcceptedRun.failed AcceptedRun.start AcceptedRun.region_for AcceptedRun.allowed AcceptedRun.take AcceptedRun.next AcceptedRun.step_from AcceptedRun.step_of AcceptedRun.steps
+accepted_run_open = tt
 
-unfoldable pub machineOpen : Unit {0}
-unfolding Machine.runnerLent Machine.holds Machine.roomIn Machine.cellsHeld Machine.countAlive Machine.regionsHeld Machine.countedIn Machine.counted Machine.roomOr Machine.outlookFor Machine.outlookIn Machine.outlookAt Machine.outlook Machine.endedWith Machine.runOn Machine.run_from Machine.run Machine.printPlaces
-machineOpen = tt
+unfoldable pub machine_open : Unit {0}
+unfolding Machine.runner_lent Machine.holds Machine.room_in Machine.cells_held Machine.count_alive Machine.regions_held Machine.counted_in Machine.counted Machine.room_or Machine.outlook_for Machine.outlook_in Machine.outlook_at Machine.outlook Machine.ended_with Machine.run_on Machine.run_from Machine.run Machine.print_places
+machine_open = tt
 
-unfoldable pub answersOpen : Unit {0}
-unfolding Answers.refusalNumber Answers.stopNumber Answers.lowest Answers.program Answers.fileStages Answers.reachedStages Answers.fileOf Answers.roomOk Answers.annotatorStages Answers.checkerStages Answers.writesUnless Answers.annotated Answers.annotatorMemory Answers.checked Answers.runFor Answers.ran
-answersOpen = tt
+unfoldable pub answers_open : Unit {0}
+unfolding Answers.refusal_number Answers.stop_number Answers.lowest Answers.program Answers.file_stages Answers.reached_stages Answers.file_of Answers.room_ok Answers.annotator_stages Answers.checker_stages Answers.writes_unless Answers.annotated Answers.annotator_memory Answers.checked Answers.run_for Answers.ran
+answers_open = tt
 
-unfoldable pub outputOpen : Unit {0}
-unfolding Output.digitsOnto Output.decimal Output.signedDecimal Output.line Output.refusalLine Output.annotatorOutput Output.checkerOutput Output.numberLines Output.endingLine Output.runnerOutput
-outputOpen = tt
+unfoldable pub output_open : Unit {0}
+unfolding Output.digits_onto Output.decimal Output.signed_decimal Output.line Output.refusal_line Output.annotator_output Output.checker_output Output.number_lines Output.ending_line Output.runner_output
+output_open = tt
 
 unfoldable pub computing : Unit {0}
-unfolding setsOpen listsOpen numbersOpen fileOpen treeOpen layoutOpen programOpen readingOpen recordsOpen conditionsOpen typingOpen valuesOpen regionsOpen callChainsOpen lifetimesOpen annotationOpen checkingOpen framesOpen plainRunOpen acceptedRunOpen machineOpen answersOpen outputOpen
+unfolding sets_open lists_open numbers_open file_open tree_open layout_open program_open reading_open records_open conditions_open typing_open values_open regions_open call_chains_open lifetimes_open annotation_open checking_open frames_open plain_run_open accepted_run_open machine_open answers_open output_open
 computing = tt

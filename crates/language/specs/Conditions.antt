@@ -3,33 +3,33 @@
 use Rattle.std.specs.Prelude.{ℕ, Bool, true, false}
 use Rattle.sets.specs.Tests.{◌&◌, neg}
 use Rattle.language.specs.Lists.{all}
-use Rattle.language.specs.Program.{Step, literal, sum, assign, construct, call, print, create, remove, test, Goals, done, ◌then◌, Goal, step, switch, ifLess, try, Arms, noArms, arm, Procedure, Program}
+use Rattle.language.specs.Program.{Step, literal, sum, assign, construct, call, print, create, remove, test, Goals, done, ◌then◌, Goal, step, switch, if_less, try, Arms, no_arms, arm, Procedure, Program}
 
-unfoldable pub stepStands : Bool → Step → Bool
-stepStands inside (literal x v) = true
-stepStands inside (sum x o y z) = true
-stepStands inside (assign x y) = true
-stepStands inside (construct x f ys) = true
-stepStands inside (call q ys) = neg inside
-stepStands inside (print y) = neg inside
-stepStands inside (create r) = true
-stepStands inside (remove r) = true
-stepStands inside (test y z) = inside
+unfoldable pub step_stands : Bool → Step → Bool
+step_stands inside (literal x v) = true
+step_stands inside (sum x o y z) = true
+step_stands inside (assign x y) = true
+step_stands inside (construct x f ys) = true
+step_stands inside (call q ys) = neg inside
+step_stands inside (print y) = neg inside
+step_stands inside (create r) = true
+step_stands inside (remove r) = true
+step_stands inside (test y z) = inside
 
 unfoldable mutual
-  pub goalsStand : Bool → Goals → Bool
-  goalsStand inside done = true
-  goalsStand inside (g then gs) = goalStands inside g & goalsStand inside gs
+  pub goals_stand : Bool → Goals → Bool
+  goals_stand inside done = true
+  goals_stand inside (g then gs) = goal_stands inside g & goals_stand inside gs
 
-  pub goalStands : Bool → Goal → Bool
-  goalStands inside (step g) = stepStands inside g
-  goalStands inside (switch x cs) = armsStand inside cs
-  goalStands inside (ifLess y z a b) = neg inside & goalsStand inside a & goalsStand inside b
-  goalStands inside (try c a b) = neg inside & goalsStand true c & goalsStand inside a & goalsStand inside b
+  pub goal_stands : Bool → Goal → Bool
+  goal_stands inside (step g) = step_stands inside g
+  goal_stands inside (switch x cs) = arms_stand inside cs
+  goal_stands inside (if_less y z a b) = neg inside & goals_stand inside a & goals_stand inside b
+  goal_stands inside (try c a b) = neg inside & goals_stand true c & goals_stand inside a & goals_stand inside b
 
-  pub armsStand : Bool → Arms → Bool
-  armsStand inside noArms = true
-  armsStand inside (arm f ys gs cs) = goalsStand inside gs & armsStand inside cs
+  pub arms_stand : Bool → Arms → Bool
+  arms_stand inside no_arms = true
+  arms_stand inside (arm f ys gs cs) = goals_stand inside gs & arms_stand inside cs
 
-unfoldable pub conditionsOk : Program → Bool
-conditionsOk P = all (λ p. goalsStand false p.body) P.procedures
+unfoldable pub conditions_ok : Program → Bool
+conditions_ok P = all (λ p. goals_stand false p.body) P.procedures

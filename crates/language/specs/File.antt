@@ -2,23 +2,23 @@
 use Rattle.std.specs.Prelude.{ℕ, zero, suc, ◌+◌, ◌-◌, ◌*◌, Bool, true, false, List, [], ◌∷◌, ◌++◌, eqb, leb, ltb, length, get_or}
 use Rattle.sets.specs.Tests.{◌&◌, ◌or◌}
 use Rattle.language.specs.Lists.{nth, all, up_from, count}
-use Rattle.language.specs.Format.{headerKind, typeKind, functorKind, procedureKind, variableKind, regionKind, edgeKind, literalKind, sumKind, assignKind, constructKind, switchKind, armKind, ifKind, callKind, argumentKind, printKind, createKind, removeKind, tryKind, testKind, recordBytes, maxBytes}
+use Rattle.language.specs.Format.{header_kind, type_kind, functor_kind, procedure_kind, variable_kind, region_kind, edge_kind, literal_kind, sum_kind, assign_kind, construct_kind, switch_kind, arm_kind, if_kind, call_kind, argument_kind, print_kind, create_kind, remove_kind, try_kind, test_kind, record_bytes, max_bytes}
 
 -- "records of 16 bytes, each eight 16-bit words w0 to w7, low byte first": word k of record i
 unfoldable pub word : List ℕ → ℕ → ℕ → ℕ
 word f i k = get_or f (16 * i + 2 * k) 0 + 256 * get_or f (16 * i + 2 * k + 1) 0
 
 -- "Record 0 is the header: .. w3 record count"
-unfoldable pub recordCount : List ℕ → ℕ
-recordCount f = word f 0 3
+unfoldable pub record_count : List ℕ → ℕ
+record_count f = word f 0 3
 
 -- "In other records w0 is the kind": first the kinds of a goal chain, then all
 pub data GoalKind : Type 0 where
-  kLiteral kSum kAssign kConstruct kSwitch kIf kCall kPrint kCreate kRemove kTry kTest : GoalKind
+  k_literal k_sum k_assign k_construct k_switch k_if k_call k_print k_create k_remove k_try k_test : GoalKind
 
 pub data Kind : Type 0 where
-  kNone kHeader kType kFunctor kProcedure kVariable kRegion kEdge kArm kArgument : Kind
-  kGoal : GoalKind → Kind
+  k_none k_header k_type k_functor k_procedure k_variable k_region k_edge k_arm k_argument : Kind
+  k_goal : GoalKind → Kind
 
 -- what a reference leads to: a chain of records of one sort
 pub data Chain : Type 0 where
@@ -48,35 +48,35 @@ row_in k c us = record { kind = k; chain = c; next = c; words = padded 6 us }
 -- The table. A kind that it does not list is kNone, which stands in no chain: such a record is refused because nothing can lead to it, and every record
 -- but 0 must be led to.
 unfoldable pub row : Kind → Row
-row kNone = row_in 0 nowhere []
-row kHeader = record { kind = headerKind; chain = nowhere; next = procedures; words = padded 6 (first types ∷ number ∷ []) }
-row kType = row_in typeKind types (first functors ∷ [])
-row kFunctor = row_in functorKind functors (number ∷ number ∷ number ∷ number ∷ number ∷ [])
-row kProcedure = row_in procedureKind procedures (first variables ∷ first regions ∷ first goals ∷ [])
-row kVariable = row_in variableKind variables (number ∷ number ∷ number ∷ [])
-row kRegion = row_in regionKind regions (number ∷ number ∷ first edges ∷ [])
-row kEdge = row_in edgeKind edges (number ∷ number ∷ number ∷ [])
-row (kGoal kLiteral) = row_in literalKind goals (number ∷ number ∷ [])
-row (kGoal kSum) = row_in sumKind goals (number ∷ number ∷ number ∷ number ∷ [])
-row (kGoal kAssign) = row_in assignKind goals (number ∷ number ∷ [])
-row (kGoal kConstruct) = row_in constructKind goals (number ∷ number ∷ number ∷ number ∷ number ∷ number ∷ [])
-row (kGoal kSwitch) = row_in switchKind goals (number ∷ first arms ∷ [])
-row kArm = row_in armKind arms (first goals ∷ number ∷ number ∷ number ∷ number ∷ number ∷ [])
-row (kGoal kIf) = row_in ifKind goals (number ∷ number ∷ first goals ∷ first goals ∷ [])
-row (kGoal kCall) = row_in callKind goals (number ∷ first arguments ∷ [])
-row kArgument = row_in argumentKind arguments (number ∷ [])
-row (kGoal kPrint) = row_in printKind goals (number ∷ [])
-row (kGoal kCreate) = row_in createKind goals (number ∷ [])
-row (kGoal kRemove) = row_in removeKind goals (number ∷ [])
-row (kGoal kTry) = row_in tryKind goals (first goals ∷ first goals ∷ first goals ∷ [])
-row (kGoal kTest) = row_in testKind goals (number ∷ number ∷ [])
+row k_none = row_in 0 nowhere []
+row k_header = record { kind = header_kind; chain = nowhere; next = procedures; words = padded 6 (first types ∷ number ∷ []) }
+row k_type = row_in type_kind types (first functors ∷ [])
+row k_functor = row_in functor_kind functors (number ∷ number ∷ number ∷ number ∷ number ∷ [])
+row k_procedure = row_in procedure_kind procedures (first variables ∷ first regions ∷ first goals ∷ [])
+row k_variable = row_in variable_kind variables (number ∷ number ∷ number ∷ [])
+row k_region = row_in region_kind regions (number ∷ number ∷ first edges ∷ [])
+row k_edge = row_in edge_kind edges (number ∷ number ∷ number ∷ [])
+row (k_goal k_literal) = row_in literal_kind goals (number ∷ number ∷ [])
+row (k_goal k_sum) = row_in sum_kind goals (number ∷ number ∷ number ∷ number ∷ [])
+row (k_goal k_assign) = row_in assign_kind goals (number ∷ number ∷ [])
+row (k_goal k_construct) = row_in construct_kind goals (number ∷ number ∷ number ∷ number ∷ number ∷ number ∷ [])
+row (k_goal k_switch) = row_in switch_kind goals (number ∷ first arms ∷ [])
+row k_arm = row_in arm_kind arms (first goals ∷ number ∷ number ∷ number ∷ number ∷ number ∷ [])
+row (k_goal k_if) = row_in if_kind goals (number ∷ number ∷ first goals ∷ first goals ∷ [])
+row (k_goal k_call) = row_in call_kind goals (number ∷ first arguments ∷ [])
+row k_argument = row_in argument_kind arguments (number ∷ [])
+row (k_goal k_print) = row_in print_kind goals (number ∷ [])
+row (k_goal k_create) = row_in create_kind goals (number ∷ [])
+row (k_goal k_remove) = row_in remove_kind goals (number ∷ [])
+row (k_goal k_try) = row_in try_kind goals (first goals ∷ first goals ∷ first goals ∷ [])
+row (k_goal k_test) = row_in test_kind goals (number ∷ number ∷ [])
 
 -- the kinds in the order of their numbers; kNone stands for every other number
 unfoldable pub kinds : List Kind
-kinds = kNone ∷ kHeader ∷ kType ∷ kFunctor ∷ kProcedure ∷ kVariable ∷ kRegion ∷ kEdge ∷ kGoal kLiteral ∷ kGoal kSum ∷ kGoal kAssign ∷ kGoal kConstruct ∷ kGoal kSwitch ∷ kArm ∷ kGoal kIf ∷ kGoal kCall ∷ kArgument ∷ kGoal kPrint ∷ kGoal kCreate ∷ kGoal kRemove ∷ kGoal kTry ∷ kGoal kTest ∷ []
+kinds = k_none ∷ k_header ∷ k_type ∷ k_functor ∷ k_procedure ∷ k_variable ∷ k_region ∷ k_edge ∷ k_goal k_literal ∷ k_goal k_sum ∷ k_goal k_assign ∷ k_goal k_construct ∷ k_goal k_switch ∷ k_arm ∷ k_goal k_if ∷ k_goal k_call ∷ k_argument ∷ k_goal k_print ∷ k_goal k_create ∷ k_goal k_remove ∷ k_goal k_try ∷ k_goal k_test ∷ []
 
 unfoldable pub kind_of : ℕ → Kind
-kind_of n = nth kNone kinds n
+kind_of n = nth k_none kinds n
 
 -- chains told apart by a number each
 unfoldable pub code : Chain → ℕ
@@ -92,12 +92,12 @@ code arms = 8
 code arguments = 9
 
 -- a kind that may stand in a chain
-unfoldable pub standsIn : Chain → Kind → Bool
-standsIn c k = eqb (code (row k).chain) (code c)
+unfoldable pub stands_in : Chain → Kind → Bool
+stands_in c k = eqb (code (row k).chain) (code c)
 
 -- Number 1: "length under 16, over 65,536, not 16 × w3, or header w0 not 1"
-unfoldable pub headerOk : List ℕ → Bool
-headerOk f = leb recordBytes (length f) & leb (length f) maxBytes & eqb (length f) (recordBytes * recordCount f) & eqb (word f 0 0) headerKind
+unfoldable pub header_ok : List ℕ → Bool
+header_ok f = leb record_bytes (length f) & leb (length f) max_bytes & eqb (length f) (record_bytes * record_count f) & eqb (word f 0 0) header_kind
 
 -- Number 2, over the words of n records
 module _ (W : ℕ → ℕ → ℕ) (n : ℕ) where
@@ -105,19 +105,19 @@ module _ (W : ℕ → ℕ → ℕ) (n : ℕ) where
   kind_at i = kind_of (W i 0)
 
   -- "a reference not above its own record or past the end; .. a wrong kind there"; "zero ends a chain"
-  unfoldable pub referenceOk : ℕ → Chain → ℕ → Bool
-  referenceOk i c r = eqb r 0 or ltb i r & ltb r n & standsIn c (kind_at r)
+  unfoldable pub reference_ok : ℕ → Chain → ℕ → Bool
+  reference_ok i c r = eqb r 0 or ltb i r & ltb r n & stands_in c (kind_at r)
 
   -- "an unused word not 0"
-  unfoldable pub wordsOk : ℕ → ℕ → List Use → Bool
-  wordsOk i k [] = true
-  wordsOk i k (number ∷ us) = wordsOk i (suc k) us
-  wordsOk i k (unused ∷ us) = eqb (W i k) 0 & wordsOk i (suc k) us
-  wordsOk i k (first c ∷ us) = referenceOk i c (W i k) & wordsOk i (suc k) us
+  unfoldable pub words_ok : ℕ → ℕ → List Use → Bool
+  words_ok i k [] = true
+  words_ok i k (number ∷ us) = words_ok i (suc k) us
+  words_ok i k (unused ∷ us) = eqb (W i k) 0 & words_ok i (suc k) us
+  words_ok i k (first c ∷ us) = reference_ok i c (W i k) & words_ok i (suc k) us
 
   -- what number 2 asks of record i alone
-  unfoldable pub recordOk : ℕ → Bool
-  recordOk i = referenceOk i (row (kind_at i)).next (W i 1) & wordsOk i 2 (row (kind_at i)).words
+  unfoldable pub record_ok : ℕ → Bool
+  record_ok i = reference_ok i (row (kind_at i)).next (W i 1) & words_ok i 2 (row (kind_at i)).words
 
   -- the references of record i: its w1 and the words that the table calls "first"
   unfoldable pub leading : ℕ → ℕ → List Use → List ℕ
@@ -130,14 +130,14 @@ module _ (W : ℕ → ℕ → ℕ) (n : ℕ) where
   references i = W i 1 ∷ leading i 2 (row (kind_at i)).words
 
   -- .. of several records
-  unfoldable pub referencesOf : List ℕ → List ℕ
-  referencesOf [] = []
-  referencesOf (i ∷ is) = references i ++ referencesOf is
+  unfoldable pub references_of : List ℕ → List ℕ
+  references_of [] = []
+  references_of (i ∷ is) = references i ++ references_of is
 
   -- "a record but 0 not referred to once"
-  unfoldable pub onceIn : List ℕ → Bool
-  onceIn rs = all (λ i. eqb (count i rs) 1) (up_from 1 (n - 1))
+  unfoldable pub once_in : List ℕ → Bool
+  once_in rs = all (λ i. eqb (count i rs) 1) (up_from 1 (n - 1))
 
   -- all of number 2
-  unfoldable pub formOk : Bool
-  formOk = all recordOk (up_from 0 n) & onceIn (referencesOf (up_from 0 n))
+  unfoldable pub form_ok : Bool
+  form_ok = all record_ok (up_from 0 n) & once_in (references_of (up_from 0 n))

@@ -3,41 +3,41 @@ use Rattle.std.specs.Prelude.{Bool, true, false, List, ◌≡◌, refl}
 use Rattle.std.proofs.Common.{ap, ap₂, ◌∙◌}
 use Rattle.sets.specs.Tests.{◌&◌, neg}
 use Rattle.language.specs.Lists.{all}
-use Rattle.language.specs.Program.{Step, literal, sum, assign, construct, call, print, create, remove, test, Goals, done, ◌then◌, Goal, step, switch, ifLess, try, Arms, noArms, arm, Program}
-use Rattle.language.specs.Conditions.{stepStands, goalsStand, goalStands, armsStand, conditionsOk}
-use Rattle.language.specs.Annotation.{plainStep}
-use Rattle.language.specs.PlainRun.{thenIf, stripGoals, stripGoal, stripArms, stripProcedure, stripped}
+use Rattle.language.specs.Program.{Step, literal, sum, assign, construct, call, print, create, remove, test, Goals, done, ◌then◌, Goal, step, switch, if_less, try, Arms, no_arms, arm, Program}
+use Rattle.language.specs.Conditions.{step_stands, goals_stand, goal_stands, arms_stand, conditions_ok}
+use Rattle.language.specs.Annotation.{plain_step}
+use Rattle.language.specs.PlainRun.{then_if, strip_goals, strip_goal, strip_arms, strip_procedure, stripped}
 use Rattle.laws.specs.Lists.{all_map, all_same}
 
-step-stands : (i : Bool) (g : Step) (gs : Goals) → goalsStand i (thenIf (plainStep g) (step g) gs) ≡ (stepStands i g & goalsStand i gs)
-unfolding thenIf plainStep goalsStand stepStands ◌&◌
-step-stands i (literal x v) gs = refl
-step-stands i (sum x o y z) gs = refl
-step-stands i (assign x y) gs = refl
-step-stands i (construct x f ys) gs = refl
-step-stands i (call q ys) gs = refl
-step-stands i (print y) gs = refl
-step-stands i (create r) gs = refl
-step-stands i (remove r) gs = refl
-step-stands i (test y z) gs = refl
+step_stands_law : (i : Bool) (g : Step) (gs : Goals) → goals_stand i (then_if (plain_step g) (step g) gs) ≡ (step_stands i g & goals_stand i gs)
+unfolding then_if plain_step goals_stand step_stands ◌&◌
+step_stands_law i (literal x v) gs = refl
+step_stands_law i (sum x o y z) gs = refl
+step_stands_law i (assign x y) gs = refl
+step_stands_law i (construct x f ys) gs = refl
+step_stands_law i (call q ys) gs = refl
+step_stands_law i (print y) gs = refl
+step_stands_law i (create r) gs = refl
+step_stands_law i (remove r) gs = refl
+step_stands_law i (test y z) gs = refl
 
 mutual
-  unfolding stripGoals goalsStand
+  unfolding strip_goals goals_stand
 
-  pub stripped-stand : (i : Bool) (gs : Goals) → goalsStand i (stripGoals gs) ≡ goalsStand i gs
-  stripped-stand i done = refl
-  stripped-stand i (g then gs) = stripped-stands i g (stripGoals gs) ∙ ap (λ (b : Bool). goalStands i g & b) (stripped-stand i gs)
+  pub stripped_stand : (i : Bool) (gs : Goals) → goals_stand i (strip_goals gs) ≡ goals_stand i gs
+  stripped_stand i done = refl
+  stripped_stand i (g then gs) = stripped_stands i g (strip_goals gs) ∙ ap (λ (b : Bool). goal_stands i g & b) (stripped_stand i gs)
 
-  stripped-stands : (i : Bool) (g : Goal) (gs : Goals) → goalsStand i (stripGoal g gs) ≡ (goalStands i g & goalsStand i gs)
-  stripped-stands i (step g) gs = step-stands i g gs
-  stripped-stands i (switch x cs) gs = ap (λ (b : Bool). b & goalsStand i gs) (stripped-arms i cs)
-  stripped-stands i (ifLess y z a b) gs = rw (stripped-stand i a, stripped-stand i b)
-  stripped-stands i (try c a b) gs = rw (stripped-stand true c, stripped-stand i a, stripped-stand i b)
+  stripped_stands : (i : Bool) (g : Goal) (gs : Goals) → goals_stand i (strip_goal g gs) ≡ (goal_stands i g & goals_stand i gs)
+  stripped_stands i (step g) gs = step_stands_law i g gs
+  stripped_stands i (switch x cs) gs = ap (λ (b : Bool). b & goals_stand i gs) (stripped_arms i cs)
+  stripped_stands i (if_less y z a b) gs = rw (stripped_stand i a, stripped_stand i b)
+  stripped_stands i (try c a b) gs = rw (stripped_stand true c, stripped_stand i a, stripped_stand i b)
 
-  stripped-arms : (i : Bool) (cs : Arms) → armsStand i (stripArms cs) ≡ armsStand i cs
-  stripped-arms i noArms = refl
-  stripped-arms i (arm f ys gs cs) = ap₂ ◌&◌ (stripped-stand i gs) (stripped-arms i cs)
+  stripped_arms : (i : Bool) (cs : Arms) → arms_stand i (strip_arms cs) ≡ arms_stand i cs
+  stripped_arms i no_arms = refl
+  stripped_arms i (arm f ys gs cs) = ap₂ ◌&◌ (stripped_stand i gs) (stripped_arms i cs)
 
-pub stripped-conditions : (P : Program) → conditionsOk (stripped P) ≡ conditionsOk P
-unfolding conditionsOk stripped stripProcedure
-stripped-conditions P = all_map _ stripProcedure P.procedures ∙ all_same _ _ (λ p. stripped-stand false p.body) P.procedures
+pub stripped_conditions : (P : Program) → conditions_ok (stripped P) ≡ conditions_ok P
+unfolding conditions_ok stripped strip_procedure
+stripped_conditions P = all_map _ strip_procedure P.procedures ∙ all_same _ _ (λ p. stripped_stand false p.body) P.procedures

@@ -9,18 +9,18 @@ unfolding ◌&◌
 and_assoc true b c = refl
 and_assoc false b c = refl
 
-pub and-swap : (a b c d : Bool) → ((a & b) & (c & d)) ≡ ((a & c) & (b & d))
+pub and_swap : (a b c d : Bool) → ((a & b) & (c & d)) ≡ ((a & c) & (b & d))
 unfolding ◌&◌
-and-swap true true c d = refl
-and-swap true false true d = refl
-and-swap true false false d = refl
-and-swap false b c d = refl
+and_swap true true c d = refl
+and_swap true false true d = refl
+and_swap true false false d = refl
+and_swap false b c d = refl
 
 -- a test that two share
-pub and-shared : (m a b : Bool) → ((m & a) & (m & b)) ≡ (m & (a & b))
+pub and_shared : (m a b : Bool) → ((m & a) & (m & b)) ≡ (m & (a & b))
 unfolding ◌&◌
-and-shared true a b = refl
-and-shared false a b = refl
+and_shared true a b = refl
+and_shared false a b = refl
 
 -- ---- one of the two is known
 pub and_yes : (a : Bool) → (a & true) ≡ a
@@ -37,23 +37,23 @@ unfolding ◌&◌
 and_no true e = e
 and_no false e = refl
 
-pub no-and : {a : Bool} (b : Bool) → a ≡ false → (a & b) ≡ false
+pub no_and : {a : Bool} (b : Bool) → a ≡ false → (a & b) ≡ false
 unfolding ◌&◌
-no-and {a = true} b e = absurd (false≢true (sym e))
-no-and {a = false} b e = refl
+no_and {a = true} b e = absurd (false≢true (sym e))
+no_and {a = false} b e = refl
 
 -- ---- tests in a row, as code makes them: the first that fails refuses the whole, and where one passes the rest decides
-pub and-stop : {a : Bool} (b : Bool) → a ≡ false → false ≡ (a & b)
+pub and_stop : {a : Bool} (b : Bool) → a ≡ false → false ≡ (a & b)
 unfolding ◌&◌
-and-stop b e = rw e
+and_stop b e = rw e
 
-pub and-on : {a b c : Bool} → a ≡ true → c ≡ b → c ≡ (a & b)
+pub and_on : {a b c : Bool} → a ≡ true → c ≡ b → c ≡ (a & b)
 unfolding ◌&◌
-and-on e g = rw e g
+and_on e g = rw e g
 
 -- of a test that a call made
 pub refuse : {r a : Bool} (b : Bool) → r ≡ a → r ≡ false → false ≡ (a & b)
-refuse b e h = and-stop b (sym e ∙ h)
+refuse b e h = and_stop b (sym e ∙ h)
 
 pub pass : {r a b c : Bool} → r ≡ a → r ≡ true → c ≡ b → c ≡ (a & b)
-pass e h g = and-on (sym e ∙ h) g
+pass e h g = and_on (sym e ∙ h) g

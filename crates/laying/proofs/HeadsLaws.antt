@@ -3,14 +3,14 @@ use Prim.Native.Nat.{ℕ, suc, ◌≤◌, ◌+◌}
 use native.Mathlib.Omega.{arith}
 use mathlib.Core.List.{List, [], ◌∷◌}
 use mathlib.Core.Path.{◌≡◌, sym}
-use Rattle.language.specs.Format.{maxRecords, switchKind, ifKind, armKind, nextWord, goalX, ifY, ifZ, termFunctor, termArguments}
+use Rattle.language.specs.Format.{max_records, switch_kind, if_kind, arm_kind, next_word, goal_x, if_y, if_z, term_functor, term_arguments}
 use Rattle.writer.specs.Skips.{Behind}
 use Rattle.laying.specs.Lays.{Lays, Stored, RefersTo, Spans}
 use Rattle.language.specs.File.{word}
 use Rattle.laying.specs.Heads.{ArmStored, IfStored, SwitchStored, ThreeStored}
 
 -- the record alone
-pub lays_one : {a b : List ℕ} {c m : ℕ} {v : List ℕ} (w : List ℕ) → Behind c 1 m → Stored a b c v → (m ≤ maxRecords → m ≡ suc c → v ≡ w) → Lays a b c m (w ∷ [])
+pub lays_one : {a b : List ℕ} {c m : ℕ} {v : List ℕ} (w : List ℕ) → Behind c 1 m → Stored a b c v → (m ≤ max_records → m ≡ suc c → v ≡ w) → Lays a b c m (w ∷ [])
 lays_one {c = c} {m = m} w B S e =
     record {
       same = S.same;
@@ -21,24 +21,24 @@ lays_one {c = c} {m = m} w B S e =
     }
 
 -- ---- as the code stores them
-module _ (f : List ℕ) (i : ℕ) {e w x : ℕ} (ew : w ≡ word f i nextWord) (R : RefersTo w e x) where
-  refers-next : RefersTo (word f i nextWord) e x
-  refers-next = rw ew at R
+module _ (f : List ℕ) (i : ℕ) {e w x : ℕ} (ew : w ≡ word f i next_word) (R : RefersTo w e x) where
+  refers_next : RefersTo (word f i next_word) e x
+  refers_next = rw ew at R
 
-  pub switch-stored : {a b : List ℕ} {c s y l : ℕ} → y ≡ word f i goalX → Spans s e l → Stored a b c (switchKind ∷ x ∷ y ∷ l ∷ 0 ∷ 0 ∷ 0 ∷ 0 ∷ [])
+  pub switch_stored : {a b : List ℕ} {c s y l : ℕ} → y ≡ word f i goal_x → Spans s e l → Stored a b c (switch_kind ∷ x ∷ y ∷ l ∷ 0 ∷ 0 ∷ 0 ∷ 0 ∷ [])
       → SwitchStored f i a b c s e
-  switch-stored p q o = record { next = _; link = _; refers = refers-next; spans = q; stored = rw p at o }
+  switch_stored p q o = record { next = _; link = _; refers = refers_next; spans = q; stored = rw p at o }
 
-  pub if-stored : {a b : List ℕ} {c s m y z k l : ℕ} → y ≡ word f i ifY → z ≡ word f i ifZ → Spans s m k → Spans m e l
-      → Stored a b c (ifKind ∷ x ∷ y ∷ z ∷ k ∷ l ∷ 0 ∷ 0 ∷ []) → IfStored f i a b c s m e
-  if-stored p q u v o = record { next = _; yes-link = _; no-link = _; refers = refers-next; yes-spans = u; no-spans = v; stored = rw (p, q) at o }
+  pub if_stored : {a b : List ℕ} {c s m y z k l : ℕ} → y ≡ word f i if_y → z ≡ word f i if_z → Spans s m k → Spans m e l
+      → Stored a b c (if_kind ∷ x ∷ y ∷ z ∷ k ∷ l ∷ 0 ∷ 0 ∷ []) → IfStored f i a b c s m e
+  if_stored p q u v o = record { next = _; yes_link = _; no_link = _; refers = refers_next; yes_spans = u; no_spans = v; stored = rw (p, q) at o }
 
-  pub arm-stored : {a b : List ℕ} {c s l functor a1 a2 a3 a4 : ℕ} → Spans s e l → functor ≡ word f i termFunctor → a1 ≡ word f i termArguments
-      → a2 ≡ word f i (termArguments + 1) → a3 ≡ word f i (termArguments + 2) → a4 ≡ word f i (termArguments + 3)
-      → Stored a b c (armKind ∷ x ∷ l ∷ functor ∷ a1 ∷ a2 ∷ a3 ∷ a4 ∷ []) → ArmStored f i a b c s e
-  arm-stored q ef e1 e2 e3 e4 o = record { next = _; link = _; refers = refers-next; spans = q; stored = rw (ef, e1, e2, e3, e4) at o }
+  pub arm_stored : {a b : List ℕ} {c s l functor a1 a2 a3 a4 : ℕ} → Spans s e l → functor ≡ word f i term_functor → a1 ≡ word f i term_arguments
+      → a2 ≡ word f i (term_arguments + 1) → a3 ≡ word f i (term_arguments + 2) → a4 ≡ word f i (term_arguments + 3)
+      → Stored a b c (arm_kind ∷ x ∷ l ∷ functor ∷ a1 ∷ a2 ∷ a3 ∷ a4 ∷ []) → ArmStored f i a b c s e
+  arm_stored q ef e1 e2 e3 e4 o = record { next = _; link = _; refers = refers_next; spans = q; stored = rw (ef, e1, e2, e3, e4) at o }
 
-  pub three-stored : (k : ℕ) {a b : List ℕ} {c s m n j l o : ℕ} → Spans s m j → Spans m n l → Spans n e o → Stored a b c (k ∷ x ∷ j ∷ l ∷ o ∷ 0 ∷ 0 ∷ 0 ∷ [])
+  pub three_stored : (k : ℕ) {a b : List ℕ} {c s m n j l o : ℕ} → Spans s m j → Spans m n l → Spans n e o → Stored a b c (k ∷ x ∷ j ∷ l ∷ o ∷ 0 ∷ 0 ∷ 0 ∷ [])
       → ThreeStored f i a b c k s m n e
-  three-stored k p q u v =
-      record { next = _; first-link = _; second-link = _; third-link = _; refers = refers-next; first-spans = p; second-spans = q; third-spans = u; stored = v }
+  three_stored k p q u v =
+      record { next = _; first_link = _; second_link = _; third_link = _; refers = refers_next; first_spans = p; second_spans = q; third_spans = u; stored = v }

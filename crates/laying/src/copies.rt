@@ -1,9 +1,9 @@
 // Records of the file that are laid as they are.
 ghost use Rattle.std.specs.Prelude.{false, ◌*◌, ◌<◌, length};
-ghost use Rattle.language.specs.File.{recordCount};
+ghost use Rattle.language.specs.File.{record_count};
 ghost use Rattle.language.specs.Layout.{lay};
 ghost use Rattle.chains.specs.Formed.{Formed};
-ghost use Rattle.writer.specs.Ready.{treeAt, frontTo};
+ghost use Rattle.writer.specs.Ready.{tree_at, front_to};
 ghost use Rattle.laying.specs.Lays.{Lays};
 ghost use Rattle.laying.specs.Copies.{HasRoom};
 
@@ -23,8 +23,8 @@ fn has_room(out: &[u8], end: usize) -> bool
 // Lays the chain that starts at record start.
 pub fn lay_chain(file: &[u8], out: &mut [u8], start: usize, first: usize) -> usize
     requires formed { Formed file.now }
-    requires start_bound { start < recordCount file.now }
-    ensures { Lays out.old out.new first result (lay (treeAt file.now start) first) }
+    requires start_bound { start < record_count file.now }
+    ensures { Lays out.old out.new first result (lay (tree_at file.now start) first) }
 {
     let end = skip_chain(file, start, first);
     if has_room(out, end) {
@@ -36,8 +36,8 @@ pub fn lay_chain(file: &[u8], out: &mut [u8], start: usize, first: usize) -> usi
 // Lays record i and what its words lead to. The chain goes on behind it where `on` is not 0.
 pub fn lay_record(file: &[u8], out: &mut [u8], i: usize, on: usize, first: usize) -> usize
     requires formed { Formed file.now }
-    requires i_bound { i < recordCount file.now }
-    ensures { Lays out.old out.new first result (frontTo file.now i on first) }
+    requires i_bound { i < record_count file.now }
+    ensures { Lays out.old out.new first result (front_to file.now i on first) }
 {
     let end = skip_record(file, i, first);
     if has_room(out, end) {

@@ -1,6 +1,6 @@
 // Records whose words lead to what was laid behind them.
 ghost use Rattle.std.specs.Prelude.{◌<◌};
-ghost use Rattle.language.specs.File.{recordCount};
+ghost use Rattle.language.specs.File.{record_count};
 ghost use Rattle.chains.specs.Formed.{Formed};
 ghost use Rattle.laying.specs.Heads.{SwitchStored, IfStored, TryStored, ArmStored, ProcedureStored};
 
@@ -13,7 +13,7 @@ use language::format::{
 // Stores the switch of record i as record at; its arms were laid from start to end.
 pub fn store_switch(file: &[u8], out: &mut [u8], i: usize, at: usize, start: usize, end: usize)
     requires formed { Formed file.now }
-    requires i_bound { i < recordCount file.now }
+    requires i_bound { i < record_count file.now }
     ensures { SwitchStored file.now i out.old out.new at start end }
 {
     let next = refer(word(file, i, NEXT), end);
@@ -33,7 +33,7 @@ pub fn store_if(
     end: usize,
 )
     requires formed { Formed file.now }
-    requires i_bound { i < recordCount file.now }
+    requires i_bound { i < record_count file.now }
     ensures { IfStored file.now i out.old out.new at start middle end }
 {
     let next = refer(word(file, i, NEXT), end);
@@ -56,7 +56,7 @@ pub fn store_try(
     end: usize,
 )
     requires formed { Formed file.now }
-    requires i_bound { i < recordCount file.now }
+    requires i_bound { i < record_count file.now }
     ensures { TryStored file.now i out.old out.new at start yes no end }
 {
     let next = refer(word(file, i, NEXT), end);
@@ -69,7 +69,7 @@ pub fn store_try(
 // The same for an arm, whose goals were laid from start to end.
 pub fn store_arm(file: &[u8], out: &mut [u8], i: usize, at: usize, start: usize, end: usize)
     requires formed { Formed file.now }
-    requires i_bound { i < recordCount file.now }
+    requires i_bound { i < record_count file.now }
     ensures { ArmStored file.now i out.old out.new at start end }
 {
     let next = refer(word(file, i, NEXT), end);
@@ -94,7 +94,7 @@ pub fn store_procedure(
     end: usize,
 )
     requires formed { Formed file.now }
-    requires i_bound { i < recordCount file.now }
+    requires i_bound { i < record_count file.now }
     ensures { ProcedureStored file.now i out.old out.new at start regions body end }
 {
     let next = refer(word(file, i, NEXT), end);

@@ -2,9 +2,9 @@
 ghost use Rattle.std.specs.Prelude.{◌≡◌, ◌≤◌, ◌<◌};
 ghost use Rattle.sets.specs.Members.{members};
 ghost use Rattle.language.specs.Format.{places};
-ghost use Rattle.records.specs.Sizes.{wordEnd};
+ghost use Rattle.records.specs.Sizes.{word_end};
 ghost use Rattle.laying.specs.Lays.{Lays};
-ghost use Rattle.laying.specs.Marks.{moreOf, marks};
+ghost use Rattle.laying.specs.Marks.{more_of, marks};
 
 use crate::place::{refer, store};
 use language::format::PLACES;
@@ -21,14 +21,14 @@ fn more(next: usize, on: usize) -> usize
 
 // Not 0 where a record for a member follows, or the chain goes on behind them.
 pub fn follows(s: Set, on: usize) -> usize
-    ensures { result ≡ moreOf (members s) on }
+    ensures { result ≡ more_of (members s) on }
 {
     more(s.after(0), on)
 }
 
 // Lays a record of that kind for each member, in rising number. Behind them the chain goes on where `on` is not 0.
 pub fn lay_marks(out: &mut [u8], kind: usize, s: Set, on: usize, first: usize) -> usize
-    requires { kind < wordEnd }
+    requires { kind < word_end }
     ensures { Lays out.old out.new first result (marks kind (members s) on first) }
 {
     let mut at = first;

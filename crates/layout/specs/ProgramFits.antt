@@ -1,96 +1,96 @@
 -- A program's tree fits the table.
 use Rattle.std.specs.Prelude.{ℕ, zero, suc, List, [], ◌∷◌, ◌≡◌, refl}
-use Rattle.language.specs.File.{Kind, kType, kFunctor, kProcedure, kVariable, kRegion, kEdge, kArgument, Chain, nowhere, types, functors, procedures, variables, regions, edges, goals, arms, arguments, Use, number, padded, row}
+use Rattle.language.specs.File.{Kind, k_type, k_functor, k_procedure, k_variable, k_region, k_edge, k_argument, Chain, nowhere, types, functors, procedures, variables, regions, edges, goals, arms, arguments, Use, number, padded, row}
 use Rattle.language.specs.Tree.{Tree, Words}
-use Rattle.language.specs.Program.{Four, four, Functor, Variable, Edge, Region, Step, literal, sum, assign, construct, call, print, create, remove, test, Goals, done, ◌then◌, Goal, step, switch, ifLess, try, Arms, noArms, arm, Procedure, Program}
-use Rattle.language.specs.Records.{zeros, fourPlain, chainOf, functorWords, typeWords, variableWords, edgeWords, regionWords, argumentWords, stepTree, goalsTree, goalTree, armsTree, procedureWords, programTree}
-use Rattle.layout.specs.Table.{all-rows}
-use Rattle.layout.specs.Fits.{Fits, fits-end, fits-node, FitsWords, fits-none, fits-number, fits-unused, fits-first}
-use Rattle.layout.specs.Written.{headed-fits}
+use Rattle.language.specs.Program.{Four, four, Functor, Variable, Edge, Region, Step, literal, sum, assign, construct, call, print, create, remove, test, Goals, done, ◌then◌, Goal, step, switch, if_less, try, Arms, no_arms, arm, Procedure, Program}
+use Rattle.language.specs.Records.{zeros, four_plain, chain_of, functor_words, type_words, variable_words, edge_words, region_words, argument_words, step_tree, goals_tree, goal_tree, arms_tree, procedure_words, program_tree}
+use Rattle.layout.specs.Table.{all_rows}
+use Rattle.layout.specs.Fits.{Fits, fits_end, fits_node, FitsWords, fits_none, fits_number, fits_unused, fits_first}
+use Rattle.layout.specs.Written.{headed_fits}
 
-chainOf-fits : {A : Type 0} (k : Kind) (c : Chain) (f : A → Words) (xs : List A) → (row k).chain ≡ c → (row k).next ≡ c
-    → ((x : A) → FitsWords (row k).words (f x)) → Fits c (chainOf k f xs)
-unfolding chainOf
-chainOf-fits k c f [] e a h = fits-end
-chainOf-fits k c f (x ∷ xs) e a h = fits-node {t = chainOf k f xs} e (rw a (chainOf-fits k c f xs e a h)) (h x)
+chain_of_fits : {A : Type 0} (k : Kind) (c : Chain) (f : A → Words) (xs : List A) → (row k).chain ≡ c → (row k).next ≡ c
+    → ((x : A) → FitsWords (row k).words (f x)) → Fits c (chain_of k f xs)
+unfolding chain_of
+chain_of_fits k c f [] e a h = fits_end
+chain_of_fits k c f (x ∷ xs) e a h = fits_node {t = chain_of k f xs} e (rw a (chain_of_fits k c f xs e a h)) (h x)
 
-zeros-fit : (n : ℕ) → FitsWords (padded n []) (zeros n)
+zeros_fit : (n : ℕ) → FitsWords (padded n []) (zeros n)
 unfolding padded zeros
-zeros-fit zero = fits-none
-zeros-fit (suc n) = fits-unused (zeros-fit n)
+zeros_fit zero = fits_none
+zeros_fit (suc n) = fits_unused (zeros_fit n)
 
-four-fits : (a : Four) {us : List Use} {ws : Words} → FitsWords us ws → FitsWords (number ∷ number ∷ number ∷ number ∷ us) (fourPlain a ws)
-unfolding fourPlain
-four-fits (four a b c d) f = fits-number (fits-number (fits-number (fits-number f)))
+four_fits : (a : Four) {us : List Use} {ws : Words} → FitsWords us ws → FitsWords (number ∷ number ∷ number ∷ number ∷ us) (four_plain a ws)
+unfolding four_plain
+four_fits (four a b c d) f = fits_number (fits_number (fits_number (fits_number f)))
 
-functor-fits : (f : Functor) → FitsWords (row kFunctor).words (functorWords f)
-unfolding functorWords all-rows
-functor-fits f = fits-number (four-fits f.argumentTypes (zeros-fit 1))
+functor_fits_law : (f : Functor) → FitsWords (row k_functor).words (functor_words f)
+unfolding functor_words all_rows
+functor_fits_law f = fits_number (four_fits f.argument_types (zeros_fit 1))
 
-type-fits : (fs : List Functor) → FitsWords (row kType).words (typeWords fs)
-unfolding typeWords all-rows
-type-fits fs = fits-first (chainOf-fits kFunctor functors functorWords fs refl refl functor-fits) (zeros-fit 5)
+type_fits_law : (fs : List Functor) → FitsWords (row k_type).words (type_words fs)
+unfolding type_words all_rows
+type_fits_law fs = fits_first (chain_of_fits k_functor functors functor_words fs refl refl functor_fits_law) (zeros_fit 5)
 
-variable-fits : (v : Variable) → FitsWords (row kVariable).words (variableWords v)
-unfolding variableWords all-rows
-variable-fits v = fits-number (fits-number (fits-number (zeros-fit 3)))
+variable_fits : (v : Variable) → FitsWords (row k_variable).words (variable_words v)
+unfolding variable_words all_rows
+variable_fits v = fits_number (fits_number (fits_number (zeros_fit 3)))
 
-edge-fits : (e : Edge) → FitsWords (row kEdge).words (edgeWords e)
-unfolding edgeWords all-rows
-edge-fits e = fits-number (fits-number (fits-number (zeros-fit 3)))
+edge_fits : (e : Edge) → FitsWords (row k_edge).words (edge_words e)
+unfolding edge_words all_rows
+edge_fits e = fits_number (fits_number (fits_number (zeros_fit 3)))
 
-region-fits : (r : Region) → FitsWords (row kRegion).words (regionWords r)
-unfolding regionWords all-rows
-region-fits r = fits-number (fits-number (fits-first (chainOf-fits kEdge edges edgeWords r.edges refl refl edge-fits) (zeros-fit 3)))
+region_fits : (r : Region) → FitsWords (row k_region).words (region_words r)
+unfolding region_words all_rows
+region_fits r = fits_number (fits_number (fits_first (chain_of_fits k_edge edges edge_words r.edges refl refl edge_fits) (zeros_fit 3)))
 
-argument-fits : (y : ℕ) → FitsWords (row kArgument).words (argumentWords y)
-unfolding argumentWords all-rows
-argument-fits y = fits-number (zeros-fit 5)
+argument_fits : (y : ℕ) → FitsWords (row k_argument).words (argument_words y)
+unfolding argument_words all_rows
+argument_fits y = fits_number (zeros_fit 5)
 
-step_fits : (s : Step) (next : Tree) → Fits goals next → Fits goals (stepTree s next)
-unfolding stepTree all-rows
-step_fits (literal x v) next h = fits-node refl h (fits-number (fits-number (zeros-fit 4)))
-step_fits (sum x o y z) next h = fits-node refl h (fits-number (fits-number (fits-number (fits-number (zeros-fit 2)))))
-step_fits (assign x y) next h = fits-node refl h (fits-number (fits-number (zeros-fit 4)))
-step_fits (construct x f ys) next h = fits-node refl h (fits-number (fits-number (four-fits ys fits-none)))
+step_fits : (s : Step) (next : Tree) → Fits goals next → Fits goals (step_tree s next)
+unfolding step_tree all_rows
+step_fits (literal x v) next h = fits_node refl h (fits_number (fits_number (zeros_fit 4)))
+step_fits (sum x o y z) next h = fits_node refl h (fits_number (fits_number (fits_number (fits_number (zeros_fit 2)))))
+step_fits (assign x y) next h = fits_node refl h (fits_number (fits_number (zeros_fit 4)))
+step_fits (construct x f ys) next h = fits_node refl h (fits_number (fits_number (four_fits ys fits_none)))
 step_fits (call q ys) next h =
-    fits-node refl h (fits-number (fits-first (chainOf-fits kArgument arguments argumentWords ys refl refl argument-fits) (zeros-fit 4)))
-step_fits (print y) next h = fits-node refl h (fits-number (zeros-fit 5))
-step_fits (create r) next h = fits-node refl h (fits-number (zeros-fit 5))
-step_fits (remove r) next h = fits-node refl h (fits-number (zeros-fit 5))
-step_fits (test y z) next h = fits-node refl h (fits-number (fits-number (zeros-fit 4)))
+    fits_node refl h (fits_number (fits_first (chain_of_fits k_argument arguments argument_words ys refl refl argument_fits) (zeros_fit 4)))
+step_fits (print y) next h = fits_node refl h (fits_number (zeros_fit 5))
+step_fits (create r) next h = fits_node refl h (fits_number (zeros_fit 5))
+step_fits (remove r) next h = fits_node refl h (fits_number (zeros_fit 5))
+step_fits (test y z) next h = fits_node refl h (fits_number (fits_number (zeros_fit 4)))
 
 mutual
-  unfolding goalsTree all-rows
+  unfolding goals_tree all_rows
 
-  pub goals-fit : (gs : Goals) → Fits goals (goalsTree gs)
-  goals-fit done = fits-end
-  goals-fit (g then gs) = goal-fits g (goalsTree gs) (goals-fit gs)
+  pub goals_fit : (gs : Goals) → Fits goals (goals_tree gs)
+  goals_fit done = fits_end
+  goals_fit (g then gs) = goal_fits g (goals_tree gs) (goals_fit gs)
 
-  goal-fits : (g : Goal) (next : Tree) → Fits goals next → Fits goals (goalTree g next)
-  goal-fits (step s) next h = step_fits s next h
-  goal-fits (switch x cs) next h = fits-node refl h (fits-number (fits-first (arms-fit cs) (zeros-fit 4)))
-  goal-fits (ifLess y z a b) next h = fits-node refl h (fits-number (fits-number (fits-first (goals-fit a) (fits-first (goals-fit b) (zeros-fit 2)))))
-  goal-fits (try c a b) next h = fits-node refl h (fits-first (goals-fit c) (fits-first (goals-fit a) (fits-first (goals-fit b) (zeros-fit 3))))
+  goal_fits : (g : Goal) (next : Tree) → Fits goals next → Fits goals (goal_tree g next)
+  goal_fits (step s) next h = step_fits s next h
+  goal_fits (switch x cs) next h = fits_node refl h (fits_number (fits_first (arms_fit cs) (zeros_fit 4)))
+  goal_fits (if_less y z a b) next h = fits_node refl h (fits_number (fits_number (fits_first (goals_fit a) (fits_first (goals_fit b) (zeros_fit 2)))))
+  goal_fits (try c a b) next h = fits_node refl h (fits_first (goals_fit c) (fits_first (goals_fit a) (fits_first (goals_fit b) (zeros_fit 3))))
 
-  arms-fit : (cs : Arms) → Fits arms (armsTree cs)
-  arms-fit noArms = fits-end
-  arms-fit (arm f ys gs cs) = fits-node refl (arms-fit cs) (fits-first (goals-fit gs) (fits-number (four-fits ys fits-none)))
+  arms_fit : (cs : Arms) → Fits arms (arms_tree cs)
+  arms_fit no_arms = fits_end
+  arms_fit (arm f ys gs cs) = fits_node refl (arms_fit cs) (fits_first (goals_fit gs) (fits_number (four_fits ys fits_none)))
 
-procedure-fits : (p : Procedure) → FitsWords (row kProcedure).words (procedureWords p)
-unfolding procedureWords all-rows
-procedure-fits p =
-    fits-first (chainOf-fits kVariable variables variableWords p.signature.variables refl refl variable-fits)
-    (fits-first (chainOf-fits kRegion regions regionWords p.signature.regions refl refl region-fits) (fits-first (goals-fit p.body) (zeros-fit 3)))
+procedure_fits : (p : Procedure) → FitsWords (row k_procedure).words (procedure_words p)
+unfolding procedure_words all_rows
+procedure_fits p =
+    fits_first (chain_of_fits k_variable variables variable_words p.signature.variables refl refl variable_fits)
+    (fits_first (chain_of_fits k_region regions region_words p.signature.regions refl refl region_fits) (fits_first (goals_fit p.body) (zeros_fit 3)))
 
-pub types-fit : (P : Program) → Fits types (chainOf kType typeWords P.types)
-unfolding all-rows
-types-fit P = chainOf-fits kType types typeWords P.types refl refl type-fits
+pub types_fit : (P : Program) → Fits types (chain_of k_type type_words P.types)
+unfolding all_rows
+types_fit P = chain_of_fits k_type types type_words P.types refl refl type_fits_law
 
-pub procedures-fit : (P : Program) → Fits procedures (chainOf kProcedure procedureWords P.procedures)
-unfolding all-rows
-procedures-fit P = chainOf-fits kProcedure procedures procedureWords P.procedures refl refl procedure-fits
+pub procedures_fit : (P : Program) → Fits procedures (chain_of k_procedure procedure_words P.procedures)
+unfolding all_rows
+procedures_fit P = chain_of_fits k_procedure procedures procedure_words P.procedures refl refl procedure_fits
 
-pub program-fits : (P : Program) → Fits nowhere (programTree P)
-unfolding programTree
-program-fits P = headed-fits (types-fit P) (procedures-fit P)
+pub program_fits : (P : Program) → Fits nowhere (program_tree P)
+unfolding program_tree
+program_fits P = headed_fits (types_fit P) (procedures_fit P)

@@ -2,209 +2,209 @@
 use Rattle.std.specs.Prelude.{ℕ, ◌<◌, List, [], ◌∷◌, ◌≡◌, true}
 use Rattle.std.proofs.Math.Path.{ap}
 use Rattle.language.specs.Lists.{nth}
-use Rattle.language.specs.File.{kLiteral, kSum, kAssign, kConstruct, kSwitch, kIf, kCall, kPrint, kCreate, kRemove, kTry, kTest, Kind, kType, kFunctor, kProcedure, kVariable, kRegion, kEdge, kArm, kArgument, kGoal, row, kind_of, word, recordCount, headerOk, formOk}
-use Rattle.language.specs.Tree.{Words, readWords, readRecord, readChain}
-use Rattle.language.specs.Program.{four, Functor, Variable, Edge, Region, literal, sum, assign, construct, call, print, create, remove, test, Goals, done, ◌then◌, step, switch, ifLess, try, Arms, noArms, arm, Procedure}
-use Rattle.language.specs.Reading.{word_at, chainAt, each, readFunctor, readType, readVariable, readEdge, readRegion, noSense, number_in, senseIn, num, sub, goalOf, inFront, senseOf, parts_of, readProcedure}
+use Rattle.language.specs.File.{k_literal, k_sum, k_assign, k_construct, k_switch, k_if, k_call, k_print, k_create, k_remove, k_try, k_test, Kind, k_type, k_functor, k_procedure, k_variable, k_region, k_edge, k_arm, k_argument, k_goal, row, kind_of, word, record_count, header_ok, form_ok}
+use Rattle.language.specs.Tree.{Words, read_words, read_record, read_chain}
+use Rattle.language.specs.Program.{four, Functor, Variable, Edge, Region, literal, sum, assign, construct, call, print, create, remove, test, Goals, done, ◌then◌, step, switch, if_less, try, Arms, no_arms, arm, Procedure}
+use Rattle.language.specs.Reading.{word_at, chain_at, each, read_functor, read_type, read_variable, read_edge, read_region, no_sense, number_in, sense_in, num, sub, goal_of, in_front, sense_of, parts_of, read_procedure}
 use Rattle.language.specs.Answers.{program}
-use Rattle.layout.specs.Table.{all-rows}
-use Rattle.layout.specs.Standing.{chain-end}
-use Rattle.layout.specs.Passing.{chain-step}
-use Rattle.layout.specs.Files.{program-read}
+use Rattle.layout.specs.Table.{all_rows}
+use Rattle.layout.specs.Standing.{chain_end_law}
+use Rattle.layout.specs.Passing.{chain_step}
+use Rattle.layout.specs.Files.{program_read}
 
 -- what stands in the chain at record i
 module _ (W : ℕ → ℕ → ℕ) (n i : ℕ) where
-  unfoldable pub goalsAt : Goals
-  goalsAt = (senseOf (readChain n W i)).asGoals
+  unfoldable pub goals_at : Goals
+  goals_at = (sense_of (read_chain n W i)).as_goals
 
-  unfoldable pub armsAt : Arms
-  armsAt = (senseOf (readChain n W i)).asArms
+  unfoldable pub arms_at : Arms
+  arms_at = (sense_of (read_chain n W i)).as_arms
 
-  unfoldable pub argumentsAt : List ℕ
-  argumentsAt = (senseOf (readChain n W i)).asArguments
+  unfoldable pub arguments_at : List ℕ
+  arguments_at = (sense_of (read_chain n W i)).as_arguments
 
-  unfoldable pub functorsAt : List Functor
-  functorsAt = each readFunctor (readChain n W i)
+  unfoldable pub functors_at : List Functor
+  functors_at = each read_functor (read_chain n W i)
 
   unfoldable pub types_at : List (List Functor)
-  types_at = each readType (readChain n W i)
+  types_at = each read_type (read_chain n W i)
 
-  unfoldable pub variablesAt : List Variable
-  variablesAt = each readVariable (readChain n W i)
+  unfoldable pub variables_at : List Variable
+  variables_at = each read_variable (read_chain n W i)
 
   unfoldable pub edges_at : List Edge
-  edges_at = each readEdge (readChain n W i)
+  edges_at = each read_edge (read_chain n W i)
 
-  unfoldable pub regionsAt : List Region
-  regionsAt = each readRegion (readChain n W i)
+  unfoldable pub regions_at : List Region
+  regions_at = each read_region (read_chain n W i)
 
-  unfoldable pub proceduresAt : List Procedure
-  proceduresAt = each readProcedure (readChain n W i)
+  unfoldable pub procedures_at : List Procedure
+  procedures_at = each read_procedure (read_chain n W i)
 
 -- ---- "zero ends a chain"
 module _ (W : ℕ → ℕ → ℕ) (n : ℕ) where
-  pub each-end : {A : Type 0} (f : Words → A) → each f (readChain n W 0) ≡ []
+  pub each_end : {A : Type 0} (f : Words → A) → each f (read_chain n W 0) ≡ []
   unfolding each
-  each-end f = rw (chain-end n W)
+  each_end f = rw (chain_end_law n W)
 
-  pub sense-end : senseOf (readChain n W 0) ≡ noSense
-  unfolding senseOf
-  sense-end = rw (chain-end n W)
+  pub sense_end : sense_of (read_chain n W 0) ≡ no_sense
+  unfolding sense_of
+  sense_end = rw (chain_end_law n W)
 
-  pub goals-end : goalsAt W n 0 ≡ done
-  unfolding goalsAt noSense
-  goals-end = ap (λ s. s.asGoals) sense-end
+  pub goals_end : goals_at W n 0 ≡ done
+  unfolding goals_at no_sense
+  goals_end = ap (λ s. s.as_goals) sense_end
 
-  pub arms_end : armsAt W n 0 ≡ noArms
-  unfolding armsAt noSense
-  arms_end = ap (λ s. s.asArms) sense-end
+  pub arms_end : arms_at W n 0 ≡ no_arms
+  unfolding arms_at no_sense
+  arms_end = ap (λ s. s.as_arms) sense_end
 
-  pub arguments-end : argumentsAt W n 0 ≡ []
-  unfolding argumentsAt noSense
-  arguments-end = ap (λ s. s.asArguments) sense-end
+  pub arguments_end : arguments_at W n 0 ≡ []
+  unfolding arguments_at no_sense
+  arguments_end = ap (λ s. s.as_arguments) sense_end
 
-  pub functors-end : functorsAt W n 0 ≡ []
-  unfolding functorsAt
-  functors-end = each-end readFunctor
+  pub functors_end : functors_at W n 0 ≡ []
+  unfolding functors_at
+  functors_end = each_end read_functor
 
-  pub types-end : types_at W n 0 ≡ []
+  pub types_end : types_at W n 0 ≡ []
   unfolding types_at
-  types-end = each-end readType
+  types_end = each_end read_type
 
-  pub variables-end : variablesAt W n 0 ≡ []
-  unfolding variablesAt
-  variables-end = each-end readVariable
+  pub variables_end : variables_at W n 0 ≡ []
+  unfolding variables_at
+  variables_end = each_end read_variable
 
-  pub edges-end : edges_at W n 0 ≡ []
+  pub edges_end : edges_at W n 0 ≡ []
   unfolding edges_at
-  edges-end = each-end readEdge
+  edges_end = each_end read_edge
 
-  pub regions-end : regionsAt W n 0 ≡ []
-  unfolding regionsAt
-  regions-end = each-end readRegion
+  pub regions_end_law : regions_at W n 0 ≡ []
+  unfolding regions_at
+  regions_end_law = each_end read_region
 
-  pub procedures-end : proceduresAt W n 0 ≡ []
-  unfolding proceduresAt
-  procedures-end = each-end readProcedure
+  pub procedures_end : procedures_at W n 0 ≡ []
+  unfolding procedures_at
+  procedures_end = each_end read_procedure
 
 -- ---- a record in front of the rest of its chain, by its kind
 unfoldable parts : Unit {0}
-unfolding goalsAt armsAt argumentsAt readWords all-rows senseOf inFront goalOf num sub number_in senseIn nth
+unfolding goals_at arms_at arguments_at read_words all_rows sense_of in_front goal_of num sub number_in sense_in nth
 parts = tt
 
 unfoldable fields : Unit {0}
-unfolding readWords all-rows word_at chainAt
+unfolding read_words all_rows word_at chain_at
 fields = tt
 
-abbrev pub procedureOf : List Variable → List Region → Goals → Procedure
-procedureOf vs rs gs = record { signature = record { variables = vs; regions = rs }; body = gs }
+abbrev pub procedure_of : List Variable → List Region → Goals → Procedure
+procedure_of vs rs gs = record { signature = record { variables = vs; regions = rs }; body = gs }
 
-module _ (W : ℕ → ℕ → ℕ) (n : ℕ) (P : formOk W n ≡ true) (i : ℕ) (p : 0 < i) (q : i < n) where
+module _ (W : ℕ → ℕ → ℕ) (n : ℕ) (P : form_ok W n ≡ true) (i : ℕ) (p : 0 < i) (q : i < n) where
   pub each_step : {A : Type 0} (f : Words → A) (k : Kind) → kind_of (W i 0) ≡ k
-      → each f (readChain n W i) ≡ f (readWords (λ j. readChain n W j) (W i) 2 (row k).words) ∷ each f (readChain n W (W i 1))
-  unfolding each readRecord
-  each_step f k e = rw (chain-step W n P i p q) (rw e)
+      → each f (read_chain n W i) ≡ f (read_words (λ j. read_chain n W j) (W i) 2 (row k).words) ∷ each f (read_chain n W (W i 1))
+  unfolding each read_record
+  each_step f k e = rw (chain_step W n P i p q) (rw e)
 
-  pub functor-step : kind_of (W i 0) ≡ kFunctor
-      → functorsAt W n i ≡ record { arity = W i 2; argumentTypes = four (W i 3) (W i 4) (W i 5) (W i 6) } ∷ functorsAt W n (W i 1)
-  unfolding functorsAt readFunctor fields
-  functor-step e = each_step readFunctor kFunctor e
+  pub functor_step : kind_of (W i 0) ≡ k_functor
+      → functors_at W n i ≡ record { arity = W i 2; argument_types = four (W i 3) (W i 4) (W i 5) (W i 6) } ∷ functors_at W n (W i 1)
+  unfolding functors_at read_functor fields
+  functor_step e = each_step read_functor k_functor e
 
-  pub type-step : kind_of (W i 0) ≡ kType → types_at W n i ≡ functorsAt W n (W i 2) ∷ types_at W n (W i 1)
-  unfolding types_at functorsAt readType fields
-  type-step e = each_step readType kType e
+  pub type_step : kind_of (W i 0) ≡ k_type → types_at W n i ≡ functors_at W n (W i 2) ∷ types_at W n (W i 1)
+  unfolding types_at functors_at read_type fields
+  type_step e = each_step read_type k_type e
 
-  pub variable-step : kind_of (W i 0) ≡ kVariable
-      → variablesAt W n i ≡ record { mode = W i 2; type = W i 3; region = W i 4 } ∷ variablesAt W n (W i 1)
-  unfolding variablesAt readVariable fields
-  variable-step e = each_step readVariable kVariable e
+  pub variable_step : kind_of (W i 0) ≡ k_variable
+      → variables_at W n i ≡ record { mode = W i 2; type = W i 3; region = W i 4 } ∷ variables_at W n (W i 1)
+  unfolding variables_at read_variable fields
+  variable_step e = each_step read_variable k_variable e
 
-  pub edge-step : kind_of (W i 0) ≡ kEdge
+  pub edge_step : kind_of (W i 0) ≡ k_edge
       → edges_at W n i ≡ record { functor = W i 2; position = W i 3; target = W i 4 } ∷ edges_at W n (W i 1)
-  unfolding edges_at readEdge fields
-  edge-step e = each_step readEdge kEdge e
+  unfolding edges_at read_edge fields
+  edge_step e = each_step read_edge k_edge e
 
-  pub region-step : kind_of (W i 0) ≡ kRegion
-      → regionsAt W n i ≡ record { type = W i 2; class = W i 3; edges = edges_at W n (W i 4) } ∷ regionsAt W n (W i 1)
-  unfolding regionsAt edges_at readRegion fields
-  region-step e = each_step readRegion kRegion e
+  pub region_step : kind_of (W i 0) ≡ k_region
+      → regions_at W n i ≡ record { type = W i 2; class = W i 3; edges = edges_at W n (W i 4) } ∷ regions_at W n (W i 1)
+  unfolding regions_at edges_at read_region fields
+  region_step e = each_step read_region k_region e
 
-  pub procedure-step : kind_of (W i 0) ≡ kProcedure
-      → proceduresAt W n i ≡ procedureOf (variablesAt W n (W i 2)) (regionsAt W n (W i 3)) (goalsAt W n (W i 4)) ∷ proceduresAt W n (W i 1)
-  unfolding proceduresAt variablesAt regionsAt goalsAt readProcedure fields
-  procedure-step e = each_step readProcedure kProcedure e
+  pub procedure_step : kind_of (W i 0) ≡ k_procedure
+      → procedures_at W n i ≡ procedure_of (variables_at W n (W i 2)) (regions_at W n (W i 3)) (goals_at W n (W i 4)) ∷ procedures_at W n (W i 1)
+  unfolding procedures_at variables_at regions_at goals_at read_procedure fields
+  procedure_step e = each_step read_procedure k_procedure e
 
-  pub sense-step : (k : Kind) → kind_of (W i 0) ≡ k
-      → senseOf (readChain n W i) ≡ inFront (parts_of (readWords (λ j. readChain n W j) (W i) 2 (row k).words)) k (senseOf (readChain n W (W i 1)))
-  unfolding senseOf readRecord
-  sense-step k e = rw (chain-step W n P i p q) (rw e)
+  pub sense_step : (k : Kind) → kind_of (W i 0) ≡ k
+      → sense_of (read_chain n W i) ≡ in_front (parts_of (read_words (λ j. read_chain n W j) (W i) 2 (row k).words)) k (sense_of (read_chain n W (W i 1)))
+  unfolding sense_of read_record
+  sense_step k e = rw (chain_step W n P i p q) (rw e)
 
-  pub argument-step : kind_of (W i 0) ≡ kArgument → argumentsAt W n i ≡ W i 2 ∷ argumentsAt W n (W i 1)
+  pub argument_step : kind_of (W i 0) ≡ k_argument → arguments_at W n i ≡ W i 2 ∷ arguments_at W n (W i 1)
   unfolding parts
-  argument-step e = ap (λ s. s.asArguments) (sense-step kArgument e)
+  argument_step e = ap (λ s. s.as_arguments) (sense_step k_argument e)
 
-  pub arm_step : kind_of (W i 0) ≡ kArm
-      → armsAt W n i ≡ arm (W i 3) (four (W i 4) (W i 5) (W i 6) (W i 7)) (goalsAt W n (W i 2)) (armsAt W n (W i 1))
+  pub arm_step : kind_of (W i 0) ≡ k_arm
+      → arms_at W n i ≡ arm (W i 3) (four (W i 4) (W i 5) (W i 6) (W i 7)) (goals_at W n (W i 2)) (arms_at W n (W i 1))
   unfolding parts
-  arm_step e = ap (λ s. s.asArms) (sense-step kArm e)
+  arm_step e = ap (λ s. s.as_arms) (sense_step k_arm e)
 
-  pub literal-step : kind_of (W i 0) ≡ kGoal kLiteral → goalsAt W n i ≡ step (literal (W i 2) (W i 3)) then goalsAt W n (W i 1)
+  pub literal_step : kind_of (W i 0) ≡ k_goal k_literal → goals_at W n i ≡ step (literal (W i 2) (W i 3)) then goals_at W n (W i 1)
   unfolding parts
-  literal-step e = ap (λ s. s.asGoals) (sense-step (kGoal kLiteral) e)
+  literal_step e = ap (λ s. s.as_goals) (sense_step (k_goal k_literal) e)
 
-  pub sum_step : kind_of (W i 0) ≡ kGoal kSum → goalsAt W n i ≡ step (sum (W i 2) (W i 3) (W i 4) (W i 5)) then goalsAt W n (W i 1)
+  pub sum_step : kind_of (W i 0) ≡ k_goal k_sum → goals_at W n i ≡ step (sum (W i 2) (W i 3) (W i 4) (W i 5)) then goals_at W n (W i 1)
   unfolding parts
-  sum_step e = ap (λ s. s.asGoals) (sense-step (kGoal kSum) e)
+  sum_step e = ap (λ s. s.as_goals) (sense_step (k_goal k_sum) e)
 
-  pub assign-step : kind_of (W i 0) ≡ kGoal kAssign → goalsAt W n i ≡ step (assign (W i 2) (W i 3)) then goalsAt W n (W i 1)
+  pub assign_step : kind_of (W i 0) ≡ k_goal k_assign → goals_at W n i ≡ step (assign (W i 2) (W i 3)) then goals_at W n (W i 1)
   unfolding parts
-  assign-step e = ap (λ s. s.asGoals) (sense-step (kGoal kAssign) e)
+  assign_step e = ap (λ s. s.as_goals) (sense_step (k_goal k_assign) e)
 
-  pub construct-step : kind_of (W i 0) ≡ kGoal kConstruct
-      → goalsAt W n i ≡ step (construct (W i 2) (W i 3) (four (W i 4) (W i 5) (W i 6) (W i 7))) then goalsAt W n (W i 1)
+  pub construct_step : kind_of (W i 0) ≡ k_goal k_construct
+      → goals_at W n i ≡ step (construct (W i 2) (W i 3) (four (W i 4) (W i 5) (W i 6) (W i 7))) then goals_at W n (W i 1)
   unfolding parts
-  construct-step e = ap (λ s. s.asGoals) (sense-step (kGoal kConstruct) e)
+  construct_step e = ap (λ s. s.as_goals) (sense_step (k_goal k_construct) e)
 
-  pub switch-step : kind_of (W i 0) ≡ kGoal kSwitch → goalsAt W n i ≡ switch (W i 2) (armsAt W n (W i 3)) then goalsAt W n (W i 1)
+  pub switch_step : kind_of (W i 0) ≡ k_goal k_switch → goals_at W n i ≡ switch (W i 2) (arms_at W n (W i 3)) then goals_at W n (W i 1)
   unfolding parts
-  switch-step e = ap (λ s. s.asGoals) (sense-step (kGoal kSwitch) e)
+  switch_step e = ap (λ s. s.as_goals) (sense_step (k_goal k_switch) e)
 
-  pub if-step : kind_of (W i 0) ≡ kGoal kIf
-      → goalsAt W n i ≡ ifLess (W i 2) (W i 3) (goalsAt W n (W i 4)) (goalsAt W n (W i 5)) then goalsAt W n (W i 1)
+  pub if_step : kind_of (W i 0) ≡ k_goal k_if
+      → goals_at W n i ≡ if_less (W i 2) (W i 3) (goals_at W n (W i 4)) (goals_at W n (W i 5)) then goals_at W n (W i 1)
   unfolding parts
-  if-step e = ap (λ s. s.asGoals) (sense-step (kGoal kIf) e)
+  if_step e = ap (λ s. s.as_goals) (sense_step (k_goal k_if) e)
 
-  pub call_step : kind_of (W i 0) ≡ kGoal kCall → goalsAt W n i ≡ step (call (W i 2) (argumentsAt W n (W i 3))) then goalsAt W n (W i 1)
+  pub call_step : kind_of (W i 0) ≡ k_goal k_call → goals_at W n i ≡ step (call (W i 2) (arguments_at W n (W i 3))) then goals_at W n (W i 1)
   unfolding parts
-  call_step e = ap (λ s. s.asGoals) (sense-step (kGoal kCall) e)
+  call_step e = ap (λ s. s.as_goals) (sense_step (k_goal k_call) e)
 
-  pub print-step : kind_of (W i 0) ≡ kGoal kPrint → goalsAt W n i ≡ step (print (W i 2)) then goalsAt W n (W i 1)
+  pub print_step : kind_of (W i 0) ≡ k_goal k_print → goals_at W n i ≡ step (print (W i 2)) then goals_at W n (W i 1)
   unfolding parts
-  print-step e = ap (λ s. s.asGoals) (sense-step (kGoal kPrint) e)
+  print_step e = ap (λ s. s.as_goals) (sense_step (k_goal k_print) e)
 
-  pub create-step : kind_of (W i 0) ≡ kGoal kCreate → goalsAt W n i ≡ step (create (W i 2)) then goalsAt W n (W i 1)
+  pub create_step : kind_of (W i 0) ≡ k_goal k_create → goals_at W n i ≡ step (create (W i 2)) then goals_at W n (W i 1)
   unfolding parts
-  create-step e = ap (λ s. s.asGoals) (sense-step (kGoal kCreate) e)
+  create_step e = ap (λ s. s.as_goals) (sense_step (k_goal k_create) e)
 
-  pub remove-step : kind_of (W i 0) ≡ kGoal kRemove → goalsAt W n i ≡ step (remove (W i 2)) then goalsAt W n (W i 1)
+  pub remove_step : kind_of (W i 0) ≡ k_goal k_remove → goals_at W n i ≡ step (remove (W i 2)) then goals_at W n (W i 1)
   unfolding parts
-  remove-step e = ap (λ s. s.asGoals) (sense-step (kGoal kRemove) e)
+  remove_step e = ap (λ s. s.as_goals) (sense_step (k_goal k_remove) e)
 
-  pub try-step : kind_of (W i 0) ≡ kGoal kTry
-      → goalsAt W n i ≡ try (goalsAt W n (W i 2)) (goalsAt W n (W i 3)) (goalsAt W n (W i 4)) then goalsAt W n (W i 1)
+  pub try_step : kind_of (W i 0) ≡ k_goal k_try
+      → goals_at W n i ≡ try (goals_at W n (W i 2)) (goals_at W n (W i 3)) (goals_at W n (W i 4)) then goals_at W n (W i 1)
   unfolding parts
-  try-step e = ap (λ s. s.asGoals) (sense-step (kGoal kTry) e)
+  try_step e = ap (λ s. s.as_goals) (sense_step (k_goal k_try) e)
 
-  pub test-step : kind_of (W i 0) ≡ kGoal kTest → goalsAt W n i ≡ step (test (W i 2) (W i 3)) then goalsAt W n (W i 1)
+  pub test_step : kind_of (W i 0) ≡ k_goal k_test → goals_at W n i ≡ step (test (W i 2) (W i 3)) then goals_at W n (W i 1)
   unfolding parts
-  test-step e = ap (λ s. s.asGoals) (sense-step (kGoal kTest) e)
+  test_step e = ap (λ s. s.as_goals) (sense_step (k_goal k_test) e)
 
 -- ---- the program of bytes that pass numbers 1 and 2
-module _ (f : List ℕ) (H : headerOk f ≡ true) (F : formOk (word f) (recordCount f) ≡ true) where
-  pub program-types : (program f).types ≡ types_at (word f) (recordCount f) (word f 0 2)
+module _ (f : List ℕ) (H : header_ok f ≡ true) (F : form_ok (word f) (record_count f) ≡ true) where
+  pub program_types : (program f).types ≡ types_at (word f) (record_count f) (word f 0 2)
   unfolding types_at
-  program-types = ap (λ P. P.types) (program-read f H F)
+  program_types = ap (λ P. P.types) (program_read f H F)
 
-  pub program-procedures : (program f).procedures ≡ proceduresAt (word f) (recordCount f) (word f 0 1)
-  unfolding proceduresAt
-  program-procedures = ap (λ P. P.procedures) (program-read f H F)
+  pub program_procedures : (program f).procedures ≡ procedures_at (word f) (record_count f) (word f 0 1)
+  unfolding procedures_at
+  program_procedures = ap (λ P. P.procedures) (program_read f H F)

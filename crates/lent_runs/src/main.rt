@@ -4,7 +4,7 @@
 // the length of the file in three bytes, the file, how many runs in one byte, and for each run the words lent for cells, regions, frames and printed
 // numbers, and the steps, in three bytes each; low bytes first.
 ghost use Rattle.std.specs.Prelude.{◌≤◌, ◌≡◌, length};
-ghost use Rattle.lent_runs.specs.Lent.{cellsLent, regionsLent, framesLent, printsLent, fileBytes};
+ghost use Rattle.lent_runs.specs.Lent.{cells_lent, regions_lent, frames_lent, prints_lent, file_bytes};
 
 use language::format::RECORD_BYTES;
 use libc::{STDIN_FILENO, STDOUT_FILENO};
@@ -32,31 +32,31 @@ const OUTPUT_BYTES: usize = NUMBER_BYTES * PRINTS + ENDING_BYTES;
 const MARK: u32 = 3735928559;
 
 fn cell_words() -> [u32; CELLS]
-    ensures { cellsLent ≡ length result }
+    ensures { cells_lent ≡ length result }
 {
     [MARK; CELLS]
 }
 
 fn region_words() -> [u32; REGIONS]
-    ensures { regionsLent ≡ length result }
+    ensures { regions_lent ≡ length result }
 {
     [MARK; REGIONS]
 }
 
 fn frame_words() -> [u32; FRAMES]
-    ensures { framesLent ≡ length result }
+    ensures { frames_lent ≡ length result }
 {
     [MARK; FRAMES]
 }
 
 fn print_words() -> [u32; PRINTS]
-    ensures { printsLent ≡ length result }
+    ensures { prints_lent ≡ length result }
 {
     [MARK; PRINTS]
 }
 
 fn file_memory() -> [u8; FILE_BYTES]
-    ensures { fileBytes ≡ length result }
+    ensures { file_bytes ≡ length result }
 {
     [0; FILE_BYTES]
 }
@@ -82,7 +82,7 @@ fn run_in(
     prints: &mut [u32],
     steps: usize,
 ) -> Outcome
-    requires { (cells ≤ cellsLent) × (regions ≤ regionsLent) × (frames ≤ framesLent) }
+    requires { (cells ≤ cells_lent) × (regions ≤ regions_lent) × (frames ≤ frames_lent) }
     ensures { result.printed ≤ length prints.new }
 {
     let mut c = cell_words();
@@ -111,7 +111,7 @@ fn marked(words: &[u32], at: usize) -> bool {
 }
 
 fn print_lines(prints: &[u32], r: Outcome)
-    requires { (r.printed ≤ length prints.now) × (length prints.now ≤ printsLent) }
+    requires { (r.printed ≤ length prints.now) × (length prints.now ≤ prints_lent) }
 {
     let n = r.printed;
     let ending = r.ending;
@@ -135,8 +135,8 @@ fn try_in(
     prints: &mut [u32],
     steps: usize,
 )
-    requires cells_le_cells_lent { (cells ≤ cellsLent) × (regions ≤ regionsLent) × (frames ≤ framesLent) }
-    requires prints_len_bound { length prints.old ≤ printsLent }
+    requires cells_le_cells_lent { (cells ≤ cells_lent) × (regions ≤ regions_lent) × (frames ≤ frames_lent) }
+    requires prints_len_bound { length prints.old ≤ prints_lent }
 {
     let r = run_in(file, cells, regions, frames, &mut *prints, steps);
     print_lines(&*prints, r);

@@ -3,19 +3,19 @@ use Rattle.std.specs.Prelude.{ℕ, suc, ◌+◌, ◌≤◌, ◌<◌, List, [], �
 use Rattle.std.proofs.Common.{ap, sym, ◌∙◌, arith, add-one, length-append, take-suc, take_all, take_at}
 use Rattle.std.proofs.lemmas.List.Edits.{sets, sets-eq}
 use Rattle.std.proofs.Math.Seq.{length-sets}
-use Rattle.language.specs.Lists.{frontWritten}
+use Rattle.language.specs.Lists.{front_written}
 
 -- `s` was put from `at` on: `next` is the place behind it, and every other byte is as it was
 pub record Put (before : List ℕ) (at : ℕ) (s : List ℕ) (after : List ℕ) (next : ℕ) : Type 0 where
   pub bytes : after ≡ sets before at s
   pub behind : next ≡ at + length s
 
-sets-append : (s t b : List ℕ) (at : ℕ) → sets b at (s ++ t) ≡ sets (sets b at s) (at + length s) t
-sets-append [] t b at = ap (λ k. sets b k t) (omega arith)
-sets-append (x ∷ s) t b at = sets-append s t (set b at x) (suc at) ∙ ap (λ k. sets (sets (set b at x) (suc at) s) k t) (omega arith)
+sets_append : (s t b : List ℕ) (at : ℕ) → sets b at (s ++ t) ≡ sets (sets b at s) (at + length s) t
+sets_append [] t b at = ap (λ k. sets b k t) (omega arith)
+sets_append (x ∷ s) t b at = sets_append s t (set b at x) (suc at) ∙ ap (λ k. sets (sets (set b at x) (suc at) s) k t) (omega arith)
 
-pub put-none : (b : List ℕ) (at : ℕ) → Put b at [] b at
-put-none b at = record { bytes = refl; behind = omega arith }
+pub put_none : (b : List ℕ) (at : ℕ) → Put b at [] b at
+put_none b at = record { bytes = refl; behind = omega arith }
 
 pub put_one : (b : List ℕ) (at x : ℕ) → Put b at (x ∷ []) (set b at x) (suc at)
 put_one b at x = record { bytes = refl; behind = omega arith }
@@ -23,17 +23,17 @@ put_one b at x = record { bytes = refl; behind = omega arith }
 -- one text behind another
 pub put_then : {b m e s t : List ℕ} {at k r : ℕ} → Put b at s m k → Put m k t e r → Put b at (s ++ t) e r
 put_then {b} {m} {e} {s} {t} {at} {k} p q = record {
-  bytes = q.bytes ∙ ap (λ l. sets l k t) p.bytes ∙ ap (λ j. sets (sets b at s) j t) p.behind ∙ sym (sets-append s t b at);
+  bytes = q.bytes ∙ ap (λ l. sets l k t) p.bytes ∙ ap (λ j. sets (sets b at s) j t) p.behind ∙ sym (sets_append s t b at);
   behind = omega (arith, length-append s t, p.behind, q.behind);
 }
 
-pub put-length : {b m s : List ℕ} {at k : ℕ} → Put b at s m k → length m ≡ length b
-put-length {b} {m} {s} {at} p = ap length p.bytes ∙ length-sets b at s
+pub put_length : {b m s : List ℕ} {at k : ℕ} → Put b at s m k → length m ≡ length b
+put_length {b} {m} {s} {at} p = ap length p.bytes ∙ length-sets b at s
 
 -- one byte more of a text
-pub put-more : (t b m : List ℕ) (at i : ℕ) → i < length t → Put b at (take i t) m (at + i)
+pub put_more : (t b m : List ℕ) (at i : ℕ) → i < length t → Put b at (take i t) m (at + i)
     → Put b at (take (i + 1) t) (set m (at + i) (get_or t i 0)) (at + (i + 1))
-put-more t b m at i l p =
+put_more t b m at i l p =
     let e : take (i + 1) t ≡ take i t ++ (get_or t i 0 ∷ []) = ap (λ k. take k t) (add-one i) ∙ take-suc t i 0 l in
     let k : at + (i + 1) ≡ suc (at + i) = omega arith in
     rw (e, k) (put_then p (put_one m (at + i) (get_or t i 0)))
@@ -43,16 +43,16 @@ put_all t b m at i l p = rw (take_all i t l) at p
 
 -- `s` stands at the front of a lent memory: its first `count` bytes; the rest is as it was
 pub record Front (s before after : List ℕ) (count : ℕ) : Type 0 where
-  pub memory : after ≡ frontWritten s before
+  pub memory : after ≡ front_written s before
   pub front : take count after ≡ s
   pub counted : count ≡ length (take count after)
   pub fits : count ≤ length after
 
 pub put_front : {b m s : List ℕ} {k : ℕ} → Put b 0 s m k → length s ≤ length b → Front s b m k
-unfolding frontWritten
+unfolding front_written
 put_front {b} {m} {s} {k} p l =
     let z : 0 + length s ≡ length s = omega arith in
     let e : m ≡ s ++ drop (length s) b = p.bytes ∙ sets-eq s b 0 (omega arith) ∙ ap (λ j. s ++ drop j b) z in
     let n : length s ≡ k = sym (p.behind ∙ z) in
     let f : take k m ≡ s = ap (take k) e ∙ take_at s (drop (length s) b) k n in
-    record { memory = e; front = f; counted = sym (ap length f ∙ n); fits = omega (arith, put-length p) }
+    record { memory = e; front = f; counted = sym (ap length f ∙ n); fits = omega (arith, put_length p) }

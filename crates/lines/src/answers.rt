@@ -3,9 +3,9 @@ ghost use Rattle.std.specs.Prelude.{◌+◌, ◌*◌, ◌≤◌, ◌++◌, map, 
 ghost use Rattle.std.specs.Int.{w32};
 ghost use Rattle.std.proofs.Common.{to_z};
 ghost use Rattle.language.specs.declared.Ending.TheVariants.{Stopped};
-ghost use Rattle.language.specs.Answers.{refusalNumber, stopNumber};
-ghost use Rattle.language.specs.Output.{decimal, signedDecimal, line, numberLines, refusalLine, checkerOutput, endingLine};
-ghost use Rattle.lines.specs.Widths.{refusalBytes, numberBytes, endingBytes};
+ghost use Rattle.language.specs.Answers.{refusal_number, stop_number};
+ghost use Rattle.language.specs.Output.{decimal, signed_decimal, line, number_lines, refusal_line, checker_output, ending_line};
+ghost use Rattle.lines.specs.Widths.{refusal_bytes, number_bytes, ending_bytes};
 ghost use Rattle.lines.specs.Put.{Put, Front};
 
 use crate::REFUSAL_BYTES;
@@ -15,7 +15,7 @@ use language::{Ending, Refusal, Stop, Verdict};
 
 // The table's numbers.
 pub fn refusal_number(r: Refusal) -> u64
-    ensures { result ≡ refusalNumber r }
+    ensures { result ≡ refusal_number r }
 {
     match r {
         Refusal::Header => 1,
@@ -32,7 +32,7 @@ pub fn refusal_number(r: Refusal) -> u64
 }
 
 pub fn stop_number(c: Stop) -> u64
-    ensures { result ≡ stopNumber c }
+    ensures { result ≡ stop_number c }
 {
     match c {
         Stop::Steps => 10,
@@ -56,15 +56,15 @@ fn put_line(out: &mut [u8], at: usize, word: &[u8], n: u64) -> usize
 
 // The line of a refusal.
 pub fn put_refusal(out: &mut [u8], at: usize, r: Refusal) -> usize
-    requires { at + refusalBytes ≤ length out.old }
-    ensures { Put out.old at (refusalLine r) out.new result }
+    requires { at + refusal_bytes ≤ length out.old }
+    ensures { Put out.old at (refusal_line r) out.new result }
 {
     put_line(out, at, b"refused ", refusal_number(r))
 }
 
 // All that the checker prints, at the front of `out`. Answers how many bytes that are.
 pub fn checker_output(answer: Verdict, out: &mut [u8; REFUSAL_BYTES]) -> usize
-    ensures { Front (checkerOutput answer) out.old out.new result }
+    ensures { Front (checker_output answer) out.old out.new result }
 {
     let Verdict::Refused(r) = answer else {
         return put_text(out, 0, b"accepted\n");
@@ -74,8 +74,8 @@ pub fn checker_output(answer: Verdict, out: &mut [u8; REFUSAL_BYTES]) -> usize
 
 // The last line of the runner.
 pub fn put_ending(out: &mut [u8], at: usize, ending: Ending, steps: u64) -> usize
-    requires { at + endingBytes ≤ length out.old }
-    ensures { Put out.old at (endingLine ending steps) out.new result }
+    requires { at + ending_bytes ≤ length out.old }
+    ensures { Put out.old at (ending_line ending steps) out.new result }
 {
     match ending {
         Ending::Refused(r) => put_refusal(out, at, r),
@@ -85,8 +85,8 @@ pub fn put_ending(out: &mut [u8], at: usize, ending: Ending, steps: u64) -> usiz
 }
 
 fn put_stop(out: &mut [u8], at: usize, c: Stop, steps: u64) -> usize
-    requires { at + endingBytes ≤ length out.old }
-    ensures { Put out.old at (endingLine (Stopped c) steps) out.new result }
+    requires { at + ending_bytes ≤ length out.old }
+    ensures { Put out.old at (ending_line (Stopped c) steps) out.new result }
 {
     let number = put_text(out, at, b"stopped ");
     let space = put_decimal(out, number, stop_number(c));
@@ -95,9 +95,9 @@ fn put_stop(out: &mut [u8], at: usize, c: Stop, steps: u64) -> usize
 
 // The numbers that a run printed, a line each.
 pub fn put_numbers(out: &mut [u8], at: usize, words: &[u32]) -> usize
-    requires { at + numberBytes * length words.now ≤ length out.old }
-    ensures put { Put out.old at (numberLines (map (to_z w32) words.now)) out.new result }
-    ensures upper_bound { result ≤ at + numberBytes * length words.now }
+    requires { at + number_bytes * length words.now ≤ length out.old }
+    ensures put { Put out.old at (number_lines (map (to_z w32) words.now)) out.new result }
+    ensures upper_bound { result ≤ at + number_bytes * length words.now }
 {
     let mut end = at;
     let mut i = 0;
@@ -109,9 +109,9 @@ pub fn put_numbers(out: &mut [u8], at: usize, words: &[u32]) -> usize
 }
 
 fn put_number(out: &mut [u8], at: usize, word: u32) -> usize
-    requires { at + numberBytes ≤ length out.old }
-    ensures put { Put out.old at (line (signedDecimal (to_z w32 word))) out.new result }
-    ensures upper_bound { result ≤ at + numberBytes }
+    requires { at + number_bytes ≤ length out.old }
+    ensures put { Put out.old at (line (signed_decimal (to_z w32 word))) out.new result }
+    ensures upper_bound { result ≤ at + number_bytes }
 {
     let end = put_signed(out, at, word);
     put_text(out, end, b"\n")
@@ -119,8 +119,8 @@ fn put_number(out: &mut [u8], at: usize, word: u32) -> usize
 
 // All that the runner prints, at the front of `out`: the numbers printed, then how the run ended. Answers how many bytes that are.
 pub fn runner_output(words: &[u32], ending: Ending, steps: u64, out: &mut [u8]) -> usize
-    requires { numberBytes * length words.now + endingBytes ≤ length out.old }
-    ensures { Front (numberLines (map (to_z w32) words.now) ++ endingLine ending steps) out.old out.new result }
+    requires { number_bytes * length words.now + ending_bytes ≤ length out.old }
+    ensures { Front (number_lines (map (to_z w32) words.now) ++ ending_line ending steps) out.old out.new result }
 {
     let end = put_numbers(out, 0, words);
     put_ending(out, end, ending, steps)

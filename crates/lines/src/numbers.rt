@@ -2,7 +2,7 @@
 ghost use Rattle.std.specs.Prelude.{◌+◌, ◌<◌, ◌≤◌, ◌≡◌, length};
 ghost use Rattle.std.specs.Int.{w32};
 ghost use Rattle.std.proofs.Common.{to_z};
-ghost use Rattle.language.specs.Output.{decimal, signedDecimal};
+ghost use Rattle.language.specs.Output.{decimal, signed_decimal};
 ghost use Rattle.lines.specs.Put.{Put};
 ghost use Rattle.lines.specs.Digits.{digits};
 
@@ -21,8 +21,8 @@ pub fn put_decimal(out: &mut [u8], at: usize, n: u64) -> usize
 
 // A word of 32 bits, read as a signed number.
 pub fn put_signed(out: &mut [u8], at: usize, word: u32) -> usize
-    requires { at + length (signedDecimal (to_z w32 word)) ≤ length out.old }
-    ensures { Put out.old at (signedDecimal (to_z w32 word)) out.new result }
+    requires { at + length (signed_decimal (to_z w32 word)) ≤ length out.old }
+    ensures { Put out.old at (signed_decimal (to_z w32 word)) out.new result }
 {
     if word < NEGATIVE_FROM {
         return put_decimal(out, at, word as u64);

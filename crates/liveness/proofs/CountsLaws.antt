@@ -3,88 +3,88 @@ use Prim.Native.Nat.{ℕ, zero, suc, ◌+◌, ◌≤◌}
 use native.Mathlib.Omega.{arith}
 use mathlib.Core.List.{List, [], ◌∷◌}
 use Rattle.language.specs.Lists.{nth}
-use Rattle.language.specs.File.{GoalKind, kLiteral, kSum, kAssign, kConstruct, kSwitch, kIf, kCall, kPrint, kCreate, kRemove, kTry, kTest, Kind, kNone, kHeader, kType, kFunctor, kProcedure, kVariable, kRegion, kEdge, kArm, kArgument, kGoal}
-use Rattle.language.specs.Tree.{Tree, end, node, Words, noWords, plain, leads}
-use Rattle.language.specs.Layout.{size, sizeWords}
-use Rattle.language.specs.Reading.{Sense, Part, numeral, chain, noSense, senseIn, sub, goalOf, inFront, senseOf, parts_of}
-use Rattle.liveness.specs.Counts.{armsCount, goalCount, goalsCount}
+use Rattle.language.specs.File.{GoalKind, k_literal, k_sum, k_assign, k_construct, k_switch, k_if, k_call, k_print, k_create, k_remove, k_try, k_test, Kind, k_none, k_header, k_type, k_functor, k_procedure, k_variable, k_region, k_edge, k_arm, k_argument, k_goal}
+use Rattle.language.specs.Tree.{Tree, end, node, Words, no_words, plain, leads}
+use Rattle.language.specs.Layout.{size, size_words}
+use Rattle.language.specs.Reading.{Sense, Part, numeral, chain, no_sense, sense_in, sub, goal_of, in_front, sense_of, parts_of}
+use Rattle.liveness.specs.Counts.{arms_count, goal_count, goals_count}
 
 -- ---- the goals and arms that a tree stands for have no more points than the tree has records
 unfoldable spread : Sense → ℕ
-spread s = goalsCount s.asGoals + armsCount s.asArms
+spread s = goals_count s.as_goals + arms_count s.as_arms
 
 unfoldable spreads : List Part → ℕ
 spreads [] = 0
 spreads (numeral n ∷ ps) = spreads ps
 spreads (chain s ∷ ps) = spread s + spreads ps
 
-sub-spread : (ps : List Part) (k : ℕ) → spread (sub ps k) ≤ spreads ps
-unfolding spread spreads sub senseIn nth noSense goalsCount
-sub-spread [] k = omega arith
-sub-spread (numeral n ∷ ps) zero = omega arith
-sub-spread (chain s ∷ ps) zero = omega arith
-sub-spread (numeral n ∷ ps) (suc k) = sub-spread ps k
-sub-spread (chain s ∷ ps) (suc k) = omega (arith, sub-spread ps k)
+sub_spread : (ps : List Part) (k : ℕ) → spread (sub ps k) ≤ spreads ps
+unfolding spread spreads sub sense_in nth no_sense goals_count
+sub_spread [] k = omega arith
+sub_spread (numeral n ∷ ps) zero = omega arith
+sub_spread (chain s ∷ ps) zero = omega arith
+sub_spread (numeral n ∷ ps) (suc k) = sub_spread ps k
+sub_spread (chain s ∷ ps) (suc k) = omega (arith, sub_spread ps k)
 
 -- two neighbours
-subs-spread : (ps : List Part) (k : ℕ) → spread (sub ps k) + spread (sub ps (suc k)) ≤ spreads ps
-unfolding spread spreads sub senseIn nth noSense goalsCount
-subs-spread [] k = omega arith
-subs-spread (numeral n ∷ ps) zero = omega (arith, sub-spread ps 0)
-subs-spread (chain s ∷ ps) zero = omega (arith, sub-spread ps 0)
-subs-spread (numeral n ∷ ps) (suc k) = subs-spread ps k
-subs-spread (chain s ∷ ps) (suc k) = omega (arith, subs-spread ps k)
+subs_spread : (ps : List Part) (k : ℕ) → spread (sub ps k) + spread (sub ps (suc k)) ≤ spreads ps
+unfolding spread spreads sub sense_in nth no_sense goals_count
+subs_spread [] k = omega arith
+subs_spread (numeral n ∷ ps) zero = omega (arith, sub_spread ps 0)
+subs_spread (chain s ∷ ps) zero = omega (arith, sub_spread ps 0)
+subs_spread (numeral n ∷ ps) (suc k) = subs_spread ps k
+subs_spread (chain s ∷ ps) (suc k) = omega (arith, subs_spread ps k)
 
 -- three
-parts-spread : (ps : List Part) (k : ℕ) → spread (sub ps k) + spread (sub ps (suc k)) + spread (sub ps (suc (suc k))) ≤ spreads ps
-unfolding spread spreads sub senseIn nth noSense goalsCount
-parts-spread [] k = omega arith
-parts-spread (numeral n ∷ ps) zero = omega (arith, subs-spread ps 0)
-parts-spread (chain s ∷ ps) zero = omega (arith, subs-spread ps 0)
-parts-spread (numeral n ∷ ps) (suc k) = parts-spread ps k
-parts-spread (chain s ∷ ps) (suc k) = omega (arith, parts-spread ps k)
+parts_spread : (ps : List Part) (k : ℕ) → spread (sub ps k) + spread (sub ps (suc k)) + spread (sub ps (suc (suc k))) ≤ spreads ps
+unfolding spread spreads sub sense_in nth no_sense goals_count
+parts_spread [] k = omega arith
+parts_spread (numeral n ∷ ps) zero = omega (arith, subs_spread ps 0)
+parts_spread (chain s ∷ ps) zero = omega (arith, subs_spread ps 0)
+parts_spread (numeral n ∷ ps) (suc k) = parts_spread ps k
+parts_spread (chain s ∷ ps) (suc k) = omega (arith, parts_spread ps k)
 
-goal-spread : (ps : List Part) (g : GoalKind) → goalCount (goalOf ps g) ≤ suc (spreads ps)
-unfolding goalOf goalsCount spread
-goal-spread ps kLiteral = omega arith
-goal-spread ps kSum = omega arith
-goal-spread ps kAssign = omega arith
-goal-spread ps kConstruct = omega arith
-goal-spread ps kSwitch = omega (arith, sub-spread ps 1)
-goal-spread ps kIf = omega (arith, subs-spread ps 2)
-goal-spread ps kCall = omega arith
-goal-spread ps kPrint = omega arith
-goal-spread ps kCreate = omega arith
-goal-spread ps kRemove = omega arith
-goal-spread ps kTry = omega (arith, parts-spread ps 0)
-goal-spread ps kTest = omega arith
+goal_spread : (ps : List Part) (g : GoalKind) → goal_count (goal_of ps g) ≤ suc (spreads ps)
+unfolding goal_of goals_count spread
+goal_spread ps k_literal = omega arith
+goal_spread ps k_sum = omega arith
+goal_spread ps k_assign = omega arith
+goal_spread ps k_construct = omega arith
+goal_spread ps k_switch = omega (arith, sub_spread ps 1)
+goal_spread ps k_if = omega (arith, subs_spread ps 2)
+goal_spread ps k_call = omega arith
+goal_spread ps k_print = omega arith
+goal_spread ps k_create = omega arith
+goal_spread ps k_remove = omega arith
+goal_spread ps k_try = omega (arith, parts_spread ps 0)
+goal_spread ps k_test = omega arith
 
-front-spread : (ps : List Part) (k : Kind) (s : Sense) → spread (inFront ps k s) ≤ suc (spreads ps + spread s)
-unfolding inFront spread goalsCount
-front-spread ps kNone s = omega arith
-front-spread ps kHeader s = omega arith
-front-spread ps kType s = omega arith
-front-spread ps kFunctor s = omega arith
-front-spread ps kProcedure s = omega arith
-front-spread ps kVariable s = omega arith
-front-spread ps kRegion s = omega arith
-front-spread ps kEdge s = omega arith
-front-spread ps kArm s = omega (arith, sub-spread ps 0)
-front-spread ps kArgument s = omega arith
-front-spread ps (kGoal g) s = omega (arith, goal-spread ps g)
+front_spread : (ps : List Part) (k : Kind) (s : Sense) → spread (in_front ps k s) ≤ suc (spreads ps + spread s)
+unfolding in_front spread goals_count
+front_spread ps k_none s = omega arith
+front_spread ps k_header s = omega arith
+front_spread ps k_type s = omega arith
+front_spread ps k_functor s = omega arith
+front_spread ps k_procedure s = omega arith
+front_spread ps k_variable s = omega arith
+front_spread ps k_region s = omega arith
+front_spread ps k_edge s = omega arith
+front_spread ps k_arm s = omega (arith, sub_spread ps 0)
+front_spread ps k_argument s = omega arith
+front_spread ps (k_goal g) s = omega (arith, goal_spread ps g)
 
 mutual
-  unfolding senseOf size spreads spread noSense goalsCount
+  unfolding sense_of size spreads spread no_sense goals_count
 
-  tree-spread : (t : Tree) → spread (senseOf t) ≤ size t
-  tree-spread end = omega arith
-  tree-spread (node k next ws) = omega (arith, front-spread (parts_of ws) k (senseOf next), words_spread ws, tree-spread next)
+  tree_spread : (t : Tree) → spread (sense_of t) ≤ size t
+  tree_spread end = omega arith
+  tree_spread (node k next ws) = omega (arith, front_spread (parts_of ws) k (sense_of next), words_spread ws, tree_spread next)
 
-  words_spread : (ws : Words) → spreads (parts_of ws) ≤ sizeWords ws
-  words_spread noWords = omega arith
+  words_spread : (ws : Words) → spreads (parts_of ws) ≤ size_words ws
+  words_spread no_words = omega arith
   words_spread (plain n ws) = words_spread ws
-  words_spread (leads t ws) = omega (arith, tree-spread t, words_spread ws)
+  words_spread (leads t ws) = omega (arith, tree_spread t, words_spread ws)
 
-pub tree-count : (t : Tree) → goalsCount (senseOf t).asGoals ≤ size t
+pub tree_count : (t : Tree) → goals_count (sense_of t).as_goals ≤ size t
 unfolding spread
-tree-count t = omega (arith, tree-spread t)
+tree_count t = omega (arith, tree_spread t)

@@ -5,36 +5,36 @@ use Rattle.language.specs.Format.{places}
 use Rattle.sets.specs.Sets.{loaded}
 use Rattle.sets.specs.declared.Set.{Set}
 
-abbrev pub liveWord : ℕ
-liveWord = 0
+abbrev pub live_word : ℕ
+live_word = 0
 
-abbrev pub placeWord : ℕ
-placeWord = 1
+abbrev pub place_word : ℕ
+place_word = 1
 
-abbrev pub classesWord : ℕ
-classesWord = 2
+abbrev pub classes_word : ℕ
+classes_word = 2
 
 -- the first of what is wanted: the reach of each variable, by its number, then the kept regions
-abbrev pub reachesWord : ℕ
-reachesWord = 3
+abbrev pub reaches_word : ℕ
+reaches_word = 3
 
-abbrev pub carriedWords : ℕ
-carriedWords = reachesWord + places + 1
+abbrev pub carried_words : ℕ
+carried_words = reaches_word + places + 1
 
 unfoldable pub live_in : List ℕ → Set
-live_in c = loaded (get_or c liveWord 0)
+live_in c = loaded (get_or c live_word 0)
 
 unfoldable pub place_in : List ℕ → ℕ
-place_in c = get_or c placeWord 0
+place_in c = get_or c place_word 0
 
-unfoldable pub classesIn : List ℕ → Bool
-classesIn c = eqb (get_or c classesWord 0) 1
+unfoldable pub classes_in : List ℕ → Bool
+classes_in c = eqb (get_or c classes_word 0) 1
 
-unfoldable pub wantsOf : List ℕ → List ℕ
-wantsOf c = drop reachesWord c
+unfoldable pub wants_of : List ℕ → List ℕ
+wants_of c = drop reaches_word c
 
 pub record Carries (c w : List ℕ) (live : Set) (place : ℕ) (classes : Bool) : Type 0 where
-  pub live-is : live_in c ≡ live
+  pub live_is : live_in c ≡ live
   pub place_is : place_in c ≡ place
-  pub classes-is : classesIn c ≡ classes
-  pub wants_is : wantsOf c ≡ w
+  pub classes_is : classes_in c ≡ classes
+  pub wants_is : wants_of c ≡ w

@@ -2,50 +2,50 @@
 use Rattle.std.specs.Prelude.{ℕ, suc, ◌+◌, ◌++◌, ◌≡◌, refl, length}
 use Rattle.std.proofs.Common.{arith, length-append}
 use Rattle.sets.specs.declared.Set.{Set}
-use Rattle.language.specs.Program.{Goals, done, ◌then◌, Goal, step, switch, ifLess, try, Arms, noArms, arm, Program}
+use Rattle.language.specs.Program.{Goals, done, ◌then◌, Goal, step, switch, if_less, try, Arms, no_arms, arm, Program}
 use Rattle.language.specs.Lifetimes.{live}
-use Rattle.liveness.specs.Points.{points, partPoints, armsPoints}
+use Rattle.liveness.specs.Points.{points, part_points, arms_points}
 
 -- one point a goal
 unfoldable mutual
-  pub goalsCount : Goals → ℕ
-  goalsCount done = 0
-  goalsCount (g then gs) = goalCount g + goalsCount gs
+  pub goals_count : Goals → ℕ
+  goals_count done = 0
+  goals_count (g then gs) = goal_count g + goals_count gs
 
-  pub goalCount : Goal → ℕ
-  goalCount (step s) = 1
-  goalCount (switch x cs) = suc (armsCount cs)
-  goalCount (ifLess y z a b) = suc (goalsCount a + goalsCount b)
-  goalCount (try c a b) = suc (goalsCount c + (goalsCount a + goalsCount b))
+  pub goal_count : Goal → ℕ
+  goal_count (step s) = 1
+  goal_count (switch x cs) = suc (arms_count cs)
+  goal_count (if_less y z a b) = suc (goals_count a + goals_count b)
+  goal_count (try c a b) = suc (goals_count c + (goals_count a + goals_count b))
 
-  pub armsCount : Arms → ℕ
-  armsCount noArms = 0
-  armsCount (arm f ys gs cs) = goalsCount gs + armsCount cs
+  pub arms_count : Arms → ℕ
+  arms_count no_arms = 0
+  arms_count (arm f ys gs cs) = goals_count gs + arms_count cs
 
 module _ (P : Program) where
   mutual
-    unfolding points goalsCount
+    unfolding points goals_count
 
-    pub points-count : (gs : Goals) (after : Set) → length (points P gs after) ≡ goalsCount gs
-    points-count done after = refl
-    points-count (g then gs) after =
-        omega (arith, length-append (partPoints P g (live P gs after)) (points P gs after), parts-count g (live P gs after), points-count gs after)
+    pub points_count : (gs : Goals) (after : Set) → length (points P gs after) ≡ goals_count gs
+    points_count done after = refl
+    points_count (g then gs) after =
+        omega (arith, length-append (part_points P g (live P gs after)) (points P gs after), parts_count g (live P gs after), points_count gs after)
 
     -- a goal's own point is one more
-    pub parts-count : (g : Goal) (after : Set) → suc (length (partPoints P g after)) ≡ goalCount g
-    parts-count (step s) after = refl
-    parts-count (switch x cs) after = omega (arith, arms-count cs after)
-    parts-count (ifLess y z a b) after = omega (arith, length-append (points P a after) (points P b after), points-count a after, points-count b after)
-    parts-count (try c a b) after =
+    pub parts_count : (g : Goal) (after : Set) → suc (length (part_points P g after)) ≡ goal_count g
+    parts_count (step s) after = refl
+    parts_count (switch x cs) after = omega (arith, arms_count_law cs after)
+    parts_count (if_less y z a b) after = omega (arith, length-append (points P a after) (points P b after), points_count a after, points_count b after)
+    parts_count (try c a b) after =
         omega (
           arith,
           length-append (points P c (live P a after)) (points P a after ++ points P b after),
           length-append (points P a after) (points P b after),
-          points-count c (live P a after),
-          points-count a after,
-          points-count b after,
+          points_count c (live P a after),
+          points_count a after,
+          points_count b after,
         )
 
-    pub arms-count : (cs : Arms) (after : Set) → length (armsPoints P cs after) ≡ armsCount cs
-    arms-count noArms after = refl
-    arms-count (arm f ys gs cs) after = omega (arith, length-append (points P gs after) (armsPoints P cs after), points-count gs after, arms-count cs after)
+    pub arms_count_law : (cs : Arms) (after : Set) → length (arms_points P cs after) ≡ arms_count cs
+    arms_count_law no_arms after = refl
+    arms_count_law (arm f ys gs cs) after = omega (arith, length-append (points P gs after) (arms_points P cs after), points_count gs after, arms_count_law cs after)

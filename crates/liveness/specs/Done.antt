@@ -5,68 +5,68 @@ use Rattle.std.specs.Prelude.{ℕ, Bool, true, List, ◌≡◌, length}
 use Rattle.sets.specs.Tests.{◌&◌}
 use Rattle.sets.specs.declared.Set.{Set}
 use Rattle.language.specs.Program.{signature_of}
-use Rattle.language.specs.Lifetimes.{wanted, live, liveGoal, liveArms, goalsClasses, goalClasses, armsClasses}
+use Rattle.language.specs.Lifetimes.{wanted, live, live_goal, live_arms, goals_classes, goal_classes, arms_classes}
 use Rattle.language.specs.Answers.{program}
-use Rattle.chains.specs.Formed.{goalsAt, goalAt, armsAt}
+use Rattle.chains.specs.Formed.{goals_at, goal_at, arms_at}
 use Rattle.tables.specs.Window.{Window}
 use Rattle.tables.specs.Filled.{Effected, Owning, Belongs, Owned}
-use Rattle.liveness.specs.Points.{pointWords, points, goalPoints, armsPoints}
+use Rattle.liveness.specs.Points.{point_words, points, goal_points, arms_points}
 use Rattle.liveness.specs.Table.{PointsWritten, Fills}
-use Rattle.liveness.specs.Carried.{live_in, place_in, classesIn, wantsOf, carriedWords}
-use Rattle.liveness.specs.Wants.{wantedIn}
+use Rattle.liveness.specs.Carried.{live_in, place_in, classes_in, wants_of, carried_words}
+use Rattle.liveness.specs.Wants.{wanted_in}
 
 -- nothing is behind the last goal
 pub record AtEnd (c : List ℕ) : Type 0 where
-  pub long : length c ≡ carriedWords
-  pub place_is : place_in c ≡ pointWords
-  pub classes-is : classesIn c ≡ true
+  pub long : length c ≡ carried_words
+  pub place_is : place_in c ≡ point_words
+  pub classes_is : classes_in c ≡ true
 
 -- the rows have what steps do to regions, and w has what procedure q wants
 pub record Wanting (f rows w : List ℕ) (o : ℕ → ℕ) (q : ℕ) : Type 0 where
   pub ready : Owned f rows o
-  pub wants : (live : Set) → wantedIn w live ≡ wanted (signature_of (program f) q) live
+  pub wants : (live : Set) → wanted_in w live ≡ wanted (signature_of (program f) q) live
 
 -- what was live behind, the place then, number 7 till then
 module _ (f rows w : List ℕ) (i : ℕ) (after : Set) (end : ℕ) (x : Bool) (t d u : List ℕ) where
   -- for the goals from record i on, for the goal there, for the arms from there on
   pub record GoalsFrom : Type 0 where
-    pub live-is : live_in d ≡ live (program f) (goalsAt f i) after
-    pub wants_is : wantsOf d ≡ w
-    pub fills : Fills t u (place_in d) end (points (program f) (goalsAt f i) after)
-    pub classes-are : (o : ℕ → ℕ) (q : ℕ) → Wanting f rows w o q → Belongs o q i
-        → classesIn d ≡ (x & goalsClasses (program f) (signature_of (program f) q) (goalsAt f i) after)
+    pub live_is : live_in d ≡ live (program f) (goals_at f i) after
+    pub wants_is : wants_of d ≡ w
+    pub fills : Fills t u (place_in d) end (points (program f) (goals_at f i) after)
+    pub classes_are : (o : ℕ → ℕ) (q : ℕ) → Wanting f rows w o q → Belongs o q i
+        → classes_in d ≡ (x & goals_classes (program f) (signature_of (program f) q) (goals_at f i) after)
 
   pub record GoalFrom : Type 0 where
-    pub live-is : live_in d ≡ liveGoal (program f) (goalAt f i) after
-    pub wants_is : wantsOf d ≡ w
-    pub fills : Fills t u (place_in d) end (goalPoints (program f) (goalAt f i) after)
-    pub classes-are : (o : ℕ → ℕ) (q : ℕ) → Wanting f rows w o q → o i ≡ q
-        → classesIn d ≡ (x & goalClasses (program f) (signature_of (program f) q) (goalAt f i) after)
+    pub live_is : live_in d ≡ live_goal (program f) (goal_at f i) after
+    pub wants_is : wants_of d ≡ w
+    pub fills : Fills t u (place_in d) end (goal_points (program f) (goal_at f i) after)
+    pub classes_are : (o : ℕ → ℕ) (q : ℕ) → Wanting f rows w o q → o i ≡ q
+        → classes_in d ≡ (x & goal_classes (program f) (signature_of (program f) q) (goal_at f i) after)
 
   pub record ArmsFrom : Type 0 where
-    pub live-is : live_in d ≡ liveArms (program f) (armsAt f i) after
-    pub wants_is : wantsOf d ≡ w
-    pub fills : Fills t u (place_in d) end (armsPoints (program f) (armsAt f i) after)
-    pub classes-are : (o : ℕ → ℕ) (q : ℕ) → Wanting f rows w o q → Belongs o q i
-        → classesIn d ≡ (x & armsClasses (program f) (signature_of (program f) q) (armsAt f i) after)
+    pub live_is : live_in d ≡ live_arms (program f) (arms_at f i) after
+    pub wants_is : wants_of d ≡ w
+    pub fills : Fills t u (place_in d) end (arms_points (program f) (arms_at f i) after)
+    pub classes_are : (o : ℕ → ℕ) (q : ℕ) → Wanting f rows w o q → Belongs o q i
+        → classes_in d ≡ (x & arms_classes (program f) (signature_of (program f) q) (arms_at f i) after)
 
 -- from c carried
 module _ (f rows : List ℕ) (i : ℕ) (c t d u : List ℕ) where
   abbrev pub GoalsDone : Type 0
-  GoalsDone = GoalsFrom f rows (wantsOf c) i (live_in c) (place_in c) (classesIn c) t d u
+  GoalsDone = GoalsFrom f rows (wants_of c) i (live_in c) (place_in c) (classes_in c) t d u
 
   abbrev pub GoalDone : Type 0
-  GoalDone = GoalFrom f rows (wantsOf c) i (live_in c) (place_in c) (classesIn c) t d u
+  GoalDone = GoalFrom f rows (wants_of c) i (live_in c) (place_in c) (classes_in c) t d u
 
   abbrev pub ArmsDone : Type 0
-  ArmsDone = ArmsFrom f rows (wantsOf c) i (live_in c) (place_in c) (classesIn c) t d u
+  ArmsDone = ArmsFrom f rows (wants_of c) i (live_in c) (place_in c) (classes_in c) t d u
 
 -- the points of a procedure's goals, from record i on, stand at the end of the table; every other place is as it was
 abbrev pub ListDone : List ℕ → ℕ → Set → List ℕ → List ℕ → ℕ → Set → Type 0
-ListDone f i after t u s r = (r ≡ live (program f) (goalsAt f i) after) × PointsWritten t u s pointWords (points (program f) (goalsAt f i) after)
+ListDone f i after t u s r = (r ≡ live (program f) (goals_at f i) after) × PointsWritten t u s point_words (points (program f) (goals_at f i) after)
 
 -- b is number 7 of its steps, where own is its window
 abbrev pub ListClasses : List ℕ → List ℕ → List ℕ → ℕ → Set → Bool → Type 0
 ListClasses f rows own i after b =
     (o : ℕ → ℕ) (q : ℕ) → Effected f o rows → Owning f o → Window f (signature_of (program f) q) own → Belongs o q i
-    → b ≡ goalsClasses (program f) (signature_of (program f) q) (goalsAt f i) after
+    → b ≡ goals_classes (program f) (signature_of (program f) q) (goals_at f i) after

@@ -4,34 +4,34 @@ use native.Mathlib.Omega.{arith}
 use Rattle.std.proofs.Math.Path.{sym, ap}
 use Rattle.std.proofs.Common.{◌∙◌, append_assoc, get_or-drop, drop-drop, drop_at}
 use Rattle.std.proofs.Math.ListN.{get_or}
-use Rattle.sets.specs.Sets.{stored, loaded, loaded-stored}
-use Rattle.liveness.specs.Points.{Point, words, words_append, words-length}
-use Rattle.liveness.specs.Table.{PointsWritten, beforeAt, after_at}
+use Rattle.sets.specs.Sets.{stored, loaded, loaded_stored}
+use Rattle.liveness.specs.Points.{Point, words, words_append, words_length}
+use Rattle.liveness.specs.Table.{PointsWritten, before_at, after_at}
 
 -- from that place on the table has the points ps
 pub record Holds (t : List ℕ) (at : ℕ) (ps : List Point) : Type 0 where
   pub behind : List ℕ
   pub view : drop at t ≡ words ps ++ behind
 
-pub written-holds : {t u : List ℕ} {start end : ℕ} {ps : List Point} → PointsWritten t u start end ps → Holds u start ps
-written-holds {t} {end = end} h = record { behind = drop end t; view = h.above }
+pub written_holds : {t u : List ℕ} {start end : ℕ} {ps : List Point} → PointsWritten t u start end ps → Holds u start ps
+written_holds {t} {end = end} h = record { behind = drop end t; view = h.above }
 
 -- ---- those in front, those behind
-pub holds-front : {t : List ℕ} {at : ℕ} (ps qs : List Point) → Holds t at (ps ++ qs) → Holds t at ps
-holds-front ps qs h =
+pub holds_front : {t : List ℕ} {at : ℕ} (ps qs : List Point) → Holds t at (ps ++ qs) → Holds t at ps
+holds_front ps qs h =
     record {
       behind = words qs ++ h.behind;
       view = h.view ∙ ap (λ ws. ws ++ h.behind) (words_append ps qs) ∙ append_assoc (words ps) (words qs) h.behind;
     }
 
-pub holds-behind : {t : List ℕ} {at : ℕ} (ps qs : List Point) {n : ℕ} → Holds t at (ps ++ qs) → length ps ≡ n → Holds t (at + 2 * n) qs
-unfolding holds-front
-holds-behind {t} {at} ps qs {n} h e =
-    let l : length (words ps) ≡ 2 * n = omega (arith, words-length ps, e) in
+pub holds_behind : {t : List ℕ} {at : ℕ} (ps qs : List Point) {n : ℕ} → Holds t at (ps ++ qs) → length ps ≡ n → Holds t (at + 2 * n) qs
+unfolding holds_front
+holds_behind {t} {at} ps qs {n} h e =
+    let l : length (words ps) ≡ 2 * n = omega (arith, words_length ps, e) in
     record {
       behind = h.behind;
       view =
-          sym (drop-drop (2 * n) at t) ∙ ap (drop (2 * n)) (holds-front ps qs h).view
+          sym (drop-drop (2 * n) at t) ∙ ap (drop (2 * n)) (holds_front ps qs h).view
           ∙ drop_at (words ps) (words qs ++ h.behind) (2 * n) l;
     }
 
@@ -41,10 +41,10 @@ module _ {t : List ℕ} {at : ℕ} {p : Point} {ps : List Point} (h : Holds t at
   unfolding words
   word_at k = sym (get_or-drop at t k 0) ∙ ap (λ l. get_or l k 0) h.view
 
-  pub holds-before : beforeAt t at ≡ p.earlier
-  unfolding beforeAt
-  holds-before = let z : at ≡ at + 0 = omega arith in ap (λ n. loaded (get_or t n 0)) z ∙ ap loaded (word_at 0) ∙ loaded-stored p.earlier
+  pub holds_before : before_at t at ≡ p.earlier
+  unfolding before_at
+  holds_before = let z : at ≡ at + 0 = omega arith in ap (λ n. loaded (get_or t n 0)) z ∙ ap loaded (word_at 0) ∙ loaded_stored p.earlier
 
-  pub holds_after : after_at t at ≡ p.later
-  unfolding after_at beforeAt
-  holds_after = ap loaded (word_at 1) ∙ loaded-stored p.later
+  pub holds_after_law : after_at t at ≡ p.later
+  unfolding after_at before_at
+  holds_after_law = ap loaded (word_at 1) ∙ loaded_stored p.later

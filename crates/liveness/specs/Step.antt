@@ -3,21 +3,21 @@ use Rattle.std.specs.Prelude.{ℕ, Bool, List}
 use Rattle.sets.specs.Tests.{◌&◌}
 use Rattle.sets.specs.Sets.{◌∪◌, ◌∖◌, apart}
 use Rattle.sets.specs.declared.Set.{Set}
-use Rattle.tables.specs.Rows.{readsIn, givesIn, bearsIn, endsIn, markIn}
-use Rattle.liveness.specs.Carried.{live_in, classesIn, wantsOf}
+use Rattle.tables.specs.Rows.{reads_in, gives_in, bears_in, ends_in, mark_in}
+use Rattle.liveness.specs.Carried.{live_in, classes_in, wants_of}
 use Rattle.liveness.specs.Noted.{Noted}
-use Rattle.liveness.specs.Wants.{wantedIn}
+use Rattle.liveness.specs.Wants.{wanted_in}
 
 -- live before it
-unfoldable pub liveAt : List ℕ → ℕ → Set → Set
-liveAt rows i after = (after ∖ givesIn rows i) ∪ readsIn rows i
+unfoldable pub live_at : List ℕ → ℕ → Set → Set
+live_at rows i after = (after ∖ gives_in rows i) ∪ reads_in rows i
 
 -- "at a call, a dead image wanted after, a born image wanted before, either shared with another region"
-unfoldable pub classesAt : List ℕ → List ℕ → ℕ → Set → Set → Bool
-classesAt rows w i before after = apart (endsIn rows i) (wantedIn w after) & apart (bearsIn rows i) (wantedIn w before) & markIn rows i
+unfoldable pub classes_at : List ℕ → List ℕ → ℕ → Set → Set → Bool
+classes_at rows w i before after = apart (ends_in rows i) (wanted_in w after) & apart (bears_in rows i) (wanted_in w before) & mark_in rows i
 
 -- ---- one law for each way through the tests
 -- what `step` does
 abbrev pub StepNoted : List ℕ → ℕ → List ℕ → List ℕ → List ℕ → List ℕ → Type 0
 StepNoted rows i c t d u =
-    Noted c t d u (liveAt rows i (live_in c)) (live_in c) (classesIn c & classesAt rows (wantsOf c) i (liveAt rows i (live_in c)) (live_in c))
+    Noted c t d u (live_at rows i (live_in c)) (live_in c) (classes_in c & classes_at rows (wants_of c) i (live_at rows i (live_in c)) (live_in c))

@@ -17,8 +17,8 @@ pub record Fills (t u : List ℕ) (start end : ℕ) (ps : List Point) : Type 0 w
 
 -- ---- reading
 -- what is live before the goal whose point stands at that place, and after it
-unfoldable pub beforeAt : List ℕ → ℕ → Set
-beforeAt t at = loaded (get_or t at 0)
+unfoldable pub before_at : List ℕ → ℕ → Set
+before_at t at = loaded (get_or t at 0)
 
 unfoldable pub after_at : List ℕ → ℕ → Set
-after_at t at = beforeAt t (at + 1)
+after_at t at = before_at t (at + 1)

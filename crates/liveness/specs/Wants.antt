@@ -1,32 +1,32 @@
 -- What is wanted at a point, from a short copy of a window: the reach of each variable at the place of its number, then the kept regions.
 use Rattle.std.specs.Prelude.{ℕ, ◌<◌, List, ◌≡◌, ltb, length, get_or}
-use Rattle.sets.specs.Sets.{emptySet, ◌∪◌, loaded}
-use Rattle.sets.specs.Members.{unionOver}
+use Rattle.sets.specs.Sets.{empty_set, ◌∪◌, loaded}
+use Rattle.sets.specs.Members.{union_over}
 use Rattle.sets.specs.declared.Set.{Set}
 use Rattle.language.specs.Lists.{choose}
 use Rattle.language.specs.Format.{places}
-use Rattle.liveness.specs.Carried.{place_in, classesIn, wantsOf}
-use Rattle.tables.specs.Window.{setIn, reachIn, keptPlace}
+use Rattle.liveness.specs.Carried.{place_in, classes_in, wants_of}
+use Rattle.tables.specs.Window.{set_in, reach_in, kept_place}
 
-abbrev pub wantsKept : ℕ
-wantsKept = places
+abbrev pub wants_kept : ℕ
+wants_kept = places
 
 -- the reach of variable x
-unfoldable pub reachedIn : List ℕ → ℕ → Set
-reachedIn w x = choose (ltb x places) (loaded (get_or w x 0)) emptySet
+unfoldable pub reached_in : List ℕ → ℕ → Set
+reached_in w x = choose (ltb x places) (loaded (get_or w x 0)) empty_set
 
 -- "Wanted at a point: the kept regions and the reach of the live variables."
-unfoldable pub wantedIn : List ℕ → Set → Set
-wantedIn w live = loaded (get_or w wantsKept 0) ∪ unionOver (reachedIn w) live
+unfoldable pub wanted_in : List ℕ → Set → Set
+wanted_in w live = loaded (get_or w wants_kept 0) ∪ union_over (reached_in w) live
 
 -- ---- the copy of a window
 pub record Wants (own w : List ℕ) : Type 0 where
-  pub kept-is : loaded (get_or w wantsKept 0) ≡ setIn own keptPlace
-  pub reach-is : (x : ℕ) → x < places → loaded (get_or w x 0) ≡ reachIn own x
+  pub kept_is : loaded (get_or w wants_kept 0) ≡ set_in own kept_place
+  pub reach_is : (x : ℕ) → x < places → loaded (get_or w x 0) ≡ reach_in own x
 
 -- in what the walk carries, the first words are as they were
 pub record Listed (own c d : List ℕ) : Type 0 where
   pub same : length d ≡ length c
   pub place_is : place_in d ≡ place_in c
-  pub classes-is : classesIn d ≡ classesIn c
-  pub wants : Wants own (wantsOf d)
+  pub classes_is : classes_in d ≡ classes_in c
+  pub wants : Wants own (wants_of d)

@@ -1,7 +1,7 @@
 // A step: what is live before it, and number 7.
 ghost use Rattle.std.specs.Prelude.{◌≡◌};
-ghost use Rattle.liveness.specs.Carried.{wantsOf};
-ghost use Rattle.liveness.specs.Step.{liveAt, classesAt, StepNoted};
+ghost use Rattle.liveness.specs.Carried.{wants_of};
+ghost use Rattle.liveness.specs.Step.{live_at, classes_at, StepNoted};
 
 use crate::CARRIED;
 use crate::carried::{live_in, put_broken, put_point};
@@ -11,7 +11,7 @@ use tables::{ROWS, bears_at, ends_at, gives_at, marked, reads_at};
 
 // What is live before the step at record i.
 fn live_step(rows: &[u64; ROWS], i: usize, after: Set) -> Set
-    ensures { result ≡ liveAt rows.now i after }
+    ensures { result ≡ live_at rows.now i after }
 {
     let gives = gives_at(rows, i);
     let reads = reads_at(rows, i);
@@ -26,7 +26,7 @@ fn classes_kept(
     before: Set,
     after: Set,
 ) -> bool
-    ensures { result ≡ classesAt rows.now (wantsOf carried.now) i before after }
+    ensures { result ≡ classes_at rows.now (wants_of carried.now) i before after }
 {
     if !unwanted(carried, ends_at(rows, i), after) {
         return false;

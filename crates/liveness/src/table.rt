@@ -1,14 +1,14 @@
 // The table of points: two words each, what is live before the goal and what is live after it, till a later pass puts other sets there.
 ghost use Rattle.std.specs.Prelude.{◌≡◌, ◌∷◌, [], length};
-ghost use Rattle.liveness.specs.Points.{point, pointWords};
-ghost use Rattle.liveness.specs.Table.{Fills, beforeAt, after_at};
+ghost use Rattle.liveness.specs.Points.{point, point_words};
+ghost use Rattle.liveness.specs.Table.{Fills, before_at, after_at};
 
 use crate::POINTS;
 use sets::Set;
 
 // Room for the points of a procedure's goals.
 pub fn blank_points() -> [u64; POINTS]
-    ensures { pointWords ≡ length result }
+    ensures { point_words ≡ length result }
 {
     [0; POINTS]
 }
@@ -30,7 +30,7 @@ pub fn note(before: Set, after: Set, end: usize, table: &mut [u64]) -> usize
 
 // The set before the goal whose point stands at that place; nothing past the end.
 pub fn before_at(table: &[u64], at: usize) -> Set
-    ensures { result ≡ beforeAt table.now at }
+    ensures { result ≡ before_at table.now at }
 {
     if at < table.len() {
         return Set::loaded(table[at]);

@@ -1,9 +1,9 @@
 // The walk backward over goals. A part's points need what is live after the whole goal, so the table is filled from its end downward: the rest of
 // a chain first, then the goal's parts, then the goal's own point. The file is lent on by one word, which keeps a level's stack small.
 ghost use Rattle.std.specs.Prelude.{◌≡◌, ◌<◌};
-ghost use Rattle.language.specs.File.{goals, arms, word, recordCount};
-ghost use Rattle.language.specs.Format.{kindWord, switchKind, ifKind, tryKind};
-ghost use Rattle.records.specs.Sizes.{recordWords};
+ghost use Rattle.language.specs.File.{goals, arms, word, record_count};
+ghost use Rattle.language.specs.Format.{kind_word, switch_kind, if_kind, try_kind};
+ghost use Rattle.records.specs.Sizes.{record_words};
 ghost use Rattle.chains.specs.Formed.{Formed, Stands};
 ghost use Rattle.tables.specs.Filled.{Accessed};
 ghost use Rattle.liveness.specs.Done.{GoalsDone, GoalDone, ArmsDone};
@@ -52,7 +52,7 @@ fn part(
 )
     requires formed { Formed file.now.now }
     requires accessed { Accessed file.now.now rows.now }
-    requires k_lt_record_words { (k < recordWords) × ((i < recordCount file.now.now) × Stands file.now.now goals (word file.now.now i k)) }
+    requires k_lt_record_words { (k < record_words) × ((i < record_count file.now.now) × Stands file.now.now goals (word file.now.now i k)) }
     ensures { GoalsDone file.now.now rows.now (word file.now.now i k) carried.old table.old carried.new table.new }
 {
     let start = word(*file, i, k);
@@ -95,7 +95,7 @@ fn switch(
 )
     requires formed { Formed file.now.now }
     requires accessed { Accessed file.now.now rows.now }
-    requires kind_word_value { word file.now.now i kindWord ≡ switchKind }
+    requires kind_word_value { word file.now.now i kind_word ≡ switch_kind }
     ensures { GoalDone file.now.now rows.now i carried.old table.old carried.new table.new }
 {
     let after = live_in(carried);
@@ -117,7 +117,7 @@ fn branches(
 )
     requires formed { Formed file.now.now }
     requires accessed { Accessed file.now.now rows.now }
-    requires kind_word_value { word file.now.now i kindWord ≡ ifKind }
+    requires kind_word_value { word file.now.now i kind_word ≡ if_kind }
     ensures { GoalDone file.now.now rows.now i carried.old table.old carried.new table.new }
 {
     let after = live_in(carried);
@@ -142,7 +142,7 @@ fn attempt(
 )
     requires formed { Formed file.now.now }
     requires accessed { Accessed file.now.now rows.now }
-    requires kind_word_value { word file.now.now i kindWord ≡ tryKind }
+    requires kind_word_value { word file.now.now i kind_word ≡ try_kind }
     ensures { GoalDone file.now.now rows.now i carried.old table.old carried.new table.new }
 {
     let after = live_in(carried);

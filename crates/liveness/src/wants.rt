@@ -1,8 +1,8 @@
 // What is wanted at a point, from what the walk carries of the procedure's window.
 ghost use Rattle.std.specs.Prelude.{◌≡◌, ◌≤◌, length};
 ghost use Rattle.sets.specs.Sets.{apart};
-ghost use Rattle.liveness.specs.Carried.{wantsOf, carriedWords};
-ghost use Rattle.liveness.specs.Wants.{wantedIn, Listed};
+ghost use Rattle.liveness.specs.Carried.{wants_of, carried_words};
+ghost use Rattle.liveness.specs.Wants.{wanted_in, Listed};
 
 use crate::{CARRIED, REACHES, WANTS_KEPT};
 use language::format::PLACES;
@@ -11,7 +11,7 @@ use tables::{KEPT, reach, set_at};
 
 // Copies the reach of each variable and the kept regions of a window; the other words stay.
 pub fn list_wants(own: &[u64], carried: &mut [u64])
-    requires { carriedWords ≤ length carried.old }
+    requires { carried_words ≤ length carried.old }
     ensures { Listed own.now carried.old carried.new }
 {
     let mut x = 0;
@@ -24,7 +24,7 @@ pub fn list_wants(own: &[u64], carried: &mut [u64])
 
 // "Wanted at a point: the kept regions and the reach of the live variables."
 fn wanted(carried: &[u64; CARRIED], live: Set) -> Set
-    ensures { result ≡ wantedIn (wantsOf carried.now) live }
+    ensures { result ≡ wanted_in (wants_of carried.now) live }
 {
     let mut found = Set::EMPTY;
     let mut x = live.after(0);
@@ -37,7 +37,7 @@ fn wanted(carried: &[u64; CARRIED], live: Set) -> Set
 
 // Whether none of the regions rs is wanted where `live` is live.
 pub fn unwanted(carried: &[u64; CARRIED], rs: Set, live: Set) -> bool
-    ensures { result ≡ apart rs (wantedIn (wantsOf carried.now) live) }
+    ensures { result ≡ apart rs (wanted_in (wants_of carried.now) live) }
 {
     if rs.same(Set::EMPTY) {
         return true;

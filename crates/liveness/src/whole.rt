@@ -3,8 +3,8 @@ ghost use Rattle.std.specs.Prelude.{◌≡◌, length};
 ghost use Rattle.language.specs.File.{goals};
 ghost use Rattle.chains.specs.Formed.{Formed, Stands};
 ghost use Rattle.tables.specs.Filled.{Accessed};
-ghost use Rattle.liveness.specs.Carried.{carriedWords};
-ghost use Rattle.liveness.specs.Points.{pointWords};
+ghost use Rattle.liveness.specs.Carried.{carried_words};
+ghost use Rattle.liveness.specs.Points.{point_words};
 ghost use Rattle.liveness.specs.Done.{AtEnd, ListDone, ListClasses};
 
 use crate::carried::{classes_in, live_in, place_in, put_live};
@@ -15,7 +15,7 @@ use sets::Set;
 use tables::ROWS;
 
 fn blank_carried() -> [u64; CARRIED]
-    ensures { carriedWords ≡ length result }
+    ensures { carried_words ≡ length result }
 {
     [0; CARRIED]
 }
@@ -43,8 +43,8 @@ pub fn list_live(
     requires formed { Formed file.now }
     requires accessed { Accessed file.now rows.now }
     requires stands { Stands file.now goals body }
-    requires table_len { length table.old ≡ pointWords }
-    ensures table_len_2 { length table.new ≡ pointWords }
+    requires table_len { length table.old ≡ point_words }
+    ensures table_len_2 { length table.new ≡ point_words }
     ensures list_done { ListDone file.now body outs table.old table.new result.start result.live }
     ensures list_classes { ListClasses file.now rows.now own.now body outs result.classes }
 {

@@ -13,91 +13,91 @@ use Rattle.memory.specs.declared.Made.TheVariants.{At, NoRoom}
 use Rattle.memory.specs.declared.Taken.{Taken}
 use Rattle.memory.specs.declared.Taken.TheVariants.{Place, Full}
 use Rattle.memory.specs.Building.{not_made}
-use Rattle.memory.specs.Memory.{headed, raised, taken, created, createdOf, built, builtOf, removed}
-use Rattle.memory.specs.Log.{kinds, Stored, withoutCell, without, unbuilt, undoneOf, undoneOne, undone, freedOf, freedOne, freed}
-use Rattle.machine.specs.GoalWords.{termMade}
+use Rattle.memory.specs.Memory.{headed, raised, taken, created, created_of, built, built_of, removed}
+use Rattle.memory.specs.Log.{kinds, Stored, without_cell, without, unbuilt, undone_of, undone_one, undone, freed_of, freed_one, freed}
+use Rattle.machine.specs.GoalWords.{term_made}
 use Rattle.machine.specs.Trying.{SameLimits}
 
 -- ---- what is made
-same-made : {x y : ℕ} {g h : Heap} → At x g ≡ At y h → g ≡ h
-same-made e = cc
+same_made : {x y : ℕ} {g h : Heap} → At x g ≡ At y h → g ≡ h
+same_made e = cc
 
 module _ (h : Heap) where
-  built-by : (b d : Bool) (l y : ℕ) (g : Heap)
-      → At y g ≡ builtOf h (choose b Full (choose d (Place h.cells.head (raised h.cells)) (Place h.cells.head (headed h.cells l)))) → SameLimits g h
-  unfolding builtOf choose
-  built-by true d l y g e = absurd (not_made _ _ (sym e))
-  built-by false true l y g e = rw (same-made e) (refl, refl)
-  built-by false false l y g e = rw (same-made e) (refl, refl)
+  built_by : (b d : Bool) (l y : ℕ) (g : Heap)
+      → At y g ≡ built_of h (choose b Full (choose d (Place h.cells.head (raised h.cells)) (Place h.cells.head (headed h.cells l)))) → SameLimits g h
+  unfolding built_of choose
+  built_by true d l y g e = absurd (not_made _ _ (sym e))
+  built_by false true l y g e = rw (same_made e) (refl, refl)
+  built_by false false l y g e = rw (same_made e) (refl, refl)
 
-  built-limits : (m : List ℕ) (y : ℕ) (g : Heap) → At y g ≡ built h m → SameLimits g h
+  built_limits : (m : List ℕ) (y : ℕ) (g : Heap) → At y g ≡ built h m → SameLimits g h
   unfolding built taken
-  built-limits m y g e = built-by _ _ _ y g e
+  built_limits m y g e = built_by _ _ _ y g e
 
-  pub term-limits : (m : List ℕ) (t a y : ℕ) (g : Heap) (md : Made) → md ≡ termMade t a h m → md ≡ At y g → SameLimits g h
-  unfolding termMade
-  term-limits m t zero y g md e d = rw (same-made (sym d ∙ e)) (refl, refl)
-  term-limits m t (suc a) y g md e d = built-limits m y g (sym d ∙ e)
+  pub term_limits : (m : List ℕ) (t a y : ℕ) (g : Heap) (md : Made) → md ≡ term_made t a h m → md ≡ At y g → SameLimits g h
+  unfolding term_made
+  term_limits m t zero y g md e d = rw (same_made (sym d ∙ e)) (refl, refl)
+  term_limits m t (suc a) y g md e d = built_limits m y g (sym d ∙ e)
 
-  created-by : (b d : Bool) (l y : ℕ) (g : Heap)
-      → At y g ≡ createdOf h (choose b Full (choose d (Place h.regions.head (raised h.regions)) (Place h.regions.head (headed h.regions l)))) → SameLimits g h
-  unfolding createdOf choose
-  created-by true d l y g e = absurd (not_made _ _ (sym e))
-  created-by false true l y g e = rw (same-made e) (refl, refl)
-  created-by false false l y g e = rw (same-made e) (refl, refl)
+  created_by_law : (b d : Bool) (l y : ℕ) (g : Heap)
+      → At y g ≡ created_of h (choose b Full (choose d (Place h.regions.head (raised h.regions)) (Place h.regions.head (headed h.regions l)))) → SameLimits g h
+  unfolding created_of choose
+  created_by_law true d l y g e = absurd (not_made _ _ (sym e))
+  created_by_law false true l y g e = rw (same_made e) (refl, refl)
+  created_by_law false false l y g e = rw (same_made e) (refl, refl)
 
-  pub created-limits : (rs : List ℕ) (y : ℕ) (g : Heap) (md : Made) → md ≡ created h rs → md ≡ At y g → SameLimits g h
+  pub created_limits : (rs : List ℕ) (y : ℕ) (g : Heap) (md : Made) → md ≡ created h rs → md ≡ At y g → SameLimits g h
   unfolding created taken
-  created-limits rs y g md e d = created-by _ _ _ y g (sym d ∙ e)
+  created_limits rs y g md e d = created_by_law _ _ _ y g (sym d ∙ e)
 
 -- ---- what is undone or freed
 abbrev Kept : Stored → Stored → Type 0
 Kept s t = SameLimits s.heap t.heap
 
-removed-by : (b : Bool) (h : Heap) (x r : ℕ) → ((choose b h.cells (headed h.cells x)).limit ≡ h.cells.limit)
+removed_by_law : (b : Bool) (h : Heap) (x r : ℕ) → ((choose b h.cells (headed h.cells x)).limit ≡ h.cells.limit)
 unfolding choose
-removed-by true h x r = refl
-removed-by false h x r = refl
+removed_by_law true h x r = refl
+removed_by_law false h x r = refl
 
-without-limits : (s : Stored) (r : ℕ) → Kept (without s r) s
+without_limits : (s : Stored) (r : ℕ) → Kept (without s r) s
 unfolding without removed
-without-limits s r = (removed-by _ s.heap _ r, refl)
+without_limits s r = (removed_by_law _ s.heap _ r, refl)
 
-cell-limits : (s : Stored) (r : ℕ) → Kept (withoutCell s r) s
-unfolding withoutCell unbuilt
-cell-limits s r = (refl, refl)
+cell_limits : (s : Stored) (r : ℕ) → Kept (without_cell s r) s
+unfolding without_cell unbuilt
+cell_limits s r = (refl, refl)
 
-undone-of : (b d : Bool) (r : ℕ) (s : Stored) → Kept (choose b (withoutCell s r) (choose d (without s r) s)) s
+undone_of_law : (b d : Bool) (r : ℕ) (s : Stored) → Kept (choose b (without_cell s r) (choose d (without s r) s)) s
 unfolding choose
-undone-of true d r s = cell-limits s r
-undone-of false true r s = without-limits s r
-undone-of false false r s = (refl, refl)
+undone_of_law true d r s = cell_limits s r
+undone_of_law false true r s = without_limits s r
+undone_of_law false false r s = (refl, refl)
 
-freed-of : (b : Bool) (r : ℕ) (s : Stored) → Kept (choose b (without s r) s) s
+freed_of_law : (b : Bool) (r : ℕ) (s : Stored) → Kept (choose b (without s r) s) s
 unfolding choose
-freed-of true r s = without-limits s r
-freed-of false r s = (refl, refl)
+freed_of_law true r s = without_limits s r
+freed_of_law false r s = (refl, refl)
 
-undone-one : (e : ℕ) (s : Stored) → Kept (undoneOne e s) s
-unfolding undoneOne undoneOf
-undone-one e s = undone-of _ _ (e / kinds) s
+undone_one_law : (e : ℕ) (s : Stored) → Kept (undone_one e s) s
+unfolding undone_one undone_of
+undone_one_law e s = undone_of_law _ _ (e / kinds) s
 
-freed-one : (e : ℕ) (s : Stored) → Kept (freedOne e s) s
-unfolding freedOne freedOf
-freed-one e s = freed-of _ (e / kinds) s
+freed_one_law : (e : ℕ) (s : Stored) → Kept (freed_one e s) s
+unfolding freed_one freed_of
+freed_one_law e s = freed_of_law _ (e / kinds) s
 
-pub undone-limits : (told : List ℕ) (n : ℕ) (s : Stored) → Kept (undone told n s) s
+pub undone_limits : (told : List ℕ) (n : ℕ) (s : Stored) → Kept (undone told n s) s
 unfolding undone
-undone-limits told zero s = (refl, refl)
-undone-limits told (suc n) s =
-    let p = undone-limits told n (undoneOne (get_or told n 0) s) in
-    let q = undone-one (get_or told n 0) s in
+undone_limits told zero s = (refl, refl)
+undone_limits told (suc n) s =
+    let p = undone_limits told n (undone_one (get_or told n 0) s) in
+    let q = undone_one_law (get_or told n 0) s in
     (p.0 ∙ q.0, p.1 ∙ q.1)
 
-pub freed-limits : (told : List ℕ) (n : ℕ) (s : Stored) → Kept (freed told n s) s
+pub freed_limits : (told : List ℕ) (n : ℕ) (s : Stored) → Kept (freed told n s) s
 unfolding freed
-freed-limits told zero s = (refl, refl)
-freed-limits told (suc n) s =
-    let p = freed-limits told n (freedOne (get_or told n 0) s) in
-    let q = freed-one (get_or told n 0) s in
+freed_limits told zero s = (refl, refl)
+freed_limits told (suc n) s =
+    let p = freed_limits told n (freed_one (get_or told n 0) s) in
+    let q = freed_one_law (get_or told n 0) s in
     (p.0 ∙ q.0, p.1 ∙ q.1)

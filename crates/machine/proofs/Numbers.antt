@@ -8,56 +8,56 @@ use lib.Dec.{eqb}
 use lib.ListN.{get_or}
 use Rattle.language.specs.Lists.{choose}
 use Rattle.language.specs.File.{arms, word}
-use Rattle.language.specs.Format.{nextWord, termFunctor, maxVariables, maxRegions, kindWord, literalKind, sumKind, assignKind, constructKind, switchKind, ifKind, printKind, createKind, removeKind, testKind, goalX, sumY, sumZ, assignY, ifY, ifZ, printY, testY, testZ, lifetimeRegion, termArguments}
-use Rattle.chains.specs.Formed.{Formed, Stands, stands-none}
+use Rattle.language.specs.Format.{next_word, term_functor, max_variables, max_regions, kind_word, literal_kind, sum_kind, assign_kind, construct_kind, switch_kind, if_kind, print_kind, create_kind, remove_kind, test_kind, goal_x, sum_y, sum_z, assign_y, if_y, if_z, print_y, test_y, test_z, lifetime_region, term_arguments}
+use Rattle.chains.specs.Formed.{Formed, Stands, stands_none}
 use Rattle.chains.specs.Is.{arm_is, chain_next}
-use Rattle.chains.specs.Records.{chainRecords, climb, records-none, records-step}
-use Rattle.plans.specs.Plan.{Numbered, sidesFrom}
-use Rattle.word_machine.specs.Machine.{armOf}
+use Rattle.chains.specs.Records.{chain_records, climb, records_none, records_step}
+use Rattle.plans.specs.Plan.{Numbered, sides_from}
+use Rattle.word_machine.specs.Machine.{arm_of}
 use Rattle.machine.specs.GoalWords.{Low, LowIfAny}
-use Rattle.machine.specs.Steps.{construct-record, create-record, remove-record}
-use Rattle.machine.proofs.StepsLaws.{literal-record, sum-record, assign-record, switch-record, if-record, print-record, test-record}
+use Rattle.machine.specs.Steps.{construct_record, create_record, remove_record}
+use Rattle.machine.proofs.StepsLaws.{literal_record, sum_record, assign_record, switch_record, if_record, print_record, test_record}
 
-each : (f : List ℕ) (i : ℕ) → word f i termArguments ≤ maxVariables → word f i (termArguments + 1) ≤ maxVariables → word f i (termArguments + 2) ≤ maxVariables
-    → word f i (termArguments + 3) ≤ maxVariables → Low f i
+each : (f : List ℕ) (i : ℕ) → word f i term_arguments ≤ max_variables → word f i (term_arguments + 1) ≤ max_variables → word f i (term_arguments + 2) ≤ max_variables
+    → word f i (term_arguments + 3) ≤ max_variables → Low f i
 each f i a b c d zero l = a
 each f i a b c d (suc zero) l = b
 each f i a b c d (suc (suc zero)) l = c
 each f i a b c d (suc (suc (suc zero))) l = d
 each f i a b c d (suc (suc (suc (suc n)))) l = absurd (omega arith)
 
-module _ {f plan : List ℕ} (N : Numbered f plan) (i : ℕ) {w : ℕ} (e : w ≡ word f i kindWord) where
-  pub literal-low : w ≡ literalKind → word f i goalX ≤ maxVariables
-  literal-low k = N.literal i _ _ _ (literal-record f i w e k)
+module _ {f plan : List ℕ} (N : Numbered f plan) (i : ℕ) {w : ℕ} (e : w ≡ word f i kind_word) where
+  pub literal_low : w ≡ literal_kind → word f i goal_x ≤ max_variables
+  literal_low k = N.literal i _ _ _ (literal_record f i w e k)
 
-  pub sum_low : w ≡ sumKind → (word f i goalX ≤ maxVariables) × (word f i sumY ≤ maxVariables) × (word f i sumZ ≤ maxVariables)
-  sum_low k = N.sum i _ _ _ _ _ (sum-record f i w e k)
+  pub sum_low : w ≡ sum_kind → (word f i goal_x ≤ max_variables) × (word f i sum_y ≤ max_variables) × (word f i sum_z ≤ max_variables)
+  sum_low k = N.sum i _ _ _ _ _ (sum_record f i w e k)
 
-  pub assign-low : w ≡ assignKind → (word f i goalX ≤ maxVariables) × (word f i assignY ≤ maxVariables)
-  assign-low k = N.assign i _ _ _ (assign-record f i w e k)
+  pub assign_low : w ≡ assign_kind → (word f i goal_x ≤ max_variables) × (word f i assign_y ≤ max_variables)
+  assign_low k = N.assign i _ _ _ (assign_record f i w e k)
 
-  pub construct-low : w ≡ constructKind → (word f i goalX ≤ maxVariables) × Low f i × (get_or plan (sidesFrom + i) 0 ≤ maxRegions)
-  construct-low k =
-      let g = N.construct i _ _ _ _ _ _ _ (construct-record f i w e k) in
-      (g.0, each f i g.1 g.2 g.3 g.4, N.home i _ _ _ _ _ _ _ (construct-record f i w e k))
+  pub construct_low : w ≡ construct_kind → (word f i goal_x ≤ max_variables) × Low f i × (get_or plan (sides_from + i) 0 ≤ max_regions)
+  construct_low k =
+      let g = N.construct i _ _ _ _ _ _ _ (construct_record f i w e k) in
+      (g.0, each f i g.1 g.2 g.3 g.4, N.home i _ _ _ _ _ _ _ (construct_record f i w e k))
 
-  pub switch-low : w ≡ switchKind → word f i goalX ≤ maxVariables
-  switch-low k = N.switch i _ _ _ (switch-record f i w e k)
+  pub switch_low : w ≡ switch_kind → word f i goal_x ≤ max_variables
+  switch_low k = N.switch i _ _ _ (switch_record f i w e k)
 
-  pub if-low : w ≡ ifKind → (word f i ifY ≤ maxVariables) × (word f i ifZ ≤ maxVariables)
-  if-low k = N.less i _ _ _ _ _ (if-record f i w e k)
+  pub if_low : w ≡ if_kind → (word f i if_y ≤ max_variables) × (word f i if_z ≤ max_variables)
+  if_low k = N.less i _ _ _ _ _ (if_record f i w e k)
 
-  pub test_low : w ≡ testKind → (word f i testY ≤ maxVariables) × (word f i testZ ≤ maxVariables)
-  test_low k = N.test i _ _ _ (test-record f i w e k)
+  pub test_low : w ≡ test_kind → (word f i test_y ≤ max_variables) × (word f i test_z ≤ max_variables)
+  test_low k = N.test i _ _ _ (test_record f i w e k)
 
-  pub print-low : w ≡ printKind → word f i printY ≤ maxVariables
-  print-low k = N.print i _ _ (print-record f i w e k)
+  pub print_low : w ≡ print_kind → word f i print_y ≤ max_variables
+  print_low k = N.print i _ _ (print_record f i w e k)
 
-  pub create-low : w ≡ createKind → word f i lifetimeRegion ≤ maxRegions
-  create-low k = N.create i _ _ (create-record f i w e k)
+  pub create_low : w ≡ create_kind → word f i lifetime_region ≤ max_regions
+  create_low k = N.create i _ _ (create_record f i w e k)
 
-  pub remove-low : w ≡ removeKind → word f i lifetimeRegion ≤ maxRegions
-  remove-low k = N.remove i _ _ (remove-record f i w e k)
+  pub remove_low : w ≡ remove_kind → word f i lifetime_region ≤ max_regions
+  remove_low k = N.remove i _ _ (remove_record f i w e k)
 
 -- ---- arms
 module _ {f plan : List ℕ} (N : Numbered f plan) where
@@ -68,16 +68,16 @@ module _ {f plan : List ℕ} (N : Numbered f plan) where
       each f (suc j) g.0 g.1 g.2 g.3
 
 -- the arm of a functor stands in its chain
-pub arm-stands : {f : List ℕ} → Formed f → (k i : ℕ) → Stands f arms i → Stands f arms (armOf f k (chainRecords f i))
-unfolding armOf choose
-arm-stands {f} F k i s =
-    climb F (λ j. Stands f arms j → Stands f arms (armOf f k (chainRecords f j))) (λ t. start)
-    (λ j z q h t. rw (records-step {w = word f j nextWord} F z q refl) (go j t (h (chain_next {w = word f j nextWord} F t z refl).stands) (eqb (word f j termFunctor) k))) i s.below s
+pub arm_stands : {f : List ℕ} → Formed f → (k i : ℕ) → Stands f arms i → Stands f arms (arm_of f k (chain_records f i))
+unfolding arm_of choose
+arm_stands {f} F k i s =
+    climb F (λ j. Stands f arms j → Stands f arms (arm_of f k (chain_records f j))) (λ t. start)
+    (λ j z q h t. rw (records_step {w = word f j next_word} F z q refl) (go j t (h (chain_next {w = word f j next_word} F t z refl).stands) (eqb (word f j term_functor) k))) i s.below s
   where
-    start : Stands f arms (armOf f k (chainRecords f 0))
-    start = rw (records-none f {i = 0} refl) (stands-none F refl)
+    start : Stands f arms (arm_of f k (chain_records f 0))
+    start = rw (records_none f {i = 0} refl) (stands_none F refl)
 
-    go : (i : ℕ) → Stands f arms i → Stands f arms (armOf f k (chainRecords f (word f i nextWord))) → (b : Bool)
-        → Stands f arms (choose b i (armOf f k (chainRecords f (word f i nextWord))))
+    go : (i : ℕ) → Stands f arms i → Stands f arms (arm_of f k (chain_records f (word f i next_word))) → (b : Bool)
+        → Stands f arms (choose b i (arm_of f k (chain_records f (word f i next_word))))
     go i s h true = s
     go i s h false = h

@@ -1,13 +1,13 @@
 // Constructs and switches in conditions (C-20), by functions of their own: those of `cells` and `arms` have one caller each, so that the compiler lays
 // them into a run's loop. Conditions are short; whether a cell is there whole is not asked.
 ghost use Rattle.std.specs.Prelude.{◌≡◌, ℕ, ◌+◌, ◌*◌, ◌≤◌, ◌<◌, length, get_or};
-ghost use Rattle.language.specs.File.{arms, word, recordCount};
-ghost use Rattle.language.specs.Format.{recordBytes, maxRecords, maxVariables, maxRegions, goalX};
+ghost use Rattle.language.specs.File.{arms, word, record_count};
+ghost use Rattle.language.specs.Format.{record_bytes, max_records, max_variables, max_regions, goal_x};
 ghost use Rattle.chains.specs.Formed.{Formed, Stands};
 ghost use Rattle.chains.specs.Shapes.{IsSwitch};
-ghost use Rattle.plans.specs.Plan.{sidesFrom};
-ghost use Rattle.word_machine.specs.Machine.{frameWords};
-ghost use Rattle.machine.specs.GoalWords.{Low, LowIfAny, armFor, termValues};
+ghost use Rattle.plans.specs.Plan.{sides_from};
+ghost use Rattle.word_machine.specs.Machine.{frame_words};
+ghost use Rattle.machine.specs.GoalWords.{Low, LowIfAny, arm_for, term_values};
 ghost use Rattle.machine.specs.Cells.{Makes, Constructs};
 
 use crate::arms::{arm_part, functor_of};
@@ -29,8 +29,8 @@ fn slow_term(
     regions: &mut [u32],
     frames: &[u32],
 ) -> Made
-    requires i_lt_max_records { (i < maxRecords) × (recordBytes * i + recordBytes ≤ length file.now) × (at + frameWords ≤ length frames.now) }
-    requires low { Low file.now i × (get_or plan.now (sidesFrom + i) 0 ≤ maxRegions) }
+    requires i_lt_max_records { (i < max_records) × (record_bytes * i + record_bytes ≤ length file.now) × (at + frame_words ≤ length frames.now) }
+    requires low { Low file.now i × (get_or plan.now (sides_from + i) 0 ≤ max_regions) }
     ensures { Makes file.now plan.now i at heap cells.old regions.old frames.now
         result cells.new regions.new }
 {
@@ -59,8 +59,8 @@ pub fn slow_construct(
     regions: &mut [u32],
     frames: &mut [u32],
 ) -> Made
-    requires i_lt_max_records { (i < maxRecords) × (recordBytes * i + recordBytes ≤ length file.now) × (at + frameWords ≤ length frames.old) }
-    requires goal_x_bound { (word file.now i goalX ≤ maxVariables) × Low file.now i × (get_or plan.now (sidesFrom + i) 0 ≤ maxRegions) }
+    requires i_lt_max_records { (i < max_records) × (record_bytes * i + record_bytes ≤ length file.now) × (at + frame_words ≤ length frames.old) }
+    requires goal_x_bound { (word file.now i goal_x ≤ max_variables) × Low file.now i × (get_or plan.now (sides_from + i) 0 ≤ max_regions) }
     ensures { Constructs file.now plan.now i at heap cells.old regions.old frames.old
         result cells.new regions.new frames.new }
 {
@@ -84,11 +84,11 @@ pub fn slow_construct(
 // The record of a switch's arm, whose variables get their values.
 pub fn slow_arm(file: &[u8], i: usize, at: usize, cells: &[u32], frames: &mut [u32]) -> usize
     requires formed { Formed file.now }
-    requires i_bound { (i < recordCount file.now) × IsSwitch file.now i × (at + frameWords ≤ length frames.old) }
-    requires goal_x_bound { (word file.now i goalX ≤ maxVariables) × ((j : ℕ) → Stands file.now arms j → LowIfAny file.now j) }
-    ensures value { result ≡ armFor file.now i at cells.now frames.old }
-    ensures upper_bound { result < recordCount file.now }
-    ensures frames_after { frames.new ≡ termValues file.now result (get_or frames.old (at + word file.now i goalX) 0) at
+    requires i_bound { (i < record_count file.now) × IsSwitch file.now i × (at + frame_words ≤ length frames.old) }
+    requires goal_x_bound { (word file.now i goal_x ≤ max_variables) × ((j : ℕ) → Stands file.now arms j → LowIfAny file.now j) }
+    ensures value { result ≡ arm_for file.now i at cells.now frames.old }
+    ensures upper_bound { result < record_count file.now }
+    ensures frames_after { frames.new ≡ term_values file.now result (get_or frames.old (at + word file.now i goal_x) 0) at
         cells.now frames.old }
 {
     let term = value(&frames[..], at, word_in(file, i, GOAL_X));

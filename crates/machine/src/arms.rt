@@ -1,13 +1,13 @@
 // Switches: "a switch takes the arm of X's functor".
 ghost use Rattle.std.specs.Prelude.{◌≡◌, ℕ, ◌+◌, ◌*◌, ◌≤◌, ◌<◌, length, get_or};
-ghost use Rattle.language.specs.File.{arms, word, recordCount};
-ghost use Rattle.language.specs.Format.{recordBytes, maxVariables, goalX};
-ghost use Rattle.memory.specs.Memory.{cellWords};
+ghost use Rattle.language.specs.File.{arms, word, record_count};
+ghost use Rattle.language.specs.Format.{record_bytes, max_variables, goal_x};
+ghost use Rattle.memory.specs.Memory.{cell_words};
 ghost use Rattle.chains.specs.Formed.{Formed, Stands};
 ghost use Rattle.chains.specs.Shapes.{IsSwitch};
-ghost use Rattle.word_machine.specs.Machine.{frameWords};
-ghost use Rattle.machine.specs.GoalWords.{LowIfAny, functorIn, armFor, armValues, termValues};
-ghost use Rattle.machine.specs.Cells.{wholeCell};
+ghost use Rattle.word_machine.specs.Machine.{frame_words};
+ghost use Rattle.machine.specs.GoalWords.{LowIfAny, functor_in, arm_for, arm_values, term_values};
+ghost use Rattle.machine.specs.Cells.{whole_cell};
 
 use frames::{arm_of, give, value};
 use language::format::{GOAL_X, MAX_ARITY, SWITCH_ARMS, TERM_ARGUMENTS};
@@ -16,9 +16,9 @@ use records::word_in;
 
 // ".. and the arm's arguments get the cell's values", up to the first that is numbered 0: the arm at record j, a cell that is there whole.
 fn arm_values(file: &[u8], j: usize, cell: u32, at: usize, cells: &[u32], frames: &mut [u32])
-    requires record_bytes_in_bounds { (recordBytes * j + recordBytes ≤ length file.now) × (at + frameWords ≤ length frames.old) }
-    requires low_if_any { LowIfAny file.now j × (cellWords * cell + cellWords ≤ length cells.now) }
-    ensures { frames.new ≡ armValues file.now j cell at cells.now frames.old }
+    requires record_bytes_in_bounds { (record_bytes * j + record_bytes ≤ length file.now) × (at + frame_words ≤ length frames.old) }
+    requires low_if_any { LowIfAny file.now j × (cell_words * cell + cell_words ≤ length cells.now) }
+    ensures { frames.new ≡ arm_values file.now j cell at cells.now frames.old }
 {
     let p = CELL_WORDS * (cell as usize);
     let mut n = 0;
@@ -34,9 +34,9 @@ fn arm_values(file: &[u8], j: usize, cell: u32, at: usize, cells: &[u32], frames
 
 // The same where a part of the cell may lie behind the end: no value of an accepted file's run is such a cell.
 pub fn arm_part(file: &[u8], j: usize, cell: u32, at: usize, cells: &[u32], frames: &mut [u32])
-    requires record_bytes_in_bounds { (recordBytes * j + recordBytes ≤ length file.now) × (at + frameWords ≤ length frames.old) }
+    requires record_bytes_in_bounds { (record_bytes * j + record_bytes ≤ length file.now) × (at + frame_words ≤ length frames.old) }
     requires low_if_any { LowIfAny file.now j }
-    ensures { frames.new ≡ armValues file.now j cell at cells.now frames.old }
+    ensures { frames.new ≡ arm_values file.now j cell at cells.now frames.old }
 {
     let p = CELL_WORDS * (cell as usize);
     let mut n = 0;
@@ -53,7 +53,7 @@ pub fn arm_part(file: &[u8], j: usize, cell: u32, at: usize, cells: &[u32], fram
 // Whether a term's word is the place of a cell that is there whole. How many words are lent is asked first: where that is a known number, as in the
 // runner, one test is left.
 fn whole_cell(cells: &[u32], term: u32) -> bool
-    ensures { result ≡ wholeCell cells.now term }
+    ensures { result ≡ whole_cell cells.now term }
 {
     if cells.len() < CELL_WORDS * (term as usize) + CELL_WORDS {
         return false;
@@ -63,7 +63,7 @@ fn whole_cell(cells: &[u32], term: u32) -> bool
 
 // The functor of a term's word: of the cell, or of the constant.
 pub fn functor_of(cells: &[u32], term: u32) -> u32
-    ensures { result ≡ functorIn cells.now term }
+    ensures { result ≡ functor_in cells.now term }
 {
     if term < CONSTANTS {
         return word(cells, CELL_WORDS * (term as usize));
@@ -74,11 +74,11 @@ pub fn functor_of(cells: &[u32], term: u32) -> u32
 // Returns the arm's record. A constant has no values: the frames are as they were.
 pub fn switch_arm(file: &[u8], i: usize, at: usize, cells: &[u32], frames: &mut [u32]) -> usize
     requires formed { Formed file.now }
-    requires i_bound { (i < recordCount file.now) × IsSwitch file.now i × (at + frameWords ≤ length frames.old) }
-    requires goal_x_bound { (word file.now i goalX ≤ maxVariables) × ((j : ℕ) → Stands file.now arms j → LowIfAny file.now j) }
-    ensures value { result ≡ armFor file.now i at cells.now frames.old }
-    ensures upper_bound { result < recordCount file.now }
-    ensures frames_after { frames.new ≡ termValues file.now result (get_or frames.old (at + word file.now i goalX) 0) at
+    requires i_bound { (i < record_count file.now) × IsSwitch file.now i × (at + frame_words ≤ length frames.old) }
+    requires goal_x_bound { (word file.now i goal_x ≤ max_variables) × ((j : ℕ) → Stands file.now arms j → LowIfAny file.now j) }
+    ensures value { result ≡ arm_for file.now i at cells.now frames.old }
+    ensures upper_bound { result < record_count file.now }
+    ensures frames_after { frames.new ≡ term_values file.now result (get_or frames.old (at + word file.now i goal_x) 0) at
         cells.now frames.old }
 {
     let term = value(&frames[..], at, word_in(file, i, GOAL_X));

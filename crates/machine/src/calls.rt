@@ -1,11 +1,11 @@
 // A call's frame over its caller's, and returns.
 ghost use Rattle.std.specs.Prelude.{◌≡◌, List, ℕ, suc, ◌+◌, ◌*◌, ◌≤◌, ◌<◌, length, get_or};
 ghost use Rattle.language.specs.File.{word};
-ghost use Rattle.language.specs.Format.{recordBytes, maxRecords, callProcedure};
+ghost use Rattle.language.specs.Format.{record_bytes, max_records, call_procedure};
 ghost use Rattle.memory.specs.declared.Heap.{Heap};
 ghost use Rattle.chains.specs.Formed.{Formed};
-ghost use Rattle.plans.specs.Plan.{calleeWord, calleeBody, calleeSize, calleeBorn, Narrow, tablesIn};
-ghost use Rattle.word_machine.specs.Machine.{frameWords, callPlace, calleeWords, returnWords, settled};
+ghost use Rattle.plans.specs.Plan.{callee_word, callee_body, callee_size, callee_born, Narrow, tables_in};
+ghost use Rattle.word_machine.specs.Machine.{frame_words, call_place, callee_words, return_words, settled};
 ghost use Rattle.machine.specs.Words.{FramePlaced, words_of};
 ghost use Rattle.machine.specs.Calls.{marked};
 
@@ -21,8 +21,8 @@ use sets::Set;
 
 // Word k of what a call reads of procedure q.
 fn callee_word(callees: &[u64; CALLEES], q: usize, k: usize) -> u64
-    requires { k ≤ calleeBorn }
-    ensures { result ≡ calleeWord callees.now q k }
+    requires { k ≤ callee_born }
+    ensures { result ≡ callee_word callees.now q k }
 {
     callees[CALLEE_ROW * (q % MAX_PROCEDURES) + k]
 }
@@ -35,14 +35,14 @@ fn number(x: u64) -> usize
 
 // How many variables procedure q has.
 pub fn size_of(callees: &[u64; CALLEES], q: usize) -> usize
-    ensures { result ≡ calleeWord callees.now q calleeSize }
+    ensures { result ≡ callee_word callees.now q callee_size }
 {
     number(callee_word(callees, q, CALLEE_SIZE))
 }
 
 // The record of procedure q's first goal.
 pub fn body_of(callees: &[u64; CALLEES], q: usize) -> usize
-    ensures { result ≡ calleeWord callees.now q calleeBody }
+    ensures { result ≡ callee_word callees.now q callee_body }
 {
     number(callee_word(callees, q, CALLEE_BODY))
 }
@@ -55,7 +55,7 @@ fn wide(x: u32) -> usize
 
 // Where the frame at a place goes on after its call, and in the callee's frame the call's record.
 fn mark(frames: &mut [u32], at: usize, next: u32, i: u32)
-    requires { at + 2 * frameWords ≤ length frames.old }
+    requires { at + 2 * frame_words ≤ length frames.old }
     ensures { frames.new ≡ marked at next i frames.old }
 {
     store(&mut frames[..], at, next);
@@ -72,12 +72,12 @@ pub fn call(
     at: usize,
     frames: &mut [u32],
 ) -> usize
-    requires i_lt_max_records { (i < maxRecords) × (recordBytes * i + recordBytes ≤ length file.now) }
-    requires narrow { Narrow plan.now images.now × (at + 2 * frameWords ≤ length frames.old) }
-    ensures value { result ≡ calleeWord callees.now (word file.now i callProcedure) calleeBody }
-    ensures by_index { (k : ℕ) → at ≡ frameWords * k → frames.new ≡ calleeWords file.now
-        (tablesIn plan.now images.now callees.now)
-        k i (word file.now i callProcedure) frames.old }
+    requires i_lt_max_records { (i < max_records) × (record_bytes * i + record_bytes ≤ length file.now) }
+    requires narrow { Narrow plan.now images.now × (at + 2 * frame_words ≤ length frames.old) }
+    ensures value { result ≡ callee_word callees.now (word file.now i call_procedure) callee_body }
+    ensures by_index { (k : ℕ) → at ≡ frame_words * k → frames.new ≡ callee_words file.now
+        (tables_in plan.now images.now callees.now)
+        k i (word file.now i call_procedure) frames.old }
 {
     let q = word_in(file, i, CALL_PROCEDURE);
     mark(&mut frames[..], at, successor(plan, i) as u32, i as u32);
@@ -99,10 +99,10 @@ fn give_back(
     frames: &mut [u32],
 )
     requires formed { Formed file.now }
-    requires narrow { Narrow plan.now images.now × (to + 2 * frameWords ≤ length frames.old) }
-    ensures { (k : ℕ) → to ≡ frameWords * k → frames.new ≡ returnWords file.now
-        (tablesIn plan.now images.now callees.now)
-        k (get_or frames.old (callPlace (suc k)) 0) frames.old }
+    requires narrow { Narrow plan.now images.now × (to + 2 * frame_words ≤ length frames.old) }
+    ensures { (k : ℕ) → to ≡ frame_words * k → frames.new ≡ return_words file.now
+        (tables_in plan.now images.now callees.now)
+        k (get_or frames.old (call_place (suc k)) 0) frames.old }
 {
     let i = wide(frames[to + FRAME_WORDS + CALL_FROM]);
     if file.len() / RECORD_BYTES <= i {
@@ -126,7 +126,7 @@ pub fn settle(
     requires formed { Formed file.now × FramePlaced state (length frames.old) }
     requires narrow { Narrow plan.now images.now }
     ensures result_after { (h : Heap) (m rs ps : List ℕ) → words_of h m rs frames.new ps result
-        ≡ settled file.now (tablesIn plan.now images.now callees.now)
+        ≡ settled file.now (tables_in plan.now images.now callees.now)
         (words_of h m rs frames.old ps state) }
     ensures frame_placed { FramePlaced result (length frames.new) }
 {

@@ -1,10 +1,10 @@
 // Constructs: "a construct makes one cell", one without arguments none.
 ghost use Rattle.std.specs.Prelude.{◌≡◌, ◌+◌, ◌*◌, ◌≤◌, ◌<◌, length, get_or};
 ghost use Rattle.language.specs.File.{word};
-ghost use Rattle.language.specs.Format.{recordBytes, maxRecords, maxVariables, maxRegions, goalX};
-ghost use Rattle.memory.specs.Memory.{cellWords};
-ghost use Rattle.plans.specs.Plan.{sidesFrom};
-ghost use Rattle.word_machine.specs.Machine.{frameWords};
+ghost use Rattle.language.specs.Format.{record_bytes, max_records, max_variables, max_regions, goal_x};
+ghost use Rattle.memory.specs.Memory.{cell_words};
+ghost use Rattle.plans.specs.Plan.{sides_from};
+ghost use Rattle.word_machine.specs.Machine.{frame_words};
 ghost use Rattle.machine.specs.GoalWords.{Low, poured};
 ghost use Rattle.machine.specs.Cells.{Makes, Constructs};
 
@@ -16,8 +16,8 @@ use records::word_in;
 
 // A cell that is there whole gets the functor of the construct at record i and the values of its arguments, up to the first that is numbered 0.
 fn fill(file: &[u8], i: usize, at: usize, cell: u32, cells: &mut [u32], frames: &[u32])
-    requires record_bytes_in_bounds { (recordBytes * i + recordBytes ≤ length file.now) × (at + frameWords ≤ length frames.now) }
-    requires low { Low file.now i × (cellWords * cell + cellWords ≤ length cells.old) }
+    requires record_bytes_in_bounds { (record_bytes * i + record_bytes ≤ length file.now) × (at + frame_words ≤ length frames.now) }
+    requires low { Low file.now i × (cell_words * cell + cell_words ≤ length cells.old) }
     ensures { cells.new ≡ poured file.now i at frames.now cell cells.old }
 {
     let p = CELL_WORDS * (cell as usize);
@@ -35,7 +35,7 @@ fn fill(file: &[u8], i: usize, at: usize, cell: u32, cells: &mut [u32], frames: 
 
 // The same where a part of the cell may lie behind the end: no heap gives such a cell.
 pub fn fill_part(file: &[u8], i: usize, at: usize, cell: u32, cells: &mut [u32], frames: &[u32])
-    requires record_bytes_in_bounds { (recordBytes * i + recordBytes ≤ length file.now) × (at + frameWords ≤ length frames.now) }
+    requires record_bytes_in_bounds { (record_bytes * i + record_bytes ≤ length file.now) × (at + frame_words ≤ length frames.now) }
     requires low { Low file.now i }
     ensures { cells.new ≡ poured file.now i at frames.now cell cells.old }
 {
@@ -54,7 +54,7 @@ pub fn fill_part(file: &[u8], i: usize, at: usize, cell: u32, cells: &mut [u32],
 
 // The cell's words, whether it is there whole or not.
 fn fill_cell(file: &[u8], i: usize, at: usize, cell: u32, cells: &mut [u32], frames: &[u32])
-    requires record_bytes_in_bounds { (recordBytes * i + recordBytes ≤ length file.now) × (at + frameWords ≤ length frames.now) }
+    requires record_bytes_in_bounds { (record_bytes * i + record_bytes ≤ length file.now) × (at + frame_words ≤ length frames.now) }
     requires low { Low file.now i }
     ensures { cells.new ≡ poured file.now i at frames.now cell cells.old }
 {
@@ -77,8 +77,8 @@ fn make_term(
     regions: &mut [u32],
     frames: &[u32],
 ) -> Made
-    requires i_lt_max_records { (i < maxRecords) × (recordBytes * i + recordBytes ≤ length file.now) × (at + frameWords ≤ length frames.now) }
-    requires low { Low file.now i × (get_or plan.now (sidesFrom + i) 0 ≤ maxRegions) }
+    requires i_lt_max_records { (i < max_records) × (record_bytes * i + record_bytes ≤ length file.now) × (at + frame_words ≤ length frames.now) }
+    requires low { Low file.now i × (get_or plan.now (sides_from + i) 0 ≤ max_regions) }
     ensures { Makes file.now plan.now i at heap cells.old regions.old frames.now
         result cells.new regions.new }
 {
@@ -107,8 +107,8 @@ pub fn construct(
     regions: &mut [u32],
     frames: &mut [u32],
 ) -> Made
-    requires i_lt_max_records { (i < maxRecords) × (recordBytes * i + recordBytes ≤ length file.now) × (at + frameWords ≤ length frames.old) }
-    requires goal_x_bound { (word file.now i goalX ≤ maxVariables) × Low file.now i × (get_or plan.now (sidesFrom + i) 0 ≤ maxRegions) }
+    requires i_lt_max_records { (i < max_records) × (record_bytes * i + record_bytes ≤ length file.now) × (at + frame_words ≤ length frames.old) }
+    requires goal_x_bound { (word file.now i goal_x ≤ max_variables) × Low file.now i × (get_or plan.now (sides_from + i) 0 ≤ max_regions) }
     ensures { Constructs file.now plan.now i at heap cells.old regions.old frames.old
         result cells.new regions.new frames.new }
 {

@@ -1,7 +1,7 @@
 // The log of an open condition (C-20): two words an entry, a region's place and what was done there.
 ghost use Rattle.std.specs.Prelude.{◌≡◌, List, ℕ, ◌<◌, length};
-ghost use Rattle.memory.specs.Log.{kinds, entry, stored, Is, undoneOf, undone, freedOf, freed};
-ghost use Rattle.machine.specs.Entries.{logWords, entryWord, noted, Logs};
+ghost use Rattle.memory.specs.Log.{kinds, entry, stored, Is, undone_of, undone, freed_of, freed};
+ghost use Rattle.machine.specs.Entries.{log_words, entry_word, noted, Logs};
 
 use language::format::MAX_RECORDS;
 use memory::{ENTRY_BUILT, ENTRY_MADE, ENTRY_REMOVED, Heap, remove, take_back};
@@ -13,7 +13,7 @@ const ENTRY_WORDS: usize = 2;
 
 // How many words the log has.
 pub fn log_length(log: &[u32; LOG_WORDS]) -> usize
-    ensures { length log.now ≡ logWords }
+    ensures { length log.now ≡ log_words }
 {
     let words = &log[..];
     words.len()
@@ -33,7 +33,7 @@ pub fn note(log: &mut [u32; LOG_WORDS], count: usize, place: u32, kind: u32)
 // Word k of entry i; 0 past the last one.
 fn entry_word(log: &[u32; LOG_WORDS], i: usize, k: usize) -> u32
     requires { k < 2 }
-    ensures { result ≡ entryWord log.now i k }
+    ensures { result ≡ entry_word log.now i k }
 {
     if MAX_RECORDS <= i {
         return 0;
@@ -42,7 +42,7 @@ fn entry_word(log: &[u32; LOG_WORDS], i: usize, k: usize) -> u32
 }
 
 fn undo_entry(heap: Heap, cells: &mut [u32], regions: &mut [u32], place: u32, kind: u32) -> Heap
-    ensures { Is result cells.new regions.new (undoneOf kind place (stored heap cells.old regions.old)) }
+    ensures { Is result cells.new regions.new (undone_of kind place (stored heap cells.old regions.old)) }
 {
     if kind == ENTRY_BUILT {
         return take_back(heap, &mut cells[..], &mut regions[..], place);
@@ -76,7 +76,7 @@ pub fn undo_log(
 }
 
 fn free_entry(heap: Heap, cells: &mut [u32], regions: &mut [u32], place: u32, kind: u32) -> Heap
-    ensures { Is result cells.new regions.new (freedOf kind place (stored heap cells.old regions.old)) }
+    ensures { Is result cells.new regions.new (freed_of kind place (stored heap cells.old regions.old)) }
 {
     if kind == ENTRY_REMOVED {
         return remove(heap, &mut cells[..], &mut regions[..], place);

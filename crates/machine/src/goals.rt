@@ -5,8 +5,8 @@ ghost use Rattle.std.proofs.Common.{to_z};
 ghost use Rattle.language.specs.Lists.{choose};
 ghost use Rattle.language.specs.Numbers.{less};
 ghost use Rattle.language.specs.File.{word};
-ghost use Rattle.language.specs.Format.{recordBytes, maxRecords, maxVariables, goalX, literalValue, sumY, sumZ, assignY, ifY, ifZ, ifThen, ifElse, testY, testZ};
-ghost use Rattle.word_machine.specs.Machine.{frameWords, literalWord};
+ghost use Rattle.language.specs.Format.{record_bytes, max_records, max_variables, goal_x, literal_value, sum_y, sum_z, assign_y, if_y, if_z, if_then, if_else, test_y, test_z};
+ghost use Rattle.word_machine.specs.Machine.{frame_words, literal_word};
 ghost use Rattle.machine.specs.GoalWords.{sum_at};
 
 use frames::{give, less_words, literal_word, sum_of, value};
@@ -19,7 +19,7 @@ use records::word_in;
 
 // "After a goal chain ends, the next goal is the enclosing goal's next": the goal after the one at record i.
 pub fn successor(plan: &[usize; PLAN], i: usize) -> usize
-    requires { i < maxRecords }
+    requires { i < max_records }
     ensures { result ≡ get_or plan.now i 0 }
 {
     plan[i]
@@ -27,10 +27,10 @@ pub fn successor(plan: &[usize; PLAN], i: usize) -> usize
 
 // "Literal .. gives X a value".
 pub fn literal(file: &[u8], i: usize, at: usize, frames: &mut [u32])
-    requires record_bytes_in_bounds { (recordBytes * i + recordBytes ≤ length file.now) × (at + frameWords ≤ length frames.old) }
-    requires goal_x_bound { word file.now i goalX ≤ maxVariables }
-    ensures { frames.new ≡ set frames.old (at + word file.now i goalX)
-        (literalWord (word file.now i literalValue)) }
+    requires record_bytes_in_bounds { (record_bytes * i + record_bytes ≤ length file.now) × (at + frame_words ≤ length frames.old) }
+    requires goal_x_bound { word file.now i goal_x ≤ max_variables }
+    ensures { frames.new ≡ set frames.old (at + word file.now i goal_x)
+        (literal_word (word file.now i literal_value)) }
 {
     let v = word_in(file, i, LITERAL_VALUE) as u32;
     give(frames, at, word_in(file, i, GOAL_X), literal_word(v));
@@ -38,8 +38,8 @@ pub fn literal(file: &[u8], i: usize, at: usize, frames: &mut [u32])
 
 // ".. sum ..": the sum or difference of Y and Z, in full.
 pub fn sum(file: &[u8], i: usize, at: usize, frames: &[u32]) -> i64
-    requires record_bytes_in_bounds { (recordBytes * i + recordBytes ≤ length file.now) × (at + frameWords ≤ length frames.now) }
-    requires sum_y_bound { (word file.now i sumY ≤ maxVariables) × (word file.now i sumZ ≤ maxVariables) }
+    requires record_bytes_in_bounds { (record_bytes * i + record_bytes ≤ length file.now) × (at + frame_words ≤ length frames.now) }
+    requires sum_y_bound { (word file.now i sum_y ≤ max_variables) × (word file.now i sum_z ≤ max_variables) }
     ensures { result ≡ sum_at file.now i at frames.now }
 {
     let y = value(frames, at, word_in(file, i, SUM_Y));
@@ -49,10 +49,10 @@ pub fn sum(file: &[u8], i: usize, at: usize, frames: &[u32]) -> i64
 
 // ".. and assign".
 pub fn assign(file: &[u8], i: usize, at: usize, frames: &mut [u32])
-    requires record_bytes_in_bounds { (recordBytes * i + recordBytes ≤ length file.now) × (at + frameWords ≤ length frames.old) }
-    requires goal_x_bound { (word file.now i goalX ≤ maxVariables) × (word file.now i assignY ≤ maxVariables) }
-    ensures { frames.new ≡ set frames.old (at + word file.now i goalX)
-        (get_or frames.old (at + word file.now i assignY) 0) }
+    requires record_bytes_in_bounds { (record_bytes * i + record_bytes ≤ length file.now) × (at + frame_words ≤ length frames.old) }
+    requires goal_x_bound { (word file.now i goal_x ≤ max_variables) × (word file.now i assign_y ≤ max_variables) }
+    ensures { frames.new ≡ set frames.old (at + word file.now i goal_x)
+        (get_or frames.old (at + word file.now i assign_y) 0) }
 {
     let v = value(&frames[..], at, word_in(file, i, ASSIGN_Y));
     give(frames, at, word_in(file, i, GOAL_X), v);
@@ -60,11 +60,11 @@ pub fn assign(file: &[u8], i: usize, at: usize, frames: &mut [u32])
 
 // The first goal of an if's part: "if Y < Z".
 pub fn part_of(file: &[u8], i: usize, at: usize, frames: &[u32]) -> usize
-    requires record_bytes_in_bounds { (recordBytes * i + recordBytes ≤ length file.now) × (at + frameWords ≤ length frames.now) }
-    requires if_y_bound { (word file.now i ifY ≤ maxVariables) × (word file.now i ifZ ≤ maxVariables) }
-    ensures { result ≡ choose (less (to_z w32 (get_or frames.now (at + word file.now i ifY) 0))
-        (to_z w32 (get_or frames.now (at + word file.now i ifZ) 0)))
-        (word file.now i ifThen) (word file.now i ifElse) }
+    requires record_bytes_in_bounds { (record_bytes * i + record_bytes ≤ length file.now) × (at + frame_words ≤ length frames.now) }
+    requires if_y_bound { (word file.now i if_y ≤ max_variables) × (word file.now i if_z ≤ max_variables) }
+    ensures { result ≡ choose (less (to_z w32 (get_or frames.now (at + word file.now i if_y) 0))
+        (to_z w32 (get_or frames.now (at + word file.now i if_z) 0)))
+        (word file.now i if_then) (word file.now i if_else) }
 {
     let y = value(frames, at, word_in(file, i, IF_Y));
     let z = value(frames, at, word_in(file, i, IF_Z));
@@ -77,10 +77,10 @@ pub fn part_of(file: &[u8], i: usize, at: usize, frames: &[u32]) -> usize
 
 // Whether a test passes: "fails unless Y < Z".
 pub fn passes(file: &[u8], i: usize, at: usize, frames: &[u32]) -> bool
-    requires record_bytes_in_bounds { (recordBytes * i + recordBytes ≤ length file.now) × (at + frameWords ≤ length frames.now) }
-    requires test_y_bound { (word file.now i testY ≤ maxVariables) × (word file.now i testZ ≤ maxVariables) }
-    ensures { result ≡ less (to_z w32 (get_or frames.now (at + word file.now i testY) 0))
-        (to_z w32 (get_or frames.now (at + word file.now i testZ) 0)) }
+    requires record_bytes_in_bounds { (record_bytes * i + record_bytes ≤ length file.now) × (at + frame_words ≤ length frames.now) }
+    requires test_y_bound { (word file.now i test_y ≤ max_variables) × (word file.now i test_z ≤ max_variables) }
+    ensures { result ≡ less (to_z w32 (get_or frames.now (at + word file.now i test_y) 0))
+        (to_z w32 (get_or frames.now (at + word file.now i test_z) 0)) }
 {
     let y = value(frames, at, word_in(file, i, TEST_Y));
     let z = value(frames, at, word_in(file, i, TEST_Z));

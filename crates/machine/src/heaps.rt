@@ -1,10 +1,10 @@
 // One step: the goals that change the heap.
 ghost use Rattle.std.specs.Prelude.{true, List, ℕ, ◌<◌, length};
-ghost use Rattle.language.specs.File.{word, recordCount};
-ghost use Rattle.language.specs.Format.{kindWord};
+ghost use Rattle.language.specs.File.{word, record_count};
+ghost use Rattle.language.specs.Format.{kind_word};
 ghost use Rattle.chains.specs.Formed.{Formed};
 ghost use Rattle.chains.specs.Shapes.{IsConstruct, IsCreate};
-ghost use Rattle.plans.specs.Plan.{Numbered, tablesIn};
+ghost use Rattle.plans.specs.Plan.{Numbered, tables_in};
 ghost use Rattle.machine.specs.Words.{FramePlaced, Changes, HeapGoes};
 
 use crate::cells::construct;
@@ -39,8 +39,8 @@ pub fn construct_step(
     frames: &mut [u32],
 ) -> HeapStep
     requires formed { Formed file.now × Numbered file.now plan.now }
-    requires goal_bound { (state.goal < recordCount file.now) × IsConstruct file.now state.goal × FramePlaced state (length frames.old) }
-    ensures { (images callees : List ℕ) → HeapGoes file.now (tablesIn plan.now images callees) state heap
+    requires goal_bound { (state.goal < record_count file.now) × IsConstruct file.now state.goal × FramePlaced state (length frames.old) }
+    ensures { (images callees : List ℕ) → HeapGoes file.now (tables_in plan.now images callees) state heap
         cells.old regions.old frames.old result cells.new regions.new frames.new }
 {
     let i = state.goal;
@@ -71,8 +71,8 @@ fn create_step(
     frames: &mut [u32],
 ) -> HeapStep
     requires formed { Formed file.now × Numbered file.now plan.now }
-    requires goal_bound { (state.goal < recordCount file.now) × IsCreate file.now state.goal × FramePlaced state (length frames.old) }
-    ensures { (images callees m : List ℕ) → HeapGoes file.now (tablesIn plan.now images callees) state heap
+    requires goal_bound { (state.goal < record_count file.now) × IsCreate file.now state.goal × FramePlaced state (length frames.old) }
+    ensures { (images callees m : List ℕ) → HeapGoes file.now (tables_in plan.now images callees) state heap
         m regions.old frames.old result m regions.new frames.new }
 {
     let i = state.goal;
@@ -95,9 +95,9 @@ pub fn change_heap(
     frames: &mut [u32],
 ) -> HeapStep
     requires formed { Formed file.now × Numbered file.now plan.now }
-    requires goal_bound { (state.goal < recordCount file.now) × FramePlaced state (length frames.old) }
-    requires changes { Changes (word file.now state.goal kindWord) true }
-    ensures { (images callees : List ℕ) → HeapGoes file.now (tablesIn plan.now images callees) state heap
+    requires goal_bound { (state.goal < record_count file.now) × FramePlaced state (length frames.old) }
+    requires changes { Changes (word file.now state.goal kind_word) true }
+    ensures { (images callees : List ℕ) → HeapGoes file.now (tables_in plan.now images callees) state heap
         cells.old regions.old frames.old result cells.new regions.new frames.new }
 {
     let i = state.goal;

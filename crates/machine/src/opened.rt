@@ -1,17 +1,17 @@
 // An open condition (C-20): its steps, and a test that fails. What it does to cells and regions is logged, the frame's words are saved.
 ghost use Rattle.std.specs.Prelude.{◌≡◌, List, ℕ, ◌+◌, ◌*◌, ◌≤◌, ◌<◌, length, get_or};
-ghost use Rattle.language.specs.File.{word, recordCount};
-ghost use Rattle.language.specs.Format.{recordBytes, maxRecords, tryThen, tryElse};
+ghost use Rattle.language.specs.File.{word, record_count};
+ghost use Rattle.language.specs.Format.{record_bytes, max_records, try_then, try_else};
 ghost use Rattle.chains.specs.Formed.{Formed};
 ghost use Rattle.chains.specs.Shapes.{IsConstruct, IsCreate, IsRemove, IsSum, IsTest};
 ghost use Rattle.memory.specs.Log.{stored, Is, undone};
 ghost use Rattle.memory.specs.Moved.{moved};
-ghost use Rattle.plans.specs.Plan.{Numbered, tablesIn};
+ghost use Rattle.plans.specs.Plan.{Numbered, tables_in};
 ghost use Rattle.word_machine.specs.Tables.{onto as ontoOf};
-ghost use Rattle.word_machine.specs.Machine.{frameWords};
+ghost use Rattle.word_machine.specs.Machine.{frame_words};
 ghost use Rattle.machine.specs.Words.{FramePlaced};
 ghost use Rattle.machine.specs.Entries.{Logs};
-ghost use Rattle.machine.specs.Trying.{frameNumbers, savedWords, countEnd, GoesIn};
+ghost use Rattle.machine.specs.Trying.{frame_numbers, saved_words, count_end, GoesIn};
 
 use crate::apart::{slow_arm, slow_construct};
 use crate::entries::{LOG_WORDS, note, undo_log};
@@ -36,9 +36,9 @@ pub const SAVED_WORDS: usize = FRAME_NUMBERS + 1;
 
 // The words of the frame at a place, as they are before the condition.
 pub fn save_frame(frames: &[u32], at: usize, own: &mut [u32; SAVED_WORDS], from: usize)
-    requires { (at + frameWords ≤ length frames.now) × (from ≤ 1) }
-    ensures own_after { own.new ≡ moved (at + 1) from frameNumbers frames.now own.old }
-    ensures own_len { length own.old ≡ savedWords }
+    requires { (at + frame_words ≤ length frames.now) × (from ≤ 1) }
+    ensures own_after { own.new ≡ moved (at + 1) from frame_numbers frames.now own.old }
+    ensures own_len { length own.old ≡ saved_words }
 {
     move_words(frames, at + 1, &mut own[..], from, FRAME_NUMBERS);
 }
@@ -55,10 +55,10 @@ pub fn take_back_all(
     own: &[u32; SAVED_WORDS],
     from: usize,
 ) -> Heap
-    requires { (at + frameWords ≤ length frames.old) × (from ≤ 1) }
+    requires { (at + frame_words ≤ length frames.old) × (from ≤ 1) }
     ensures by_index { (told : List ℕ) → Logs log.now told count
         → Is result cells.new regions.new (undone told count (stored heap cells.old regions.old)) }
-    ensures frames_after { frames.new ≡ moved from (at + 1) frameNumbers own.now frames.old }
+    ensures frames_after { frames.new ≡ moved from (at + 1) frame_numbers own.now frames.old }
 {
     let left = undo_log(heap, &mut cells[..], &mut regions[..], log, count);
     move_words(&own[..], from, &mut frames[..], at + 1, FRAME_NUMBERS);
@@ -67,15 +67,15 @@ pub fn take_back_all(
 
 // The first goals of the parts of the try at record i, or what comes after it.
 pub fn then_goal(file: &[u8], plan: &[usize; PLAN], i: usize) -> usize
-    requires { (i < maxRecords) × (recordBytes * i + recordBytes ≤ length file.now) }
-    ensures { result ≡ ontoOf (word file.now i tryThen) (get_or plan.now i 0) }
+    requires { (i < max_records) × (record_bytes * i + record_bytes ≤ length file.now) }
+    ensures { result ≡ ontoOf (word file.now i try_then) (get_or plan.now i 0) }
 {
     onto(word_in(file, i, TRY_THEN), successor(plan, i))
 }
 
 pub fn else_goal(file: &[u8], plan: &[usize; PLAN], i: usize) -> usize
-    requires { (i < maxRecords) × (recordBytes * i + recordBytes ≤ length file.now) }
-    ensures { result ≡ ontoOf (word file.now i tryElse) (get_or plan.now i 0) }
+    requires { (i < max_records) × (record_bytes * i + record_bytes ≤ length file.now) }
+    ensures { result ≡ ontoOf (word file.now i try_else) (get_or plan.now i 0) }
 {
     onto(word_in(file, i, TRY_ELSE), successor(plan, i))
 }
@@ -90,8 +90,8 @@ fn sum_in(
     frames: &mut [u32],
 ) -> ConditionStep
     requires formed { Formed file.now × Numbered file.now plan.now }
-    requires goal_bound { (state.goal < recordCount file.now) × IsSum file.now state.goal × FramePlaced state (length frames.old) }
-    ensures { (images callees m rs log : List ℕ) → GoesIn file.now (tablesIn plan.now images callees) state heap count
+    requires goal_bound { (state.goal < record_count file.now) × IsSum file.now state.goal × FramePlaced state (length frames.old) }
+    ensures { (images callees m rs log : List ℕ) → GoesIn file.now (tables_in plan.now images callees) state heap count
         m rs frames.old log result m rs frames.new log }
 {
     let i = state.goal;
@@ -116,9 +116,9 @@ fn construct_in(
     frames: &mut [u32],
     log: &mut [u32; LOG_WORDS],
 ) -> ConditionStep
-    requires formed { Formed file.now × Numbered file.now plan.now × (count < countEnd) }
-    requires goal_bound { (state.goal < recordCount file.now) × IsConstruct file.now state.goal × FramePlaced state (length frames.old) }
-    ensures { (images callees : List ℕ) → GoesIn file.now (tablesIn plan.now images callees) state heap count
+    requires formed { Formed file.now × Numbered file.now plan.now × (count < count_end) }
+    requires goal_bound { (state.goal < record_count file.now) × IsConstruct file.now state.goal × FramePlaced state (length frames.old) }
+    ensures { (images callees : List ℕ) → GoesIn file.now (tables_in plan.now images callees) state heap count
         cells.old regions.old frames.old log.old
         result cells.new regions.new frames.new log.new }
 {
@@ -157,9 +157,9 @@ fn create_in(
     frames: &mut [u32],
     log: &mut [u32; LOG_WORDS],
 ) -> ConditionStep
-    requires formed { Formed file.now × Numbered file.now plan.now × (count < countEnd) }
-    requires goal_bound { (state.goal < recordCount file.now) × IsCreate file.now state.goal × FramePlaced state (length frames.old) }
-    ensures { (images callees m : List ℕ) → GoesIn file.now (tablesIn plan.now images callees) state heap count
+    requires formed { Formed file.now × Numbered file.now plan.now × (count < count_end) }
+    requires goal_bound { (state.goal < record_count file.now) × IsCreate file.now state.goal × FramePlaced state (length frames.old) }
+    ensures { (images callees m : List ℕ) → GoesIn file.now (tables_in plan.now images callees) state heap count
         m regions.old frames.old log.old result m regions.new frames.new log.new }
 {
     let i = state.goal;
@@ -181,9 +181,9 @@ fn remove_in(
     frames: &[u32],
     log: &mut [u32; LOG_WORDS],
 ) -> ConditionStep
-    requires formed { Formed file.now × Numbered file.now plan.now × (count < countEnd) }
-    requires goal_bound { (state.goal < recordCount file.now) × IsRemove file.now state.goal × FramePlaced state (length frames.now) }
-    ensures { (images callees m rs : List ℕ) → GoesIn file.now (tablesIn plan.now images callees) state heap count
+    requires formed { Formed file.now × Numbered file.now plan.now × (count < count_end) }
+    requires goal_bound { (state.goal < record_count file.now) × IsRemove file.now state.goal × FramePlaced state (length frames.now) }
+    ensures { (images callees m rs : List ℕ) → GoesIn file.now (tables_in plan.now images callees) state heap count
         m rs frames.now log.old result m rs frames.now log.new }
 {
     let i = state.goal;
@@ -202,8 +202,8 @@ fn test_in(
     frames: &[u32],
 ) -> ConditionStep
     requires formed { Formed file.now × Numbered file.now plan.now }
-    requires goal_bound { (state.goal < recordCount file.now) × IsTest file.now state.goal × FramePlaced state (length frames.now) }
-    ensures { (images callees m rs log : List ℕ) → GoesIn file.now (tablesIn plan.now images callees) state heap count
+    requires goal_bound { (state.goal < record_count file.now) × IsTest file.now state.goal × FramePlaced state (length frames.now) }
+    ensures { (images callees m rs log : List ℕ) → GoesIn file.now (tables_in plan.now images callees) state heap count
         m rs frames.now log result m rs frames.now log }
 {
     let i = state.goal;
@@ -225,9 +225,9 @@ pub fn step_in(
     frames: &mut [u32],
     log: &mut [u32; LOG_WORDS],
 ) -> ConditionStep
-    requires formed { Formed file.now × Numbered file.now plan.now × (count < countEnd) }
-    requires goal_bound { (state.goal < recordCount file.now) × (state.goal ≡ 0 → ⊥) × FramePlaced state (length frames.old) }
-    ensures { (images callees : List ℕ) → GoesIn file.now (tablesIn plan.now images callees) state heap count
+    requires formed { Formed file.now × Numbered file.now plan.now × (count < count_end) }
+    requires goal_bound { (state.goal < record_count file.now) × (state.goal ≡ 0 → ⊥) × FramePlaced state (length frames.old) }
+    ensures { (images callees : List ℕ) → GoesIn file.now (tables_in plan.now images callees) state heap count
         cells.old regions.old frames.old log.old
         result cells.new regions.new frames.new log.new }
 {

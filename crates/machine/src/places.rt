@@ -1,10 +1,10 @@
 // Goals that create and remove regions.
 ghost use Rattle.std.specs.Prelude.{◌≡◌, ◌+◌, ◌*◌, ◌≤◌, length};
 ghost use Rattle.language.specs.File.{word};
-ghost use Rattle.language.specs.Format.{recordBytes, maxRegions, lifetimeRegion};
-ghost use Rattle.memory.specs.Memory.{created, createdRegions, removed, removedCells, removedRegions};
-ghost use Rattle.word_machine.specs.Machine.{frameWords, regionsFrom};
-ghost use Rattle.machine.specs.GoalWords.{regionFor, placed};
+ghost use Rattle.language.specs.Format.{record_bytes, max_regions, lifetime_region};
+ghost use Rattle.memory.specs.Memory.{created, created_regions, removed, removed_cells, removed_regions};
+ghost use Rattle.word_machine.specs.Machine.{frame_words, regions_from};
+ghost use Rattle.machine.specs.GoalWords.{region_for, placed};
 
 use frames::{name_region, region};
 use language::format::LIFETIME_REGION;
@@ -20,11 +20,11 @@ pub fn make_region(
     regions: &mut [u32],
     frames: &mut [u32],
 ) -> Made
-    requires record_bytes_in_bounds { (recordBytes * i + recordBytes ≤ length file.now) × (at + frameWords ≤ length frames.old) }
-    requires lifetime_region_bound { word file.now i lifetimeRegion ≤ maxRegions }
+    requires record_bytes_in_bounds { (record_bytes * i + record_bytes ≤ length file.now) × (at + frame_words ≤ length frames.old) }
+    requires lifetime_region_bound { word file.now i lifetime_region ≤ max_regions }
     ensures value { result ≡ created heap regions.old }
-    ensures regions_after { regions.new ≡ createdRegions heap regions.old }
-    ensures frames_after { frames.new ≡ placed (at + regionsFrom + word file.now i lifetimeRegion) result frames.old }
+    ensures regions_after { regions.new ≡ created_regions heap regions.old }
+    ensures frames_after { frames.new ≡ placed (at + regions_from + word file.now i lifetime_region) result frames.old }
 {
     let Made::At(place, left) = create(heap, &mut regions[..]) else {
         return Made::NoRoom;
@@ -48,11 +48,11 @@ pub fn drop_region(
     regions: &mut [u32],
     frames: &[u32],
 ) -> Heap
-    requires record_bytes_in_bounds { (recordBytes * i + recordBytes ≤ length file.now) × (at + frameWords ≤ length frames.now) }
-    requires lifetime_region_bound { word file.now i lifetimeRegion ≤ maxRegions }
-    ensures { (result ≡ removed heap regions.old (regionFor file.now i at frames.now))
-        × (cells.new ≡ removedCells heap cells.old regions.old (regionFor file.now i at frames.now))
-        × (regions.new ≡ removedRegions heap regions.old (regionFor file.now i at frames.now)) }
+    requires record_bytes_in_bounds { (record_bytes * i + record_bytes ≤ length file.now) × (at + frame_words ≤ length frames.now) }
+    requires lifetime_region_bound { word file.now i lifetime_region ≤ max_regions }
+    ensures { (result ≡ removed heap regions.old (region_for file.now i at frames.now))
+        × (cells.new ≡ removed_cells heap cells.old regions.old (region_for file.now i at frames.now))
+        × (regions.new ≡ removed_regions heap regions.old (region_for file.now i at frames.now)) }
 {
     let place = region(frames, at, word_in(file, i, LIFETIME_REGION));
     remove(heap, &mut cells[..], &mut regions[..], place)

@@ -2,12 +2,12 @@
 ghost use Rattle.std.specs.Prelude.{◌≡◌, ◌≤◌, length};
 ghost use Rattle.language.specs.Machine.{holds};
 ghost use Rattle.chains.specs.Formed.{Formed};
-ghost use Rattle.memory.specs.Memory.{cellWords, regionWords, emptyHeap};
-ghost use Rattle.plans.specs.Plan.{Narrow, Numbered, tablesIn};
-ghost use Rattle.word_machine.specs.Machine.{frameWords, wordRun};
-ghost use Rattle.machine.specs.Entries.{logWords};
-ghost use Rattle.machine.specs.Trying.{savedWords};
-ghost use Rattle.machine.specs.Runs.{endedAt, firstState, runFirst, Ran};
+ghost use Rattle.memory.specs.Memory.{cell_words, region_words, empty_heap};
+ghost use Rattle.plans.specs.Plan.{Narrow, Numbered, tables_in};
+ghost use Rattle.word_machine.specs.Machine.{frame_words, word_run};
+ghost use Rattle.machine.specs.Entries.{log_words};
+ghost use Rattle.machine.specs.Trying.{saved_words};
+ghost use Rattle.machine.specs.Runs.{ended_at, first_state, run_first, Ran};
 
 use crate::calls::{body_of, settle, size_of};
 use crate::entries::LOG_WORDS;
@@ -26,7 +26,7 @@ use records::word_in;
 
 // A run that ends at a state, after so many steps.
 fn ended(ending: Ending, steps: usize, state: State) -> Outcome
-    ensures { result ≡ endedAt ending steps state }
+    ensures { result ≡ ended_at ending steps state }
 {
     Outcome {
         ending,
@@ -37,7 +37,7 @@ fn ended(ending: Ending, steps: usize, state: State) -> Outcome
 
 // Before the first step: the entry's frame, at its first goal.
 pub fn first_state(callees: &[u64; CALLEES]) -> State
-    ensures { result ≡ firstState callees.now }
+    ensures { result ≡ first_state callees.now }
 {
     State {
         top: 0,
@@ -48,13 +48,13 @@ pub fn first_state(callees: &[u64; CALLEES]) -> State
 }
 
 fn log_words() -> [u32; LOG_WORDS]
-    ensures { logWords ≡ length result }
+    ensures { log_words ≡ length result }
 {
     [0; LOG_WORDS]
 }
 
 fn saved_words() -> [u32; SAVED_WORDS]
-    ensures { savedWords ≡ length result }
+    ensures { saved_words ≡ length result }
 {
     [0; SAVED_WORDS]
 }
@@ -74,10 +74,10 @@ fn run_on(
     steps: usize,
 ) -> Outcome
     requires formed { Formed file.now × Narrow plan.now images.now × Numbered file.now plan.now }
-    requires frame_words_in_bounds { frameWords ≤ length frames.old }
-    ensures { Ran (runFirst file.now (tablesIn plan.now images.now callees.now) steps
-        (emptyHeap (holds (length cells.old) cellWords) (holds (length regions.old) regionWords))
-        cells.old regions.old frames.old prints.old (firstState callees.now))
+    requires frame_words_in_bounds { frame_words ≤ length frames.old }
+    ensures { Ran (run_first file.now (tables_in plan.now images.now callees.now) steps
+        (empty_heap (holds (length cells.old) cell_words) (holds (length regions.old) region_words))
+        cells.old regions.old frames.old prints.old (first_state callees.now))
         result cells.new regions.new frames.new prints.new }
 {
     let mut heap = empty(&cells[..], &regions[..]);
@@ -158,7 +158,7 @@ pub fn run_words(
     steps: usize,
 ) -> Outcome
     requires { Formed file.now × Narrow plan.now images.now × Numbered file.now plan.now }
-    ensures { Ran (wordRun file.now (tablesIn plan.now images.now callees.now)
+    ensures { Ran (word_run file.now (tables_in plan.now images.now callees.now)
         cells.old regions.old frames.old prints.old steps)
         result cells.new regions.new frames.new prints.new }
 {

@@ -1,11 +1,11 @@
 // One step: the goals that leave cells and regions alone.
 ghost use Rattle.std.specs.Prelude.{◌≡◌, List, ℕ, ◌<◌, length, false};
-ghost use Rattle.language.specs.File.{word, recordCount};
-ghost use Rattle.language.specs.Format.{kindWord};
+ghost use Rattle.language.specs.File.{word, record_count};
+ghost use Rattle.language.specs.Format.{kind_word};
 ghost use Rattle.chains.specs.Formed.{Formed};
 ghost use Rattle.chains.specs.Shapes.{IsCall, IsIf, IsPrint, IsSum, IsSwitch};
-ghost use Rattle.plans.specs.Plan.{Narrow, Numbered, tablesIn};
-ghost use Rattle.machine.specs.Words.{FramePlaced, Changes, onwardTo, Goes, GoesOrTries};
+ghost use Rattle.plans.specs.Plan.{Narrow, Numbered, tables_in};
+ghost use Rattle.machine.specs.Words.{FramePlaced, Changes, onward_to, Goes, GoesOrTries};
 
 use crate::arms::switch_arm;
 use crate::calls::call;
@@ -23,7 +23,7 @@ const PRINT_WORDS: usize = 1;
 
 // The newest frame goes on at record goal.
 pub fn onward(state: State, goal: usize) -> State
-    ensures { result ≡ onwardTo state goal }
+    ensures { result ≡ onward_to state goal }
 {
     State {
         top: state.top,
@@ -36,8 +36,8 @@ pub fn onward(state: State, goal: usize) -> State
 // A sum or difference, 15 for one "outside −2,147,483,648 to 2,147,483,647".
 pub fn sum_step(file: &[u8], plan: &[usize; PLAN], state: State, frames: &mut [u32]) -> Step
     requires formed { Formed file.now × Numbered file.now plan.now }
-    requires goal_bound { (state.goal < recordCount file.now) × IsSum file.now state.goal × FramePlaced state (length frames.old) }
-    ensures { (images callees m ps : List ℕ) → Goes file.now (tablesIn plan.now images callees)
+    requires goal_bound { (state.goal < record_count file.now) × IsSum file.now state.goal × FramePlaced state (length frames.old) }
+    ensures { (images callees m ps : List ℕ) → Goes file.now (tables_in plan.now images callees)
         state m frames.old ps result frames.new ps }
 {
     let i = state.goal;
@@ -61,8 +61,8 @@ fn call_step(
 ) -> Step
     requires formed { Formed file.now }
     requires narrow { Narrow plan.now images.now }
-    requires goal_bound { (state.goal < recordCount file.now) × IsCall file.now state.goal × FramePlaced state (length frames.old) }
-    ensures { (m ps : List ℕ) → Goes file.now (tablesIn plan.now images.now callees.now)
+    requires goal_bound { (state.goal < record_count file.now) × IsCall file.now state.goal × FramePlaced state (length frames.old) }
+    ensures { (m ps : List ℕ) → Goes file.now (tables_in plan.now images.now callees.now)
         state m frames.old ps result frames.new ps }
 {
     let k = state.top;
@@ -92,8 +92,8 @@ fn print_step(
     prints: &mut [u32],
 ) -> Step
     requires formed { Formed file.now × Numbered file.now plan.now }
-    requires goal_bound { (state.goal < recordCount file.now) × IsPrint file.now state.goal × FramePlaced state (length frames.now) }
-    ensures { (images callees m : List ℕ) → Goes file.now (tablesIn plan.now images callees)
+    requires goal_bound { (state.goal < record_count file.now) × IsPrint file.now state.goal × FramePlaced state (length frames.now) }
+    ensures { (images callees m : List ℕ) → Goes file.now (tables_in plan.now images callees)
         state m frames.now prints.old result frames.now prints.new }
 {
     let k = state.top;
@@ -123,8 +123,8 @@ pub fn switch_step(
     frames: &mut [u32],
 ) -> Step
     requires formed { Formed file.now × Numbered file.now plan.now }
-    requires goal_bound { (state.goal < recordCount file.now) × IsSwitch file.now state.goal × FramePlaced state (length frames.old) }
-    ensures { (images callees ps : List ℕ) → Goes file.now (tablesIn plan.now images callees)
+    requires goal_bound { (state.goal < record_count file.now) × IsSwitch file.now state.goal × FramePlaced state (length frames.old) }
+    ensures { (images callees ps : List ℕ) → Goes file.now (tables_in plan.now images callees)
         state cells.now frames.old ps result frames.new ps }
 {
     let i = state.goal;
@@ -136,8 +136,8 @@ pub fn switch_step(
 // An if.
 fn if_step(file: &[u8], plan: &[usize; PLAN], state: State, frames: &[u32]) -> Step
     requires formed { Formed file.now × Numbered file.now plan.now }
-    requires goal_bound { (state.goal < recordCount file.now) × IsIf file.now state.goal × FramePlaced state (length frames.now) }
-    ensures { (images callees m ps : List ℕ) → Goes file.now (tablesIn plan.now images callees)
+    requires goal_bound { (state.goal < record_count file.now) × IsIf file.now state.goal × FramePlaced state (length frames.now) }
+    ensures { (images callees m ps : List ℕ) → Goes file.now (tables_in plan.now images callees)
         state m frames.now ps result frames.now ps }
 {
     let i = state.goal;
@@ -159,9 +159,9 @@ pub fn go(
 ) -> Step
     requires formed { Formed file.now × Numbered file.now plan.now }
     requires narrow { Narrow plan.now images.now }
-    requires goal_bound { (state.goal < recordCount file.now) × FramePlaced state (length frames.old) }
-    requires changes { Changes (word file.now state.goal kindWord) false }
-    ensures { GoesOrTries file.now (tablesIn plan.now images.now callees.now) state
+    requires goal_bound { (state.goal < record_count file.now) × FramePlaced state (length frames.old) }
+    requires changes { Changes (word file.now state.goal kind_word) false }
+    ensures { GoesOrTries file.now (tables_in plan.now images.now callees.now) state
         cells.now frames.old prints.old result frames.new prints.new }
 {
     let i = state.goal;

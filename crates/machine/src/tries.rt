@@ -1,9 +1,9 @@
 // A condition carried out, from its try to where the run goes on outside it.
 ghost use Rattle.std.specs.Prelude.{◌≡◌, List, ℕ, ◌≤◌, ◌<◌, length};
-ghost use Rattle.language.specs.File.{recordCount};
+ghost use Rattle.language.specs.File.{record_count};
 ghost use Rattle.chains.specs.Formed.{Formed};
 ghost use Rattle.chains.specs.Shapes.{IsTry};
-ghost use Rattle.plans.specs.Plan.{Numbered, tablesIn};
+ghost use Rattle.plans.specs.Plan.{Numbered, tables_in};
 ghost use Rattle.machine.specs.Words.{FramePlaced};
 ghost use Rattle.machine.specs.Trying.{Tried};
 
@@ -32,8 +32,8 @@ pub fn run_try(
     steps: usize,
 ) -> ConditionEnd
     requires formed { Formed file.now × Numbered file.now plan.now × (from ≤ 1) × (0 < steps) }
-    requires goal_bound { (state.goal < recordCount file.now) × (state.goal ≡ 0 → ⊥) × IsTry file.now state.goal × FramePlaced state (length frames.old) }
-    ensures { (images callees : List ℕ) → Tried file.now (tablesIn plan.now images callees) state heap steps
+    requires goal_bound { (state.goal < record_count file.now) × (state.goal ≡ 0 → ⊥) × IsTry file.now state.goal × FramePlaced state (length frames.old) }
+    ensures { (images callees : List ℕ) → Tried file.now (tables_in plan.now images callees) state heap steps
         cells.old regions.old frames.old result cells.new regions.new frames.new }
 {
     let i = state.goal;

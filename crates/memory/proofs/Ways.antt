@@ -11,35 +11,35 @@ use Rattle.memory.specs.declared.Taken.{Taken}
 use Rattle.memory.specs.declared.Taken.TheVariants.{Place, Full}
 use Rattle.memory.specs.declared.Heap.{Heap}
 use Rattle.memory.specs.declared.Made.TheVariants.{At, NoRoom}
-use Rattle.memory.specs.Memory.{regionWords, regionLast, most, link, first, taken, created, createdOf, createdRegions, createdRegionsOf, built, builtOf}
+use Rattle.memory.specs.Memory.{region_words, region_last, most, link, first, taken, created, created_of, created_regions, created_regions_of, built, built_of}
 
 module _ (h : Heap) (rs : List ℕ) (l : ℕ) (e : l ≡ first rs h.regions.head) (t : Taken) (d : t ≡ taken h.regions l) where
-  pub create-full : t ≡ Full → (NoRoom ≡ created h rs) × (rs ≡ createdRegions h rs)
-  unfolding created createdRegions createdOf createdRegionsOf
-  create-full f = rw (← e, ← d, f) (refl, refl)
+  pub create_full : t ≡ Full → (NoRoom ≡ created h rs) × (rs ≡ created_regions h rs)
+  unfolding created created_regions created_of created_regions_of
+  create_full f = rw (← e, ← d, f) (refl, refl)
 
-  pub create-made : (r : ℕ) (p : Pool) → t ≡ Place r p → (rs₁ : List ℕ) → rs₁ ≡ set rs (regionWords * r + regionLast) h.cells.limit
-      → (At r (record { cells = h.cells; regions = p }) ≡ created h rs) × (rs₁ ≡ createdRegions h rs)
-  unfolding created createdRegions createdOf createdRegionsOf
-  create-made r p f rs₁ g = rw (g, ← e, ← d, f) (refl, refl)
+  pub create_made : (r : ℕ) (p : Pool) → t ≡ Place r p → (rs₁ : List ℕ) → rs₁ ≡ set rs (region_words * r + region_last) h.cells.limit
+      → (At r (record { cells = h.cells; regions = p }) ≡ created h rs) × (rs₁ ≡ created_regions h rs)
+  unfolding created created_regions created_of created_regions_of
+  create_made r p f rs₁ g = rw (g, ← e, ← d, f) (refl, refl)
 
 module _ (h : Heap) (m : List ℕ) (l : ℕ) (e : l ≡ link m h.cells.head) (t : Taken) (dt : t ≡ taken h.cells l) where
   pub cell_full : t ≡ Full → NoRoom ≡ built h m
-  unfolding built builtOf
+  unfolding built built_of
   cell_full g = rw (← e, ← dt, g)
 
-  pub cell-made : (x : ℕ) (p : Pool) → t ≡ Place x p → At x (record { cells = p; regions = h.regions }) ≡ built h m
-  unfolding built builtOf
-  cell-made x p g = rw (← e, ← dt, g)
+  pub cell_made : (x : ℕ) (p : Pool) → t ≡ Place x p → At x (record { cells = p; regions = h.regions }) ≡ built h m
+  unfolding built built_of
+  cell_made x p g = rw (← e, ← dt, g)
 
 -- ---- room
-pub room-none : (n k : ℕ) → k ≡ 0 → 0 ≡ holds n k
+pub room_none : (n k : ℕ) → k ≡ 0 → 0 ≡ holds n k
 unfolding holds
-room-none n k e = rw e (omega (arith, div-zero n))
+room_none n k e = rw e (omega (arith, div-zero n))
 
-pub room-all : (n k : ℕ) → n / k < most → n / k ≡ holds n k
+pub room_all : (n k : ℕ) → n / k < most → n / k ≡ holds n k
 unfolding holds
-room-all n k l = omega arith
+room_all n k l = omega arith
 
 pub room_most : (n k : ℕ) → most ≤ n / k → most ≡ holds n k
 unfolding holds

@@ -37,10 +37,10 @@ moved_here p q (suc n) from to i l h =
     go ih (no ne) = ih (omega (arith, ne))
 
 -- the first i are still to do
-pub moved-next : (p q i : ℕ) (from to to' t : List ℕ) → 0 < i → moved p q i from to ≡ t → to' ≡ set to (q + (i - 1)) (get_or from (p + (i - 1)) 0) → moved p q (i - 1) from to' ≡ t
+pub moved_next : (p q i : ℕ) (from to to' t : List ℕ) → 0 < i → moved p q i from to ≡ t → to' ≡ set to (q + (i - 1)) (get_or from (p + (i - 1)) 0) → moved p q (i - 1) from to' ≡ t
 unfolding moved
-moved-next p q zero from to to' t l e d = absurd (omega arith)
-moved-next p q (suc i) from to to' t l e d = let z : suc i - 1 ≡ i = omega arith in rw (d, z) e
+moved_next p q zero from to to' t l e d = absurd (omega arith)
+moved_next p q (suc i) from to to' t l e d = let z : suc i - 1 ≡ i = omega arith in rw (d, z) e
 
 pub moved_none : (p q i : ℕ) (from to t : List ℕ) → i ≡ 0 → moved p q i from to ≡ t → to ≡ t
 unfolding moved

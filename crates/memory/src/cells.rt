@@ -1,13 +1,13 @@
 // The words of a cell: its functor, up to four arguments, and the next cell of its region.
 ghost use Rattle.std.specs.Prelude.{◌≡◌};
-ghost use Rattle.memory.specs.Memory.{first, cellWord, withLink, hung};
+ghost use Rattle.memory.specs.Memory.{first, cell_word, with_link, hung};
 
 use crate::words::{put, word};
 use crate::{CELL_NEXT, CELL_WORDS, REGION_LAST, REGION_WORDS};
 
 // Word 0 is the functor, words 1 to 4 are the arguments.
 pub fn cell_word(cells: &[u32], cell: u32, k: u32) -> u32
-    ensures { result ≡ cellWord cells.now cell k }
+    ensures { result ≡ cell_word cells.now cell k }
 {
     word(&cells[..], CELL_WORDS * (cell as usize) + (k as usize))
 }
@@ -26,7 +26,7 @@ fn hang(regions: &mut [u32], region: u32, cell: u32, limit: u32)
 
 // A cell that is filled, taken from as many cells as `limit`, becomes the first of a region's.
 pub fn hang_cell(cells: &mut [u32], regions: &mut [u32], region: u32, cell: u32, limit: u32)
-    ensures { (cells.new ≡ withLink cells.old cell (first regions.old region))
+    ensures { (cells.new ≡ with_link cells.old cell (first regions.old region))
         × (regions.new ≡ hung regions.old region cell limit) }
 {
     let next = word(&regions[..], REGION_WORDS * (region as usize));

@@ -1,7 +1,7 @@
 // Regions are created and removed, cells are built in them. No step looks through the memory.
 ghost use Rattle.std.specs.Prelude.{◌≡◌, length};
 ghost use Rattle.language.specs.Machine.{holds};
-ghost use Rattle.memory.specs.Memory.{cellWords, regionWords, emptyHeap, created, createdRegions, built, removed, removedCells, removedRegions};
+ghost use Rattle.memory.specs.Memory.{cell_words, region_words, empty_heap, created, created_regions, built, removed, removed_cells, removed_regions};
 
 use crate::pools::{fresh, room, take};
 use crate::words::{put, word};
@@ -9,7 +9,7 @@ use crate::{CELL_NEXT, CELL_WORDS, Heap, Made, Pool, REGION_LAST, REGION_WORDS, 
 
 // Before the first step. The words keep what stands there.
 pub fn empty(cells: &[u32], regions: &[u32]) -> Heap
-    ensures { result ≡ emptyHeap (holds (length cells.now) cellWords) (holds (length regions.now) regionWords) }
+    ensures { result ≡ empty_heap (holds (length cells.now) cell_words) (holds (length regions.now) region_words) }
 {
     Heap {
         cells: fresh(room(cells.len(), CELL_WORDS)),
@@ -19,7 +19,7 @@ pub fn empty(cells: &[u32], regions: &[u32]) -> Heap
 
 // "Create makes a new region": one without cells.
 pub fn create(heap: Heap, regions: &mut [u32]) -> Made
-    ensures { (result ≡ created heap regions.old) × (regions.new ≡ createdRegions heap regions.old) }
+    ensures { (result ≡ created heap regions.old) × (regions.new ≡ created_regions heap regions.old) }
 {
     let cells = heap.cells;
     let free = heap.regions;
@@ -63,8 +63,8 @@ pub fn take_cell(heap: Heap, cells: &[u32]) -> Made
 // "Remove destroys one with its cells": they go before the free ones, all at once.
 pub fn remove(heap: Heap, cells: &mut [u32], regions: &mut [u32], region: u32) -> Heap
     ensures { (result ≡ removed heap regions.old region)
-        × (cells.new ≡ removedCells heap cells.old regions.old region)
-        × (regions.new ≡ removedRegions heap regions.old region) }
+        × (cells.new ≡ removed_cells heap cells.old regions.old region)
+        × (regions.new ≡ removed_regions heap regions.old region) }
 {
     let free = heap.cells;
     let places = heap.regions;

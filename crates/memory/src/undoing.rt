@@ -1,6 +1,6 @@
 // What an open condition built is taken back (C-20).
 ghost use Rattle.std.specs.Prelude.{◌≡◌};
-ghost use Rattle.memory.specs.Log.{unbuilt, unbuiltCells, unbuiltRegions};
+ghost use Rattle.memory.specs.Log.{unbuilt, unbuilt_cells, unbuilt_regions};
 
 use crate::words::{put, word};
 use crate::{CELL_NEXT, CELL_WORDS, Heap, Pool, REGION_LAST, REGION_WORDS};
@@ -8,8 +8,8 @@ use crate::{CELL_NEXT, CELL_WORDS, Heap, Pool, REGION_LAST, REGION_WORDS};
 // A region's first cell goes before the free ones.
 pub fn take_back(heap: Heap, cells: &mut [u32], regions: &mut [u32], region: u32) -> Heap
     ensures { (result ≡ unbuilt heap regions.old region)
-        × (cells.new ≡ unbuiltCells heap cells.old regions.old region)
-        × (regions.new ≡ unbuiltRegions heap cells.old regions.old region) }
+        × (cells.new ≡ unbuilt_cells heap cells.old regions.old region)
+        × (regions.new ≡ unbuilt_regions heap cells.old regions.old region) }
 {
     let free = heap.cells;
     let places = heap.regions;

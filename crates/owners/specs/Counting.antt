@@ -6,11 +6,11 @@ use Rattle.std.proofs.Math.Path.{refl}
 use mathlib.Core.List.{List, [], ◌∷◌}
 use Rattle.language.specs.Lists.{nth, count}
 use Rattle.language.specs.File.{Chain, Use, number, unused, first, leading, references}
-use Rattle.laws.specs.Counts.{hit, hit_other, count_none, count-cons}
-use Rattle.chains.specs.Layout.{hits, hits-suc, hits-zero}
+use Rattle.laws.specs.Counts.{hit, hit_other, count_none, count_cons}
+use Rattle.chains.specs.Layout.{hits, hits_suc, hits_zero}
 
-hit-is : (r i : ℕ) → 0 < hit r i → r ≡ i
-hit-is r i h = elim (ℕ_discrete r i) [ yes e ↦ e | no e ↦ absurd (omega (arith, hit_other r i e)) ]
+hit_is : (r i : ℕ) → 0 < hit r i → r ≡ i
+hit_is r i h = elim (ℕ_discrete r i) [ yes e ↦ e | no e ↦ absurd (omega (arith, hit_other r i e)) ]
 
 -- ---- the words of record j, from word k on
 module _ (W : ℕ → ℕ → ℕ) (n j : ℕ) where
@@ -25,32 +25,32 @@ module _ (W : ℕ → ℕ → ℕ) (n j : ℕ) where
   count_at (unused ∷ us) k i h = let r = count_at us (suc k) i h in (suc r.0, r.1, r.2, later k r.0 i r.3)
   count_at (first c ∷ us) k i h =
       elim (dec_lt 0 (hit (W j k) i)) [
-        | yes y ↦ (0, c, refl, let z : k + 0 ≡ k = omega arith in rw z (hit-is (W j k) i y))
-        | no y ↦ (let r = count_at us (suc k) i (omega (arith, count-cons i (W j k) (leading W n j (suc k) us))) in (suc r.0, r.1, r.2, later k r.0 i r.3))
+        | yes y ↦ (0, c, refl, let z : k + 0 ≡ k = omega arith in rw z (hit_is (W j k) i y))
+        | no y ↦ (let r = count_at us (suc k) i (omega (arith, count_cons i (W j k) (leading W n j (suc k) us))) in (suc r.0, r.1, r.2, later k r.0 i r.3))
       ]
 
 -- ---- the m records from b on
 module _ (W : ℕ → ℕ → ℕ) (n : ℕ) where
-  pub hits-one : (m b j i : ℕ) → b ≤ j → j < b + m → count i (references W n j) ≤ hits W n b m i
-  hits-one zero b j i l h = absurd (omega arith)
-  hits-one (suc m) b j i l h =
+  pub hits_one : (m b j i : ℕ) → b ≤ j → j < b + m → count i (references W n j) ≤ hits W n b m i
+  hits_one zero b j i l h = absurd (omega arith)
+  hits_one (suc m) b j i l h =
       elim (dec_le j b) [
-        | yes y ↦ (let z : j ≡ b = omega arith in rw z (omega (arith, hits-suc W n m b i)))
-        | no y ↦ omega (arith, hits-suc W n m b i, hits-one m (suc b) j i (omega arith) (omega arith))
+        | yes y ↦ (let z : j ≡ b = omega arith in rw z (omega (arith, hits_suc W n m b i)))
+        | no y ↦ omega (arith, hits_suc W n m b i, hits_one m (suc b) j i (omega arith) (omega arith))
       ]
 
-  pub hits-two : (m b j k i : ℕ) → b ≤ j → j < k → k < b + m → count i (references W n j) + count i (references W n k) ≤ hits W n b m i
-  hits-two zero b j k i l o h = absurd (omega arith)
-  hits-two (suc m) b j k i l o h =
+  pub hits_two : (m b j k i : ℕ) → b ≤ j → j < k → k < b + m → count i (references W n j) + count i (references W n k) ≤ hits W n b m i
+  hits_two zero b j k i l o h = absurd (omega arith)
+  hits_two (suc m) b j k i l o h =
       elim (dec_le j b) [
-        | yes y ↦ (let z : j ≡ b = omega arith in rw z (omega (arith, hits-suc W n m b i, hits-one m (suc b) k i (omega arith) (omega arith))))
-        | no y ↦ omega (arith, hits-suc W n m b i, hits-two m (suc b) j k i (omega arith) o (omega arith))
+        | yes y ↦ (let z : j ≡ b = omega arith in rw z (omega (arith, hits_suc W n m b i, hits_one m (suc b) k i (omega arith) (omega arith))))
+        | no y ↦ omega (arith, hits_suc W n m b i, hits_two m (suc b) j k i (omega arith) o (omega arith))
       ]
 
-  pub hits-some : (m b i : ℕ) → 0 < hits W n b m i → (j : ℕ) × (b ≤ j) × (j < b + m) × (0 < count i (references W n j))
-  hits-some zero b i h = absurd (omega (arith, hits-zero W n b i))
-  hits-some (suc m) b i h =
+  pub hits_some : (m b i : ℕ) → 0 < hits W n b m i → (j : ℕ) × (b ≤ j) × (j < b + m) × (0 < count i (references W n j))
+  hits_some zero b i h = absurd (omega (arith, hits_zero W n b i))
+  hits_some (suc m) b i h =
       elim (dec_lt 0 (count i (references W n b))) [
         | yes y ↦ (b, omega arith, omega arith, y)
-        | no y ↦ (let z = hits-some m (suc b) i (omega (arith, hits-suc W n m b i)) in (z.0, omega arith, omega arith, z.3))
+        | no y ↦ (let z = hits_some m (suc b) i (omega (arith, hits_suc W n m b i)) in (z.0, omega arith, omega arith, z.3))
       ]

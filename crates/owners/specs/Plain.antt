@@ -5,93 +5,93 @@ use Rattle.std.proofs.Math.Path.{refl, sym}
 use Rattle.std.proofs.Common.{ap, ap₂, ◌∙◌, ne_eqb}
 use Rattle.sets.specs.Tests.{◌&◌, ◌or◌}
 use Rattle.language.specs.Lists.{choose, all, up_from}
-use Rattle.language.specs.File.{kLiteral, kSum, kAssign, kConstruct, kSwitch, kIf, kCall, kPrint, kCreate, kRemove, kTry, kTest, Kind, kNone, kHeader, kType, kFunctor, kProcedure, kVariable, kRegion, kEdge, kArm, kArgument, kGoal, kind_of, word, recordCount}
-use Rattle.language.specs.Program.{Goals, done, ◌then◌, Goal, step, switch, ifLess, try, Arms, noArms, arm, Program}
-use Rattle.language.specs.Annotation.{plainStep, plainGoals, plainGoal, plainArms, unannotated}
+use Rattle.language.specs.File.{k_literal, k_sum, k_assign, k_construct, k_switch, k_if, k_call, k_print, k_create, k_remove, k_try, k_test, Kind, k_none, k_header, k_type, k_functor, k_procedure, k_variable, k_region, k_edge, k_arm, k_argument, k_goal, kind_of, word, record_count}
+use Rattle.language.specs.Program.{Goals, done, ◌then◌, Goal, step, switch, if_less, try, Arms, no_arms, arm, Program}
+use Rattle.language.specs.Annotation.{plain_step, plain_goals, plain_goal, plain_arms, unannotated}
 use Rattle.language.specs.Answers.{program}
-use Rattle.language.specs.Format.{kindWord, createKind, removeKind}
+use Rattle.language.specs.Format.{kind_word, create_kind, remove_kind}
 use Rattle.records.specs.Lists.{all_same}
-use Rattle.chains.specs.Formed.{Formed, goalAt}
-use Rattle.chains.specs.Layout.{all-rows, number_is}
+use Rattle.chains.specs.Formed.{Formed, goal_at}
+use Rattle.chains.specs.Layout.{all_rows, number_is}
 use Rattle.chains.specs.Kinds.{same_read}
-use Rattle.chains.specs.Shapes.{goal-number}
-use Rattle.chains.specs.Goals.{literal-at, sum-at, assign-at, construct-at, print-at, create-at, remove-at, test_at}
-use Rattle.chains.specs.Parts.{switch-at, if-at, try-at, call_at}
-use Rattle.owners.specs.Everywhere.{allGoals, allGoal, allArms, everyGoal, ifGoal, everyRecord}
-use Rattle.owners.specs.Numbered.{every-same}
-use Rattle.owners.specs.TreeLaw.{record-kind, every-record}
+use Rattle.chains.specs.Shapes.{goal_number}
+use Rattle.chains.specs.Goals.{literal_at, sum_at_law, assign_at, construct_at, print_at, create_at, remove_at, test_at}
+use Rattle.chains.specs.Parts.{switch_at, if_at, try_at, call_at}
+use Rattle.owners.specs.Everywhere.{all_goals, all_goal, all_arms, every_goal, if_goal, every_record}
+use Rattle.owners.specs.Numbered.{every_same}
+use Rattle.owners.specs.TreeLaw.{record_kind, every_record_law}
 
 -- one goal, its parts aside
-unfoldable pub plainHere : Goal → Bool
-plainHere (step s) = plainStep s
-plainHere (switch x cs) = true
-plainHere (ifLess y z a b) = true
-plainHere (try c a b) = true
+unfoldable pub plain_here : Goal → Bool
+plain_here (step s) = plain_step s
+plain_here (switch x cs) = true
+plain_here (if_less y z a b) = true
+plain_here (try c a b) = true
 
 mutual
-  unfolding plainGoals allGoals plainHere ◌&◌
+  unfolding plain_goals all_goals plain_here ◌&◌
 
-  plain-goals : (gs : Goals) → plainGoals gs ≡ allGoals plainHere gs
-  plain-goals done = refl
-  plain-goals (g then gs) = ap₂ ◌&◌ (plain-goal g) (plain-goals gs)
+  plain_goals_law : (gs : Goals) → plain_goals gs ≡ all_goals plain_here gs
+  plain_goals_law done = refl
+  plain_goals_law (g then gs) = ap₂ ◌&◌ (plain_goal_law g) (plain_goals_law gs)
 
-  plain-goal : (g : Goal) → plainGoal g ≡ allGoal plainHere g
-  plain-goal (step s) = refl
-  plain-goal (switch x cs) = plain-arms cs
-  plain-goal (ifLess y z a b) = ap₂ ◌&◌ (plain-goals a) (plain-goals b)
-  plain-goal (try c a b) = ap₂ ◌&◌ (plain-goals c) (ap₂ ◌&◌ (plain-goals a) (plain-goals b))
+  plain_goal_law : (g : Goal) → plain_goal g ≡ all_goal plain_here g
+  plain_goal_law (step s) = refl
+  plain_goal_law (switch x cs) = plain_arms_law cs
+  plain_goal_law (if_less y z a b) = ap₂ ◌&◌ (plain_goals_law a) (plain_goals_law b)
+  plain_goal_law (try c a b) = ap₂ ◌&◌ (plain_goals_law c) (ap₂ ◌&◌ (plain_goals_law a) (plain_goals_law b))
 
-  plain-arms : (cs : Arms) → plainArms cs ≡ allArms plainHere cs
-  plain-arms noArms = refl
-  plain-arms (arm f ys gs cs) = ap₂ ◌&◌ (plain-goals gs) (plain-arms cs)
+  plain_arms_law : (cs : Arms) → plain_arms cs ≡ all_arms plain_here cs
+  plain_arms_law no_arms = refl
+  plain_arms_law (arm f ys gs cs) = ap₂ ◌&◌ (plain_goals_law gs) (plain_arms_law cs)
 
-plain-program : (P : Program) → unannotated P ≡ everyGoal (λ q. plainHere) P
+plain_program : (P : Program) → unannotated P ≡ every_goal (λ q. plain_here) P
 unfolding unannotated
-plain-program P = every-same (λ q. plainHere) P (λ p. plainGoals p.body) (λ q l. plain-goals _)
+plain_program P = every_same (λ q. plain_here) P (λ p. plain_goals p.body) (λ q l. plain_goals_law _)
 
 -- ---- one record, by the number of its kind
-unfoldable pub plainNumber : ℕ → Bool
-plainNumber n = choose (eqb n createKind or eqb n removeKind) false true
+unfoldable pub plain_number : ℕ → Bool
+plain_number n = choose (eqb n create_kind or eqb n remove_kind) false true
 
-pub plain-number : {n : ℕ} → (n ≡ createKind → ⊥) → (n ≡ removeKind → ⊥) → plainNumber n ≡ true
-unfolding plainNumber choose ◌or◌
-plain-number {n} a b = rw (ne_eqb n createKind a, ne_eqb n removeKind b) refl
+pub plain_number_law : {n : ℕ} → (n ≡ create_kind → ⊥) → (n ≡ remove_kind → ⊥) → plain_number n ≡ true
+unfolding plain_number choose ◌or◌
+plain_number_law {n} a b = rw (ne_eqb n create_kind a, ne_eqb n remove_kind b) refl
 
 module _ {f : List ℕ} (F : Formed f) (i : ℕ) where
   -- a record of another kind
-  other : {b : Bool} (k : Kind) → kind_of (word f i kindWord) ≡ k → b ≡ true → (k ≡ kGoal kCreate → ⊥) → (k ≡ kGoal kRemove → ⊥) → b ≡ plainNumber (word f i kindWord)
-  unfolding all-rows
-  other k e h c r = h ∙ sym (plain-number (λ z. c (sym e ∙ number_is (kGoal kCreate) _ z)) (λ z. r (sym e ∙ number_is (kGoal kRemove) _ z)))
+  other : {b : Bool} (k : Kind) → kind_of (word f i kind_word) ≡ k → b ≡ true → (k ≡ k_goal k_create → ⊥) → (k ≡ k_goal k_remove → ⊥) → b ≡ plain_number (word f i kind_word)
+  unfolding all_rows
+  other k e h c r = h ∙ sym (plain_number_law (λ z. c (sym e ∙ number_is (k_goal k_create) _ z)) (λ z. r (sym e ∙ number_is (k_goal k_remove) _ z)))
 
-  plain_here : (k : Kind) → kind_of (word f i kindWord) ≡ k → ifGoal k (plainHere (goalAt f i)) ≡ plainNumber (word f i kindWord)
-  unfolding ifGoal plainHere plainStep plainNumber choose ◌or◌ all-rows
-  plain_here kNone e = other kNone e refl (λ d. false≢true cc) (λ d. false≢true cc)
-  plain_here kHeader e = other kHeader e refl (λ d. false≢true cc) (λ d. false≢true cc)
-  plain_here kType e = other kType e refl (λ d. false≢true cc) (λ d. false≢true cc)
-  plain_here kFunctor e = other kFunctor e refl (λ d. false≢true cc) (λ d. false≢true cc)
-  plain_here kProcedure e = other kProcedure e refl (λ d. false≢true cc) (λ d. false≢true cc)
-  plain_here kVariable e = other kVariable e refl (λ d. false≢true cc) (λ d. false≢true cc)
-  plain_here kRegion e = other kRegion e refl (λ d. false≢true cc) (λ d. false≢true cc)
-  plain_here kEdge e = other kEdge e refl (λ d. false≢true cc) (λ d. false≢true cc)
-  plain_here kArm e = other kArm e refl (λ d. false≢true cc) (λ d. false≢true cc)
-  plain_here kArgument e = other kArgument e refl (λ d. false≢true cc) (λ d. false≢true cc)
-  plain_here (kGoal kLiteral) e = other (kGoal kLiteral) e (ap plainHere (literal-at F refl (same_read f i refl e)).goal) (λ d. false≢true cc) (λ d. false≢true cc)
-  plain_here (kGoal kSum) e = other (kGoal kSum) e (ap plainHere (sum-at F refl (same_read f i refl e)).goal) (λ d. false≢true cc) (λ d. false≢true cc)
-  plain_here (kGoal kAssign) e = other (kGoal kAssign) e (ap plainHere (assign-at F refl (same_read f i refl e)).goal) (λ d. false≢true cc) (λ d. false≢true cc)
-  plain_here (kGoal kConstruct) e = other (kGoal kConstruct) e (ap plainHere (construct-at F refl (same_read f i refl e)).goal) (λ d. false≢true cc) (λ d. false≢true cc)
-  plain_here (kGoal kSwitch) e = other (kGoal kSwitch) e (ap plainHere (switch-at F refl (same_read f i refl e)).goal) (λ d. false≢true cc) (λ d. false≢true cc)
-  plain_here (kGoal kIf) e = other (kGoal kIf) e (ap plainHere (if-at F refl (same_read f i refl e)).goal) (λ d. false≢true cc) (λ d. false≢true cc)
-  plain_here (kGoal kCall) e = other (kGoal kCall) e (ap plainHere (call_at F refl (same_read f i refl e)).goal) (λ d. false≢true cc) (λ d. false≢true cc)
-  plain_here (kGoal kPrint) e = other (kGoal kPrint) e (ap plainHere (print-at F refl (same_read f i refl e)).goal) (λ d. false≢true cc) (λ d. false≢true cc)
-  plain_here (kGoal kCreate) e = rw (goal-number (word f i kindWord) kCreate e) (ap plainHere (create-at F refl (same_read f i refl e)).goal)
-  plain_here (kGoal kRemove) e = rw (goal-number (word f i kindWord) kRemove e) (ap plainHere (remove-at F refl (same_read f i refl e)).goal)
-  plain_here (kGoal kTry) e = other (kGoal kTry) e (ap plainHere (try-at F refl (same_read f i refl e)).goal) (λ d. false≢true cc) (λ d. false≢true cc)
-  plain_here (kGoal kTest) e = other (kGoal kTest) e (ap plainHere (test_at F refl (same_read f i refl e)).goal) (λ d. false≢true cc) (λ d. false≢true cc)
+  plain_here_law : (k : Kind) → kind_of (word f i kind_word) ≡ k → if_goal k (plain_here (goal_at f i)) ≡ plain_number (word f i kind_word)
+  unfolding if_goal plain_here plain_step plain_number choose ◌or◌ all_rows
+  plain_here_law k_none e = other k_none e refl (λ d. false≢true cc) (λ d. false≢true cc)
+  plain_here_law k_header e = other k_header e refl (λ d. false≢true cc) (λ d. false≢true cc)
+  plain_here_law k_type e = other k_type e refl (λ d. false≢true cc) (λ d. false≢true cc)
+  plain_here_law k_functor e = other k_functor e refl (λ d. false≢true cc) (λ d. false≢true cc)
+  plain_here_law k_procedure e = other k_procedure e refl (λ d. false≢true cc) (λ d. false≢true cc)
+  plain_here_law k_variable e = other k_variable e refl (λ d. false≢true cc) (λ d. false≢true cc)
+  plain_here_law k_region e = other k_region e refl (λ d. false≢true cc) (λ d. false≢true cc)
+  plain_here_law k_edge e = other k_edge e refl (λ d. false≢true cc) (λ d. false≢true cc)
+  plain_here_law k_arm e = other k_arm e refl (λ d. false≢true cc) (λ d. false≢true cc)
+  plain_here_law k_argument e = other k_argument e refl (λ d. false≢true cc) (λ d. false≢true cc)
+  plain_here_law (k_goal k_literal) e = other (k_goal k_literal) e (ap plain_here (literal_at F refl (same_read f i refl e)).goal) (λ d. false≢true cc) (λ d. false≢true cc)
+  plain_here_law (k_goal k_sum) e = other (k_goal k_sum) e (ap plain_here (sum_at_law F refl (same_read f i refl e)).goal) (λ d. false≢true cc) (λ d. false≢true cc)
+  plain_here_law (k_goal k_assign) e = other (k_goal k_assign) e (ap plain_here (assign_at F refl (same_read f i refl e)).goal) (λ d. false≢true cc) (λ d. false≢true cc)
+  plain_here_law (k_goal k_construct) e = other (k_goal k_construct) e (ap plain_here (construct_at F refl (same_read f i refl e)).goal) (λ d. false≢true cc) (λ d. false≢true cc)
+  plain_here_law (k_goal k_switch) e = other (k_goal k_switch) e (ap plain_here (switch_at F refl (same_read f i refl e)).goal) (λ d. false≢true cc) (λ d. false≢true cc)
+  plain_here_law (k_goal k_if) e = other (k_goal k_if) e (ap plain_here (if_at F refl (same_read f i refl e)).goal) (λ d. false≢true cc) (λ d. false≢true cc)
+  plain_here_law (k_goal k_call) e = other (k_goal k_call) e (ap plain_here (call_at F refl (same_read f i refl e)).goal) (λ d. false≢true cc) (λ d. false≢true cc)
+  plain_here_law (k_goal k_print) e = other (k_goal k_print) e (ap plain_here (print_at F refl (same_read f i refl e)).goal) (λ d. false≢true cc) (λ d. false≢true cc)
+  plain_here_law (k_goal k_create) e = rw (goal_number (word f i kind_word) k_create e) (ap plain_here (create_at F refl (same_read f i refl e)).goal)
+  plain_here_law (k_goal k_remove) e = rw (goal_number (word f i kind_word) k_remove e) (ap plain_here (remove_at F refl (same_read f i refl e)).goal)
+  plain_here_law (k_goal k_try) e = other (k_goal k_try) e (ap plain_here (try_at F refl (same_read f i refl e)).goal) (λ d. false≢true cc) (λ d. false≢true cc)
+  plain_here_law (k_goal k_test) e = other (k_goal k_test) e (ap plain_here (test_at F refl (same_read f i refl e)).goal) (λ d. false≢true cc) (λ d. false≢true cc)
 
 module _ {f : List ℕ} (F : Formed f) where
   -- THE LOOP: every record from 1 on
-  pub plain-records : unannotated (program f) ≡ all (λ i. plainNumber (word f i kindWord)) (up_from 1 (recordCount f - 1))
-  unfolding everyRecord
-  plain-records =
-      plain-program (program f) ∙ every-record (λ q. plainHere) F
-      ∙ all_same (recordCount f - 1) 1 _ _ (λ i p q. record-kind (λ o. plainHere) F i (kind_of (word f i kindWord)) refl ∙ plain_here F i _ refl)
+  pub plain_records : unannotated (program f) ≡ all (λ i. plain_number (word f i kind_word)) (up_from 1 (record_count f - 1))
+  unfolding every_record
+  plain_records =
+      plain_program (program f) ∙ every_record_law (λ q. plain_here) F
+      ∙ all_same (record_count f - 1) 1 _ _ (λ i p q. record_kind (λ o. plain_here) F i (kind_of (word f i kind_word)) refl ∙ plain_here_law F i _ refl)

@@ -1,7 +1,7 @@
 // The record table as the passes read it.
 ghost use Rattle.std.specs.Prelude.{◌≡◌};
 ghost use Rattle.records.specs.Table.{table_of};
-ghost use Rattle.owners.specs.Handed.{partDigits};
+ghost use Rattle.owners.specs.Handed.{part_digits};
 
 use records::sizes::KINDS_END;
 
@@ -33,7 +33,7 @@ const PART_WORDS: [usize; KINDS_END] = [
 
 // The table in memory, to be lent.
 pub fn part_words() -> [usize; KINDS_END]
-    ensures { result ≡ table_of partDigits }
+    ensures { result ≡ table_of part_digits }
 {
     PART_WORDS
 }

@@ -1,7 +1,7 @@
 // Packs of job files, as tools/pack-jobs and pack-runs of rust/compare write them: names and files behind their lengths, numbers low byte first.
 ghost use Rattle.std.specs.Prelude.{◌≤◌, ◌<◌};
 ghost use Rattle.io.specs.Counts.{IsPrefixLen};
-ghost use Rattle.packs.specs.Bytes.{byteEnd};
+ghost use Rattle.packs.specs.Bytes.{byte_end};
 
 use libc::STDOUT_FILENO;
 
@@ -15,14 +15,14 @@ pub const PACK_END: usize = BYTE_END;
 pub const JOBS: usize = 1000;
 
 fn wide(x: u8) -> usize
-    ensures { result < byteEnd }
+    ensures { result < byte_end }
 {
     x as usize
 }
 
 // The next byte, or the end of the pack.
 pub fn next_byte(fd: i32) -> usize
-    ensures { result ≤ byteEnd }
+    ensures { result ≤ byte_end }
 {
     let mut byte = [0u8; 1];
     if io::read_full(fd, &mut byte) == 0 {

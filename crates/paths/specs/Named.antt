@@ -3,65 +3,65 @@
 -- `Typed` proves that a file past number 3 is so.
 use Rattle.std.specs.Prelude.{ℕ, Bool, true, false, [], ◌∷◌, ◌≡◌, refl, leb}
 use Rattle.std.proofs.lemmas.Bool.{false≢true}
-use Rattle.sets.specs.Tests.{◌&◌, and-true}
+use Rattle.sets.specs.Tests.{◌&◌, and_true}
 use Rattle.language.specs.Lists.{all, among, is_none}
-use Rattle.language.specs.Program.{Step, literal, sum, assign, construct, call, print, create, remove, test, Goals, done, ◌then◌, Goal, step, switch, ifLess, try, Arms, noArms, arm, Signature, Program, regionOf}
+use Rattle.language.specs.Program.{Step, literal, sum, assign, construct, call, print, create, remove, test, Goals, done, ◌then◌, Goal, step, switch, if_less, try, Arms, no_arms, arm, Signature, Program, region_of}
 use Rattle.language.specs.Values.{access}
-use Rattle.laws.specs.Lists.{none-append}
-use Rattle.laws.specs.Goals.{someArm}
-use Rattle.paths.specs.Paths.{takes, compares, tries, paths, ways, armWays, thenEach, thenAll}
-use Rattle.paths.specs.Alls.{none_each, none-all}
+use Rattle.laws.specs.Lists.{none_append}
+use Rattle.laws.specs.Goals.{some_arm}
+use Rattle.paths.specs.Paths.{takes, compares, tries, paths, ways, arm_ways, then_each, then_all}
+use Rattle.paths.specs.Alls.{none_each, none_all}
 
 module _ (P : Program) (S : Signature) where
-  unfoldable pub regionNamed : Step → Bool
-  regionNamed (literal x v) = true
-  regionNamed (sum x o y z) = true
-  regionNamed (assign x y) = true
-  regionNamed (construct x f ys) = leb (regionOf S x) 64
-  regionNamed (call q ys) = true
-  regionNamed (print y) = true
-  regionNamed (test y z) = true
-  regionNamed (create r) = among 64 r
-  regionNamed (remove r) = among 64 r
+  unfoldable pub region_named : Step → Bool
+  region_named (literal x v) = true
+  region_named (sum x o y z) = true
+  region_named (assign x y) = true
+  region_named (construct x f ys) = leb (region_of S x) 64
+  region_named (call q ys) = true
+  region_named (print y) = true
+  region_named (test y z) = true
+  region_named (create r) = among 64 r
+  region_named (remove r) = among 64 r
 
-  unfoldable pub stepNamed : Step → Bool
-  stepNamed g = all (among 64) (access P g).read & regionNamed g
+  unfoldable pub step_named : Step → Bool
+  step_named g = all (among 64) (access P g).read & region_named g
 
   unfoldable mutual
-    pub goalsNamed : Goals → Bool
-    goalsNamed done = true
-    goalsNamed (g then gs) = goalNamed g & goalsNamed gs
+    pub goals_named : Goals → Bool
+    goals_named done = true
+    goals_named (g then gs) = goal_named g & goals_named gs
 
-    pub goalNamed : Goal → Bool
-    goalNamed (step g) = stepNamed g
-    goalNamed (switch x cs) = someArm cs & armsNamed cs
-    goalNamed (ifLess y z a b) = goalsNamed a & goalsNamed b
-    goalNamed (try c a b) = goalsNamed c & goalsNamed a & goalsNamed b
+    pub goal_named : Goal → Bool
+    goal_named (step g) = step_named g
+    goal_named (switch x cs) = some_arm cs & arms_named cs
+    goal_named (if_less y z a b) = goals_named a & goals_named b
+    goal_named (try c a b) = goals_named c & goals_named a & goals_named b
 
-    pub armsNamed : Arms → Bool
-    armsNamed noArms = true
-    armsNamed (arm f ys gs cs) = goalsNamed gs & armsNamed cs
+    pub arms_named : Arms → Bool
+    arms_named no_arms = true
+    arms_named (arm f ys gs cs) = goals_named gs & arms_named cs
 
   -- goals in which each switch has an arm have a path
   mutual
-    unfolding goalsNamed paths is_none someArm
+    unfolding goals_named paths is_none some_arm
 
-    pub some-path : (gs : Goals) → goalsNamed gs ≡ true → is_none (paths gs) ≡ false
-    some-path done n = refl
-    some-path (g then gs) n = let r = and-true n in none-all (ways g) (paths gs) (some-way g r.0) (some-path gs r.1)
+    pub some_path_law : (gs : Goals) → goals_named gs ≡ true → is_none (paths gs) ≡ false
+    some_path_law done n = refl
+    some_path_law (g then gs) n = let r = and_true n in none_all (ways g) (paths gs) (some_way g r.0) (some_path_law gs r.1)
 
-    pub some-way : (g : Goal) → goalNamed g ≡ true → is_none (ways g) ≡ false
-    some-way (step g) n = refl
-    some-way (switch x cs) n = let r = and-true n in some-arm cs x r.0 r.1
-    some-way (ifLess y z a b) n =
-        none-append (thenEach (compares y z true ∷ []) (paths a)) _ (none_each (compares y z true ∷ []) (paths a) (some-path a (and-true n).0))
-    some-way (try c a b) n =
-        let r = and-true n in
-        none-append (thenEach (tries true ∷ []) (thenAll (paths c) (paths a))) _
-        (none_each (tries true ∷ []) (thenAll (paths c) (paths a)) (none-all (paths c) (paths a) (some-path c r.0) (some-path a (and-true r.1).0)))
+    pub some_way : (g : Goal) → goal_named g ≡ true → is_none (ways g) ≡ false
+    some_way (step g) n = refl
+    some_way (switch x cs) n = let r = and_true n in some_arm_law cs x r.0 r.1
+    some_way (if_less y z a b) n =
+        none_append (then_each (compares y z true ∷ []) (paths a)) _ (none_each (compares y z true ∷ []) (paths a) (some_path_law a (and_true n).0))
+    some_way (try c a b) n =
+        let r = and_true n in
+        none_append (then_each (tries true ∷ []) (then_all (paths c) (paths a))) _
+        (none_each (tries true ∷ []) (then_all (paths c) (paths a)) (none_all (paths c) (paths a) (some_path_law c r.0) (some_path_law a (and_true r.1).0)))
 
-    pub some-arm : (cs : Arms) (x : ℕ) → someArm cs ≡ true → armsNamed cs ≡ true → is_none (armWays cs x) ≡ false
-    some-arm noArms x e n = absurd (false≢true e)
-    some-arm (arm f ys gs cs) x e n =
-        none-append (thenEach (takes x f ys ∷ []) (paths gs)) (armWays cs x)
-        (none_each (takes x f ys ∷ []) (paths gs) (some-path gs (and-true n).0))
+    pub some_arm_law : (cs : Arms) (x : ℕ) → some_arm cs ≡ true → arms_named cs ≡ true → is_none (arm_ways cs x) ≡ false
+    some_arm_law no_arms x e n = absurd (false≢true e)
+    some_arm_law (arm f ys gs cs) x e n =
+        none_append (then_each (takes x f ys ∷ []) (paths gs)) (arm_ways cs x)
+        (none_each (takes x f ys ∷ []) (paths gs) (some_path_law gs (and_true n).0))

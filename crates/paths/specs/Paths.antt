@@ -2,14 +2,14 @@
 -- `EveryPath` says that the rules hold on every path; `Accepting` proves that the checker accepts exactly then.
 use Rattle.std.specs.Prelude.{ℕ, ◌<◌, Bool, true, false, List, [], ◌∷◌, ◌++◌, ◌≡◌, eqb, length}
 use Rattle.sets.specs.Tests.{◌&◌, ◌or◌, neg}
-use Rattle.sets.specs.Sets.{member, single, ◌∪◌, ◌∖◌, sameSet, subset, apart}
-use Rattle.sets.specs.Members.{setOf, keep, image, every}
+use Rattle.sets.specs.Sets.{member, single, ◌∪◌, ◌∖◌, same_set, subset, apart}
+use Rattle.sets.specs.Members.{set_of, keep, image, every}
 use Rattle.sets.specs.declared.Set.{Set}
 use Rattle.language.specs.Lists.{all}
-use Rattle.language.specs.Program.{Four, argumentsOf, Step, literal, sum, assign, construct, call, print, create, remove, test, Goals, done, ◌then◌, Goal, step, switch, ifLess, try, Arms, noArms, arm, Signature, Procedure, Program, regionOf, procedureAt, signature_of}
-use Rattle.language.specs.Values.{insOf, outsOf, access}
-use Rattle.language.specs.Regions.{reach, mapping, imageIn}
-use Rattle.language.specs.Lifetimes.{inputs, outputs, born, dead, kept, startHeld}
+use Rattle.language.specs.Program.{Four, arguments_of, Step, literal, sum, assign, construct, call, print, create, remove, test, Goals, done, ◌then◌, Goal, step, switch, if_less, try, Arms, no_arms, arm, Signature, Procedure, Program, region_of, procedure_at, signature_of}
+use Rattle.language.specs.Values.{ins_of, outs_of, access}
+use Rattle.language.specs.Regions.{reach, mapping, image_in}
+use Rattle.language.specs.Lifetimes.{inputs, outputs, born, dead, kept, start_held}
 
 -- ---- paths
 -- What a path meets in turn: a step; a switch on x, which takes the arm of functor f with arguments ys; "if Y < Z", which takes its
@@ -21,33 +21,33 @@ pub data Event : Type 0 where
   tries : Bool → Event
 
 -- u, and then each of the paths ps
-unfoldable pub thenEach : List Event → List (List Event) → List (List Event)
-thenEach u [] = []
-thenEach u (p ∷ ps) = (u ++ p) ∷ thenEach u ps
+unfoldable pub then_each : List Event → List (List Event) → List (List Event)
+then_each u [] = []
+then_each u (p ∷ ps) = (u ++ p) ∷ then_each u ps
 
 -- each of us, and then each of ps
-unfoldable pub thenAll : List (List Event) → List (List Event) → List (List Event)
-thenAll [] ps = []
-thenAll (u ∷ us) ps = thenEach u ps ++ thenAll us ps
+unfoldable pub then_all : List (List Event) → List (List Event) → List (List Event)
+then_all [] ps = []
+then_all (u ∷ us) ps = then_each u ps ++ then_all us ps
 
 -- all paths through goals
 unfoldable mutual
   pub paths : Goals → List (List Event)
   paths done = [] ∷ []
-  paths (g then gs) = thenAll (ways g) (paths gs)
+  paths (g then gs) = then_all (ways g) (paths gs)
 
   -- the ways through one goal
   pub ways : Goal → List (List Event)
   ways (step g) = (does g ∷ []) ∷ []
-  ways (switch x cs) = armWays cs x
-  ways (ifLess y z a b) = thenEach (compares y z true ∷ []) (paths a) ++ thenEach (compares y z false ∷ []) (paths b)
+  ways (switch x cs) = arm_ways cs x
+  ways (if_less y z a b) = then_each (compares y z true ∷ []) (paths a) ++ then_each (compares y z false ∷ []) (paths b)
   -- A try: the condition and then the then part, or the else part, which "starts from what .. was held and was sound before the try" (C-20). A path on
   -- which a test fails meets in the condition what the first way meets there, and goes on like the second.
-  ways (try c a b) = thenEach (tries true ∷ []) (thenAll (paths c) (paths a)) ++ thenEach (tries false ∷ []) (paths b)
+  ways (try c a b) = then_each (tries true ∷ []) (then_all (paths c) (paths a)) ++ then_each (tries false ∷ []) (paths b)
 
-  pub armWays : Arms → ℕ → List (List Event)
-  armWays noArms x = []
-  armWays (arm f ys gs cs) x = thenEach (takes x f ys ∷ []) (paths gs) ++ armWays cs x
+  pub arm_ways : Arms → ℕ → List (List Event)
+  arm_ways no_arms x = []
+  arm_ways (arm f ys gs cs) x = then_each (takes x f ys ∷ []) (paths gs) ++ arm_ways cs x
 
 -- ---- the rules along a path: "it carries the held regions and the sound variables"
 module _ (P : Program) (S : Signature) where
@@ -58,125 +58,125 @@ module _ (P : Program) (S : Signature) where
   read_by (compares y z b) = y ∷ z ∷ []
   read_by (tries b) = []
 
-  unfoldable pub givenBy : Event → List ℕ
-  givenBy (does g) = (access P g).given
-  givenBy (takes x f ys) = argumentsOf ys
-  givenBy (compares y z b) = []
-  givenBy (tries b) = []
+  unfoldable pub given_by : Event → List ℕ
+  given_by (does g) = (access P g).given
+  given_by (takes x f ys) = arguments_of ys
+  given_by (compares y z b) = []
+  given_by (tries b) = []
 
   -- a call of q with arguments ys: the image of a region of q, 0 where it has none, and the set of the images of several
-  unfoldable pub imageAt : ℕ → List ℕ → ℕ → ℕ
-  imageAt q ys r = imageIn (mapping S (signature_of P q) ys) r
+  unfoldable pub image_at : ℕ → List ℕ → ℕ → ℕ
+  image_at q ys r = image_in (mapping S (signature_of P q) ys) r
 
-  unfoldable pub imagesAt : ℕ → List ℕ → Set → Set
-  imagesAt q ys rs = image (imageAt q ys) rs
+  unfoldable pub images_at : ℕ → List ℕ → Set → Set
+  images_at q ys rs = image (image_at q ys) rs
 
   -- "Create: not held before."
-  unfoldable pub createNotHeld : ℕ → Set → Bool
-  createNotHeld r held = neg (member held r)
+  unfoldable pub create_not_held : ℕ → Set → Bool
+  create_not_held r held = neg (member held r)
 
   -- "Remove: held, not kept"
-  unfoldable pub removeHeld : ℕ → Set → Bool
-  removeHeld r held = member held r
+  unfoldable pub remove_held : ℕ → Set → Bool
+  remove_held r held = member held r
 
-  unfoldable pub removeNotKept : ℕ → Bool
-  removeNotKept r = neg (member (kept S) r)
+  unfoldable pub remove_not_kept : ℕ → Bool
+  remove_not_kept r = neg (member (kept S) r)
 
   -- "Each variable read is sound."
-  unfoldable pub readSound : List ℕ → Set → Bool
-  readSound ys sound = all (member sound) ys
+  unfoldable pub read_sound : List ℕ → Set → Bool
+  read_sound ys sound = all (member sound) ys
 
   -- "A construct's region is held", if X's type has regions: of the others "its variables have region word 0" (C-14)
-  unfoldable pub constructHeld : ℕ → Set → Bool
-  constructHeld x held = eqb (regionOf S x) 0 or member held (regionOf S x)
+  unfoldable pub construct_held : ℕ → Set → Bool
+  construct_held x held = eqb (region_of S x) 0 or member held (region_of S x)
 
   -- "Call: images of dead and kept regions are held."
-  unfoldable pub callHeld : ℕ → List ℕ → Set → Bool
-  callHeld q ys held = subset (imagesAt q ys (dead (signature_of P q) ∪ kept (signature_of P q))) held
+  unfoldable pub call_held : ℕ → List ℕ → Set → Bool
+  call_held q ys held = subset (images_at q ys (dead (signature_of P q) ∪ kept (signature_of P q))) held
 
   -- "Images of dead ones are not kept by the caller."
-  unfoldable pub callNotKept : ℕ → List ℕ → Bool
-  callNotKept q ys = apart (imagesAt q ys (dead (signature_of P q))) (kept S)
+  unfoldable pub call_not_kept : ℕ → List ℕ → Bool
+  call_not_kept q ys = apart (images_at q ys (dead (signature_of P q))) (kept S)
 
   -- "Images of born ones are not held."
-  unfoldable pub callNotHeld : ℕ → List ℕ → Set → Bool
-  callNotHeld q ys held = apart (imagesAt q ys (born (signature_of P q))) held
+  unfoldable pub call_not_held : ℕ → List ℕ → Set → Bool
+  call_not_held q ys held = apart (images_at q ys (born (signature_of P q))) held
 
   -- "An image of a dead or born one is no other region's image."
-  unfoldable pub callUnshared : ℕ → List ℕ → Bool
-  callUnshared q ys =
-      every (λ r. every (λ o. neg (eqb (imageAt q ys r) (imageAt q ys o)) or eqb r o) (inputs (signature_of P q) ∪ outputs (signature_of P q)))
+  unfoldable pub call_unshared : ℕ → List ℕ → Bool
+  call_unshared q ys =
+      every (λ r. every (λ o. neg (eqb (image_at q ys r) (image_at q ys o)) or eqb r o) (inputs (signature_of P q) ∪ outputs (signature_of P q)))
       (dead (signature_of P q) ∪ born (signature_of P q))
 
   -- "At the end: born and kept regions held, no other; out variables sound."
-  unfoldable pub endRule : Set → Set → Bool
-  endRule held sound = sameSet held (born S ∪ kept S) & subset (outsOf S) sound
+  unfoldable pub end_rule : Set → Set → Bool
+  end_rule held sound = same_set held (born S ∪ kept S) & subset (outs_of S) sound
 
   -- the rules of regions that speak of each event
-  unfoldable pub regionRules : Event → Set → Bool
-  regionRules (does (literal x v)) held = true
-  regionRules (does (sum x o y z)) held = true
-  regionRules (does (assign x y)) held = true
-  regionRules (does (construct x f ys)) held = constructHeld x held
-  regionRules (does (call q ys)) held = callHeld q ys held & callNotKept q ys & callNotHeld q ys held & callUnshared q ys
-  regionRules (does (print y)) held = true
-  regionRules (does (test y z)) held = true
-  regionRules (does (create r)) held = createNotHeld r held
-  regionRules (does (remove r)) held = removeHeld r held & removeNotKept r
-  regionRules (takes x f ys) held = true
-  regionRules (compares y z b) held = true
-  regionRules (tries b) held = true
+  unfoldable pub region_rules : Event → Set → Bool
+  region_rules (does (literal x v)) held = true
+  region_rules (does (sum x o y z)) held = true
+  region_rules (does (assign x y)) held = true
+  region_rules (does (construct x f ys)) held = construct_held x held
+  region_rules (does (call q ys)) held = call_held q ys held & call_not_kept q ys & call_not_held q ys held & call_unshared q ys
+  region_rules (does (print y)) held = true
+  region_rules (does (test y z)) held = true
+  region_rules (does (create r)) held = create_not_held r held
+  region_rules (does (remove r)) held = remove_held r held & remove_not_kept r
+  region_rules (takes x f ys) held = true
+  region_rules (compares y z b) held = true
+  region_rules (tries b) held = true
 
   -- all rules that speak of an event
-  unfoldable pub eventRules : Event → Set → Set → Bool
-  eventRules e held sound = readSound (read_by e) sound & regionRules e held
+  unfoldable pub event_rules : Event → Set → Set → Bool
+  event_rules e held sound = read_sound (read_by e) sound & region_rules e held
 
   -- the held regions after an event. A call: "After it, dead images are gone .. born ones are held."
-  unfoldable pub heldThen : Event → Set → Set
-  heldThen (does (literal x v)) held = held
-  heldThen (does (sum x o y z)) held = held
-  heldThen (does (assign x y)) held = held
-  heldThen (does (construct x f ys)) held = held
-  heldThen (does (call q ys)) held = (held ∖ imagesAt q ys (dead (signature_of P q))) ∪ imagesAt q ys (born (signature_of P q))
-  heldThen (does (print y)) held = held
-  heldThen (does (test y z)) held = held
-  heldThen (does (create r)) held = held ∪ single r
-  heldThen (does (remove r)) held = held ∖ single r
-  heldThen (takes x f ys) held = held
-  heldThen (compares y z b) held = held
-  heldThen (tries b) held = held
+  unfoldable pub held_then : Event → Set → Set
+  held_then (does (literal x v)) held = held
+  held_then (does (sum x o y z)) held = held
+  held_then (does (assign x y)) held = held
+  held_then (does (construct x f ys)) held = held
+  held_then (does (call q ys)) held = (held ∖ images_at q ys (dead (signature_of P q))) ∪ images_at q ys (born (signature_of P q))
+  held_then (does (print y)) held = held
+  held_then (does (test y z)) held = held
+  held_then (does (create r)) held = held ∪ single r
+  held_then (does (remove r)) held = held ∖ single r
+  held_then (takes x f ys) held = held
+  held_then (compares y z b) held = held
+  held_then (tries b) held = held
 
   -- those that reach none of the regions rs
-  unfoldable pub notReaching : Set → Set → Set
-  notReaching rs xs = keep (λ x. apart (reach S x) rs) xs
+  unfoldable pub not_reaching : Set → Set → Set
+  not_reaching rs xs = keep (λ x. apart (reach S x) rs) xs
 
   -- A remove: "variables reaching it stop being sound". A call: "variables reaching them are no longer sound".
-  unfoldable pub stillSound : Event → Set → Set
-  stillSound (does (literal x v)) sound = sound
-  stillSound (does (sum x o y z)) sound = sound
-  stillSound (does (assign x y)) sound = sound
-  stillSound (does (construct x f ys)) sound = sound
-  stillSound (does (call q ys)) sound = notReaching (imagesAt q ys (dead (signature_of P q))) sound
-  stillSound (does (print y)) sound = sound
-  stillSound (does (test y z)) sound = sound
-  stillSound (does (create r)) sound = sound
-  stillSound (does (remove r)) sound = notReaching (single r) sound
-  stillSound (takes x f ys) sound = sound
-  stillSound (compares y z b) sound = sound
-  stillSound (tries b) sound = sound
+  unfoldable pub still_sound : Event → Set → Set
+  still_sound (does (literal x v)) sound = sound
+  still_sound (does (sum x o y z)) sound = sound
+  still_sound (does (assign x y)) sound = sound
+  still_sound (does (construct x f ys)) sound = sound
+  still_sound (does (call q ys)) sound = not_reaching (images_at q ys (dead (signature_of P q))) sound
+  still_sound (does (print y)) sound = sound
+  still_sound (does (test y z)) sound = sound
+  still_sound (does (create r)) sound = sound
+  still_sound (does (remove r)) sound = not_reaching (single r) sound
+  still_sound (takes x f ys) sound = sound
+  still_sound (compares y z b) sound = sound
+  still_sound (tries b) sound = sound
 
   -- "A variable given a value is sound if its whole reach is then held."
-  unfoldable pub soundThen : Event → Set → Set → Set
-  soundThen e held sound = (stillSound e sound ∖ setOf (givenBy e)) ∪ keep (λ x. subset (reach S x) (heldThen e held)) (setOf (givenBy e))
+  unfoldable pub sound_then : Event → Set → Set → Set
+  sound_then e held sound = (still_sound e sound ∖ set_of (given_by e)) ∪ keep (λ x. subset (reach S x) (held_then e held)) (set_of (given_by e))
 
-  -- the rules hold along a path from its start with `held` and `sound`, and so does `atEnd` at its end
-  unfoldable pub keepsAlong : (Set → Set → Bool) → List Event → Set → Set → Bool
-  keepsAlong atEnd [] held sound = atEnd held sound
-  keepsAlong atEnd (e ∷ es) held sound = eventRules e held sound & keepsAlong atEnd es (heldThen e held) (soundThen e held sound)
+  -- the rules hold along a path from its start with `held` and `sound`, and so does `at_end` at its end
+  unfoldable pub keeps_along : (Set → Set → Bool) → List Event → Set → Set → Bool
+  keeps_along at_end [] held sound = at_end held sound
+  keeps_along at_end (e ∷ es) held sound = event_rules e held sound & keeps_along at_end es (held_then e held) (sound_then e held sound)
 
   -- "A procedure starts with its dead and kept regions held and its in variables sound."
-  unfoldable pub pathRules : List Event → Bool
-  pathRules path = keepsAlong endRule path (startHeld S) (insOf S)
+  unfoldable pub path_rules : List Event → Bool
+  path_rules path = keeps_along end_rule path (start_held S) (ins_of S)
 
 -- ---- "Arms end with equal held regions"
 -- a goal, anywhere in a procedure, and a path that leads to it
@@ -184,49 +184,49 @@ pub record Arrival : Type 0 where
   pub before : List Event
   pub goal : Goal
 
-unfoldable pub arrivalsAfter : List Event → List Arrival → List Arrival
-arrivalsAfter u [] = []
-arrivalsAfter u (a ∷ rest) = record { before = u ++ a.before; goal = a.goal } ∷ arrivalsAfter u rest
+unfoldable pub arrivals_after : List Event → List Arrival → List Arrival
+arrivals_after u [] = []
+arrivals_after u (a ∷ rest) = record { before = u ++ a.before; goal = a.goal } ∷ arrivals_after u rest
 
-unfoldable pub arrivalsAfterAll : List (List Event) → List Arrival → List Arrival
-arrivalsAfterAll [] rest = []
-arrivalsAfterAll (u ∷ us) rest = arrivalsAfter u rest ++ arrivalsAfterAll us rest
+unfoldable pub arrivals_after_all : List (List Event) → List Arrival → List Arrival
+arrivals_after_all [] rest = []
+arrivals_after_all (u ∷ us) rest = arrivals_after u rest ++ arrivals_after_all us rest
 
 -- each goal, with each path that leads to it
 unfoldable mutual
   pub arrivals : Goals → List Arrival
   arrivals done = []
-  arrivals (g then gs) = record { before = []; goal = g } ∷ (arrivalsIn g ++ arrivalsAfterAll (ways g) (arrivals gs))
+  arrivals (g then gs) = record { before = []; goal = g } ∷ (arrivals_in g ++ arrivals_after_all (ways g) (arrivals gs))
 
-  pub arrivalsIn : Goal → List Arrival
-  arrivalsIn (step g) = []
-  arrivalsIn (switch x cs) = armArrivals cs x
-  arrivalsIn (ifLess y z a b) =
-      arrivalsAfter (compares y z true ∷ []) (arrivals a) ++ arrivalsAfter (compares y z false ∷ []) (arrivals b)
-  arrivalsIn (try c a b) =
-      arrivalsAfter (tries true ∷ []) (arrivals c ++ arrivalsAfterAll (paths c) (arrivals a)) ++ arrivalsAfter (tries false ∷ []) (arrivals b)
+  pub arrivals_in : Goal → List Arrival
+  arrivals_in (step g) = []
+  arrivals_in (switch x cs) = arm_arrivals cs x
+  arrivals_in (if_less y z a b) =
+      arrivals_after (compares y z true ∷ []) (arrivals a) ++ arrivals_after (compares y z false ∷ []) (arrivals b)
+  arrivals_in (try c a b) =
+      arrivals_after (tries true ∷ []) (arrivals c ++ arrivals_after_all (paths c) (arrivals a)) ++ arrivals_after (tries false ∷ []) (arrivals b)
 
-  pub armArrivals : Arms → ℕ → List Arrival
-  armArrivals noArms x = []
-  armArrivals (arm f ys gs cs) x = arrivalsAfter (takes x f ys ∷ []) (arrivals gs) ++ armArrivals cs x
+  pub arm_arrivals : Arms → ℕ → List Arrival
+  arm_arrivals no_arms x = []
+  arm_arrivals (arm f ys gs cs) x = arrivals_after (takes x f ys ∷ []) (arrivals gs) ++ arm_arrivals cs x
 
 module _ (P : Program) (S : Signature) where
-  unfoldable pub heldAlong : List Event → Set → Set
-  heldAlong [] held = held
-  heldAlong (e ∷ es) held = heldAlong es (heldThen P S e held)
+  unfoldable pub held_along : List Event → Set → Set
+  held_along [] held = held
+  held_along (e ∷ es) held = held_along es (held_then P S e held)
 
   -- any two ways through the goal end with equal held regions
-  unfoldable pub armsAgree : Set → Arrival → Bool
-  armsAgree held a =
-      all (λ u. all (λ v. sameSet (heldAlong (a.before ++ u) held) (heldAlong (a.before ++ v) held)) (ways a.goal)) (ways a.goal)
+  unfoldable pub arms_agree : Set → Arrival → Bool
+  arms_agree held a =
+      all (λ u. all (λ v. same_set (held_along (a.before ++ u) held) (held_along (a.before ++ v) held)) (ways a.goal)) (ways a.goal)
 
 -- The rules hold on every path of a procedure, with that path's own held regions and sound variables. "Sound afterwards is sound after every
--- arm" is then no rule of its own: what is not sound after some arm is not sound on the paths through it (`carried-on-every-path` in `Accepting`).
--- And `arms` follows from `rules` (`arms-follow` there); it stands here because document 01 says it.
+-- arm" is then no rule of its own: what is not sound after some arm is not sound on the paths through it (`carried_on_every_path` in `Accepting`).
+-- And `arms` follows from `rules` (`arms_follow` there); it stands here because document 01 says it.
 pub record EveryPath (P : Program) (p : Procedure) : Type 0 where
-  pub rules : all (pathRules P p.signature) (paths p.body) ≡ true
-  pub arms : all (armsAgree P p.signature (startHeld p.signature)) (arrivals p.body) ≡ true
+  pub rules : all (path_rules P p.signature) (paths p.body) ≡ true
+  pub arms : all (arms_agree P p.signature (start_held p.signature)) (arrivals p.body) ≡ true
 
 -- and of every procedure
 abbrev pub EveryProcedure : Program → Type 0
-EveryProcedure P = (n : ℕ) → n < length P.procedures → EveryPath P (procedureAt P n)
+EveryProcedure P = (n : ℕ) → n < length P.procedures → EveryPath P (procedure_at P n)

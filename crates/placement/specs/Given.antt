@@ -3,114 +3,114 @@ use Rattle.std.specs.Prelude.{ℕ, ◌≡◌, true, List}
 use Rattle.std.proofs.Math.Path.{refl}
 use Rattle.std.proofs.Common.{ap, ◌∙◌, ⊎_elim}
 use Rattle.std.proofs.lemmas.Bool.{false≢true}
-use Rattle.sets.specs.Tests.{clash, and-true}
-use Rattle.sets.specs.Sets.{◌∪◌, ◌∖◌, subset, Small, union-in, difference-in, subset-in, subset-mk}
-use Rattle.sets.specs.SetLaws.{subset-trans, empty-subset, single-subset, union-least, small-empty, small-single, small-union, small-difference}
-use Rattle.sets.specs.Members.{setOf}
-use Rattle.sets.specs.MemberLaws.{small-setOf}
+use Rattle.sets.specs.Tests.{clash, and_true}
+use Rattle.sets.specs.Sets.{◌∪◌, ◌∖◌, subset, Small, union_in, difference_in, subset_in, subset_mk}
+use Rattle.sets.specs.SetLaws.{subset_trans, empty_subset, single_subset, union_least, small_empty, small_single, small_union, small_difference}
+use Rattle.sets.specs.Members.{set_of}
+use Rattle.sets.specs.MemberLaws.{small_set_of}
 use Rattle.sets.specs.declared.Set.{Set}
-use Rattle.language.specs.Program.{argumentsOf, Step, Goals, done, ◌then◌, Goal, step, switch, ifLess, try, Arms, noArms, arm, Signature, Procedure, Program}
-use Rattle.language.specs.Values.{Valued, faulty, valued, insOf, outsOf, access, reads, gives, giveValues, stepValues, goalsValues, goalValues, armsValues, outsValued, procedureValues}
-use Rattle.language.specs.Lifetimes.{liveStep, live, liveGoal, liveArms}
-use Rattle.placement.specs.Combine.{required-values, after-values, met-values, valued-every}
+use Rattle.language.specs.Program.{arguments_of, Step, Goals, done, ◌then◌, Goal, step, switch, if_less, try, Arms, no_arms, arm, Signature, Procedure, Program}
+use Rattle.language.specs.Values.{Valued, faulty, valued, ins_of, outs_of, access, reads, gives, give_values, step_values, goals_values, goal_values, arms_values, outs_valued, procedure_values}
+use Rattle.language.specs.Lifetimes.{live_step, live, live_goal, live_arms}
+use Rattle.placement.specs.Combine.{required_values, after_values_law, met_values, valued_every}
 
 -- what is in b less xs, where b is among e and xs
-less-given : (b e xs : Set) → subset b (e ∪ xs) ≡ true → subset (b ∖ xs) e ≡ true
-less-given b e xs h =
-    subset-mk (b ∖ xs) e
-    (λ n m. let r = difference-in b xs n m in ⊎_elim (λ i. i) (λ i. absurd (clash i r.1)) (union-in e xs n (subset-in b (e ∪ xs) h n r.0)))
+less_given : (b e xs : Set) → subset b (e ∪ xs) ≡ true → subset (b ∖ xs) e ≡ true
+less_given b e xs h =
+    subset_mk (b ∖ xs) e
+    (λ n m. let r = difference_in b xs n m in ⊎_elim (λ i. i) (λ i. absurd (clash i r.1)) (union_in e xs n (subset_in b (e ∪ xs) h n r.0)))
 
-given-every : (xs : List ℕ) (e s d t : Set) → giveValues xs e s ≡ valued d t → e ∪ setOf xs ≡ d
-unfolding giveValues
-given-every xs e s d t q = valued-every (required-values q).1
+given_every : (xs : List ℕ) (e s d t : Set) → give_values xs e s ≡ valued d t → e ∪ set_of xs ≡ d
+unfolding give_values
+given_every xs e s d t q = valued_every (required_values q).1
 
 -- live before giving xs, where b is live after it
-give-live : (xs : List ℕ) (b e s d t : Set) → giveValues xs e s ≡ valued d t → subset b d ≡ true → subset (b ∖ setOf xs) e ≡ true
-give-live xs b e s d t q h = less-given b e (setOf xs) (ap (subset b) (given-every xs e s d t q) ∙ h)
+give_live : (xs : List ℕ) (b e s d t : Set) → give_values xs e s ≡ valued d t → subset b d ≡ true → subset (b ∖ set_of xs) e ≡ true
+give_live xs b e s d t q h = less_given b e (set_of xs) (ap (subset b) (given_every xs e s d t q) ∙ h)
 
 module _ (P : Program) where
-  pub step-live : (g : Step) (after e s d t : Set) → stepValues P g e s ≡ valued d t → subset after d ≡ true
-      → subset (liveStep P g after) e ≡ true
-  unfolding stepValues liveStep gives
-  step-live g after e s d t q h =
-      let r = required-values q in
-      union-least _ _ e (give-live (access P g).given after e s d t r.1 h) r.0
+  pub step_live : (g : Step) (after e s d t : Set) → step_values P g e s ≡ valued d t → subset after d ≡ true
+      → subset (live_step P g after) e ≡ true
+  unfolding step_values live_step gives
+  step_live g after e s d t q h =
+      let r = required_values q in
+      union_least _ _ e (give_live (access P g).given after e s d t r.1 h) r.0
 
   mutual
-    unfolding goalsValues goalValues armsValues live liveGoal liveArms
+    unfolding goals_values goal_values arms_values live live_goal live_arms
 
     -- THE THEOREM: where `after` has a value on every path after the goals, what is live before them has one on every path there
-    pub live-given : (gs : Goals) (after e s d t : Set) → goalsValues P gs e s ≡ valued d t → subset after d ≡ true
+    pub live_given : (gs : Goals) (after e s d t : Set) → goals_values P gs e s ≡ valued d t → subset after d ≡ true
         → subset (live P gs after) e ≡ true
-    live-given done after e s d t q h = ap (subset after) (valued-every q) ∙ h
-    live-given (g then gs) after e s d t q h =
-        let r = after-values q in
-        goal-live g (live P gs after) e s r.0 r.1 r.2 (live-given gs after r.0 r.1 d t r.3 h)
+    live_given done after e s d t q h = ap (subset after) (valued_every q) ∙ h
+    live_given (g then gs) after e s d t q h =
+        let r = after_values_law q in
+        goal_live g (live P gs after) e s r.0 r.1 r.2 (live_given gs after r.0 r.1 d t r.3 h)
 
-    pub goal-live : (g : Goal) (after e s d t : Set) → goalValues P g e s ≡ valued d t → subset after d ≡ true
-        → subset (liveGoal P g after) e ≡ true
-    goal-live (step g) after e s d t q h = step-live g after e s d t q h
-    goal-live (switch x cs) after e s d t q h =
-        let r = required-values q in
-        union-least _ _ e (single-subset x e r.0) (arms-live cs after e s d t r.1 h)
-    goal-live (ifLess y z a b) after e s d t q h =
-        let r = required-values q in
-        let m = met-values r.1 in
-        union-least _ _ e (union-least _ _ e (single-subset y e (and-true r.0).0) (single-subset z e (and-true r.0).1))
-        (union-least _ _ e (live-given a after e s _ _ m.left (subset-trans after d _ h m.in_left))
-        (live-given b after e s _ _ m.right (subset-trans after d _ h m.in_right)))
-    goal-live (try c a b) after e s d t q h =
-        let m = met-values q in
-        let r = after-values m.left in
-        union-least _ _ e
-        (live-given c (live P a after) e s _ _ r.2 (live-given a after r.0 r.1 _ _ r.3 (subset-trans after d _ h m.in_left)))
-        (live-given b after e s _ _ m.right (subset-trans after d _ h m.in_right))
+    pub goal_live : (g : Goal) (after e s d t : Set) → goal_values P g e s ≡ valued d t → subset after d ≡ true
+        → subset (live_goal P g after) e ≡ true
+    goal_live (step g) after e s d t q h = step_live g after e s d t q h
+    goal_live (switch x cs) after e s d t q h =
+        let r = required_values q in
+        union_least _ _ e (single_subset x e r.0) (arms_live cs after e s d t r.1 h)
+    goal_live (if_less y z a b) after e s d t q h =
+        let r = required_values q in
+        let m = met_values r.1 in
+        union_least _ _ e (union_least _ _ e (single_subset y e (and_true r.0).0) (single_subset z e (and_true r.0).1))
+        (union_least _ _ e (live_given a after e s _ _ m.left (subset_trans after d _ h m.in_left))
+        (live_given b after e s _ _ m.right (subset_trans after d _ h m.in_right)))
+    goal_live (try c a b) after e s d t q h =
+        let m = met_values q in
+        let r = after_values_law m.left in
+        union_least _ _ e
+        (live_given c (live P a after) e s _ _ r.2 (live_given a after r.0 r.1 _ _ r.3 (subset_trans after d _ h m.in_left)))
+        (live_given b after e s _ _ m.right (subset_trans after d _ h m.in_right))
 
-    pub arms-live : (cs : Arms) (after e s d t : Set) → armsValues P cs e s ≡ valued d t → subset after d ≡ true
-        → subset (liveArms P cs after) e ≡ true
-    arms-live noArms after e s d t q h = empty-subset e
-    arms-live (arm f ys gs noArms) after e s d t q h =
-        let r = after-values q in
-        union-least _ _ e
-        (give-live (argumentsOf ys) (live P gs after) e s _ _ r.2 (live-given gs after r.0 r.1 d t r.3 h)) (empty-subset e)
-    arms-live (arm f ys gs (arm k zs hs cs)) after e s d t q h =
-        let m = met-values q in
-        let r = after-values m.left in
-        union-least _ _ e
-        (give-live (argumentsOf ys) (live P gs after) e s _ _ r.2
-        (live-given gs after r.0 r.1 _ _ r.3 (subset-trans after d _ h m.in_left)))
-        (arms-live (arm k zs hs cs) after e s _ _ m.right (subset-trans after d _ h m.in_right))
+    pub arms_live : (cs : Arms) (after e s d t : Set) → arms_values P cs e s ≡ valued d t → subset after d ≡ true
+        → subset (live_arms P cs after) e ≡ true
+    arms_live no_arms after e s d t q h = empty_subset e
+    arms_live (arm f ys gs no_arms) after e s d t q h =
+        let r = after_values_law q in
+        union_least _ _ e
+        (give_live (arguments_of ys) (live P gs after) e s _ _ r.2 (live_given gs after r.0 r.1 d t r.3 h)) (empty_subset e)
+    arms_live (arm f ys gs (arm k zs hs cs)) after e s d t q h =
+        let m = met_values q in
+        let r = after_values_law m.left in
+        union_least _ _ e
+        (give_live (arguments_of ys) (live P gs after) e s _ _ r.2
+        (live_given gs after r.0 r.1 _ _ r.3 (subset_trans after d _ h m.in_left)))
+        (arms_live (arm k zs hs cs) after e s _ _ m.right (subset_trans after d _ h m.in_right))
 
   -- live at a procedure's start is among its in variables
-  at-end : (S : Signature) (gs : Goals) (e s : Set) (v : Valued) → goalsValues P gs e s ≡ v → outsValued S v ≡ true
-      → subset (live P gs (outsOf S)) e ≡ true
-  unfolding outsValued
-  at-end S gs e s faulty q h = absurd (false≢true h)
-  at-end S gs e s (valued d t) q h = live-given gs (outsOf S) e s d t q h
+  at_end_law : (S : Signature) (gs : Goals) (e s : Set) (v : Valued) → goals_values P gs e s ≡ v → outs_valued S v ≡ true
+      → subset (live P gs (outs_of S)) e ≡ true
+  unfolding outs_valued
+  at_end_law S gs e s faulty q h = absurd (false≢true h)
+  at_end_law S gs e s (valued d t) q h = live_given gs (outs_of S) e s d t q h
 
-  pub start-live : (p : Procedure) → procedureValues P p ≡ true → subset (live P p.body (outsOf p.signature)) (insOf p.signature) ≡ true
-  unfolding procedureValues
-  start-live p h = at-end p.signature p.body _ _ _ refl h
+  pub start_live : (p : Procedure) → procedure_values P p ≡ true → subset (live P p.body (outs_of p.signature)) (ins_of p.signature) ≡ true
+  unfolding procedure_values
+  start_live p h = at_end_law p.signature p.body _ _ _ refl h
 
   -- ---- live sets have no member above 64
-  pub small-liveStep : (g : Step) (after : Set) → Small after → Small (liveStep P g after)
-  unfolding liveStep reads
-  small-liveStep g after h = small-union (small-difference _ h) (small-setOf _)
+  pub small_live_step : (g : Step) (after : Set) → Small after → Small (live_step P g after)
+  unfolding live_step reads
+  small_live_step g after h = small_union (small_difference _ h) (small_set_of _)
 
   mutual
-    unfolding live liveGoal liveArms
+    unfolding live live_goal live_arms
 
-    pub small-live : (gs : Goals) (after : Set) → Small after → Small (live P gs after)
-    small-live done after h = h
-    small-live (g then gs) after h = small-liveGoal g (live P gs after) (small-live gs after h)
+    pub small_live : (gs : Goals) (after : Set) → Small after → Small (live P gs after)
+    small_live done after h = h
+    small_live (g then gs) after h = small_live_goal g (live P gs after) (small_live gs after h)
 
-    pub small-liveGoal : (g : Goal) (after : Set) → Small after → Small (liveGoal P g after)
-    small-liveGoal (step g) after h = small-liveStep g after h
-    small-liveGoal (switch x cs) after h = small-union (small-single x) (small-liveArms cs after h)
-    small-liveGoal (ifLess y z a b) after h =
-        small-union (small-union (small-single y) (small-single z)) (small-union (small-live a after h) (small-live b after h))
-    small-liveGoal (try c a b) after h = small-union (small-live c _ (small-live a after h)) (small-live b after h)
+    pub small_live_goal : (g : Goal) (after : Set) → Small after → Small (live_goal P g after)
+    small_live_goal (step g) after h = small_live_step g after h
+    small_live_goal (switch x cs) after h = small_union (small_single x) (small_live_arms cs after h)
+    small_live_goal (if_less y z a b) after h =
+        small_union (small_union (small_single y) (small_single z)) (small_union (small_live a after h) (small_live b after h))
+    small_live_goal (try c a b) after h = small_union (small_live c _ (small_live a after h)) (small_live b after h)
 
-    pub small-liveArms : (cs : Arms) (after : Set) → Small after → Small (liveArms P cs after)
-    small-liveArms noArms after h = small-empty
-    small-liveArms (arm f ys gs cs) after h = small-union (small-difference _ (small-live gs after h)) (small-liveArms cs after h)
+    pub small_live_arms : (cs : Arms) (after : Set) → Small after → Small (live_arms P cs after)
+    small_live_arms no_arms after h = small_empty
+    small_live_arms (arm f ys gs cs) after h = small_union (small_difference _ (small_live gs after h)) (small_live_arms cs after h)

@@ -2,88 +2,88 @@
 -- what must be held there.
 use Rattle.std.specs.Prelude.{ℕ, ◌≤◌, ◌≡◌, refl, true, List}
 use Rattle.std.proofs.Common.{⊎_elim}
-use Rattle.sets.specs.Sets.{member, emptySet, ◌∪◌, ◌∩◌, ◌∖◌, subset, Small, union_right, union-in, subset-in, subset-mk}
-use Rattle.sets.specs.SetLaws.{subset-refl, subset-trans, subset-antisym, left-union, right-union, union-least, union-mono, difference-left, intersection-left, small-mk}
-use Rattle.sets.specs.MemberLaws.{unionOver-mk, unionOver-least, unionOver-mono}
+use Rattle.sets.specs.Sets.{member, empty_set, ◌∪◌, ◌∩◌, ◌∖◌, subset, Small, union_right, union_in, subset_in, subset_mk}
+use Rattle.sets.specs.SetLaws.{subset_refl, subset_trans, subset_antisym, left_union, right_union, union_least, union_mono, difference_left, intersection_left, small_mk}
+use Rattle.sets.specs.MemberLaws.{union_over_mk, union_over_least, union_over_mono}
 use Rattle.sets.specs.declared.Set.{Set}
 use Rattle.language.specs.Program.{Functor, Signature}
-use Rattle.language.specs.Typing.{isRegion}
-use Rattle.language.specs.Values.{insOf, outsOf}
-use Rattle.language.specs.Regions.{reach, reachAll}
-use Rattle.language.specs.Lifetimes.{inputs, outputs, born, dead, kept, startHeld, wanted, classesOk}
-use Rattle.laws.specs.MoreSets.{empty-in}
+use Rattle.language.specs.Typing.{is_region}
+use Rattle.language.specs.Values.{ins_of, outs_of}
+use Rattle.language.specs.Regions.{reach, reach_all}
+use Rattle.language.specs.Lifetimes.{inputs, outputs, born, dead, kept, start_held, wanted, classes_ok}
+use Rattle.laws.specs.MoreSets.{empty_in}
 use Rattle.region_graph.specs.Laws.{Declared}
-use Rattle.region_graph.specs.Shared.{region-top, reachAll-ranged, shared-ranged}
-use Rattle.region_graph.specs.Classes.{kept-ranged, born-outputs, start-shared, inputs-sorted, outputs-sorted}
+use Rattle.region_graph.specs.Shared.{region_top, reach_all_ranged, shared_ranged}
+use Rattle.region_graph.specs.Classes.{kept_ranged, born_outputs, start_shared, inputs_sorted, outputs_sorted}
 
 -- ---- wanted: the least set with the kept regions and the reach of each live variable
 module _ (S : Signature) where
-  pub kept-wanted : (l : Set) → subset (kept S) (wanted S l) ≡ true
+  pub kept_wanted : (l : Set) → subset (kept S) (wanted S l) ≡ true
   unfolding wanted
-  kept-wanted l = left-union (kept S) (reachAll S l)
+  kept_wanted l = left_union (kept S) (reach_all S l)
 
-  pub reach-wanted : (l : Set) (x : ℕ) → member l x ≡ true → x ≤ 64 → subset (reach S x) (wanted S l) ≡ true
-  unfolding wanted reachAll
-  reach-wanted l x m h =
-      subset-mk (reach S x) (wanted S l) (λ r i. union_right (kept S) _ r (unionOver-mk (reach S) l x r m h i))
+  pub reach_wanted : (l : Set) (x : ℕ) → member l x ≡ true → x ≤ 64 → subset (reach S x) (wanted S l) ≡ true
+  unfolding wanted reach_all
+  reach_wanted l x m h =
+      subset_mk (reach S x) (wanted S l) (λ r i. union_right (kept S) _ r (union_over_mk (reach S) l x r m h i))
 
-  pub wanted-least : (l h : Set) → subset (kept S) h ≡ true → ((x : ℕ) → member l x ≡ true → x ≤ 64 → subset (reach S x) h ≡ true)
+  pub wanted_least : (l h : Set) → subset (kept S) h ≡ true → ((x : ℕ) → member l x ≡ true → x ≤ 64 → subset (reach S x) h ≡ true)
       → subset (wanted S l) h ≡ true
-  unfolding wanted reachAll
-  wanted-least l h k f = union-least (kept S) _ h k (unionOver-least (reach S) l h f)
+  unfolding wanted reach_all
+  wanted_least l h k f = union_least (kept S) _ h k (union_over_least (reach S) l h f)
 
-  pub wanted-mono : (a b : Set) → subset a b ≡ true → subset (wanted S a) (wanted S b) ≡ true
-  unfolding wanted reachAll
-  wanted-mono a b h = union-mono _ _ _ _ (subset-refl (kept S)) (unionOver-mono (reach S) (reach S) a b (λ x. subset-refl (reach S x)) h)
+  pub wanted_mono : (a b : Set) → subset a b ≡ true → subset (wanted S a) (wanted S b) ≡ true
+  unfolding wanted reach_all
+  wanted_mono a b h = union_mono _ _ _ _ (subset_refl (kept S)) (union_over_mono (reach S) (reach S) a b (λ x. subset_refl (reach S x)) h)
 
 -- ---- sets of regions that a procedure declares
 pub record Within (S : Signature) (s : Set) : Type 0 where
-  pub inside : (r : ℕ) → member s r ≡ true → isRegion S r ≡ true
+  pub inside : (r : ℕ) → member s r ≡ true → is_region S r ≡ true
 
-pub within-subset : {S : Signature} (a b : Set) → subset a b ≡ true → Within S b → Within S a
-within-subset a b h W = record { inside = λ r m. W.inside r (subset-in a b h r m) }
+pub within_subset : {S : Signature} (a b : Set) → subset a b ≡ true → Within S b → Within S a
+within_subset a b h W = record { inside = λ r m. W.inside r (subset_in a b h r m) }
 
-pub within-empty : {S : Signature} → Within S emptySet
-within-empty = record { inside = λ r m. absurd (empty-in emptySet refl r m) }
+pub within_empty : {S : Signature} → Within S empty_set
+within_empty = record { inside = λ r m. absurd (empty_in empty_set refl r m) }
 
-pub within-union : {S : Signature} {a b : Set} → Within S a → Within S b → Within S (a ∪ b)
-within-union {S} {a} {b} U W = record { inside = λ r m. ⊎_elim (U.inside r) (W.inside r) (union-in a b r m) }
+pub within_union : {S : Signature} {a b : Set} → Within S a → Within S b → Within S (a ∪ b)
+within_union {S} {a} {b} U W = record { inside = λ r m. ⊎_elim (U.inside r) (W.inside r) (union_in a b r m) }
 
-pub within-difference : {S : Signature} {a : Set} (b : Set) → Within S a → Within S (a ∖ b)
-within-difference {S} {a} b W = within-subset (a ∖ b) a (difference-left a b) W
+pub within_difference : {S : Signature} {a : Set} (b : Set) → Within S a → Within S (a ∖ b)
+within_difference {S} {a} b W = within_subset (a ∖ b) a (difference_left a b) W
 
-pub within-intersection : {S : Signature} {a : Set} (b : Set) → Within S a → Within S (a ∩ b)
-within-intersection {S} {a} b W = within-subset (a ∩ b) a (intersection-left a b) W
+pub within_intersection : {S : Signature} {a : Set} (b : Set) → Within S a → Within S (a ∩ b)
+within_intersection {S} {a} b W = within_subset (a ∩ b) a (intersection_left a b) W
 
 module _ (T : List (List Functor)) (S : Signature) (D : Declared T S) where
-  pub within-small : (s : Set) → Within S s → Small s
-  within-small s W = small-mk s (λ r m. (region-top T S D r (W.inside r m)).1)
+  pub within_small : (s : Set) → Within S s → Small s
+  within_small s W = small_mk s (λ r m. (region_top T S D r (W.inside r m)).1)
 
-  kept-within : Within S (kept S)
-  kept-within = record { inside = kept-ranged T S D }
+  kept_within : Within S (kept S)
+  kept_within = record { inside = kept_ranged T S D }
 
-  pub wanted-within : (l : Set) → Within S (wanted S l)
+  pub wanted_within : (l : Set) → Within S (wanted S l)
   unfolding wanted
-  wanted-within l = within-union kept-within (record { inside = reachAll-ranged T S D l })
+  wanted_within l = within_union kept_within (record { inside = reach_all_ranged T S D l })
 
-  module _ (C : classesOk S ≡ true) where
-    pub start-within : Within S (startHeld S)
-    unfolding startHeld
-    start-within = within-subset (dead S ∪ kept S) (inputs S ∪ outputs S) (start-shared S C) (record { inside = shared-ranged T S D })
+  module _ (C : classes_ok S ≡ true) where
+    pub start_within : Within S (start_held S)
+    unfolding start_held
+    start_within = within_subset (dead S ∪ kept S) (inputs S ∪ outputs S) (start_shared S C) (record { inside = shared_ranged T S D })
 
     -- what is wanted where only in variables are live is held at the start
-    pub start-wanted : (l : Set) → subset l (insOf S) ≡ true → subset (wanted S l) (startHeld S) ≡ true
-    unfolding startHeld inputs wanted reachAll
-    start-wanted l h =
-        union-least (kept S) _ (dead S ∪ kept S) (right-union (dead S) (kept S))
-        (subset-trans _ _ (dead S ∪ kept S) (unionOver-mono (reach S) (reach S) l (insOf S) (λ x. subset-refl (reach S x)) h)
-        (inputs-sorted S C T D))
+    pub start_wanted : (l : Set) → subset l (ins_of S) ≡ true → subset (wanted S l) (start_held S) ≡ true
+    unfolding start_held inputs wanted reach_all
+    start_wanted l h =
+        union_least (kept S) _ (dead S ∪ kept S) (right_union (dead S) (kept S))
+        (subset_trans _ _ (dead S ∪ kept S) (union_over_mono (reach S) (reach S) l (ins_of S) (λ x. subset_refl (reach S x)) h)
+        (inputs_sorted S C T D))
 
     -- "At the end: born and kept regions held, no other": that is what is wanted there
-    pub end-wanted : wanted S (outsOf S) ≡ born S ∪ kept S
+    pub end_wanted : wanted S (outs_of S) ≡ born S ∪ kept S
     unfolding wanted outputs
-    end-wanted =
-        subset-antisym (wanted S (outsOf S)) (born S ∪ kept S)
-        (union-least (kept S) (outputs S) _ (right-union (born S) (kept S)) (outputs-sorted S C T D))
-        (union-least (born S) (kept S) _ (subset-trans (born S) (outputs S) _ (born-outputs S C) (right-union (kept S) (outputs S)))
-        (kept-wanted S (outsOf S)))
+    end_wanted =
+        subset_antisym (wanted S (outs_of S)) (born S ∪ kept S)
+        (union_least (kept S) (outputs S) _ (right_union (born S) (kept S)) (outputs_sorted S C T D))
+        (union_least (born S) (kept S) _ (subset_trans (born S) (outputs S) _ (born_outputs S C) (right_union (kept S) (outputs S)))
+        (kept_wanted S (outs_of S)))

@@ -5,101 +5,101 @@ use Rattle.std.proofs.Common.{◌∙◌}
 use Rattle.std.proofs.Math.ListN.{length-set}
 use Rattle.std.proofs.Math.Seq.{get_or-set_same, get_or-set_other}
 use Rattle.sets.specs.Sets.{◌∪◌, stored}
-use Rattle.language.specs.Format.{maxProcedures}
-use Rattle.tables.specs.Window.{variablesPlace, bodyPlace, bornPlace, deadPlace, keptPlace, setIn}
-use Rattle.tables.specs.Starts.{windowIn}
-use Rattle.plans.specs.Plan.{calleeRow, calleeWord, calleeBody, calleeSize, calleeHeld, calleeBorn, calleesWords}
-use Rattle.plans.specs.Passes.{putCallee, calleesOf}
+use Rattle.language.specs.Format.{max_procedures}
+use Rattle.tables.specs.Window.{variables_place, body_place, born_place, dead_place, kept_place, set_in}
+use Rattle.tables.specs.Starts.{window_in}
+use Rattle.plans.specs.Plan.{callee_row, callee_word, callee_body, callee_size, callee_held, callee_born, callees_words}
+use Rattle.plans.specs.Passes.{put_callee, callees_of}
 use Rattle.plans.specs.Rising.{StepMeets, met}
 
 -- ---- one procedure
 module _ (own : List ℕ) (q : ℕ) (t : List ℕ) where
   abbrev one : List ℕ
-  one = set t (calleeRow * q + calleeBody) (get_or own bodyPlace 0)
+  one = set t (callee_row * q + callee_body) (get_or own body_place 0)
 
   abbrev two : List ℕ
-  two = set one (calleeRow * q + calleeSize) (get_or own variablesPlace 0)
+  two = set one (callee_row * q + callee_size) (get_or own variables_place 0)
 
   abbrev held : ℕ
-  held = stored (setIn own deadPlace ∪ setIn own keptPlace)
+  held = stored (set_in own dead_place ∪ set_in own kept_place)
 
   abbrev three : List ℕ
-  three = set two (calleeRow * q + calleeHeld) held
+  three = set two (callee_row * q + callee_held) held
 
-  callee-length : length (putCallee own q t) ≡ length t
-  unfolding putCallee
-  callee-length =
-      length-set three (calleeRow * q + calleeBorn) (stored (setIn own bornPlace)) ∙ length-set two (calleeRow * q + calleeHeld) held
-      ∙ length-set one (calleeRow * q + calleeSize) (get_or own variablesPlace 0) ∙ length-set t (calleeRow * q + calleeBody) (get_or own bodyPlace 0)
+  callee_length : length (put_callee own q t) ≡ length t
+  unfolding put_callee
+  callee_length =
+      length-set three (callee_row * q + callee_born) (stored (set_in own born_place)) ∙ length-set two (callee_row * q + callee_held) held
+      ∙ length-set one (callee_row * q + callee_size) (get_or own variables_place 0) ∙ length-set t (callee_row * q + callee_body) (get_or own body_place 0)
 
-  callee-own : (p : ℕ) → (p / 4 ≡ q → ⊥) → get_or (putCallee own q t) p 0 ≡ get_or t p 0
-  unfolding putCallee
-  callee-own p n =
-      get_or-set_other three (calleeRow * q + calleeBorn) p (stored (setIn own bornPlace)) 0 (λ e. n (omega arith))
-      ∙ get_or-set_other two (calleeRow * q + calleeHeld) p held 0 (λ e. n (omega arith))
-      ∙ get_or-set_other one (calleeRow * q + calleeSize) p (get_or own variablesPlace 0) 0 (λ e. n (omega arith))
-      ∙ get_or-set_other t (calleeRow * q + calleeBody) p (get_or own bodyPlace 0) 0 (λ e. n (omega arith))
+  callee_own : (p : ℕ) → (p / 4 ≡ q → ⊥) → get_or (put_callee own q t) p 0 ≡ get_or t p 0
+  unfolding put_callee
+  callee_own p n =
+      get_or-set_other three (callee_row * q + callee_born) p (stored (set_in own born_place)) 0 (λ e. n (omega arith))
+      ∙ get_or-set_other two (callee_row * q + callee_held) p held 0 (λ e. n (omega arith))
+      ∙ get_or-set_other one (callee_row * q + callee_size) p (get_or own variables_place 0) 0 (λ e. n (omega arith))
+      ∙ get_or-set_other t (callee_row * q + callee_body) p (get_or own body_place 0) 0 (λ e. n (omega arith))
 
-  module _ (l : q < maxProcedures) (h : length t ≡ calleesWords) where
-    long-one : length one ≡ calleesWords
-    long-one = length-set t (calleeRow * q + calleeBody) (get_or own bodyPlace 0) ∙ h
+  module _ (l : q < max_procedures) (h : length t ≡ callees_words) where
+    long_one : length one ≡ callees_words
+    long_one = length-set t (callee_row * q + callee_body) (get_or own body_place 0) ∙ h
 
-    long-two : length two ≡ calleesWords
-    long-two = length-set one (calleeRow * q + calleeSize) (get_or own variablesPlace 0) ∙ long-one
+    long_two : length two ≡ callees_words
+    long_two = length-set one (callee_row * q + callee_size) (get_or own variables_place 0) ∙ long_one
 
-    long-three : length three ≡ calleesWords
-    long-three = length-set two (calleeRow * q + calleeHeld) held ∙ long-two
+    long_three : length three ≡ callees_words
+    long_three = length-set two (callee_row * q + callee_held) held ∙ long_two
 
-    callee-born : get_or (putCallee own q t) (calleeRow * q + calleeBorn) 0 ≡ stored (setIn own bornPlace)
-    unfolding putCallee
-    callee-born = get_or-set_same three (calleeRow * q + calleeBorn) (stored (setIn own bornPlace)) 0 (omega (arith, long-three))
+    callee_born_law : get_or (put_callee own q t) (callee_row * q + callee_born) 0 ≡ stored (set_in own born_place)
+    unfolding put_callee
+    callee_born_law = get_or-set_same three (callee_row * q + callee_born) (stored (set_in own born_place)) 0 (omega (arith, long_three))
 
-    callee-held : get_or (putCallee own q t) (calleeRow * q + calleeHeld) 0 ≡ held
-    unfolding putCallee
-    callee-held =
-        get_or-set_other three (calleeRow * q + calleeBorn) (calleeRow * q + calleeHeld) (stored (setIn own bornPlace)) 0 (λ e. omega arith)
-        ∙ get_or-set_same two (calleeRow * q + calleeHeld) held 0 (omega (arith, long-two))
+    callee_held_law : get_or (put_callee own q t) (callee_row * q + callee_held) 0 ≡ held
+    unfolding put_callee
+    callee_held_law =
+        get_or-set_other three (callee_row * q + callee_born) (callee_row * q + callee_held) (stored (set_in own born_place)) 0 (λ e. omega arith)
+        ∙ get_or-set_same two (callee_row * q + callee_held) held 0 (omega (arith, long_two))
 
-    callee-size : get_or (putCallee own q t) (calleeRow * q + calleeSize) 0 ≡ get_or own variablesPlace 0
-    unfolding putCallee
-    callee-size =
-        get_or-set_other three (calleeRow * q + calleeBorn) (calleeRow * q + calleeSize) (stored (setIn own bornPlace)) 0 (λ e. omega arith)
-        ∙ get_or-set_other two (calleeRow * q + calleeHeld) (calleeRow * q + calleeSize) held 0 (λ e. omega arith)
-        ∙ get_or-set_same one (calleeRow * q + calleeSize) (get_or own variablesPlace 0) 0 (omega (arith, long-one))
+    callee_size_law : get_or (put_callee own q t) (callee_row * q + callee_size) 0 ≡ get_or own variables_place 0
+    unfolding put_callee
+    callee_size_law =
+        get_or-set_other three (callee_row * q + callee_born) (callee_row * q + callee_size) (stored (set_in own born_place)) 0 (λ e. omega arith)
+        ∙ get_or-set_other two (callee_row * q + callee_held) (callee_row * q + callee_size) held 0 (λ e. omega arith)
+        ∙ get_or-set_same one (callee_row * q + callee_size) (get_or own variables_place 0) 0 (omega (arith, long_one))
 
-    callee-body : get_or (putCallee own q t) (calleeRow * q + calleeBody) 0 ≡ get_or own bodyPlace 0
-    unfolding putCallee
-    callee-body =
-        get_or-set_other three (calleeRow * q + calleeBorn) (calleeRow * q + calleeBody) (stored (setIn own bornPlace)) 0 (λ e. omega arith)
-        ∙ get_or-set_other two (calleeRow * q + calleeHeld) (calleeRow * q + calleeBody) held 0 (λ e. omega arith)
-        ∙ get_or-set_other one (calleeRow * q + calleeSize) (calleeRow * q + calleeBody) (get_or own variablesPlace 0) 0 (λ e. omega arith)
-        ∙ get_or-set_same t (calleeRow * q + calleeBody) (get_or own bodyPlace 0) 0 (omega arith)
+    callee_body_law : get_or (put_callee own q t) (callee_row * q + callee_body) 0 ≡ get_or own body_place 0
+    unfolding put_callee
+    callee_body_law =
+        get_or-set_other three (callee_row * q + callee_born) (callee_row * q + callee_body) (stored (set_in own born_place)) 0 (λ e. omega arith)
+        ∙ get_or-set_other two (callee_row * q + callee_held) (callee_row * q + callee_body) held 0 (λ e. omega arith)
+        ∙ get_or-set_other one (callee_row * q + callee_size) (callee_row * q + callee_body) (get_or own variables_place 0) 0 (λ e. omega arith)
+        ∙ get_or-set_same t (callee_row * q + callee_body) (get_or own body_place 0) 0 (omega arith)
 
 -- ---- all procedures
-module _ (table t : List ℕ) (h : length t ≡ calleesWords) (q : ℕ) (l : q < maxProcedures) where
+module _ (table t : List ℕ) (h : length t ≡ callees_words) (q : ℕ) (l : q < max_procedures) where
   abbrev step : ℕ → List ℕ → List ℕ
-  step p u = putCallee (windowIn table p) p u
+  step p u = put_callee (window_in table p) p u
 
   abbrev own : List ℕ
-  own = windowIn table q
+  own = window_in table q
 
-  there : (u : List ℕ) × StepMeets step (λ p. p / 4) (λ i v p. callee-own (windowIn table i) i v p) maxProcedures 0 q t u
-  there = met step (λ p. p / 4) (λ i v p. callee-own (windowIn table i) i v p) (λ i v. callee-length (windowIn table i) i v) maxProcedures 0 q (omega arith) (omega arith) t
+  there : (u : List ℕ) × StepMeets step (λ p. p / 4) (λ i v p. callee_own (window_in table i) i v p) max_procedures 0 q t u
+  there = met step (λ p. p / 4) (λ i v p. callee_own (window_in table i) i v p) (λ i v. callee_length (window_in table i) i v) max_procedures 0 q (omega arith) (omega arith) t
 
-  word-is : (k v : ℕ) → k < calleeRow → ((u : List ℕ) → length u ≡ calleesWords → get_or (putCallee own q u) (calleeRow * q + k) 0 ≡ v) → calleeWord (calleesOf table t) q k ≡ v
-  unfolding calleesOf
-  word-is k v s g =
-      let z : q % maxProcedures ≡ q = omega arith in
-      rw z (there.1.here (calleeRow * q + k) (omega arith) ∙ g there.0 (there.1.long ∙ h))
+  word_is : (k v : ℕ) → k < callee_row → ((u : List ℕ) → length u ≡ callees_words → get_or (put_callee own q u) (callee_row * q + k) 0 ≡ v) → callee_word (callees_of table t) q k ≡ v
+  unfolding callees_of
+  word_is k v s g =
+      let z : q % max_procedures ≡ q = omega arith in
+      rw z (there.1.here (callee_row * q + k) (omega arith) ∙ g there.0 (there.1.long ∙ h))
 
-  pub body-word : calleeWord (calleesOf table t) q calleeBody ≡ get_or own bodyPlace 0
-  body-word = word-is calleeBody (get_or own bodyPlace 0) (omega arith) (λ u e. callee-body own q u l e)
+  pub body_word : callee_word (callees_of table t) q callee_body ≡ get_or own body_place 0
+  body_word = word_is callee_body (get_or own body_place 0) (omega arith) (λ u e. callee_body_law own q u l e)
 
-  pub size_word : calleeWord (calleesOf table t) q calleeSize ≡ get_or own variablesPlace 0
-  size_word = word-is calleeSize (get_or own variablesPlace 0) (omega arith) (λ u e. callee-size own q u l e)
+  pub size_word : callee_word (callees_of table t) q callee_size ≡ get_or own variables_place 0
+  size_word = word_is callee_size (get_or own variables_place 0) (omega arith) (λ u e. callee_size_law own q u l e)
 
-  pub held_word : calleeWord (calleesOf table t) q calleeHeld ≡ stored (setIn own deadPlace ∪ setIn own keptPlace)
-  held_word = word-is calleeHeld (stored (setIn own deadPlace ∪ setIn own keptPlace)) (omega arith) (λ u e. callee-held own q u l e)
+  pub held_word : callee_word (callees_of table t) q callee_held ≡ stored (set_in own dead_place ∪ set_in own kept_place)
+  held_word = word_is callee_held (stored (set_in own dead_place ∪ set_in own kept_place)) (omega arith) (λ u e. callee_held_law own q u l e)
 
-  pub born-word : calleeWord (calleesOf table t) q calleeBorn ≡ stored (setIn own bornPlace)
-  born-word = word-is calleeBorn (stored (setIn own bornPlace)) (omega arith) (λ u e. callee-born own q u l e)
+  pub born_word : callee_word (callees_of table t) q callee_born ≡ stored (set_in own born_place)
+  born_word = word_is callee_born (stored (set_in own born_place)) (omega arith) (λ u e. callee_born_law own q u l e)

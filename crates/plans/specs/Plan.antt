@@ -9,100 +9,100 @@
 use Rattle.std.specs.Prelude.{ℕ, zero, suc, ◌+◌, ◌-◌, ◌*◌, ◌/◌, ◌%◌, ◌<◌, ◌≤◌, ◌≡◌, List, [], ◌∷◌, eqb, ltb, length, get_or}
 use Rattle.sets.specs.Sets.{loaded}
 use Rattle.language.specs.File.{word}
-use Rattle.language.specs.Format.{maxVariables, maxRegions, maxProcedures, termArguments, maxRecords}
+use Rattle.language.specs.Format.{max_variables, max_regions, max_procedures, term_arguments, max_records}
 use Rattle.language.specs.Lists.{choose}
-use Rattle.language.specs.Program.{inMode}
-use Rattle.records.specs.Records.{recordAt}
+use Rattle.language.specs.Program.{in_mode}
+use Rattle.records.specs.Records.{record_at}
 use Rattle.records.specs.declared.Record.TheVariants.{Literal, Sum, Assign, Construct, Switch, Arm, If, Print, Create, Remove, Test}
-use Rattle.word_machine.specs.Tables.{linkUnit, Tables, slot_of, given_of}
+use Rattle.word_machine.specs.Tables.{link_unit, Tables, slot_of, given_of}
 
 -- where each sort of word starts, and how many words and images there are
-abbrev pub insFrom : ℕ
-insFrom = maxRecords
+abbrev pub ins_from : ℕ
+ins_from = max_records
 
-abbrev pub outsFrom : ℕ
-outsFrom = 2 * maxRecords
+abbrev pub outs_from : ℕ
+outs_from = 2 * max_records
 
-abbrev pub sidesFrom : ℕ
-sidesFrom = 3 * maxRecords
+abbrev pub sides_from : ℕ
+sides_from = 3 * max_records
 
-abbrev pub planWords : ℕ
-planWords = 4 * maxRecords
+abbrev pub plan_words : ℕ
+plan_words = 4 * max_records
 
-abbrev pub imageBytes : ℕ
-imageBytes = maxRegions * maxRecords + 1
+abbrev pub image_bytes : ℕ
+image_bytes = max_regions * max_records + 1
 
 -- the four words of procedure q
-abbrev pub calleeRow : ℕ
-calleeRow = 4
+abbrev pub callee_row : ℕ
+callee_row = 4
 
-abbrev pub calleeWord : List ℕ → ℕ → ℕ → ℕ
-calleeWord callees q k = get_or callees (calleeRow * (q % maxProcedures) + k) 0
+abbrev pub callee_word : List ℕ → ℕ → ℕ → ℕ
+callee_word callees q k = get_or callees (callee_row * (q % max_procedures) + k) 0
 
-abbrev pub calleeBody : ℕ
-calleeBody = 0
+abbrev pub callee_body : ℕ
+callee_body = 0
 
-abbrev pub calleeSize : ℕ
-calleeSize = 1
+abbrev pub callee_size : ℕ
+callee_size = 1
 
-abbrev pub calleeHeld : ℕ
-calleeHeld = 2
+abbrev pub callee_held : ℕ
+callee_held = 2
 
-abbrev pub calleeBorn : ℕ
-calleeBorn = 3
+abbrev pub callee_born : ℕ
+callee_born = 3
 
-abbrev pub calleesWords : ℕ
-calleesWords = calleeRow * maxProcedures
+abbrev pub callees_words : ℕ
+callees_words = callee_row * max_procedures
 
 -- where the links of a mode start
-unfoldable pub linksFrom : ℕ → ℕ
-linksFrom m = choose (eqb m inMode) insFrom outsFrom
+unfoldable pub links_from : ℕ → ℕ
+links_from m = choose (eqb m in_mode) ins_from outs_from
 
 -- the links from record a on, at most n of them: each leads to a later record
 unfoldable pub linked : (ℕ → ℕ) → ℕ → ℕ → List ℕ
 linked link zero a = []
-linked link (suc n) a = choose (ltb a (link a / linkUnit)) (link (link a / linkUnit) ∷ linked link n (link a / linkUnit)) []
+linked link (suc n) a = choose (ltb a (link a / link_unit)) (link (link a / link_unit) ∷ linked link n (link a / link_unit)) []
 
-unfoldable pub tablesIn : List ℕ → List ℕ → List ℕ → Tables
-tablesIn plan images callees = record {
+unfoldable pub tables_in : List ℕ → List ℕ → List ℕ → Tables
+tables_in plan images callees = record {
   successor = λ i. get_or plan i 0;
   entry = λ j. get_or plan j 0;
-  region = λ i. get_or plan (sidesFrom + i) 0;
-  passes = λ m i. linked (λ a. get_or plan (linksFrom m + a) 0) (maxRecords - i) i;
-  image = λ i r. get_or images (get_or plan (sidesFrom + i) 0 + r) 0;
-  body = λ q. calleeWord callees q calleeBody;
-  size = λ q. calleeWord callees q calleeSize;
-  held = λ q. loaded (calleeWord callees q calleeHeld);
-  bears = λ q. loaded (calleeWord callees q calleeBorn);
+  region = λ i. get_or plan (sides_from + i) 0;
+  passes = λ m i. linked (λ a. get_or plan (links_from m + a) 0) (max_records - i) i;
+  image = λ i r. get_or images (get_or plan (sides_from + i) 0 + r) 0;
+  body = λ q. callee_word callees q callee_body;
+  size = λ q. callee_word callees q callee_size;
+  held = λ q. loaded (callee_word callees q callee_held);
+  bears = λ q. loaded (callee_word callees q callee_born);
 }
 
 -- what a link says can be read: numbers of variables, and a record
 pub record LinkOk (w : ℕ) : Type 0 where
-  pub slot : slot_of w ≤ maxVariables
-  pub given : given_of w ≤ maxVariables
-  pub next : w / linkUnit < maxRecords
+  pub slot : slot_of w ≤ max_variables
+  pub given : given_of w ≤ max_variables
+  pub next : w / link_unit < max_records
 
 -- What a run may read without a look: every word of these tables leads to a word that is there.
 pub record Narrow (plan images : List ℕ) : Type 0 where
-  pub goals : (i : ℕ) → i < maxRecords → get_or plan i 0 < maxRecords
-  pub ins : (a : ℕ) → a < maxRecords → LinkOk (get_or plan (insFrom + a) 0)
-  pub outs : (a : ℕ) → a < maxRecords → LinkOk (get_or plan (outsFrom + a) 0)
-  pub sides : (i : ℕ) → i < maxRecords → get_or plan (sidesFrom + i) 0 + maxRegions < imageBytes
-  pub image : (p : ℕ) → get_or images p 0 ≤ maxRegions
-  pub long : imageBytes ≤ length images
+  pub goals : (i : ℕ) → i < max_records → get_or plan i 0 < max_records
+  pub ins : (a : ℕ) → a < max_records → LinkOk (get_or plan (ins_from + a) 0)
+  pub outs : (a : ℕ) → a < max_records → LinkOk (get_or plan (outs_from + a) 0)
+  pub sides : (i : ℕ) → i < max_records → get_or plan (sides_from + i) 0 + max_regions < image_bytes
+  pub image : (p : ℕ) → get_or images p 0 ≤ max_regions
+  pub long : image_bytes ≤ length images
 
 -- The numbers of variables and regions that a file's goals have are those of words of a frame: number 3 sees to that.
 pub record Numbered (f plan : List ℕ) : Type 0 where
-  pub literal : (i n x v : ℕ) → recordAt f i ≡ Literal n x v → x ≤ maxVariables
-  pub sum : (i n x o y z : ℕ) → recordAt f i ≡ Sum n x o y z → (x ≤ maxVariables) × (y ≤ maxVariables) × (z ≤ maxVariables)
-  pub assign : (i n x y : ℕ) → recordAt f i ≡ Assign n x y → (x ≤ maxVariables) × (y ≤ maxVariables)
-  pub construct : (i n x k a b c d : ℕ) → recordAt f i ≡ Construct n x k a b c d → (x ≤ maxVariables) × (a ≤ maxVariables) × (b ≤ maxVariables) × (c ≤ maxVariables) × (d ≤ maxVariables)
-  pub home : (i n x k a b c d : ℕ) → recordAt f i ≡ Construct n x k a b c d → get_or plan (sidesFrom + i) 0 ≤ maxRegions
-  pub switch : (i n x cs : ℕ) → recordAt f i ≡ Switch n x cs → x ≤ maxVariables
-  pub arm : (i n g k a b c d : ℕ) → recordAt f i ≡ Arm n g k a b c d → (a ≤ maxVariables) × (b ≤ maxVariables) × (c ≤ maxVariables) × (d ≤ maxVariables)
-  pub none : word f 0 termArguments ≡ 0  -- no arm is record 0, which has no argument
-  pub less : (i n y z a b : ℕ) → recordAt f i ≡ If n y z a b → (y ≤ maxVariables) × (z ≤ maxVariables)
-  pub test : (i n y z : ℕ) → recordAt f i ≡ Test n y z → (y ≤ maxVariables) × (z ≤ maxVariables)
-  pub print : (i n y : ℕ) → recordAt f i ≡ Print n y → y ≤ maxVariables
-  pub create : (i n r : ℕ) → recordAt f i ≡ Create n r → r ≤ maxRegions
-  pub remove : (i n r : ℕ) → recordAt f i ≡ Remove n r → r ≤ maxRegions
+  pub literal : (i n x v : ℕ) → record_at f i ≡ Literal n x v → x ≤ max_variables
+  pub sum : (i n x o y z : ℕ) → record_at f i ≡ Sum n x o y z → (x ≤ max_variables) × (y ≤ max_variables) × (z ≤ max_variables)
+  pub assign : (i n x y : ℕ) → record_at f i ≡ Assign n x y → (x ≤ max_variables) × (y ≤ max_variables)
+  pub construct : (i n x k a b c d : ℕ) → record_at f i ≡ Construct n x k a b c d → (x ≤ max_variables) × (a ≤ max_variables) × (b ≤ max_variables) × (c ≤ max_variables) × (d ≤ max_variables)
+  pub home : (i n x k a b c d : ℕ) → record_at f i ≡ Construct n x k a b c d → get_or plan (sides_from + i) 0 ≤ max_regions
+  pub switch : (i n x cs : ℕ) → record_at f i ≡ Switch n x cs → x ≤ max_variables
+  pub arm : (i n g k a b c d : ℕ) → record_at f i ≡ Arm n g k a b c d → (a ≤ max_variables) × (b ≤ max_variables) × (c ≤ max_variables) × (d ≤ max_variables)
+  pub none : word f 0 term_arguments ≡ 0  -- no arm is record 0, which has no argument
+  pub less : (i n y z a b : ℕ) → record_at f i ≡ If n y z a b → (y ≤ max_variables) × (z ≤ max_variables)
+  pub test : (i n y z : ℕ) → record_at f i ≡ Test n y z → (y ≤ max_variables) × (z ≤ max_variables)
+  pub print : (i n y : ℕ) → record_at f i ≡ Print n y → y ≤ max_variables
+  pub create : (i n r : ℕ) → record_at f i ≡ Create n r → r ≤ max_regions
+  pub remove : (i n r : ℕ) → record_at f i ≡ Remove n r → r ≤ max_regions

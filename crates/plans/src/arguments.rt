@@ -1,13 +1,13 @@
 // The callee's variable that each argument of a call matches, and its mode.
 ghost use Rattle.std.specs.Prelude.{◌≡◌, ◌+◌, ◌-◌, ◌<◌, get_or, set};
 ghost use Rattle.language.specs.File;
-ghost use Rattle.language.specs.File.{recordCount};
-ghost use Rattle.language.specs.Format.{maxRecords};
-ghost use Rattle.language.specs.Program.{parametersFrom};
-ghost use Rattle.chains.specs.Formed.{Formed, Stands, variablesAt};
-ghost use Rattle.chains.specs.Records.{chainRecords};
-ghost use Rattle.tables.specs.Window.{firstPlace};
-ghost use Rattle.plans.specs.Passes.{TypedAndFilled, slotsFrom, modesFrom, placed, placed_at, placing};
+ghost use Rattle.language.specs.File.{record_count};
+ghost use Rattle.language.specs.Format.{max_records};
+ghost use Rattle.language.specs.Program.{parameters_from};
+ghost use Rattle.chains.specs.Formed.{Formed, Stands, variables_at};
+ghost use Rattle.chains.specs.Records.{chain_records};
+ghost use Rattle.tables.specs.Window.{first_place};
+ghost use Rattle.plans.specs.Passes.{TypedAndFilled, slots_from, modes_from, placed, placed_at, placing};
 
 use crate::{IN_LINKS, OUT_LINKS, PLAN};
 use language::format;
@@ -21,8 +21,8 @@ pub const MODES: usize = OUT_LINKS;
 
 // The argument at record a matches variable x, which has this mode.
 fn put_match(plan: &mut [usize; PLAN], a: usize, x: usize, mode: usize)
-    requires { a < maxRecords }
-    ensures { plan.new ≡ set (set plan.old (slotsFrom + a) x) (modesFrom + a) mode }
+    requires { a < max_records }
+    ensures { plan.new ≡ set (set plan.old (slots_from + a) x) (modes_from + a) mode }
 {
     plan[SLOTS + a] = x;
     plan[MODES + a] = mode;
@@ -31,9 +31,9 @@ fn put_match(plan: &mut [usize; PLAN], a: usize, x: usize, mode: usize)
 // The arguments in the chain at record arguments, beside the in and out variables of the procedure with the window callee.
 fn match_call(file: &[u8], callee: &[u64], arguments: usize, plan: &mut [usize; PLAN])
     requires formed { Formed file.now }
-    requires stands { Stands file.now File.variables (get_or callee.now firstPlace 0) }
+    requires stands { Stands file.now File.variables (get_or callee.now first_place 0) }
     requires stands_2 { Stands file.now File.arguments arguments }
-    ensures { plan.new ≡ placed (parametersFrom 1 (variablesAt file.now (get_or callee.now firstPlace 0))) (chainRecords file.now arguments) plan.old }
+    ensures { plan.new ≡ placed (parameters_from 1 (variables_at file.now (get_or callee.now first_place 0))) (chain_records file.now arguments) plan.old }
 {
     let mut x = word_at(callee, FIRST);
     let mut k = 0;
@@ -56,7 +56,7 @@ fn match_call(file: &[u8], callee: &[u64], arguments: usize, plan: &mut [usize; 
 // Record i, if it is a call.
 fn match_record(file: &[u8], table: &[u64], i: usize, plan: &mut [usize; PLAN])
     requires typed_and_filled { TypedAndFilled file.now table.now }
-    requires i_nonzero { (0 < i) × (i < recordCount file.now) }
+    requires i_nonzero { (0 < i) × (i < record_count file.now) }
     ensures { plan.new ≡ placed_at file.now i plan.old }
 {
     if word(file, i, format::KIND) != format::CALL {
@@ -70,7 +70,7 @@ fn match_record(file: &[u8], table: &[u64], i: usize, plan: &mut [usize; PLAN])
 // The arguments of all calls.
 pub fn match_calls(file: &[u8], table: &[u64], plan: &mut [usize; PLAN])
     requires { TypedAndFilled file.now table.now }
-    ensures { plan.new ≡ placing file.now (recordCount file.now - 1) 1 plan.old }
+    ensures { plan.new ≡ placing file.now (record_count file.now - 1) 1 plan.old }
 {
     let n = word(file, 0, format::HEADER_COUNT);
     let mut i = 1;

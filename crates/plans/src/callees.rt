@@ -1,7 +1,7 @@
 // What a call reads of its callee, by the callee's number.
 ghost use Rattle.std.specs.Prelude.{◌≡◌, ◌<◌};
-ghost use Rattle.language.specs.Format.{maxProcedures};
-ghost use Rattle.plans.specs.Passes.{putCallee, calleesOf};
+ghost use Rattle.language.specs.Format.{max_procedures};
+ghost use Rattle.plans.specs.Passes.{put_callee, callees_of};
 
 use crate::{CALLEE_BODY, CALLEE_BORN, CALLEE_HELD, CALLEE_ROW, CALLEE_SIZE, CALLEES};
 use language::format::MAX_PROCEDURES;
@@ -9,8 +9,8 @@ use tables::{BODY, BORN, DEAD, KEPT, VARIABLES, set_at, start_of, word_at};
 
 // The four words of procedure q, whose window is own.
 fn put_callee(own: &[u64], q: usize, callees: &mut [u64; CALLEES])
-    requires { q < maxProcedures }
-    ensures { callees.new ≡ putCallee own.now q callees.old }
+    requires { q < max_procedures }
+    ensures { callees.new ≡ put_callee own.now q callees.old }
 {
     let held = set_at(own, DEAD).union(set_at(own, KEPT));
     let born = set_at(own, BORN);
@@ -23,7 +23,7 @@ fn put_callee(own: &[u64], q: usize, callees: &mut [u64; CALLEES])
 
 // Those of all procedures.
 pub fn fill_callees(table: &[u64], callees: &mut [u64; CALLEES])
-    ensures { callees.new ≡ calleesOf table.now callees.old }
+    ensures { callees.new ≡ callees_of table.now callees.old }
 {
     let mut q = 0;
     while q < MAX_PROCEDURES {

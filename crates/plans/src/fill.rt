@@ -1,8 +1,8 @@
 // The plan, the images and the callees of an accepted file.
 ghost use Rattle.std.specs.Prelude.{◌≡◌, length, replicate};
 ghost use Rattle.word_machine.specs.Tables.{Tabled};
-ghost use Rattle.plans.specs.Plan.{planWords, imageBytes, calleesWords, tablesIn, Narrow, Numbered};
-ghost use Rattle.plans.specs.Passes.{TypedAndFilled, plan_of, imagesOf, calleesOf};
+ghost use Rattle.plans.specs.Plan.{plan_words, image_bytes, callees_words, tables_in, Narrow, Numbered};
+ghost use Rattle.plans.specs.Passes.{TypedAndFilled, plan_of, images_of, callees_of};
 
 use crate::arguments::match_calls;
 use crate::callees::fill_callees;
@@ -24,15 +24,15 @@ pub fn fill_plan(
     callees: &mut [u64; CALLEES],
 )
     requires typed_and_filled { TypedAndFilled file.now table.now }
-    requires plan_value { plan.old ≡ replicate planWords 0 }
-    requires images_value { images.old ≡ replicate imageBytes 0 }
-    requires callees_len { length callees.old ≡ calleesWords }
-    ensures tabled { Tabled file.now (tablesIn plan.new images.new callees.new) }
+    requires plan_value { plan.old ≡ replicate plan_words 0 }
+    requires images_value { images.old ≡ replicate image_bytes 0 }
+    requires callees_len { length callees.old ≡ callees_words }
+    ensures tabled { Tabled file.now (tables_in plan.new images.new callees.new) }
     ensures narrow { Narrow plan.new images.new }
     ensures numbered { Numbered file.now plan.new }
     ensures plan_after { plan.new ≡ plan_of file.now plan.old }
-    ensures images_after { images.new ≡ imagesOf file.now images.old }
-    ensures callees_after { callees.new ≡ calleesOf table.now callees.old }
+    ensures images_after { images.new ≡ images_of file.now images.old }
+    ensures callees_after { callees.new ≡ callees_of table.now callees.old }
 {
     let mut owners = blank_owners();
     list_owners(file, &mut owners);

@@ -1,12 +1,12 @@
 // The caller's region for each call and region of its callee.
 ghost use Rattle.std.specs.Prelude.{◌≡◌, ℕ, ◌+◌, ◌-◌, ◌<◌, length, get_or};
-ghost use Rattle.language.specs.File.{recordCount};
+ghost use Rattle.language.specs.File.{record_count};
 ghost use Rattle.language.specs.Format.{places};
 ghost use Rattle.regions.specs.Here.{Given};
 ghost use Rattle.chains.specs.Shapes.{IsCall};
 ghost use Rattle.regions.specs.CallMap.{Blank};
 ghost use Rattle.regions.specs.CallEffect.{CallHere};
-ghost use Rattle.plans.specs.Plan.{imageBytes};
+ghost use Rattle.plans.specs.Plan.{image_bytes};
 ghost use Rattle.plans.specs.Passes.{Regional, copied, picturing};
 ghost use Rattle.plans.specs.Images.{CallImages, LastCall};
 
@@ -55,7 +55,7 @@ fn next_images(
     found: &mut [usize; PLACES],
 ) -> usize
     requires given { Given file.now table.now owners.now }
-    requires i_nonzero { (0 < i) × (i < recordCount file.now) }
+    requires i_nonzero { (0 < i) × (i < record_count file.now) }
     requires last_call { LastCall file.now last found.old }
     ensures last_call_2 { LastCall file.now result found.new }
     ensures value { IsCall file.now i → result ≡ i }
@@ -75,7 +75,7 @@ fn next_images(
 // Copies the images of regions 1 to n behind place `at`.
 fn copy_images(found: &[usize; PLACES], n: usize, at: usize, images: &mut [u8; IMAGES])
     requires n_lt_places { n < places }
-    requires n_bound { at + n < imageBytes }
+    requires n_bound { at + n < image_bytes }
     requires by_index { (r : ℕ) → get_or found.now r 0 < places }
     ensures { images.new ≡ copied (λ r. get_or found.now r 0) n at images.old }
 {
@@ -91,7 +91,7 @@ pub fn fill_images(file: &[u8], table: &[u64], owners: &[u16], images: &mut [u8;
     requires given { Given file.now table.now owners.now }
     requires regional { Regional images.old }
     ensures regional_2 { Regional images.new }
-    ensures images_after { images.new ≡ picturing file.now (recordCount file.now - 1) 1 images.old }
+    ensures images_after { images.new ≡ picturing file.now (record_count file.now - 1) 1 images.old }
 {
     let records = word(file, 0, format::HEADER_COUNT);
     let mut found = blank_places();

@@ -1,14 +1,14 @@
 // Where the chain of each record goes on after its end, handed down in one pass over the records.
 ghost use Rattle.std.specs.Prelude.{◌≡◌, ◌≤◌, ◌<◌, length, get_or};
-ghost use Rattle.language.specs.File.{word, recordCount};
-ghost use Rattle.language.specs.Format.{tryKind};
+ghost use Rattle.language.specs.File.{word, record_count};
+ghost use Rattle.language.specs.Format.{try_kind};
 ghost use Rattle.records.specs.Table.{table_of};
 ghost use Rattle.chains.specs.Formed.{Formed};
 ghost use Rattle.chains.specs.Shapes.{IsTry};
-ghost use Rattle.owners.specs.Handed.{partDigits, nextAnd, handTo, words_of, handDown, handed};
+ghost use Rattle.owners.specs.Handed.{part_digits, next_and, hand_to, words_of, hand_down, handed};
 ghost use Rattle.owners.specs.Digits.{Hander};
 ghost use Rattle.word_machine.specs.Tables.{onto as ontoOf};
-ghost use Rattle.word_machine.specs.Filling.{partsOnward, onwardBy};
+ghost use Rattle.word_machine.specs.Filling.{parts_onward, onward_by};
 
 use chains::record_count;
 use language::format;
@@ -26,8 +26,8 @@ pub fn onto(first: usize, onward: usize) -> usize
 // After a goal comes its next goal or, at the end of its chain, the record that the table then has for it.
 pub fn fill_onward(file: &[u8], table: &mut [usize])
     requires formed { Formed file.now }
-    requires file_in_bounds { recordCount file.now ≤ length table.old }
-    ensures { table.new ≡ handed (onwardBy file.now) file.now table.old }
+    requires file_in_bounds { record_count file.now ≤ length table.old }
+    ensures { table.new ≡ handed (onward_by file.now) file.now table.old }
 {
     let n = record_count(file);
     let parts = part_words();
@@ -42,9 +42,9 @@ pub fn fill_onward(file: &[u8], table: &mut [usize])
 // Hands down the word of record i.
 fn hand_down(parts: &[usize; KINDS_END], file: &[u8], i: usize, table: &mut [usize])
     requires formed { Formed file.now }
-    requires parts_value { parts.now ≡ table_of partDigits }
-    requires i_bound { (i < recordCount file.now) × (recordCount file.now ≤ length table.old) }
-    ensures { table.new ≡ handDown (onwardBy file.now) file.now i table.old }
+    requires parts_value { parts.now ≡ table_of part_digits }
+    requires i_bound { (i < record_count file.now) × (record_count file.now ≤ length table.old) }
+    ensures { table.new ≡ hand_down (onward_by file.now) file.now i table.old }
 {
     let own = table[i];
     let kind = word_in(file, i, format::KIND);
@@ -60,9 +60,9 @@ fn hand_down(parts: &[usize; KINDS_END], file: &[u8], i: usize, table: &mut [usi
 // A try's condition goes on nowhere, its parts at the goal after it.
 fn hand_try(file: &[u8], i: usize, own: usize, table: &mut [usize])
     requires formed { Formed file.now }
-    requires i_bound { (i < recordCount file.now) × (recordCount file.now ≤ length table.old) }
+    requires i_bound { (i < record_count file.now) × (record_count file.now ≤ length table.old) }
     requires fact { IsTry file.now i × (own ≡ get_or table.old i 0) }
-    ensures { table.new ≡ handDown (onwardBy file.now) file.now i table.old }
+    ensures { table.new ≡ hand_down (onward_by file.now) file.now i table.old }
 {
     let next = word_in(file, i, format::NEXT);
     let condition = word_in(file, i, format::TRY_CONDITION);
@@ -77,8 +77,8 @@ fn hand_try(file: &[u8], i: usize, own: usize, table: &mut [usize])
 
 // Where the chains go on that a record's words beside w1 lead to, own being where its own does. It is no try.
 fn parts_onward(kind: usize, next: usize, own: usize) -> usize
-    requires { kind ≡ tryKind → ⊥ }
-    ensures { result ≡ partsOnward kind next own }
+    requires { kind ≡ try_kind → ⊥ }
+    ensures { result ≡ parts_onward kind next own }
 {
     match kind {
         format::PROCEDURE => 0,
@@ -91,7 +91,7 @@ fn parts_onward(kind: usize, next: usize, own: usize) -> usize
 // Hands `on` to the next record of the chain of record i, and x to what its other words lead to, which `words` lists.
 fn hand_to(file: &[u8], i: usize, words: usize, on: usize, x: usize, table: &mut [usize])
     requires { Hander file.now i words table.old }
-    ensures { table.new ≡ handTo (nextAnd on x) (word file.now i) (words_of file.now i) table.old }
+    ensures { table.new ≡ hand_to (next_and on x) (word file.now i) (words_of file.now i) table.old }
 {
     let next = word_in(file, i, format::NEXT);
     table[next] = on;

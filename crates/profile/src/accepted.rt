@@ -3,8 +3,8 @@ ghost use Rattle.std.specs.Prelude.{◌≡◌, ◌≤◌, length};
 ghost use Rattle.language.specs.declared.Verdict.TheVariants.{Accepted};
 ghost use Rattle.language.specs.Answers.{checked};
 ghost use Rattle.running.specs.Planned.{Planned};
-ghost use Rattle.profiling.specs.Text.{lineBytes};
-ghost use Rattle.profile.specs.Parts.{outputBytes};
+ghost use Rattle.profiling.specs.Text.{line_bytes};
+ghost use Rattle.profile.specs.Parts.{output_bytes};
 
 use crate::parts::print_parts;
 use answering::print;
@@ -17,7 +17,7 @@ use running::lent::{cell_words, frame_words, print_words, region_words};
 pub const OUTPUT_BYTES: usize = 80 * LINE_BYTES;
 
 fn output() -> [u8; OUTPUT_BYTES]
-    ensures { outputBytes ≡ length result }
+    ensures { output_bytes ≡ length result }
 {
     [0; OUTPUT_BYTES]
 }
@@ -31,7 +31,7 @@ fn print_tabled(
     room: usize,
 )
     requires planned { Planned file.now plan.now images.now callees.now }
-    requires line_bytes_le_room { (lineBytes ≤ room) × (room ≤ outputBytes) }
+    requires line_bytes_le_room { (line_bytes ≤ room) × (room ≤ output_bytes) }
 {
     let mut cells = cell_words();
     let mut regions = region_words();
@@ -61,7 +61,7 @@ fn print_tabled(
 
 pub fn print_accepted(file: &[u8], room: usize)
     requires file_value { checked file.now ≡ Accepted }
-    requires line_bytes_le_room { (lineBytes ≤ room) × (room ≤ outputBytes) }
+    requires line_bytes_le_room { (line_bytes ≤ room) × (room ≤ output_bytes) }
 {
     let mut plan = blank_plan();
     let mut images = blank_images();

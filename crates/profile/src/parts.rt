@@ -1,8 +1,8 @@
-// The profile, part by part: each is written before the next is worked out. That all parts together are the profile is `profile-whole` of profiling.
+// The profile, part by part: each is written before the next is worked out. That all parts together are the profile is `profile_whole` of profiling.
 ghost use Rattle.std.specs.Prelude.{◌≤◌, length};
-ghost use Rattle.plans.specs.Plan.{tablesIn, Narrow, Numbered};
-ghost use Rattle.running.specs.Lent.{stepsLent};
-ghost use Rattle.profiling.specs.Text.{lineBytes};
+ghost use Rattle.plans.specs.Plan.{tables_in, Narrow, Numbered};
+ghost use Rattle.running.specs.Lent.{steps_lent};
+ghost use Rattle.profiling.specs.Text.{line_bytes};
 ghost use Rattle.profiling.specs.Moving.{RunStands};
 
 use answering::print;
@@ -15,7 +15,7 @@ use running::lent::STEPS;
 
 // The last line.
 fn print_ending(out: &mut [u8], ending: Ending, steps: usize)
-    requires { lineBytes ≤ length out.old }
+    requires { line_bytes ≤ length out.old }
 {
     let n = put_ending(&mut out[..], 0, ending, steps as u64);
     print(&out[..n]);
@@ -37,8 +37,8 @@ pub fn print_parts(
     out: &mut [u8],
 )
     requires narrow { Narrow plan.now images.now × Numbered file.now plan.now }
-    requires line_bytes_in_bounds { lineBytes ≤ length out.old }
-    requires run_stands { RunStands file.now (tablesIn plan.now images.now callees.now) stepsLent cells.old regions.old frames.old prints.old
+    requires line_bytes_in_bounds { line_bytes ≤ length out.old }
+    requires run_stands { RunStands file.now (tables_in plan.now images.now callees.now) steps_lent cells.old regions.old frames.old prints.old
         log.old own.old first }
 {
     let mut point = first;

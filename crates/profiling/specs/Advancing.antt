@@ -5,23 +5,23 @@ use Rattle.std.proofs.Math.Decide.{dec_lt}
 use Rattle.std.proofs.Math.Path.{ap}
 use Rattle.language.specs.declared.Ending.{Ending}
 use Rattle.word_machine.specs.Tables.{Tables}
-use Rattle.word_machine.specs.Machine.{lentWords}
+use Rattle.word_machine.specs.Machine.{lent_words}
 use Rattle.machine.specs.Words.{words_of}
-use Rattle.profiling.specs.Text.{lineBytes}
+use Rattle.profiling.specs.Text.{line_bytes}
 use Rattle.profiling.specs.declared.Point.{Point}
 use Rattle.profiling.specs.declared.Part.{Part}
 use Rattle.profiling.specs.declared.Part.TheVariants.{More, Last}
-use Rattle.profiling.specs.Standing.{words_in, StandsAfter, at-as, heldBy}
-use Rattle.profiling.specs.Parts.{PartWritten, written_none, written_same, written-more}
+use Rattle.profiling.specs.Standing.{words_in, StandsAfter, at_as, held_by}
+use Rattle.profiling.specs.Parts.{PartWritten, written_none, written_same, written_more}
 use Rattle.profiling.specs.Moving.{RunStands, EndsAfter, StepOnward, lent_same}
-use Rattle.profiling.specs.Noting.{held_at, Notes, no_line, a-line, lineTo}
+use Rattle.profiling.specs.Noting.{held_at, Notes, no_line, a_line, line_to}
 
 -- From point p: the bytes at the front of `out₁` are the lines of the steps from p to where the run stands afterwards; or of all that were left, and
 -- so the run ended. The words with ₁ are those afterwards.
 pub data Advances (f : List ℕ) (T : Tables) (l : ℕ) (m rs fw ps : List ℕ) (p : Point) (out m₁ rs₁ fw₁ ps₁ log₁ own₁ out₁ : List ℕ) : Part → Type 0 where
-  a-part : {at : ℕ} {q : Point} → RunStands f T l m₁ rs₁ fw₁ ps₁ log₁ own₁ q → p.done < q.done → q.done ≤ l → PartWritten f p.done q.done out out₁ at → at ≤ length out₁
+  a_part : {at : ℕ} {q : Point} → RunStands f T l m₁ rs₁ fw₁ ps₁ log₁ own₁ q → p.done < q.done → q.done ≤ l → PartWritten f p.done q.done out out₁ at → at ≤ length out₁
       → Advances f T l m rs fw ps p out m₁ rs₁ fw₁ ps₁ log₁ own₁ out₁ (More at q)
-  last-part : {at n : ℕ} {e : Ending} → EndsAfter f (lentWords m rs fw ps l) e n → PartWritten f p.done n out out₁ at → at ≤ length out₁
+  last_part : {at n : ℕ} {e : Ending} → EndsAfter f (lent_words m rs fw ps l) e n → PartWritten f p.done n out out₁ at → at ≤ length out₁
       → Advances f T l m rs fw ps p out m₁ rs₁ fw₁ ps₁ log₁ own₁ out₁ (Last at e n)
 
 -- ---- the loop: what was at the entry has ₀
@@ -55,32 +55,32 @@ under_first {f} {p = p} out H = record {
 }
 
 -- what is held, as the points say it
-pub same-held : {f : List ℕ} {T : Tables} {l : ℕ} {m rs fw ps log own : List ℕ} {p : Point} (H : RunStands f T l m rs fw ps log own p)
-    → heldBy (words_in H.stand) H.tally.held ≡ held_at p
-unfolding heldBy held_at words_of
-same-held H = rw (H.words, H.held)
+pub same_held : {f : List ℕ} {T : Tables} {l : ℕ} {m rs fw ps log own : List ℕ} {p : Point} (H : RunStands f T l m rs fw ps log own p)
+    → held_by (words_in H.stand) H.tally.held ≡ held_at p
+unfolding held_by held_at words_of
+same_held H = rw (H.words, H.held)
 
 module _ {f : List ℕ} {T : Tables} {l : ℕ} {m₀ rs₀ fw₀ ps₀ : List ℕ} {p₀ : Point} {out₀ m rs fw ps log own out : List ℕ} {p : Point} {at : ℕ}
     (U : Under f T l m₀ rs₀ fw₀ ps₀ p₀ out₀ m rs fw ps log own out p at) where
   module _ {m₁ rs₁ fw₁ ps₁ log₁ own₁ : List ℕ} {q : Point} (lm : length m₁ ≡ length m) (lr : length rs₁ ≡ length rs) (lf : length fw₁ ≡ length fw) (lp : length ps₁ ≡ length ps)
       (M : StepOnward f T l p m₁ rs₁ fw₁ ps₁ log₁ own₁ q) where
     -- the next point, in the memory that was lent
-    later : StandsAfter f T (lentWords m rs fw ps l) (suc p.done) M.stands.stand M.stands.tally
-    later = at-as (sym (lent_same m m₁ rs rs₁ fw fw₁ ps ps₁ l lm lr lf lp)) M.next refl refl M.stands.here
+    later : StandsAfter f T (lent_words m rs fw ps l) (suc p.done) M.stands.stand M.stands.tally
+    later = at_as (sym (lent_same m m₁ rs rs₁ fw fw₁ ps ps₁ l lm lr lf lp)) M.next refl refl M.stands.here
 
-    line-is : lineTo p q ≡ record { step = suc p.done; held = heldBy (words_in M.stands.stand) M.stands.tally.held; goal = p.state.goal }
-    line-is =
+    line_is : line_to p q ≡ record { step = suc p.done; held = held_by (words_in M.stands.stand) M.stands.tally.held; goal = p.state.goal }
+    line_is =
         ap (λ n. record { step = n; held = held_at q; goal = p.state.goal }) M.next
-        ∙ ap (λ h. record { step = suc p.done; held = h; goal = p.state.goal }) (sym (same-held M.stands))
+        ∙ ap (λ h. record { step = suc p.done; held = h; goal = p.state.goal }) (sym (same_held M.stands))
 
-    goal-there : (words_in U.stands.stand).goal ≡ p.state.goal
+    goal_there : (words_in U.stands.stand).goal ≡ p.state.goal
     unfolding words_of
-    goal-there = ap (λ w. w.goal) U.stands.words
+    goal_there = ap (λ w. w.goal) U.stands.words
 
     wrote : {out₁ : List ℕ} {at₁ : ℕ} → Notes p q out at out₁ at₁ → PartWritten f p₀.done (suc p.done) out₀ out₁ at₁
-    wrote (no_line e) = written_same U.stands.here later U.written (same-held M.stands ∙ e ∙ sym (same-held U.stands))
-    wrote (a-line e t) =
-        written-more U.stands.here later U.written (λ x. e (sym (same-held M.stands) ∙ x ∙ same-held U.stands)) p.state.goal goal-there M.busy (rw line-is at t)
+    wrote (no_line e) = written_same U.stands.here later U.written (same_held M.stands ∙ e ∙ sym (same_held U.stands))
+    wrote (a_line e t) =
+        written_more U.stands.here later U.written (λ x. e (sym (same_held M.stands) ∙ x ∙ same_held U.stands)) p.state.goal goal_there M.busy (rw line_is at t)
 
     pub under_next : {out₁ : List ℕ} {at₁ : ℕ} → Notes p q out at out₁ at₁ → length out₁ ≡ length out → at₁ ≤ length out₁
         → Under f T l m₀ rs₀ fw₀ ps₀ p₀ out₀ m₁ rs₁ fw₁ ps₁ log₁ own₁ out₁ q at₁
@@ -99,14 +99,14 @@ module _ {f : List ℕ} {T : Tables} {l : ℕ} {m₀ rs₀ fw₀ ps₀ : List �
     }
 
   -- ---- the end of a part
-  pub under_last : (e : Ending) (m₁ rs₁ fw₁ ps₁ log₁ own₁ : List ℕ) → EndsAfter f (lentWords m rs fw ps l) e p.done
+  pub under_last : (e : Ending) (m₁ rs₁ fw₁ ps₁ log₁ own₁ : List ℕ) → EndsAfter f (lent_words m rs fw ps l) e p.done
       → Advances f T l m₀ rs₀ fw₀ ps₀ p₀ out₀ m₁ rs₁ fw₁ ps₁ log₁ own₁ out (Last at e p.done)
   under_last e m₁ rs₁ fw₁ ps₁ log₁ own₁ M =
-      last-part {n = p.done} (subst (λ x. EndsAfter f x e p.done) (sym (lent_same m₀ m rs₀ rs fw₀ fw ps₀ ps l U.cells U.regions U.frames U.prints)) M)
+      last_part {n = p.done} (subst (λ x. EndsAfter f x e p.done) (sym (lent_same m₀ m rs₀ rs fw₀ fw ps₀ ps l U.cells U.regions U.frames U.prints)) M)
       U.written U.fits
 
-  pub under_more : lineBytes ≤ length out₀ → length out - at < lineBytes → Advances f T l m₀ rs₀ fw₀ ps₀ p₀ out₀ m rs fw ps log own out (More at p)
-  under_more h t = let z = still-on in a-part U.stands z (U.moved z) U.written U.fits
+  pub under_more : line_bytes ≤ length out₀ → length out - at < line_bytes → Advances f T l m₀ rs₀ fw₀ ps₀ p₀ out₀ m rs fw ps log own out (More at p)
+  under_more h t = let z = still_on in a_part U.stands z (U.moved z) U.written U.fits
     where
-      still-on : p₀.done < p.done
-      still-on = elim (dec_lt p₀.done p.done) [ yes y ↦ y | no y ↦ absurd (omega (arith, U.still (omega (arith, U.low)), U.size)) ]
+      still_on : p₀.done < p.done
+      still_on = elim (dec_lt p₀.done p.done) [ yes y ↦ y | no y ↦ absurd (omega (arith, U.still (omega (arith, U.low)), U.size)) ]

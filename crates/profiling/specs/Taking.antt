@@ -7,78 +7,78 @@ use Rattle.std.proofs.lemmas.Bool.{false≢true}
 use Rattle.std.proofs.Math.Logic.{inl, inr}
 use Rattle.sets.specs.Tests.{neg, ◌&◌}
 use Rattle.language.specs.Lists.{choose}
-use Rattle.language.specs.Program.{argumentsOf, literal, sum, assign, construct, call, print, create, remove, test, Goals, done, ◌then◌, Goal, step, switch, ifLess, try, Program}
-use Rattle.language.specs.Conditions.{stepStands, goalStands}
-use Rattle.language.specs.Frames.{Condition, closed, opened, lessIn, number_in}
-use Rattle.language.specs.AcceptedRun.{RegionFrame, Memory, State, withBuilt, withPrinted, withRegion, withoutRegion, restored, state, within, stateIn, failed, regionFor, take}
+use Rattle.language.specs.Program.{arguments_of, literal, sum, assign, construct, call, print, create, remove, test, Goals, done, ◌then◌, Goal, step, switch, if_less, try, Program}
+use Rattle.language.specs.Conditions.{step_stands, goal_stands}
+use Rattle.language.specs.Frames.{Condition, closed, opened, less_in, number_in}
+use Rattle.language.specs.AcceptedRun.{RegionFrame, Memory, State, with_built, with_printed, with_region, without_region, restored, state, within, state_in, failed, region_for, take}
 
 -- what a failing test in a condition goes back to
-unfoldable pub savedIn : Condition RegionFrame Memory → Memory → Memory
-savedIn closed m = m
-savedIn (opened a e n) m = n
+unfoldable pub saved_in : Condition RegionFrame Memory → Memory → Memory
+saved_in closed m = m
+saved_in (opened a e n) m = n
 
 -- a goal is a test that fails
-unfoldable pub failsAt : Goal → RegionFrame → Bool
-failsAt (step (literal x v)) u = false
-failsAt (step (sum x o y z)) u = false
-failsAt (step (assign x y)) u = false
-failsAt (step (construct x k ys)) u = false
-failsAt (step (call q ys)) u = false
-failsAt (step (print y)) u = false
-failsAt (step (create r)) u = false
-failsAt (step (remove r)) u = false
-failsAt (step (test y z)) u = neg (lessIn u.frame y z)
-failsAt (switch x cs) u = false
-failsAt (ifLess y z a b) u = false
-failsAt (try c a b) u = false
+unfoldable pub fails_at : Goal → RegionFrame → Bool
+fails_at (step (literal x v)) u = false
+fails_at (step (sum x o y z)) u = false
+fails_at (step (assign x y)) u = false
+fails_at (step (construct x k ys)) u = false
+fails_at (step (call q ys)) u = false
+fails_at (step (print y)) u = false
+fails_at (step (create r)) u = false
+fails_at (step (remove r)) u = false
+fails_at (step (test y z)) u = neg (less_in u.frame y z)
+fails_at (switch x cs) u = false
+fails_at (if_less y z a b) u = false
+fails_at (try c a b) u = false
 
 -- ---- the memory after a goal, if no test fails in it
 module _ (P : Program) where
-  unfoldable pub memoryAfter : Goal → RegionFrame → Memory → Memory
-  memoryAfter (step (literal x v)) u m = m
-  memoryAfter (step (sum x o y z)) u m = m
-  memoryAfter (step (assign x y)) u m = m
-  memoryAfter (step (construct x k ys)) u m = withBuilt m (regionFor P u x) u.frame k (argumentsOf ys)
-  memoryAfter (step (call q ys)) u m = m
-  memoryAfter (step (print y)) u m = withPrinted m (number_in (u.frame.values y))
-  memoryAfter (step (create r)) u m = withRegion m
-  memoryAfter (step (remove r)) u m = withoutRegion m (u.stands r)
-  memoryAfter (step (test y z)) u m = m
-  memoryAfter (switch x cs) u m = m
-  memoryAfter (ifLess y z a b) u m = m
-  memoryAfter (try c a b) u m = m
+  unfoldable pub memory_after : Goal → RegionFrame → Memory → Memory
+  memory_after (step (literal x v)) u m = m
+  memory_after (step (sum x o y z)) u m = m
+  memory_after (step (assign x y)) u m = m
+  memory_after (step (construct x k ys)) u m = with_built m (region_for P u x) u.frame k (arguments_of ys)
+  memory_after (step (call q ys)) u m = m
+  memory_after (step (print y)) u m = with_printed m (number_in (u.frame.values y))
+  memory_after (step (create r)) u m = with_region m
+  memory_after (step (remove r)) u m = without_region m (u.stands r)
+  memory_after (step (test y z)) u m = m
+  memory_after (switch x cs) u m = m
+  memory_after (if_less y z a b) u m = m
+  memory_after (try c a b) u m = m
 
   -- ---- the memory
-  within-memory : (c : Condition RegionFrame Memory) (gs : Goals) (u : RegionFrame) (fs : List RegionFrame) (m : Memory) → (within P c gs u fs m).memory ≡ m
+  within_memory : (c : Condition RegionFrame Memory) (gs : Goals) (u : RegionFrame) (fs : List RegionFrame) (m : Memory) → (within P c gs u fs m).memory ≡ m
   unfolding within state
-  within-memory closed gs u fs m = refl
-  within-memory (opened a e n) done u fs m = refl
-  within-memory (opened a e n) (g then gs) u fs m = refl
+  within_memory closed gs u fs m = refl
+  within_memory (opened a e n) done u fs m = refl
+  within_memory (opened a e n) (g then gs) u fs m = refl
 
-  in_memory : (c : Condition RegionFrame Memory) (u : RegionFrame) (fs : List RegionFrame) (m : Memory) → (stateIn P c u fs m).memory ≡ m
-  unfolding stateIn
-  in_memory c u fs m = within-memory c u.frame.goals u fs m
+  in_memory : (c : Condition RegionFrame Memory) (u : RegionFrame) (fs : List RegionFrame) (m : Memory) → (state_in P c u fs m).memory ≡ m
+  unfolding state_in
+  in_memory c u fs m = within_memory c u.frame.goals u fs m
 
   passed : (b : Bool) (s t : State) (m : Memory) → neg b ≡ false → s.memory ≡ m → (choose b s t).memory ≡ m
   unfolding neg choose
   passed true s t m h e = e
   passed false s t m h e = absurd (false≢true (sym h))
 
-  pub take-memory : (c : Condition RegionFrame Memory) (g : Goal) (u : RegionFrame) (fs : List RegionFrame) (m : Memory) → failsAt g u ≡ false
-      → (take P c g u fs m).memory ≡ memoryAfter g u m
-  unfolding take memoryAfter failsAt state
-  take-memory c (step (literal x v)) u fs m h = in_memory c _ fs m
-  take-memory c (step (sum x o y z)) u fs m h = in_memory c _ fs m
-  take-memory c (step (assign x y)) u fs m h = in_memory c _ fs m
-  take-memory c (step (construct x k ys)) u fs m h = in_memory c _ fs _
-  take-memory c (step (call q ys)) u fs m h = refl
-  take-memory c (step (print y)) u fs m h = in_memory c _ fs _
-  take-memory c (step (create r)) u fs m h = in_memory c _ fs _
-  take-memory c (step (remove r)) u fs m h = in_memory c _ fs _
-  take-memory c (step (test y z)) u fs m h = passed (lessIn u.frame y z) _ _ m h (in_memory c _ fs m)
-  take-memory c (switch x cs) u fs m h = in_memory c _ fs m
-  take-memory c (ifLess y z a b) u fs m h = in_memory c _ fs m
-  take-memory c (try t a b) u fs m h = in_memory _ _ fs m
+  pub take_memory : (c : Condition RegionFrame Memory) (g : Goal) (u : RegionFrame) (fs : List RegionFrame) (m : Memory) → fails_at g u ≡ false
+      → (take P c g u fs m).memory ≡ memory_after g u m
+  unfolding take memory_after fails_at state
+  take_memory c (step (literal x v)) u fs m h = in_memory c _ fs m
+  take_memory c (step (sum x o y z)) u fs m h = in_memory c _ fs m
+  take_memory c (step (assign x y)) u fs m h = in_memory c _ fs m
+  take_memory c (step (construct x k ys)) u fs m h = in_memory c _ fs _
+  take_memory c (step (call q ys)) u fs m h = refl
+  take_memory c (step (print y)) u fs m h = in_memory c _ fs _
+  take_memory c (step (create r)) u fs m h = in_memory c _ fs _
+  take_memory c (step (remove r)) u fs m h = in_memory c _ fs _
+  take_memory c (step (test y z)) u fs m h = passed (less_in u.frame y z) _ _ m h (in_memory c _ fs m)
+  take_memory c (switch x cs) u fs m h = in_memory c _ fs m
+  take_memory c (if_less y z a b) u fs m h = in_memory c _ fs m
+  take_memory c (try t a b) u fs m h = in_memory _ _ fs m
 
   -- .. outside conditions, where no test makes a difference
   either : (b : Bool) (s t : State) (m : Memory) → s.memory ≡ m → t.memory ≡ m → (choose b s t).memory ≡ m
@@ -86,20 +86,20 @@ module _ (P : Program) where
   either true s t m p q = p
   either false s t m p q = q
 
-  pub outside-memory : (g : Goal) (u : RegionFrame) (fs : List RegionFrame) (m : Memory) → (take P closed g u fs m).memory ≡ memoryAfter g u m
-  unfolding take memoryAfter failsAt failed state
-  outside-memory (step (literal x v)) u fs m = take-memory closed (step (literal x v)) u fs m refl
-  outside-memory (step (sum x o y z)) u fs m = take-memory closed (step (sum x o y z)) u fs m refl
-  outside-memory (step (assign x y)) u fs m = take-memory closed (step (assign x y)) u fs m refl
-  outside-memory (step (construct x k ys)) u fs m = take-memory closed (step (construct x k ys)) u fs m refl
-  outside-memory (step (call q ys)) u fs m = refl
-  outside-memory (step (print y)) u fs m = take-memory closed (step (print y)) u fs m refl
-  outside-memory (step (create r)) u fs m = take-memory closed (step (create r)) u fs m refl
-  outside-memory (step (remove r)) u fs m = take-memory closed (step (remove r)) u fs m refl
-  outside-memory (step (test y z)) u fs m = either (lessIn u.frame y z) _ _ m (in_memory closed u fs m) refl
-  outside-memory (switch x cs) u fs m = take-memory closed (switch x cs) u fs m refl
-  outside-memory (ifLess y z a b) u fs m = take-memory closed (ifLess y z a b) u fs m refl
-  outside-memory (try t a b) u fs m = take-memory closed (try t a b) u fs m refl
+  pub outside_memory : (g : Goal) (u : RegionFrame) (fs : List RegionFrame) (m : Memory) → (take P closed g u fs m).memory ≡ memory_after g u m
+  unfolding take memory_after fails_at failed state
+  outside_memory (step (literal x v)) u fs m = take_memory closed (step (literal x v)) u fs m refl
+  outside_memory (step (sum x o y z)) u fs m = take_memory closed (step (sum x o y z)) u fs m refl
+  outside_memory (step (assign x y)) u fs m = take_memory closed (step (assign x y)) u fs m refl
+  outside_memory (step (construct x k ys)) u fs m = take_memory closed (step (construct x k ys)) u fs m refl
+  outside_memory (step (call q ys)) u fs m = refl
+  outside_memory (step (print y)) u fs m = take_memory closed (step (print y)) u fs m refl
+  outside_memory (step (create r)) u fs m = take_memory closed (step (create r)) u fs m refl
+  outside_memory (step (remove r)) u fs m = take_memory closed (step (remove r)) u fs m refl
+  outside_memory (step (test y z)) u fs m = either (less_in u.frame y z) _ _ m (in_memory closed u fs m) refl
+  outside_memory (switch x cs) u fs m = take_memory closed (switch x cs) u fs m refl
+  outside_memory (if_less y z a b) u fs m = take_memory closed (if_less y z a b) u fs m refl
+  outside_memory (try t a b) u fs m = take_memory closed (try t a b) u fs m refl
 
   -- a failing test
   goes_back : (b : Bool) (s t : State) → neg b ≡ true → choose b s t ≡ t
@@ -107,93 +107,93 @@ module _ (P : Program) where
   goes_back true s t h = absurd (false≢true h)
   goes_back false s t h = refl
 
-  pub take-fails : (a : Goals) (e : RegionFrame) (n : Memory) (g : Goal) (u : RegionFrame) (fs : List RegionFrame) (m : Memory) → failsAt g u ≡ true
+  pub take_fails : (a : Goals) (e : RegionFrame) (n : Memory) (g : Goal) (u : RegionFrame) (fs : List RegionFrame) (m : Memory) → fails_at g u ≡ true
       → take P (opened a e n) g u fs m ≡ state P e fs (restored n m)
-  unfolding take failsAt failed
-  take-fails a e n (step (literal x v)) u fs m h = absurd (false≢true h)
-  take-fails a e n (step (sum x o y z)) u fs m h = absurd (false≢true h)
-  take-fails a e n (step (assign x y)) u fs m h = absurd (false≢true h)
-  take-fails a e n (step (construct x k ys)) u fs m h = absurd (false≢true h)
-  take-fails a e n (step (call q ys)) u fs m h = absurd (false≢true h)
-  take-fails a e n (step (print y)) u fs m h = absurd (false≢true h)
-  take-fails a e n (step (create r)) u fs m h = absurd (false≢true h)
-  take-fails a e n (step (remove r)) u fs m h = absurd (false≢true h)
-  take-fails a e n (step (test y z)) u fs m h = goes_back (lessIn u.frame y z) _ _ h
-  take-fails a e n (switch x cs) u fs m h = absurd (false≢true h)
-  take-fails a e n (ifLess y z b d) u fs m h = absurd (false≢true h)
-  take-fails a e n (try t b d) u fs m h = absurd (false≢true h)
+  unfolding take fails_at failed
+  take_fails a e n (step (literal x v)) u fs m h = absurd (false≢true h)
+  take_fails a e n (step (sum x o y z)) u fs m h = absurd (false≢true h)
+  take_fails a e n (step (assign x y)) u fs m h = absurd (false≢true h)
+  take_fails a e n (step (construct x k ys)) u fs m h = absurd (false≢true h)
+  take_fails a e n (step (call q ys)) u fs m h = absurd (false≢true h)
+  take_fails a e n (step (print y)) u fs m h = absurd (false≢true h)
+  take_fails a e n (step (create r)) u fs m h = absurd (false≢true h)
+  take_fails a e n (step (remove r)) u fs m h = absurd (false≢true h)
+  take_fails a e n (step (test y z)) u fs m h = goes_back (less_in u.frame y z) _ _ h
+  take_fails a e n (switch x cs) u fs m h = absurd (false≢true h)
+  take_fails a e n (if_less y z b d) u fs m h = absurd (false≢true h)
+  take_fails a e n (try t b d) u fs m h = absurd (false≢true h)
 
   -- ---- the condition: closed, or as it was
   abbrev Stays : Condition RegionFrame Memory → State → Type 0
   Stays c s = (s.condition ≡ closed) ⊎ (s.condition ≡ c)
 
-  within-stays : (c : Condition RegionFrame Memory) (gs : Goals) (u : RegionFrame) (fs : List RegionFrame) (m : Memory) → Stays c (within P c gs u fs m)
+  within_stays : (c : Condition RegionFrame Memory) (gs : Goals) (u : RegionFrame) (fs : List RegionFrame) (m : Memory) → Stays c (within P c gs u fs m)
   unfolding within state
-  within-stays closed gs u fs m = inl refl
-  within-stays (opened a e n) done u fs m = inl refl
-  within-stays (opened a e n) (g then gs) u fs m = inr refl
+  within_stays closed gs u fs m = inl refl
+  within_stays (opened a e n) done u fs m = inl refl
+  within_stays (opened a e n) (g then gs) u fs m = inr refl
 
-  in-stays : (c : Condition RegionFrame Memory) (u : RegionFrame) (fs : List RegionFrame) (m : Memory) → Stays c (stateIn P c u fs m)
-  unfolding stateIn
-  in-stays c u fs m = within-stays c u.frame.goals u fs m
+  in_stays : (c : Condition RegionFrame Memory) (u : RegionFrame) (fs : List RegionFrame) (m : Memory) → Stays c (state_in P c u fs m)
+  unfolding state_in
+  in_stays c u fs m = within_stays c u.frame.goals u fs m
 
-  failed-stays : (c : Condition RegionFrame Memory) (u : RegionFrame) (fs : List RegionFrame) (m : Memory) → Stays c (failed P c u fs m)
+  failed_stays : (c : Condition RegionFrame Memory) (u : RegionFrame) (fs : List RegionFrame) (m : Memory) → Stays c (failed P c u fs m)
   unfolding failed state
-  failed-stays closed u fs m = inl refl
-  failed-stays (opened a e n) u fs m = inl refl
+  failed_stays closed u fs m = inl refl
+  failed_stays (opened a e n) u fs m = inl refl
 
-  chosen-stays : (c : Condition RegionFrame Memory) (b : Bool) (s t : State) → Stays c s → Stays c t → Stays c (choose b s t)
+  chosen_stays : (c : Condition RegionFrame Memory) (b : Bool) (s t : State) → Stays c s → Stays c t → Stays c (choose b s t)
   unfolding choose
-  chosen-stays c true s t p q = p
-  chosen-stays c false s t p q = q
+  chosen_stays c true s t p q = p
+  chosen_stays c false s t p q = q
 
   -- no goal opens one but a try, which stands outside conditions
-  pub take-stays : (a : Goals) (e : RegionFrame) (n : Memory) (g : Goal) (u : RegionFrame) (fs : List RegionFrame) (m : Memory) → goalStands true g ≡ true
+  pub take_stays : (a : Goals) (e : RegionFrame) (n : Memory) (g : Goal) (u : RegionFrame) (fs : List RegionFrame) (m : Memory) → goal_stands true g ≡ true
       → Stays (opened a e n) (take P (opened a e n) g u fs m)
-  unfolding take goalStands stepStands neg ◌&◌
-  take-stays a e n (step (literal x v)) u fs m h = in-stays _ _ fs m
-  take-stays a e n (step (sum x o y z)) u fs m h = in-stays _ _ fs m
-  take-stays a e n (step (assign x y)) u fs m h = in-stays _ _ fs m
-  take-stays a e n (step (construct x k ys)) u fs m h = in-stays _ _ fs _
-  take-stays a e n (step (call q ys)) u fs m h = absurd (false≢true h)
-  take-stays a e n (step (print y)) u fs m h = in-stays _ _ fs _
-  take-stays a e n (step (create r)) u fs m h = in-stays _ _ fs _
-  take-stays a e n (step (remove r)) u fs m h = in-stays _ _ fs _
-  take-stays a e n (step (test y z)) u fs m h = chosen-stays _ (lessIn u.frame y z) _ _ (in-stays _ _ fs m) (failed-stays _ _ fs m)
-  take-stays a e n (switch x cs) u fs m h = in-stays _ _ fs m
-  take-stays a e n (ifLess y z b d) u fs m h = in-stays _ _ fs m
-  take-stays a e n (try t b d) u fs m h = absurd (false≢true h)
+  unfolding take goal_stands step_stands neg ◌&◌
+  take_stays a e n (step (literal x v)) u fs m h = in_stays _ _ fs m
+  take_stays a e n (step (sum x o y z)) u fs m h = in_stays _ _ fs m
+  take_stays a e n (step (assign x y)) u fs m h = in_stays _ _ fs m
+  take_stays a e n (step (construct x k ys)) u fs m h = in_stays _ _ fs _
+  take_stays a e n (step (call q ys)) u fs m h = absurd (false≢true h)
+  take_stays a e n (step (print y)) u fs m h = in_stays _ _ fs _
+  take_stays a e n (step (create r)) u fs m h = in_stays _ _ fs _
+  take_stays a e n (step (remove r)) u fs m h = in_stays _ _ fs _
+  take_stays a e n (step (test y z)) u fs m h = chosen_stays _ (less_in u.frame y z) _ _ (in_stays _ _ fs m) (failed_stays _ _ fs m)
+  take_stays a e n (switch x cs) u fs m h = in_stays _ _ fs m
+  take_stays a e n (if_less y z b d) u fs m h = in_stays _ _ fs m
+  take_stays a e n (try t b d) u fs m h = absurd (false≢true h)
 
   -- ---- outside conditions: closed, or opened with the memory as it is
   pub data Outside (m : Memory) (s : State) : Type 0 where
     stays_out : s.condition ≡ closed → Outside m s
-    opens-here : (a : Goals) (e : RegionFrame) → s.condition ≡ opened a e m → s.memory ≡ m → Outside m s
+    opens_here : (a : Goals) (e : RegionFrame) → s.condition ≡ opened a e m → s.memory ≡ m → Outside m s
 
-  shut : (u : RegionFrame) (fs : List RegionFrame) (k m : Memory) → Outside m (stateIn P closed u fs k)
-  unfolding stateIn within state
+  shut : (u : RegionFrame) (fs : List RegionFrame) (k m : Memory) → Outside m (state_in P closed u fs k)
+  unfolding state_in within state
   shut u fs k m = stays_out refl
 
-  chosen-shut : (b : Bool) (s t : State) (m : Memory) → Outside m s → Outside m t → Outside m (choose b s t)
+  chosen_shut : (b : Bool) (s t : State) (m : Memory) → Outside m s → Outside m t → Outside m (choose b s t)
   unfolding choose
-  chosen-shut true s t m p q = p
-  chosen-shut false s t m p q = q
+  chosen_shut true s t m p q = p
+  chosen_shut false s t m p q = q
 
   opens : (a : Goals) (e : RegionFrame) (gs : Goals) (u : RegionFrame) (fs : List RegionFrame) (m : Memory) → Outside m (within P (opened a e m) gs u fs m)
   unfolding within state
   opens a e done u fs m = stays_out refl
-  opens a e (g then gs) u fs m = opens-here a e refl refl
+  opens a e (g then gs) u fs m = opens_here a e refl refl
 
-  pub take-outside : (g : Goal) (u : RegionFrame) (fs : List RegionFrame) (m : Memory) → Outside m (take P closed g u fs m)
-  unfolding take state stateIn failed
-  take-outside (step (literal x v)) u fs m = shut _ fs m m
-  take-outside (step (sum x o y z)) u fs m = shut _ fs m m
-  take-outside (step (assign x y)) u fs m = shut _ fs m m
-  take-outside (step (construct x k ys)) u fs m = shut _ fs _ m
-  take-outside (step (call q ys)) u fs m = stays_out refl
-  take-outside (step (print y)) u fs m = shut _ fs _ m
-  take-outside (step (create r)) u fs m = shut _ fs _ m
-  take-outside (step (remove r)) u fs m = shut _ fs _ m
-  take-outside (step (test y z)) u fs m = chosen-shut (lessIn u.frame y z) _ _ m (shut u fs m m) (stays_out refl)
-  take-outside (switch x cs) u fs m = shut _ fs m m
-  take-outside (ifLess y z a b) u fs m = shut _ fs m m
-  take-outside (try t a b) u fs m = opens _ _ _ _ fs m
+  pub take_outside : (g : Goal) (u : RegionFrame) (fs : List RegionFrame) (m : Memory) → Outside m (take P closed g u fs m)
+  unfolding take state state_in failed
+  take_outside (step (literal x v)) u fs m = shut _ fs m m
+  take_outside (step (sum x o y z)) u fs m = shut _ fs m m
+  take_outside (step (assign x y)) u fs m = shut _ fs m m
+  take_outside (step (construct x k ys)) u fs m = shut _ fs _ m
+  take_outside (step (call q ys)) u fs m = stays_out refl
+  take_outside (step (print y)) u fs m = shut _ fs _ m
+  take_outside (step (create r)) u fs m = shut _ fs _ m
+  take_outside (step (remove r)) u fs m = shut _ fs _ m
+  take_outside (step (test y z)) u fs m = chosen_shut (less_in u.frame y z) _ _ m (shut u fs m m) (stays_out refl)
+  take_outside (switch x cs) u fs m = shut _ fs m m
+  take_outside (if_less y z a b) u fs m = shut _ fs m m
+  take_outside (try t a b) u fs m = opens _ _ _ _ fs m

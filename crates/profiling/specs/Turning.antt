@@ -9,50 +9,50 @@ use Rattle.language.specs.Machine.{Room, holds}
 use Rattle.chains.specs.Shapes.{IsTry}
 use Rattle.memory.specs.declared.Heap.{Heap}
 use Rattle.word_machine.specs.Tables.{Tables}
-use Rattle.word_machine.specs.Machine.{printWords, frameWords, Went, went, stops, settled, settledIf, stepped}
+use Rattle.word_machine.specs.Machine.{print_words, frame_words, Went, went, stops, settled, settled_if, stepped}
 use Rattle.machine.specs.declared.State.{State}
 use Rattle.machine.specs.declared.HeapStep.{HeapStep}
 use Rattle.machine.specs.declared.HeapStep.TheVariants.{Left, Lacks as HeapLacks}
 use Rattle.machine.specs.declared.Step.{Step}
 use Rattle.machine.specs.declared.Step.TheVariants.{Went as WentTo, Stops, Tries as TriesNext}
-use Rattle.machine.specs.Words.{FramePlaced, words_of, onwardTo, onward-placed, cameTo, heapCameTo, Goes, GoesOrTries, HeapGoes}
+use Rattle.machine.specs.Words.{FramePlaced, words_of, onward_to, onward_placed, came_to, heap_came_to, Goes, GoesOrTries, HeapGoes}
 use Rattle.profiling.specs.declared.Turn.{Turn}
 use Rattle.profiling.specs.declared.Turn.TheVariants.{On, Lacks, Tries}
 
 -- what an answer stands for
-unfoldable pub turnedTo : Turn → List ℕ → List ℕ → List ℕ → List ℕ → Went
-turnedTo (On s h) m rs fw ps = went (words_of h m rs fw ps s)
-turnedTo (Lacks c) m rs fw ps = stops c
-turnedTo Tries m rs fw ps = stops Steps
+unfoldable pub turned_to : Turn → List ℕ → List ℕ → List ℕ → List ℕ → Went
+turned_to (On s h) m rs fw ps = went (words_of h m rs fw ps s)
+turned_to (Lacks c) m rs fw ps = stops c
+turned_to Tries m rs fw ps = stops Steps
 
 -- the goal at state s is carried out: r is the answer, and the words with ₁ are those afterwards
 pub record Turns (f : List ℕ) (T : Tables) (s : State) (h : Heap) (m rs fw ps : List ℕ) (r : Turn) (m₁ rs₁ fw₁ ps₁ : List ℕ) : Type 0 where
   pub tries : r ≡ Tries → IsTry f s.goal × (m₁ ≡ m) × (rs₁ ≡ rs) × (fw₁ ≡ fw) × (ps₁ ≡ ps)
-  pub comes : (r ≡ Tries → ⊥) → (k : Room) → k.frames ≡ holds (length fw) frameWords → k.prints ≡ holds (length ps) printWords
-      → turnedTo r m₁ rs₁ fw₁ ps₁ ≡ stepped f T k s.goal (words_of h m rs fw ps s)
+  pub comes : (r ≡ Tries → ⊥) → (k : Room) → k.frames ≡ holds (length fw) frame_words → k.prints ≡ holds (length ps) print_words
+      → turned_to r m₁ rs₁ fw₁ ps₁ ≡ stepped f T k s.goal (words_of h m rs fw ps s)
   pub stays : (v : State) (g : Heap) → r ≡ On v g → FramePlaced v (length fw₁)
 
 -- the newest frame's words keep their place
-on-placed : {u : State} {h : Heap} {n : ℕ} → FramePlaced u n → (v : State) (g : Heap) → On u h ≡ On v g → FramePlaced v n
-on-placed {u} P v g e = let a : u ≡ v = cc in rw a at P
+on_placed : {u : State} {h : Heap} {n : ℕ} → FramePlaced u n → (v : State) (g : Heap) → On u h ≡ On v g → FramePlaced v n
+on_placed {u} P v g e = let a : u ≡ v = cc in rw a at P
 
-lacks-placed : {c : Stop} {n : ℕ} (v : State) (g : Heap) → Lacks c ≡ On v g → FramePlaced v n
-lacks-placed v g e = let z : ◌≡◌ {A = ℕ} 0 1 = cc in absurd (omega arith)
+lacks_placed : {c : Stop} {n : ℕ} (v : State) (g : Heap) → Lacks c ≡ On v g → FramePlaced v n
+lacks_placed v g e = let z : ◌≡◌ {A = ℕ} 0 1 = cc in absurd (omega arith)
 
-on-tries : {u : State} {h : Heap} {X : Type 0} → On u h ≡ Tries → X
-on-tries e = let z : ◌≡◌ {A = ℕ} 0 1 = cc in absurd (omega arith)
+on_tries : {u : State} {h : Heap} {X : Type 0} → On u h ≡ Tries → X
+on_tries e = let z : ◌≡◌ {A = ℕ} 0 1 = cc in absurd (omega arith)
 
-lacks-tries : {c : Stop} {X : Type 0} → Lacks c ≡ Tries → X
-lacks-tries e = let z : ◌≡◌ {A = ℕ} 0 1 = cc in absurd (omega arith)
+lacks_tries : {c : Stop} {X : Type 0} → Lacks c ≡ Tries → X
+lacks_tries e = let z : ◌≡◌ {A = ℕ} 0 1 = cc in absurd (omega arith)
 
-pub placed-long : {s : State} {a b : ℕ} → b ≡ a → FramePlaced s a → FramePlaced s b
-placed-long e P = rw e P
+pub placed_long : {s : State} {a b : ℕ} → b ≡ a → FramePlaced s a → FramePlaced s b
+placed_long e P = rw e P
 
-pub placed-onward : {s v : State} {a b : ℕ} (i : ℕ) → v ≡ onwardTo s i → b ≡ a → FramePlaced s a → FramePlaced v b
-placed-onward i e l P = rw (e, l) (onward-placed i P)
+pub placed_onward : {s v : State} {a b : ℕ} (i : ℕ) → v ≡ onward_to s i → b ≡ a → FramePlaced s a → FramePlaced v b
+placed_onward i e l P = rw (e, l) (onward_placed i P)
 
-pub went-placed : {f : List ℕ} {T : Tables} {s v : State} {m fw ps fx px : List ℕ} {r : Step} → GoesOrTries f T s m fw ps r fx px → r ≡ WentTo v → FramePlaced v (length fw)
-went-placed {v = v} o e = (o.goes (λ d. let y : ◌≡◌ {A = ℕ} 0 1 = cc in omega arith)).stays v e
+pub went_placed : {f : List ℕ} {T : Tables} {s v : State} {m fw ps fx px : List ℕ} {r : Step} → GoesOrTries f T s m fw ps r fx px → r ≡ WentTo v → FramePlaced v (length fw)
+went_placed {v = v} o e = (o.goes (λ d. let y : ◌≡◌ {A = ℕ} 0 1 = cc in omega arith)).stays v e
 
 -- what `settle` promises: frames without goals have gone
 abbrev pub Settles : List ℕ → Tables → State → List ℕ → State → List ℕ → Type 0
@@ -61,23 +61,23 @@ Settles f T s fw u fy = (h : Heap) (m rs ps : List ℕ) → words_of h m rs fy p
 module _ (f : List ℕ) (T : Tables) (s : State) (h : Heap) (m rs fw ps : List ℕ) where
   -- ---- a goal that changes the heap
   module _ (r : HeapStep) (m₁ rs₁ fx : List ℕ) (g : HeapGoes f T s h m rs fw r m₁ rs₁ fx) where
-    pub changed-turns : (h₁ : Heap) (next : ℕ) (v u : State) (fy : List ℕ) → r ≡ Left h₁ → next ≡ T.successor s.goal → v ≡ onwardTo s next → Settles f T v fx u fy
+    pub changed_turns : (h₁ : Heap) (next : ℕ) (v u : State) (fy : List ℕ) → r ≡ Left h₁ → next ≡ T.successor s.goal → v ≡ onward_to s next → Settles f T v fx u fy
         → FramePlaced u (length fy) → Turns f T s h m rs fw ps (On u h₁) m₁ rs₁ fy ps
-    unfolding turnedTo stepped settledIf heapCameTo
-    changed-turns h₁ next v u fy er en ev z pl = record {
-      tries = on-tries;
+    unfolding turned_to stepped settled_if heap_came_to
+    changed_turns h₁ next v u fy er en ev z pl = record {
+      tries = on_tries;
       comes = λ x k a b.
           ap went (z h₁ m₁ rs₁ ps ∙ ap (λ t. settled f T (words_of h₁ m₁ rs₁ fx ps t)) ev)
-          ∙ ap (settledIf f T) (ap (λ t. heapCameTo t m₁ rs₁ fx ps (onwardTo s next)) (sym er) ∙ g.comes k ps next en);
-      stays = on-placed pl;
+          ∙ ap (settled_if f T) (ap (λ t. heap_came_to t m₁ rs₁ fx ps (onward_to s next)) (sym er) ∙ g.comes k ps next en);
+      stays = on_placed pl;
     }
 
-    pub change-lacks : (c : Stop) → r ≡ HeapLacks c → Turns f T s h m rs fw ps (Lacks c) m₁ rs₁ fx ps
-    unfolding turnedTo stepped settledIf heapCameTo
-    change-lacks c er = record {
-      tries = lacks-tries;
-      comes = λ x k a b. ap (settledIf f T) (ap (λ t. heapCameTo t m₁ rs₁ fx ps (onwardTo s (T.successor s.goal))) (sym er) ∙ g.comes k ps (T.successor s.goal) refl);
-      stays = lacks-placed;
+    pub change_lacks : (c : Stop) → r ≡ HeapLacks c → Turns f T s h m rs fw ps (Lacks c) m₁ rs₁ fx ps
+    unfolding turned_to stepped settled_if heap_came_to
+    change_lacks c er = record {
+      tries = lacks_tries;
+      comes = λ x k a b. ap (settled_if f T) (ap (λ t. heap_came_to t m₁ rs₁ fx ps (onward_to s (T.successor s.goal))) (sym er) ∙ g.comes k ps (T.successor s.goal) refl);
+      stays = lacks_placed;
     }
 
   -- ---- a goal that leaves it alone
@@ -85,30 +85,30 @@ module _ (f : List ℕ) (T : Tables) (s : State) (h : Heap) (m rs fw ps : List �
     done : (c : Step) → r ≡ c → (c ≡ TriesNext → ⊥) → Goes f T s m fw ps r fx px
     done c e n = o.goes (λ z. n (sym e ∙ z))
 
-    pub went-turns : (v u : State) (fy : List ℕ) → r ≡ WentTo v → Settles f T v fx u fy → FramePlaced u (length fy) → Turns f T s h m rs fw ps (On u h) m rs fy px
-    unfolding turnedTo stepped settledIf cameTo
-    went-turns v u fy er z pl = record {
-      tries = on-tries;
-      comes = λ x k a b. ap went (z h m rs px) ∙ ap (settledIf f T) (ap (λ t. cameTo t h m rs fx px) (sym er) ∙ (done _ er went-tries).comes k h rs a b);
-      stays = on-placed pl;
+    pub went_turns : (v u : State) (fy : List ℕ) → r ≡ WentTo v → Settles f T v fx u fy → FramePlaced u (length fy) → Turns f T s h m rs fw ps (On u h) m rs fy px
+    unfolding turned_to stepped settled_if came_to
+    went_turns v u fy er z pl = record {
+      tries = on_tries;
+      comes = λ x k a b. ap went (z h m rs px) ∙ ap (settled_if f T) (ap (λ t. came_to t h m rs fx px) (sym er) ∙ (done _ er went_tries).comes k h rs a b);
+      stays = on_placed pl;
     }
       where
-        went-tries : WentTo v ≡ TriesNext → ⊥
-        went-tries e = let y : ◌≡◌ {A = ℕ} 0 1 = cc in omega arith
+        went_tries : WentTo v ≡ TriesNext → ⊥
+        went_tries e = let y : ◌≡◌ {A = ℕ} 0 1 = cc in omega arith
 
-    pub went-lacks : (c : Stop) → r ≡ Stops c → Turns f T s h m rs fw ps (Lacks c) m rs fx px
-    unfolding turnedTo stepped settledIf cameTo
-    went-lacks c er = record {
-      tries = lacks-tries;
-      comes = λ x k a b. ap (settledIf f T) (ap (λ t. cameTo t h m rs fx px) (sym er) ∙ (done _ er stops-tries).comes k h rs a b);
-      stays = lacks-placed;
+    pub went_lacks : (c : Stop) → r ≡ Stops c → Turns f T s h m rs fw ps (Lacks c) m rs fx px
+    unfolding turned_to stepped settled_if came_to
+    went_lacks c er = record {
+      tries = lacks_tries;
+      comes = λ x k a b. ap (settled_if f T) (ap (λ t. came_to t h m rs fx px) (sym er) ∙ (done _ er stops_tries).comes k h rs a b);
+      stays = lacks_placed;
     }
       where
-        stops-tries : Stops c ≡ TriesNext → ⊥
-        stops-tries e = let y : ◌≡◌ {A = ℕ} 0 1 = cc in omega arith
+        stops_tries : Stops c ≡ TriesNext → ⊥
+        stops_tries e = let y : ◌≡◌ {A = ℕ} 0 1 = cc in omega arith
 
-    pub went-tries : r ≡ TriesNext → Turns f T s h m rs fw ps Tries m rs fx px
-    went-tries er = let t = o.tries er in record {
+    pub went_tries : r ≡ TriesNext → Turns f T s h m rs fw ps Tries m rs fx px
+    went_tries er = let t = o.tries er in record {
       tries = λ z. (t.0, refl, refl, t.1, t.2);
       comes = λ x. absurd (x refl);
       stays = λ v g e. let y : ◌≡◌ {A = ℕ} 0 1 = cc in absurd (omega arith);

@@ -1,7 +1,7 @@
 // The profile, part by part.
 ghost use Rattle.std.specs.Prelude.{◌≤◌, length};
-ghost use Rattle.plans.specs.Plan.{tablesIn, Narrow, Numbered};
-ghost use Rattle.profiling.specs.Text.{lineBytes};
+ghost use Rattle.plans.specs.Plan.{tables_in, Narrow, Numbered};
+ghost use Rattle.profiling.specs.Text.{line_bytes};
 ghost use Rattle.profiling.specs.Moving.{RunStands};
 ghost use Rattle.profiling.specs.Advancing.{Advances};
 
@@ -30,10 +30,10 @@ pub fn advance(
     out: &mut [u8],
 ) -> Part
     requires narrow { Narrow plan.now images.now × Numbered file.now plan.now }
-    requires line_bytes_in_bounds { lineBytes ≤ length out.old }
-    requires run_stands { RunStands file.now (tablesIn plan.now images.now callees.now) steps cells.old regions.old frames.old prints.old
+    requires line_bytes_in_bounds { line_bytes ≤ length out.old }
+    requires run_stands { RunStands file.now (tables_in plan.now images.now callees.now) steps cells.old regions.old frames.old prints.old
         log.old own.old point }
-    ensures { Advances file.now (tablesIn plan.now images.now callees.now) steps
+    ensures { Advances file.now (tables_in plan.now images.now callees.now) steps
         cells.old regions.old frames.old prints.old point out.old
         cells.new regions.new frames.new prints.new log.new own.new out.new result }
 {

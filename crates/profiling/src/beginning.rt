@@ -4,13 +4,13 @@ ghost use Rattle.language.specs.declared.Verdict.TheVariants.{Accepted};
 ghost use Rattle.language.specs.Machine.{holds};
 ghost use Rattle.language.specs.Answers.{checked};
 ghost use Rattle.lines.specs.Put.{Put};
-ghost use Rattle.word_machine.specs.Machine.{frameWords};
+ghost use Rattle.word_machine.specs.Machine.{frame_words};
 ghost use Rattle.word_machine.specs.Tables.{Tables, Tabled};
-ghost use Rattle.plans.specs.Plan.{tablesIn};
-ghost use Rattle.machine.specs.Entries.{logWords};
-ghost use Rattle.machine.specs.Trying.{savedWords};
-ghost use Rattle.profiling.specs.Statement.{lineText, entryLine};
-ghost use Rattle.profiling.specs.Text.{lineBytes};
+ghost use Rattle.plans.specs.Plan.{tables_in};
+ghost use Rattle.machine.specs.Entries.{log_words};
+ghost use Rattle.machine.specs.Trying.{saved_words};
+ghost use Rattle.profiling.specs.Statement.{line_text, entry_line};
+ghost use Rattle.profiling.specs.Text.{line_bytes};
 ghost use Rattle.profiling.specs.Moving.{RunStands};
 
 use crate::noting::held_at;
@@ -23,13 +23,13 @@ use plans::CALLEES;
 
 // What an open condition keeps beside the lent words (C-20): its log and the frame's words at the try.
 pub fn log_words() -> [u32; LOG_WORDS]
-    ensures { logWords ≡ length result }
+    ensures { log_words ≡ length result }
 {
     [0; LOG_WORDS]
 }
 
 pub fn saved_words() -> [u32; SAVED_WORDS]
-    ensures { savedWords ≡ length result }
+    ensures { saved_words ≡ length result }
 {
     [0; SAVED_WORDS]
 }
@@ -57,11 +57,11 @@ pub fn closed() -> Open
 
 // "The entry's frame is taken first."
 pub fn begin(callees: &[u64; CALLEES], cells: &[u32], regions: &[u32], frames: &mut [u32]) -> Point
-    requires { frameWords ≤ length frames.old }
-    ensures { (f plan images ps : List ℕ) (l : ℕ) → checked f ≡ Accepted → Tabled f (tablesIn plan images callees.now)
-        → 0 < holds (length frames.old) frameWords
-        → (log own : List ℕ) → length log ≡ logWords → (result.done ≡ 0)
-        × RunStands f (tablesIn plan images callees.now) l cells.now regions.now frames.new ps log own result }
+    requires { frame_words ≤ length frames.old }
+    ensures { (f plan images ps : List ℕ) (l : ℕ) → checked f ≡ Accepted → Tabled f (tables_in plan images callees.now)
+        → 0 < holds (length frames.old) frame_words
+        → (log own : List ℕ) → length log ≡ log_words → (result.done ≡ 0)
+        × RunStands f (tables_in plan images callees.now) l cells.now regions.now frames.new ps log own result }
 {
     clear(frames, 1, size_of(callees, 0));
     Point {
@@ -75,9 +75,9 @@ pub fn begin(callees: &[u64; CALLEES], cells: &[u32], regions: &[u32], frames: &
 
 // The line of the entry's frame.
 pub fn put_entry(out: &mut [u8], point: Point) -> usize
-    requires { lineBytes ≤ length out.old }
+    requires { line_bytes ≤ length out.old }
     ensures by_index { (f : List ℕ) (T : Tables) (l : ℕ) (m rs fw ps log own : List ℕ) → RunStands f T l m rs fw ps log own point → point.done ≡ 0
-        → Put out.old 0 (lineText (entryLine f)) out.new result }
+        → Put out.old 0 (line_text (entry_line f)) out.new result }
     ensures upper_bound { result ≤ length out.new }
 {
     put_line(

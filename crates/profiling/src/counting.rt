@@ -1,12 +1,12 @@
 // The counts of cells and regions held, goal by goal.
 ghost use Rattle.std.specs.Prelude.{◌≡◌, List, ℕ, ◌-◌, ◌≤◌, ◌<◌, get_or};
-ghost use Rattle.records.specs.Sizes.{wordEnd};
-ghost use Rattle.records.specs.Records.{recordAt};
+ghost use Rattle.records.specs.Sizes.{word_end};
+ghost use Rattle.records.specs.Records.{record_at};
 ghost use Rattle.memory.specs.declared.Heap.{Heap};
 ghost use Rattle.memory.specs.Memory.{most};
-ghost use Rattle.word_machine.specs.Machine.{regionPlace};
+ghost use Rattle.word_machine.specs.Machine.{region_place};
 ghost use Rattle.machine.specs.Words.{words_of};
-ghost use Rattle.profiling.specs.Counting.{madeCounted, counted};
+ghost use Rattle.profiling.specs.Counting.{made_counted, counted};
 
 use crate::Counts;
 use crate::walking::region_size;
@@ -24,8 +24,8 @@ fn less(a: u32, b: u32) -> u32
 
 // The place of what region number r of a frame stands for.
 fn region_place(frames: &[u32], frame: u32, r: usize) -> u32
-    requires { r < wordEnd }
-    ensures { result ≡ get_or frames.now (regionPlace frame r) 0 }
+    requires { r < word_end }
+    ensures { result ≡ get_or frames.now (region_place frame r) 0 }
 {
     memory::word(frames, FRAME_WORDS * (frame as usize) + REGIONS_FROM + r)
 }
@@ -33,7 +33,7 @@ fn region_place(frames: &[u32], frame: u32, r: usize) -> u32
 // The counts after the goal at record i, if it removes nothing: a construct with arguments has one cell more, a create one region more.
 pub fn count_made(file: &[u8], i: usize, counts: Counts) -> Counts
     requires { (counts.cells ≤ most) × (counts.regions ≤ most) }
-    ensures { result ≡ madeCounted (recordAt file.now i) counts }
+    ensures { result ≡ made_counted (record_at file.now i) counts }
 {
     match word(file, i, KIND) {
         CONSTRUCT => {
@@ -66,7 +66,7 @@ pub fn count(
 ) -> Counts
     requires { (counts.cells ≤ most) × (counts.regions ≤ most) }
     ensures { (h : Heap) (ps : List ℕ) → h.cells.limit ≡ limit
-        → result ≡ counted (words_of h cells.now regions.now frames.now ps state) (recordAt file.now state.goal) counts }
+        → result ≡ counted (words_of h cells.now regions.now frames.now ps state) (record_at file.now state.goal) counts }
 {
     let i = state.goal;
     if word(file, i, KIND) != REMOVE {

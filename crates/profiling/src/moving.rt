@@ -1,7 +1,7 @@
 // One step of a run that stands somewhere, with the counts after it.
 ghost use Rattle.std.specs.Prelude.{◌≡◌, List, ℕ, ◌<◌, length};
 ghost use Rattle.chains.specs.Formed.{Formed};
-ghost use Rattle.plans.specs.Plan.{tablesIn, Narrow, Numbered};
+ghost use Rattle.plans.specs.Plan.{tables_in, Narrow, Numbered};
 ghost use Rattle.profiling.specs.Moving.{RunStands, Moves, Ready};
 
 use crate::beginning::closed;
@@ -28,10 +28,10 @@ fn outside(
 ) -> Moved
     requires formed { Formed file.now × Narrow plan.now images.now × Numbered file.now plan.now }
     requires ready { Ready file.now point (length frames.old) }
-    ensures { (l : ℕ) (log : List ℕ) → RunStands file.now (tablesIn plan.now images.now callees.now) l
+    ensures { (l : ℕ) (log : List ℕ) → RunStands file.now (tables_in plan.now images.now callees.now) l
         cells.old regions.old frames.old prints.old log own.old point
         → point.condition.at ≡ 0 → point.done < l
-        → Moves file.now (tablesIn plan.now images.now callees.now) l
+        → Moves file.now (tables_in plan.now images.now callees.now) l
         cells.old regions.old frames.old prints.old point
         cells.new regions.new frames.new prints.new log own.new result }
 {
@@ -79,9 +79,9 @@ pub fn forward(
     steps: usize,
 ) -> Moved
     requires narrow { Narrow plan.now images.now × Numbered file.now plan.now }
-    requires run_stands { RunStands file.now (tablesIn plan.now images.now callees.now) steps cells.old regions.old frames.old prints.old
+    requires run_stands { RunStands file.now (tables_in plan.now images.now callees.now) steps cells.old regions.old frames.old prints.old
         log.old own.old point }
-    ensures { Moves file.now (tablesIn plan.now images.now callees.now) steps
+    ensures { Moves file.now (tables_in plan.now images.now callees.now) steps
         cells.old regions.old frames.old prints.old point
         cells.new regions.new frames.new prints.new log.new own.new result }
 {

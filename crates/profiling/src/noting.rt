@@ -1,7 +1,7 @@
 // A line for a step that changes what is held.
 ghost use Rattle.std.specs.Prelude.{◌+◌, ◌≤◌, ◌≡◌, length};
-ghost use Rattle.profiling.specs.Text.{lineBytes};
-ghost use Rattle.profiling.specs.Standing.{framesIn};
+ghost use Rattle.profiling.specs.Text.{line_bytes};
+ghost use Rattle.profiling.specs.Standing.{frames_in};
 ghost use Rattle.profiling.specs.Noting.{held_at, Tells, Notes};
 
 use crate::text::put_line;
@@ -10,7 +10,7 @@ use machine::State;
 
 // The newest frame and those below it; none once the run has ended.
 fn frames_at(state: State) -> u64
-    ensures { result ≡ framesIn state.goal state.top }
+    ensures { result ≡ frames_in state.goal state.top }
 {
     if state.goal == 0 {
         return 0;
@@ -48,7 +48,7 @@ fn same_held(a: Held, b: Held) -> bool
 
 // The line of the step from one point to the next, if it changed what is held.
 pub fn note(out: &mut [u8], at: usize, from: Point, to: Point) -> usize
-    requires { at + lineBytes ≤ length out.old }
+    requires { at + line_bytes ≤ length out.old }
     ensures notes { Notes from to out.old at out.new result }
     ensures upper_bound { result ≤ length out.new }
 {

@@ -2,8 +2,8 @@
 ghost use Rattle.std.specs.Prelude.{◌+◌, ◌≤◌, length};
 ghost use Rattle.language.specs.Output.{decimal, line};
 ghost use Rattle.lines.specs.Put.{Put};
-ghost use Rattle.profiling.specs.Statement.{spaced, lineText};
-ghost use Rattle.profiling.specs.Text.{numberBytes, lineBytes};
+ghost use Rattle.profiling.specs.Statement.{spaced, line_text};
+ghost use Rattle.profiling.specs.Text.{number_bytes, line_bytes};
 
 use crate::Line;
 use lines::{DECIMAL_BYTES, put_decimal, put_text};
@@ -16,9 +16,9 @@ pub const LINE_BYTES: usize = 5 * NUMBER_BYTES;
 
 // A number and a space.
 fn put_spaced(out: &mut [u8], at: usize, n: u64) -> usize
-    requires { at + numberBytes ≤ length out.old }
+    requires { at + number_bytes ≤ length out.old }
     ensures put { Put out.old at (spaced n) out.new result }
-    ensures upper_bound { result ≤ at + numberBytes }
+    ensures upper_bound { result ≤ at + number_bytes }
 {
     let end = put_decimal(out, at, n);
     put_text(out, end, b" ")
@@ -26,18 +26,18 @@ fn put_spaced(out: &mut [u8], at: usize, n: u64) -> usize
 
 // The last number of a line.
 fn put_last(out: &mut [u8], at: usize, n: u64) -> usize
-    requires { at + numberBytes ≤ length out.old }
+    requires { at + number_bytes ≤ length out.old }
     ensures put { Put out.old at (line (decimal n)) out.new result }
-    ensures upper_bound { result ≤ at + numberBytes }
+    ensures upper_bound { result ≤ at + number_bytes }
 {
     let end = put_decimal(out, at, n);
     put_text(out, end, b"\n")
 }
 
 pub fn put_line(out: &mut [u8], at: usize, l: Line) -> usize
-    requires { at + lineBytes ≤ length out.old }
-    ensures put { Put out.old at (lineText l) out.new result }
-    ensures upper_bound { result ≤ at + lineBytes }
+    requires { at + line_bytes ≤ length out.old }
+    ensures put { Put out.old at (line_text l) out.new result }
+    ensures upper_bound { result ≤ at + line_bytes }
 {
     let held = l.held;
     let cells = put_spaced(out, at, l.step);

@@ -3,12 +3,12 @@ ghost use Rattle.std.specs.Prelude.{◌≡◌, List, ℕ, ◌≤◌, ◌<◌, le
 ghost use Rattle.memory.specs.Memory.{most};
 ghost use Rattle.chains.specs.Formed.{Formed};
 ghost use Rattle.chains.specs.Shapes.{IsTry};
-ghost use Rattle.plans.specs.Plan.{tablesIn, Narrow, Numbered};
+ghost use Rattle.plans.specs.Plan.{tables_in, Narrow, Numbered};
 ghost use Rattle.machine.specs.Words.{FramePlaced};
-ghost use Rattle.machine.specs.Trying.{countEnd};
+ghost use Rattle.machine.specs.Trying.{count_end};
 ghost use Rattle.profiling.specs.declared.Moved.TheVariants.{On};
 ghost use Rattle.profiling.specs.Moving.{RunStands, Moves, Ready, ReadyIn};
-ghost use Rattle.profiling.specs.Behind.{openedTo, Behind, Leaves, GoesBack, Took};
+ghost use Rattle.profiling.specs.Behind.{opened_to, Behind, Leaves, GoesBack, Took};
 
 use crate::beginning::closed;
 use crate::counting::{count, count_made};
@@ -39,8 +39,8 @@ fn behind(
     frames: &mut [u32],
 ) -> Point
     requires formed { Formed file.now × Narrow plan.now images.now }
-    requires frame_placed { FramePlaced point.state (length frames.old) × (point.done < countEnd) }
-    ensures behind { Behind file.now (tablesIn plan.now images.now callees.now) point goal counts
+    requires frame_placed { FramePlaced point.state (length frames.old) × (point.done < count_end) }
+    ensures behind { Behind file.now (tables_in plan.now images.now callees.now) point goal counts
         frames.old frames.new result }
     ensures heap_value { result.heap ≡ heap }
 {
@@ -67,10 +67,10 @@ pub fn enter(
 ) -> Point
     requires formed { Formed file.now × Narrow plan.now images.now }
     requires ready { Ready file.now point (length frames.old) }
-    ensures { (l : ℕ) (m rs ps log : List ℕ) → RunStands file.now (tablesIn plan.now images.now callees.now) l
+    ensures { (l : ℕ) (m rs ps log : List ℕ) → RunStands file.now (tables_in plan.now images.now callees.now) l
         m rs frames.old ps log own.old point
         → point.condition.at ≡ 0 → point.done < l → IsTry file.now point.state.goal
-        → Moves file.now (tablesIn plan.now images.now callees.now) l
+        → Moves file.now (tables_in plan.now images.now callees.now) l
         m rs frames.old ps point m rs frames.new ps log own.new (On result) }
 {
     let state = point.state;
@@ -101,8 +101,8 @@ pub fn enter(
 
 // The point one step behind another in the same condition, whose next goal is given.
 fn opened(file: &[u8], point: Point, heap: Heap, goal: usize, logged: usize, left: Counts) -> Point
-    requires { (point.counts.cells ≤ most) × (point.counts.regions ≤ most) × (point.done < countEnd) }
-    ensures { result ≡ openedTo file.now point heap goal logged left }
+    requires { (point.counts.cells ≤ most) × (point.counts.regions ≤ most) × (point.done < count_end) }
+    ensures { result ≡ opened_to file.now point heap goal logged left }
 {
     let state = point.state;
     let open = point.condition;
@@ -139,7 +139,7 @@ fn leave(
 ) -> Point
     requires formed { Formed file.now × Narrow plan.now images.now }
     requires ready_in { ReadyIn file.now point (length frames.old) }
-    ensures { Leaves file.now (tablesIn plan.now images.now callees.now) point heap logged left
+    ensures { Leaves file.now (tables_in plan.now images.now callees.now) point heap logged left
         log.now cells.old regions.old frames.old
         cells.new regions.new frames.new result }
 {
@@ -166,7 +166,7 @@ fn go_back(
 ) -> Point
     requires formed { Formed file.now × Narrow plan.now images.now }
     requires ready_in { ReadyIn file.now point (length frames.old) }
-    ensures { GoesBack file.now (tablesIn plan.now images.now callees.now) point
+    ensures { GoesBack file.now (tables_in plan.now images.now callees.now) point
         log.now own.now cells.old regions.old frames.old
         cells.new regions.new frames.new result }
 {
@@ -209,9 +209,9 @@ fn after(
     requires formed { Formed file.now × Narrow plan.now images.now }
     requires ready_in { ReadyIn file.now point (length frames.old) }
     ensures { (l : ℕ) (m rs fw ps before : List ℕ)
-        → Took file.now (tablesIn plan.now images.now callees.now) l
+        → Took file.now (tables_in plan.now images.now callees.now) l
         m rs fw ps before own.now point stepped left cells.old regions.old frames.old log.now
-        → Moves file.now (tablesIn plan.now images.now callees.now) l
+        → Moves file.now (tables_in plan.now images.now callees.now) l
         m rs fw ps point cells.new regions.new frames.new ps log.now own.now result }
 {
     match stepped {
@@ -245,10 +245,10 @@ pub fn inside(
 ) -> Moved
     requires formed { Formed file.now × Narrow plan.now images.now × Numbered file.now plan.now }
     requires ready_in { ReadyIn file.now point (length frames.old) }
-    ensures { (l : ℕ) (ps : List ℕ) → RunStands file.now (tablesIn plan.now images.now callees.now) l
+    ensures { (l : ℕ) (ps : List ℕ) → RunStands file.now (tables_in plan.now images.now callees.now) l
         cells.old regions.old frames.old ps log.old own.now point
         → point.done < l
-        → Moves file.now (tablesIn plan.now images.now callees.now) l
+        → Moves file.now (tables_in plan.now images.now callees.now) l
         cells.old regions.old frames.old ps point
         cells.new regions.new frames.new ps log.new own.now result }
 {

@@ -1,8 +1,8 @@
 // One step outside conditions, by the runner's own functions.
 ghost use Rattle.std.specs.Prelude.{◌<◌, length};
-ghost use Rattle.language.specs.File.{recordCount};
+ghost use Rattle.language.specs.File.{record_count};
 ghost use Rattle.chains.specs.Formed.{Formed};
-ghost use Rattle.plans.specs.Plan.{tablesIn, Narrow, Numbered};
+ghost use Rattle.plans.specs.Plan.{tables_in, Narrow, Numbered};
 ghost use Rattle.machine.specs.Words.{FramePlaced};
 ghost use Rattle.profiling.specs.Turning.{Turns};
 
@@ -28,8 +28,8 @@ pub fn step(
 ) -> Turn
     requires formed { Formed file.now }
     requires narrow { Narrow plan.now images.now × Numbered file.now plan.now }
-    requires goal_bound { (state.goal < recordCount file.now) × FramePlaced state (length frames.old) }
-    ensures { Turns file.now (tablesIn plan.now images.now callees.now) state heap
+    requires goal_bound { (state.goal < record_count file.now) × FramePlaced state (length frames.old) }
+    ensures { Turns file.now (tables_in plan.now images.now callees.now) state heap
         cells.old regions.old frames.old prints.old
         result cells.new regions.new frames.new prints.new }
 {

@@ -8,15 +8,15 @@ use lib.Dec.{eqb}
 use lib.ListN.{length, get_or, replicate}
 use Rattle.sets.specs.Tests.{◌&◌}
 use Rattle.language.specs.Lists.{all, up_from}
-use Rattle.language.specs.Format.{maxRecords, kindWord}
-use Rattle.language.specs.File.{Use, number, unused, first, row, kind_of, kind_at, recordOk, leading, references, referencesOf, onceIn, formOk}
-use Rattle.records.specs.Lists.{all_same, from-here, from_end, tally}
-use Rattle.records.proofs.ListsLaws.{tally-append, tally-once}
+use Rattle.language.specs.Format.{max_records, kind_word}
+use Rattle.language.specs.File.{Use, number, unused, first, row, kind_of, kind_at, record_ok, leading, references, references_of, once_in, form_ok}
+use Rattle.records.specs.Lists.{all_same, from_here, from_end, tally}
+use Rattle.records.proofs.ListsLaws.{tally_append, tally_once}
 use Rattle.records.specs.Table.{digit, pack, packed, uses}
-use Rattle.records.proofs.TableLaws.{seven, pack-first, pack-rest}
-use Rattle.records.specs.Form.{Tallied, UseTallied, useOk, refers, leads, refersOk, spareOk, references-by-uses}
-use Rattle.records.proofs.FormLaws.{leading-cons, record_apart}
-use Rattle.records.specs.Sizes.{digitEnd, recordWords}
+use Rattle.records.proofs.TableLaws.{seven, pack_first, pack_rest}
+use Rattle.records.specs.Form.{Tallied, UseTallied, use_ok, refers, leads, refers_ok, spare_ok, references_by_uses}
+use Rattle.records.proofs.FormLaws.{leading_cons, record_apart}
+use Rattle.records.specs.Sizes.{digit_end, record_words}
 
 and_first : {a b : Bool} → a ≡ true → (a & b) ≡ b
 unfolding ◌&◌
@@ -40,22 +40,22 @@ and_last false = refl
 module _ (W : ℕ → ℕ → ℕ) (n i : ℕ) where
   pub record Words (seen₀ seen : List ℕ) (digits k : ℕ) : Type 0 where
     pub ahead : List Use
-    pub many : k + length ahead ≡ recordWords
+    pub many : k + length ahead ≡ record_words
     pub packs : digits ≡ pack ahead
     pub same : length seen ≡ length seen₀
-    pub says : refersOk W n i ≡ refers W n i k ahead
+    pub says : refers_ok W n i ≡ refers W n i k ahead
     pub counts : tally seen (leading W n i k ahead) ≡ tally seen₀ (references W n i)
 
-  pub words-first : (seen : List ℕ) {w p : ℕ} → w ≡ W i kindWord → p ≡ packed (kind_of w) → Words seen seen (p / digitEnd) 1
-  unfolding packed kind_at refersOk
-  words-first seen {w = w} e h =
+  pub words_first : (seen : List ℕ) {w p : ℕ} → w ≡ W i kind_word → p ≡ packed (kind_of w) → Words seen seen (p / digit_end) 1
+  unfolding packed kind_at refers_ok
+  words_first seen {w = w} e h =
       record {
         ahead = uses (row (kind_at W n i));
         many = omega (arith, seven (kind_at W n i));
-        packs = ap (λ x. x / digitEnd) (h ∙ ap (λ x. packed (kind_of x)) e) ∙ pack-rest _ _;
+        packs = ap (λ x. x / digit_end) (h ∙ ap (λ x. packed (kind_of x)) e) ∙ pack_rest _ _;
         same = refl;
         says = refl;
-        counts = ap (tally seen) (sym (references-by-uses W n i));
+        counts = ap (tally seen) (sym (references_by_uses W n i));
       }
 
   -- what word k says of itself
@@ -63,117 +63,117 @@ module _ (W : ℕ → ℕ → ℕ) (n i : ℕ) where
   Said k d b seen after = (u : Use) → d ≡ digit u → UseTallied W n i k u b seen after
 
   -- while a digit is left there is a word
-  pub words-some : {seen₀ seen : List ℕ} {digits k : ℕ} → Words seen₀ seen digits k → (digits ≡ 0 → ⊥) → k < recordWords
+  pub words_some : {seen₀ seen : List ℕ} {digits k : ℕ} → Words seen₀ seen digits k → (digits ≡ 0 → ⊥) → k < record_words
   unfolding pack
-  words-some {digits = digits} {k = k} h l = go h.ahead h.many h.packs
+  words_some {digits = digits} {k = k} h l = go h.ahead h.many h.packs
     where
-      go : (us : List Use) → k + length us ≡ recordWords → digits ≡ pack us → k < recordWords
+      go : (us : List Use) → k + length us ≡ record_words → digits ≡ pack us → k < record_words
       go [] e p = absurd (l p)
       go (u ∷ us) e p = omega arith
 
   module _ {seen₀ seen after : List ℕ} {digits k : ℕ} {b : Bool} (h : Words seen₀ seen digits k) (l : digits ≡ 0 → ⊥)
-      (s : Said k (digits % digitEnd) b seen after) where
-    pub words-next : b ≡ true → length after ≡ length seen → Words seen₀ after (digits / digitEnd) (k + 1)
+      (s : Said k (digits % digit_end) b seen after) where
+    pub words_next : b ≡ true → length after ≡ length seen → Words seen₀ after (digits / digit_end) (k + 1)
     unfolding pack refers
-    words-next t m = go h.ahead h.many h.packs h.says h.counts
+    words_next t m = go h.ahead h.many h.packs h.says h.counts
       where
-        go : (us : List Use) → k + length us ≡ recordWords → digits ≡ pack us → refersOk W n i ≡ refers W n i k us
-            → tally seen (leading W n i k us) ≡ tally seen₀ (references W n i) → Words seen₀ after (digits / digitEnd) (k + 1)
+        go : (us : List Use) → k + length us ≡ record_words → digits ≡ pack us → refers_ok W n i ≡ refers W n i k us
+            → tally seen (leading W n i k us) ≡ tally seen₀ (references W n i) → Words seen₀ after (digits / digit_end) (k + 1)
         go [] e p q r = absurd (l p)
         go (u ∷ us) e p q r =
             let g : suc k ≡ k + 1 = omega arith in
-            let w = s u (ap (λ x. x % digitEnd) p ∙ pack-first u us) in
+            let w = s u (ap (λ x. x % digit_end) p ∙ pack_first u us) in
             record {
               ahead = us;
               many = omega arith;
-              packs = ap (λ x. x / digitEnd) p ∙ pack-rest u us;
+              packs = ap (λ x. x / digit_end) p ∙ pack_rest u us;
               same = m ∙ h.same;
               says = q ∙ and_first (sym w.says ∙ t) ∙ ap (λ j. refers W n i j us) g;
               counts =
                   ap (λ a. tally a (leading W n i (k + 1) us)) (w.counts t) ∙ ap (λ j. tally (tally seen (leads W n i k u)) (leading W n i j us)) (sym g)
-                  ∙ sym (tally-append seen (leads W n i k u) (leading W n i (suc k) us)) ∙ ap (tally seen) (sym (leading-cons W n i k u us)) ∙ r;
+                  ∙ sym (tally_append seen (leads W n i k u) (leading W n i (suc k) us)) ∙ ap (tally seen) (sym (leading_cons W n i k u us)) ∙ r;
             }
 
-    pub words-refused : b ≡ false → Tallied false (refersOk W n i) (references W n i) seen₀ after
+    pub words_refused : b ≡ false → Tallied false (refers_ok W n i) (references W n i) seen₀ after
     unfolding pack refers
-    words-refused t = record { says = go h.ahead h.packs h.says; counts = λ e. absurd (false≢true e) }
+    words_refused t = record { says = go h.ahead h.packs h.says; counts = λ e. absurd (false≢true e) }
       where
-        go : (us : List Use) → digits ≡ pack us → refersOk W n i ≡ refers W n i k us → false ≡ refersOk W n i
+        go : (us : List Use) → digits ≡ pack us → refers_ok W n i ≡ refers W n i k us → false ≡ refers_ok W n i
         go [] p q = absurd (l p)
         go (u ∷ us) p q =
-            let w = s u (ap (λ x. x % digitEnd) p ∙ pack-first u us) in
+            let w = s u (ap (λ x. x % digit_end) p ∙ pack_first u us) in
             sym (q ∙ and_none _ (sym w.says ∙ t))
 
   -- where no digit is left, no word leads anywhere
   none_left : (k : ℕ) (us : List Use) → pack us ≡ 0 → (refers W n i k us ≡ true) × (leading W n i k us ≡ [])
-  unfolding pack digit refers useOk leading ◌&◌
+  unfolding pack digit refers use_ok leading ◌&◌
   none_left k [] e = (refl, refl)
   none_left k (number ∷ us) e = none_left (suc k) us (omega arith)
   none_left k (unused ∷ us) e = none_left (suc k) us (omega arith)
   none_left k (first c ∷ us) e = absurd (omega arith)
 
-  pub words_last : {seen₀ seen : List ℕ} {digits k : ℕ} → Words seen₀ seen digits k → digits ≡ 0 → Tallied true (refersOk W n i) (references W n i) seen₀ seen
+  pub words_last : {seen₀ seen : List ℕ} {digits k : ℕ} → Words seen₀ seen digits k → digits ≡ 0 → Tallied true (refers_ok W n i) (references W n i) seen₀ seen
   unfolding tally
   words_last {seen = seen} {k = k} h z =
       let e = none_left k h.ahead (sym h.packs ∙ z) in
       record { says = sym (h.says ∙ e.0); counts = λ _. ap (tally seen) (sym e.1) ∙ h.counts }
 
 -- ---- a record: its unused words, then its references
-module _ (W : ℕ → ℕ → ℕ) (n i : ℕ) {a : Bool} (p : a ≡ spareOk W i) where
-  pub record-spare : (seen : List ℕ) → a ≡ false → Tallied false (recordOk W n i) (references W n i) seen seen
-  record-spare seen t = record { says = sym (record_apart W n i ∙ and_none _ (sym p ∙ t)); counts = λ e. absurd (false≢true e) }
+module _ (W : ℕ → ℕ → ℕ) (n i : ℕ) {a : Bool} (p : a ≡ spare_ok W i) where
+  pub record_spare : (seen : List ℕ) → a ≡ false → Tallied false (record_ok W n i) (references W n i) seen seen
+  record_spare seen t = record { says = sym (record_apart W n i ∙ and_none _ (sym p ∙ t)); counts = λ e. absurd (false≢true e) }
 
-  pub record-refers : {b : Bool} {seen after : List ℕ} → a ≡ true → Tallied b (refersOk W n i) (references W n i) seen after
-      → Tallied b (recordOk W n i) (references W n i) seen after
-  record-refers t s = record { says = s.says ∙ sym (record_apart W n i ∙ and_first (sym p ∙ t)); counts = s.counts }
+  pub record_refers : {b : Bool} {seen after : List ℕ} → a ≡ true → Tallied b (refers_ok W n i) (references W n i) seen after
+      → Tallied b (record_ok W n i) (references W n i) seen after
+  record_refers t s = record { says = s.says ∙ sym (record_apart W n i ∙ and_first (sym p ∙ t)); counts = s.counts }
 
 -- ---- the records from i on
 module _ (W : ℕ → ℕ → ℕ) (n : ℕ) where
   pub record Records (seen₀ seen : List ℕ) (i : ℕ) : Type 0 where
     pub same : length seen ≡ length seen₀
-    pub says : all (recordOk W n) (up_from 0 n) ≡ all (recordOk W n) (up_from i (n - i))
-    pub counts : tally seen (referencesOf W n (up_from i (n - i))) ≡ tally seen₀ (referencesOf W n (up_from 0 n))
+    pub says : all (record_ok W n) (up_from 0 n) ≡ all (record_ok W n) (up_from i (n - i))
+    pub counts : tally seen (references_of W n (up_from i (n - i))) ≡ tally seen₀ (references_of W n (up_from 0 n))
 
   -- every record is in order, and all that they refer to is counted
   abbrev pub Referred : Bool → List ℕ → List ℕ → Type 0
-  Referred b seen₀ seen = Tallied b (all (recordOk W n) (up_from 0 n)) (referencesOf W n (up_from 0 n)) seen₀ seen
+  Referred b seen₀ seen = Tallied b (all (record_ok W n) (up_from 0 n)) (references_of W n (up_from 0 n)) seen₀ seen
 
-  pub records-first : (seen : List ℕ) → Records seen seen 0
-  records-first seen =
+  pub records_first : (seen : List ℕ) → Records seen seen 0
+  records_first seen =
       let e : n ≡ n - 0 = omega arith in
       record {
         same = refl;
-        says = ap (λ m. all (recordOk W n) (up_from 0 m)) e;
-        counts = ap (λ m. tally seen (referencesOf W n (up_from 0 m))) (sym e);
+        says = ap (λ m. all (record_ok W n) (up_from 0 m)) e;
+        counts = ap (λ m. tally seen (references_of W n (up_from 0 m))) (sym e);
       }
 
-  module _ {seen₀ seen after : List ℕ} {i : ℕ} {b : Bool} (h : Records seen₀ seen i) (l : i < n) (s : Tallied b (recordOk W n i) (references W n i) seen after) where
-    pub records-next : b ≡ true → length after ≡ length seen → Records seen₀ after (i + 1)
-    unfolding all referencesOf
-    records-next t m =
+  module _ {seen₀ seen after : List ℕ} {i : ℕ} {b : Bool} (h : Records seen₀ seen i) (l : i < n) (s : Tallied b (record_ok W n i) (references W n i) seen after) where
+    pub records_next : b ≡ true → length after ≡ length seen → Records seen₀ after (i + 1)
+    unfolding all references_of
+    records_next t m =
         record {
           same = m ∙ h.same;
-          says = h.says ∙ ap (all (recordOk W n)) (from-here n i l) ∙ and_first (sym s.says ∙ t);
+          says = h.says ∙ ap (all (record_ok W n)) (from_here n i l) ∙ and_first (sym s.says ∙ t);
           counts =
-              ap (λ a. tally a (referencesOf W n (up_from (i + 1) (n - (i + 1))))) (s.counts t)
-              ∙ sym (tally-append seen (references W n i) (referencesOf W n (up_from (i + 1) (n - (i + 1)))))
-              ∙ ap (λ js. tally seen (referencesOf W n js)) (sym (from-here n i l)) ∙ h.counts;
+              ap (λ a. tally a (references_of W n (up_from (i + 1) (n - (i + 1))))) (s.counts t)
+              ∙ sym (tally_append seen (references W n i) (references_of W n (up_from (i + 1) (n - (i + 1)))))
+              ∙ ap (λ js. tally seen (references_of W n js)) (sym (from_here n i l)) ∙ h.counts;
         }
 
-    pub records-refused : b ≡ false → Referred false seen₀ after
+    pub records_refused : b ≡ false → Referred false seen₀ after
     unfolding all
-    records-refused t =
+    records_refused t =
         record {
-          says = sym (h.says ∙ ap (all (recordOk W n)) (from-here n i l) ∙ and_none _ (sym s.says ∙ t));
+          says = sym (h.says ∙ ap (all (record_ok W n)) (from_here n i l) ∙ and_none _ (sym s.says ∙ t));
           counts = λ e. absurd (false≢true e);
         }
 
-  pub records-last : {seen₀ seen : List ℕ} {i : ℕ} → Records seen₀ seen i → n ≤ i → Referred true seen₀ seen
-  unfolding all referencesOf tally
-  records-last {seen = seen} {i = i} h l =
+  pub records_last : {seen₀ seen : List ℕ} {i : ℕ} → Records seen₀ seen i → n ≤ i → Referred true seen₀ seen
+  unfolding all references_of tally
+  records_last {seen = seen} {i = i} h l =
       record {
-        says = sym (h.says ∙ ap (all (recordOk W n)) (from_end n i l));
-        counts = λ _. ap (λ js. tally seen (referencesOf W n js)) (sym (from_end n i l)) ∙ h.counts;
+        says = sym (h.says ∙ ap (all (record_ok W n)) (from_end n i l));
+        counts = λ _. ap (λ js. tally seen (references_of W n js)) (sym (from_end n i l)) ∙ h.counts;
       }
 
 -- ---- the counts from j on
@@ -185,13 +185,13 @@ module _ (seen : List ℕ) (n : ℕ) where
   pub record Once (so : Bool) (j : ℕ) : Type 0 where
     pub says : all one_at (up_from 1 (n - 1)) ≡ (so & all one_at (up_from j (n - j)))
 
-  pub once-first : Once true 1
+  pub once_first : Once true 1
   unfolding ◌&◌
-  once-first = record { says = refl }
+  once_first = record { says = refl }
 
-  pub once-next : {so : Bool} {j : ℕ} → Once so j → j < n → Once (so && eqb (get_or seen j 0) 1) (j + 1)
+  pub once_next : {so : Bool} {j : ℕ} → Once so j → j < n → Once (so && eqb (get_or seen j 0) 1) (j + 1)
   unfolding all
-  once-next {so} {j} h l = record { says = h.says ∙ ap (λ (x : List ℕ). so & all one_at x) (from-here n j l) ∙ and_both so (one_at j) _ }
+  once_next {so} {j} h l = record { says = h.says ∙ ap (λ (x : List ℕ). so & all one_at x) (from_here n j l) ∙ and_both so (one_at j) _ }
 
   pub once_last : {so : Bool} {j : ℕ} → Once so j → n ≤ j → so ≡ all one_at (up_from 1 (n - 1))
   unfolding all
@@ -199,13 +199,13 @@ module _ (seen : List ℕ) (n : ℕ) where
 
 -- ---- number 2
 module _ (W : ℕ → ℕ → ℕ) (n : ℕ) {b : Bool} {seen₀ seen : List ℕ} (s : Referred W n b seen₀ seen) where
-  pub form-refused : b ≡ false → false ≡ formOk W n
-  unfolding formOk
-  form-refused t = sym (and_none _ (sym s.says ∙ t))
+  pub form_refused : b ≡ false → false ≡ form_ok W n
+  unfolding form_ok
+  form_refused t = sym (and_none _ (sym s.says ∙ t))
 
-  pub form-counted : b ≡ true → seen₀ ≡ replicate maxRecords 0 → n ≤ maxRecords → all (λ j. eqb (get_or seen j 0) 1) (up_from 1 (n - 1)) ≡ formOk W n
-  unfolding formOk onceIn
-  form-counted t z l =
+  pub form_counted : b ≡ true → seen₀ ≡ replicate max_records 0 → n ≤ max_records → all (λ j. eqb (get_or seen j 0) 1) (up_from 1 (n - 1)) ≡ form_ok W n
+  unfolding form_ok once_in
+  form_counted t z l =
       all_same (n - 1) 1 _ _
-      (λ j g m. ap (λ x. eqb (get_or x j 0) 1) (s.counts t ∙ ap (λ x. tally x (referencesOf W n (up_from 0 n))) z) ∙ tally-once maxRecords j _ g (omega arith))
+      (λ j g m. ap (λ x. eqb (get_or x j 0) 1) (s.counts t ∙ ap (λ x. tally x (references_of W n (up_from 0 n))) z) ∙ tally_once max_records j _ g (omega arith))
       ∙ sym (and_first (sym s.says ∙ t))

@@ -5,74 +5,74 @@ use mathlib.Core.Path.{◌≡◌, refl, sym, ap}
 use mathlib.Core.List.{List, [], ◌∷◌, map}
 use lib.ListN.{length, get_or}
 use Rattle.language.specs.Lists.{nth}
-use Rattle.language.specs.File.{Chain, nowhere, types, functors, procedures, variables, regions, edges, goals, arms, arguments, Use, number, unused, first, row, row_in, padded, kinds, kind_of, code, kLiteral, kSum, kAssign, kConstruct, kSwitch, kIf, kCall, kPrint, kCreate, kRemove, kTry, kTest, Kind, kNone, kHeader, kType, kFunctor, kProcedure, kVariable, kRegion, kEdge, kArm, kArgument, kGoal}
-use Rattle.records.specs.Sizes.{digitEnd, kindsEnd}
+use Rattle.language.specs.File.{Chain, nowhere, types, functors, procedures, variables, regions, edges, goals, arms, arguments, Use, number, unused, first, row, row_in, padded, kinds, kind_of, code, k_literal, k_sum, k_assign, k_construct, k_switch, k_if, k_call, k_print, k_create, k_remove, k_try, k_test, Kind, k_none, k_header, k_type, k_functor, k_procedure, k_variable, k_region, k_edge, k_arm, k_argument, k_goal}
+use Rattle.records.specs.Sizes.{digit_end, kinds_end}
 use Rattle.records.specs.Table.{digit, pack, table_of, uses}
 
 -- every row has seven words
 pub seven : (k : Kind) → length (uses (row k)) ≡ 7
 unfolding uses row row_in padded
-seven kNone = refl
-seven kHeader = refl
-seven kType = refl
-seven kFunctor = refl
-seven kProcedure = refl
-seven kVariable = refl
-seven kRegion = refl
-seven kEdge = refl
-seven kArm = refl
-seven kArgument = refl
-seven (kGoal kLiteral) = refl
-seven (kGoal kSum) = refl
-seven (kGoal kAssign) = refl
-seven (kGoal kConstruct) = refl
-seven (kGoal kSwitch) = refl
-seven (kGoal kIf) = refl
-seven (kGoal kCall) = refl
-seven (kGoal kPrint) = refl
-seven (kGoal kCreate) = refl
-seven (kGoal kRemove) = refl
-seven (kGoal kTry) = refl
-seven (kGoal kTest) = refl
+seven k_none = refl
+seven k_header = refl
+seven k_type = refl
+seven k_functor = refl
+seven k_procedure = refl
+seven k_variable = refl
+seven k_region = refl
+seven k_edge = refl
+seven k_arm = refl
+seven k_argument = refl
+seven (k_goal k_literal) = refl
+seven (k_goal k_sum) = refl
+seven (k_goal k_assign) = refl
+seven (k_goal k_construct) = refl
+seven (k_goal k_switch) = refl
+seven (k_goal k_if) = refl
+seven (k_goal k_call) = refl
+seven (k_goal k_print) = refl
+seven (k_goal k_create) = refl
+seven (k_goal k_remove) = refl
+seven (k_goal k_try) = refl
+seven (k_goal k_test) = refl
 
-code-low : (c : Chain) → code c < 14
+code_low : (c : Chain) → code c < 14
 unfolding code
-code-low nowhere = omega arith
-code-low types = omega arith
-code-low functors = omega arith
-code-low procedures = omega arith
-code-low variables = omega arith
-code-low regions = omega arith
-code-low edges = omega arith
-code-low goals = omega arith
-code-low arms = omega arith
-code-low arguments = omega arith
+code_low nowhere = omega arith
+code_low types = omega arith
+code_low functors = omega arith
+code_low procedures = omega arith
+code_low variables = omega arith
+code_low regions = omega arith
+code_low edges = omega arith
+code_low goals = omega arith
+code_low arms = omega arith
+code_low arguments = omega arith
 
-digit_low : (u : Use) → digit u < digitEnd
+digit_low : (u : Use) → digit u < digit_end
 unfolding digit
 digit_low number = omega arith
 digit_low unused = omega arith
-digit_low (first c) = omega (arith, code-low c)
+digit_low (first c) = omega (arith, code_low c)
 
-pub pack-first : (u : Use) (us : List Use) → pack (u ∷ us) % digitEnd ≡ digit u
+pub pack_first : (u : Use) (us : List Use) → pack (u ∷ us) % digit_end ≡ digit u
 unfolding pack
-pack-first u us = omega (arith, digit_low u)
+pack_first u us = omega (arith, digit_low u)
 
-pub pack-rest : (u : Use) (us : List Use) → pack (u ∷ us) / digitEnd ≡ pack us
+pub pack_rest : (u : Use) (us : List Use) → pack (u ∷ us) / digit_end ≡ pack us
 unfolding pack
-pack-rest u us = omega (arith, digit_low u)
+pack_rest u us = omega (arith, digit_low u)
 
 -- ---- a table by the kinds' numbers
 module _ (f : Kind → ℕ) where
-  at-kind : (ks : List Kind) (n : ℕ) → n < length ks → get_or (map f ks) n 0 ≡ f (nth kNone ks n)
+  at_kind : (ks : List Kind) (n : ℕ) → n < length ks → get_or (map f ks) n 0 ≡ f (nth k_none ks n)
   unfolding nth
-  at-kind [] n h = absurd (omega arith)
-  at-kind (k ∷ ks) zero h = refl
-  at-kind (k ∷ ks) (suc n) h = at-kind ks n (omega arith)
+  at_kind [] n h = absurd (omega arith)
+  at_kind (k ∷ ks) zero h = refl
+  at_kind (k ∷ ks) (suc n) h = at_kind ks n (omega arith)
 
-  pub table_at : (n : ℕ) → n < kindsEnd → get_or (table_of f) n 0 ≡ f (kind_of n)
+  pub table_at : (n : ℕ) → n < kinds_end → get_or (table_of f) n 0 ≡ f (kind_of n)
   unfolding table_of kind_of kinds
-  table_at n h = at-kind kinds n h
+  table_at n h = at_kind kinds n h
 
 nth_past : {A : Type 0} (d : A) (xs : List A) (n : ℕ) → length xs ≤ n → nth d xs n ≡ d
 unfolding nth
@@ -81,10 +81,10 @@ nth_past d (x ∷ xs) zero h = absurd (omega arith)
 nth_past d (x ∷ xs) (suc n) h = nth_past d xs n (omega arith)
 
 -- a number past the kinds' is no kind
-pub kind-high : (n : ℕ) → kindsEnd ≤ n → kind_of n ≡ kNone
+pub kind_high : (n : ℕ) → kinds_end ≤ n → kind_of n ≡ k_none
 unfolding kind_of kinds
-kind-high n h = nth_past kNone kinds n h
+kind_high n h = nth_past k_none kinds n h
 
-pub table-past : (f : Kind → ℕ) (n : ℕ) → kindsEnd ≤ n → get_or (table_of f) 0 0 ≡ f (kind_of n)
+pub table_past : (f : Kind → ℕ) (n : ℕ) → kinds_end ≤ n → get_or (table_of f) 0 0 ≡ f (kind_of n)
 unfolding table_of kinds
-table-past f n h = ap f (sym (kind-high n h))
+table_past f n h = ap f (sym (kind_high n h))

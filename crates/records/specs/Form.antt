@@ -2,7 +2,7 @@
 use Rattle.std.specs.Prelude.{ℕ, suc, ◌≡◌, Bool, true, List, [], ◌∷◌, eqb}
 use Rattle.std.proofs.Math.Path.{refl}
 use Rattle.sets.specs.Tests.{◌&◌}
-use Rattle.language.specs.File.{Use, number, unused, first, row, kind_of, kind_at, referenceOk, leading, references}
+use Rattle.language.specs.File.{Use, number, unused, first, row, kind_of, kind_at, reference_ok, leading, references}
 use Rattle.records.specs.Lists.{tally}
 use Rattle.records.specs.Table.{uses}
 
@@ -20,20 +20,20 @@ module _ (W : ℕ → ℕ → ℕ) (i : ℕ) where
   zeros k (first c ∷ us) = zeros (suc k) us
 
   -- those of record i
-  unfoldable pub spareOk : Bool
-  spareOk = zeros 2 (row (kind_of (W i 0))).words
+  unfoldable pub spare_ok : Bool
+  spare_ok = zeros 2 (row (kind_of (W i 0))).words
 
 -- ---- the references
 module _ (W : ℕ → ℕ → ℕ) (n i : ℕ) where
   -- what is asked of word k as a reference
-  unfoldable pub useOk : ℕ → Use → Bool
-  useOk k number = true
-  useOk k unused = true
-  useOk k (first c) = referenceOk W n i c (W i k)
+  unfoldable pub use_ok : ℕ → Use → Bool
+  use_ok k number = true
+  use_ok k unused = true
+  use_ok k (first c) = reference_ok W n i c (W i k)
 
   unfoldable pub refers : ℕ → List Use → Bool
   refers k [] = true
-  refers k (u ∷ us) = useOk k u & refers (suc k) us
+  refers k (u ∷ us) = use_ok k u & refers (suc k) us
 
   -- what it refers to
   unfoldable pub leads : ℕ → Use → List ℕ
@@ -43,13 +43,13 @@ module _ (W : ℕ → ℕ → ℕ) (n i : ℕ) where
 
   -- a test of word k that has counted what it refers to
   abbrev pub UseTallied : ℕ → Use → Bool → List ℕ → List ℕ → Type 0
-  UseTallied k u b before after = Tallied b (useOk k u) (leads k u) before after
+  UseTallied k u b before after = Tallied b (use_ok k u) (leads k u) before after
 
   -- w1 is a word like the others
-  pub references-by-uses : references W n i ≡ leading W n i 1 (uses (row (kind_at W n i)))
+  pub references_by_uses : references W n i ≡ leading W n i 1 (uses (row (kind_at W n i)))
   unfolding references leading uses
-  references-by-uses = refl
+  references_by_uses = refl
 
   -- those of record i
-  unfoldable pub refersOk : Bool
-  refersOk = refers 1 (uses (row (kind_at W n i)))
+  unfoldable pub refers_ok : Bool
+  refers_ok = refers 1 (uses (row (kind_at W n i)))

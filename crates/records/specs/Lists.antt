@@ -12,9 +12,9 @@ all_same (suc m) b p q h =
     ap₂ ◌&◌ (h b (omega arith) (omega arith)) (all_same m (suc b) p q (λ i l k. h i (omega arith) (omega arith)))
 
 -- the numbers from i up to n, i itself first
-pub from-here : (n i : ℕ) → i < n → up_from i (n - i) ≡ i ∷ up_from (i + 1) (n - (i + 1))
+pub from_here : (n i : ℕ) → i < n → up_from i (n - i) ≡ i ∷ up_from (i + 1) (n - (i + 1))
 unfolding up_from
-from-here n i h =
+from_here n i h =
     let e : n - i ≡ suc (n - (i + 1)) = omega arith in
     let g : suc i ≡ i + 1 = omega arith in
     ap (up_from i) e ∙ ap (λ m. i ∷ up_from m (n - (i + 1))) g

@@ -4,32 +4,32 @@ use Rattle.std.proofs.Math.Bool.{true, false}
 use Rattle.language.specs.declared.Refusal.TheVariants.{Header, Form}
 use Rattle.language.specs.declared.Verdict.{Verdict}
 use Rattle.language.specs.declared.Verdict.TheVariants.{Refused, Accepted}
-use Rattle.language.specs.File.{word, recordCount, headerOk, formOk}
+use Rattle.language.specs.File.{word, record_count, header_ok, form_ok}
 use Rattle.language.specs.Answers.{Stage, stage, lowest}
 
 -- numbers 1 and 2
-unfoldable pub formStages : List ℕ → List Stage
-formStages f = stage Header (headerOk f) ∷ stage Form (formOk (word f) (recordCount f)) ∷ []
+unfoldable pub form_stages : List ℕ → List Stage
+form_stages f = stage Header (header_ok f) ∷ stage Form (form_ok (word f) (record_count f)) ∷ []
 
-unfoldable pub formVerdict : List ℕ → Verdict
-formVerdict f = lowest (formStages f)
+unfoldable pub form_verdict : List ℕ → Verdict
+form_verdict f = lowest (form_stages f)
 
 -- ---- stages in turn: a refusal is passed up, else the later stages decide
 unfoldable pub after : Verdict → Verdict → Verdict
 after (Refused r) v = Refused r
 after Accepted v = v
 
-pub lowest-append : (ss ts : List Stage) → lowest (ss ++ ts) ≡ after (lowest ss) (lowest ts)
+pub lowest_append : (ss ts : List Stage) → lowest (ss ++ ts) ≡ after (lowest ss) (lowest ts)
 unfolding lowest after
-lowest-append [] ts = refl
-lowest-append (stage r true ∷ ss) ts = lowest-append ss ts
-lowest-append (stage r false ∷ ss) ts = refl
+lowest_append [] ts = refl
+lowest_append (stage r true ∷ ss) ts = lowest_append ss ts
+lowest_append (stage r false ∷ ss) ts = refl
 
 module _ (f : List ℕ) where
   -- accepted is both tests passed
-  pub form_in : formVerdict f ≡ Accepted → (headerOk f ≡ true) × (formOk (word f) (recordCount f) ≡ true)
-  unfolding formVerdict formStages lowest
-  form_in e = go (headerOk f) (formOk (word f) (recordCount f)) e
+  pub form_in : form_verdict f ≡ Accepted → (header_ok f ≡ true) × (form_ok (word f) (record_count f) ≡ true)
+  unfolding form_verdict form_stages lowest
+  form_in e = go (header_ok f) (form_ok (word f) (record_count f)) e
     where
       go : (a b : Bool) → lowest (stage Header a ∷ stage Form b ∷ []) ≡ Accepted → (a ≡ true) × (b ≡ true)
       go true true e = (refl, refl)

@@ -1,8 +1,8 @@
 // The decoded record.
 ghost use Rattle.std.specs.Prelude.{◌≡◌};
-ghost use Rattle.language.specs.File.{word, kHeader, kType, kFunctor, kProcedure, kVariable, kRegion, kEdge, kArm, kArgument, kGoal};
-ghost use Rattle.language.specs.File.{kLiteral, kSum, kAssign, kConstruct, kSwitch, kIf, kCall, kPrint, kCreate, kRemove, kTry, kTest};
-ghost use Rattle.records.specs.Records.{recordAs, recordAt};
+ghost use Rattle.language.specs.File.{word, k_header, k_type, k_functor, k_procedure, k_variable, k_region, k_edge, k_arm, k_argument, k_goal};
+ghost use Rattle.language.specs.File.{k_literal, k_sum, k_assign, k_construct, k_switch, k_if, k_call, k_print, k_create, k_remove, k_try, k_test};
+ghost use Rattle.records.specs.Records.{record_as, record_at};
 
 use crate::Record;
 use crate::words::word;
@@ -10,7 +10,7 @@ use language::format::*;
 
 // Record i of a file.
 pub fn record_at(file: &[u8], i: usize) -> Record
-    ensures { result ≡ recordAt file.now i }
+    ensures { result ≡ record_at file.now i }
 {
     match word(file, i, KIND) {
         HEADER => read_header(file, i),
@@ -39,7 +39,7 @@ pub fn record_at(file: &[u8], i: usize) -> Record
 }
 
 fn read_header(file: &[u8], i: usize) -> Record
-    ensures { result ≡ recordAs kHeader (word file.now i) }
+    ensures { result ≡ record_as k_header (word file.now i) }
 {
     let procedures = word(file, i, HEADER_PROCEDURES);
     let types = word(file, i, HEADER_TYPES);
@@ -52,7 +52,7 @@ fn read_header(file: &[u8], i: usize) -> Record
 }
 
 fn read_type(file: &[u8], i: usize) -> Record
-    ensures { result ≡ recordAs kType (word file.now i) }
+    ensures { result ≡ record_as k_type (word file.now i) }
 {
     let next = word(file, i, NEXT);
     let functors = word(file, i, TYPE_FUNCTORS);
@@ -60,7 +60,7 @@ fn read_type(file: &[u8], i: usize) -> Record
 }
 
 fn read_functor(file: &[u8], i: usize) -> Record
-    ensures { result ≡ recordAs kFunctor (word file.now i) }
+    ensures { result ≡ record_as k_functor (word file.now i) }
 {
     let next = word(file, i, NEXT);
     let arity = word(file, i, FUNCTOR_ARITY);
@@ -79,7 +79,7 @@ fn read_functor(file: &[u8], i: usize) -> Record
 }
 
 fn read_procedure(file: &[u8], i: usize) -> Record
-    ensures { result ≡ recordAs kProcedure (word file.now i) }
+    ensures { result ≡ record_as k_procedure (word file.now i) }
 {
     let next = word(file, i, NEXT);
     let variables = word(file, i, PROCEDURE_VARIABLES);
@@ -94,7 +94,7 @@ fn read_procedure(file: &[u8], i: usize) -> Record
 }
 
 fn read_variable(file: &[u8], i: usize) -> Record
-    ensures { result ≡ recordAs kVariable (word file.now i) }
+    ensures { result ≡ record_as k_variable (word file.now i) }
 {
     let next = word(file, i, NEXT);
     let mode = word(file, i, VARIABLE_MODE);
@@ -109,7 +109,7 @@ fn read_variable(file: &[u8], i: usize) -> Record
 }
 
 fn read_region(file: &[u8], i: usize) -> Record
-    ensures { result ≡ recordAs kRegion (word file.now i) }
+    ensures { result ≡ record_as k_region (word file.now i) }
 {
     let next = word(file, i, NEXT);
     let of_type = word(file, i, REGION_TYPE);
@@ -124,7 +124,7 @@ fn read_region(file: &[u8], i: usize) -> Record
 }
 
 fn read_edge(file: &[u8], i: usize) -> Record
-    ensures { result ≡ recordAs kEdge (word file.now i) }
+    ensures { result ≡ record_as k_edge (word file.now i) }
 {
     let next = word(file, i, NEXT);
     let functor = word(file, i, EDGE_FUNCTOR);
@@ -139,7 +139,7 @@ fn read_edge(file: &[u8], i: usize) -> Record
 }
 
 fn read_literal(file: &[u8], i: usize) -> Record
-    ensures { result ≡ recordAs (kGoal kLiteral) (word file.now i) }
+    ensures { result ≡ record_as (k_goal k_literal) (word file.now i) }
 {
     let next = word(file, i, NEXT);
     let x = word(file, i, GOAL_X);
@@ -148,7 +148,7 @@ fn read_literal(file: &[u8], i: usize) -> Record
 }
 
 fn read_sum(file: &[u8], i: usize) -> Record
-    ensures { result ≡ recordAs (kGoal kSum) (word file.now i) }
+    ensures { result ≡ record_as (k_goal k_sum) (word file.now i) }
 {
     let next = word(file, i, NEXT);
     let x = word(file, i, GOAL_X);
@@ -165,7 +165,7 @@ fn read_sum(file: &[u8], i: usize) -> Record
 }
 
 fn read_assign(file: &[u8], i: usize) -> Record
-    ensures { result ≡ recordAs (kGoal kAssign) (word file.now i) }
+    ensures { result ≡ record_as (k_goal k_assign) (word file.now i) }
 {
     let next = word(file, i, NEXT);
     let x = word(file, i, GOAL_X);
@@ -174,7 +174,7 @@ fn read_assign(file: &[u8], i: usize) -> Record
 }
 
 fn read_construct(file: &[u8], i: usize) -> Record
-    ensures { result ≡ recordAs (kGoal kConstruct) (word file.now i) }
+    ensures { result ≡ record_as (k_goal k_construct) (word file.now i) }
 {
     let next = word(file, i, NEXT);
     let x = word(file, i, GOAL_X);
@@ -195,7 +195,7 @@ fn read_construct(file: &[u8], i: usize) -> Record
 }
 
 fn read_switch(file: &[u8], i: usize) -> Record
-    ensures { result ≡ recordAs (kGoal kSwitch) (word file.now i) }
+    ensures { result ≡ record_as (k_goal k_switch) (word file.now i) }
 {
     let next = word(file, i, NEXT);
     let x = word(file, i, GOAL_X);
@@ -204,7 +204,7 @@ fn read_switch(file: &[u8], i: usize) -> Record
 }
 
 fn read_arm(file: &[u8], i: usize) -> Record
-    ensures { result ≡ recordAs kArm (word file.now i) }
+    ensures { result ≡ record_as k_arm (word file.now i) }
 {
     let next = word(file, i, NEXT);
     let goals = word(file, i, ARM_GOALS);
@@ -225,7 +225,7 @@ fn read_arm(file: &[u8], i: usize) -> Record
 }
 
 fn read_if(file: &[u8], i: usize) -> Record
-    ensures { result ≡ recordAs (kGoal kIf) (word file.now i) }
+    ensures { result ≡ record_as (k_goal k_if) (word file.now i) }
 {
     let next = word(file, i, NEXT);
     let y = word(file, i, IF_Y);
@@ -242,7 +242,7 @@ fn read_if(file: &[u8], i: usize) -> Record
 }
 
 fn read_call(file: &[u8], i: usize) -> Record
-    ensures { result ≡ recordAs (kGoal kCall) (word file.now i) }
+    ensures { result ≡ record_as (k_goal k_call) (word file.now i) }
 {
     let next = word(file, i, NEXT);
     let procedure = word(file, i, CALL_PROCEDURE);
@@ -255,7 +255,7 @@ fn read_call(file: &[u8], i: usize) -> Record
 }
 
 fn read_argument(file: &[u8], i: usize) -> Record
-    ensures { result ≡ recordAs kArgument (word file.now i) }
+    ensures { result ≡ record_as k_argument (word file.now i) }
 {
     let next = word(file, i, NEXT);
     let variable = word(file, i, ARGUMENT_VARIABLE);
@@ -263,7 +263,7 @@ fn read_argument(file: &[u8], i: usize) -> Record
 }
 
 fn read_print(file: &[u8], i: usize) -> Record
-    ensures { result ≡ recordAs (kGoal kPrint) (word file.now i) }
+    ensures { result ≡ record_as (k_goal k_print) (word file.now i) }
 {
     let next = word(file, i, NEXT);
     let y = word(file, i, PRINT_Y);
@@ -271,7 +271,7 @@ fn read_print(file: &[u8], i: usize) -> Record
 }
 
 fn read_create(file: &[u8], i: usize) -> Record
-    ensures { result ≡ recordAs (kGoal kCreate) (word file.now i) }
+    ensures { result ≡ record_as (k_goal k_create) (word file.now i) }
 {
     let next = word(file, i, NEXT);
     let region = word(file, i, LIFETIME_REGION);
@@ -279,7 +279,7 @@ fn read_create(file: &[u8], i: usize) -> Record
 }
 
 fn read_remove(file: &[u8], i: usize) -> Record
-    ensures { result ≡ recordAs (kGoal kRemove) (word file.now i) }
+    ensures { result ≡ record_as (k_goal k_remove) (word file.now i) }
 {
     let next = word(file, i, NEXT);
     let region = word(file, i, LIFETIME_REGION);
@@ -287,7 +287,7 @@ fn read_remove(file: &[u8], i: usize) -> Record
 }
 
 fn read_try(file: &[u8], i: usize) -> Record
-    ensures { result ≡ recordAs (kGoal kTry) (word file.now i) }
+    ensures { result ≡ record_as (k_goal k_try) (word file.now i) }
 {
     let next = word(file, i, NEXT);
     let condition = word(file, i, TRY_CONDITION);
@@ -302,7 +302,7 @@ fn read_try(file: &[u8], i: usize) -> Record
 }
 
 fn read_test(file: &[u8], i: usize) -> Record
-    ensures { result ≡ recordAs (kGoal kTest) (word file.now i) }
+    ensures { result ≡ record_as (k_goal k_test) (word file.now i) }
 {
     let next = word(file, i, NEXT);
     let y = word(file, i, TEST_Y);

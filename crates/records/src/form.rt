@@ -1,13 +1,13 @@
 // Number 2: a pass over the records, each by its unused words and its references, and a look at the counts.
 ghost use Rattle.std.specs.Prelude.{◌≡◌, true, ℕ, ◌+◌, ◌-◌, ◌*◌, ◌≤◌, ◌<◌, min, eqb, length, get_or};
 ghost use Rattle.language.specs.Lists.{all, up_from};
-ghost use Rattle.language.specs.Format.{maxRecords, recordBytes};
-ghost use Rattle.language.specs.File.{word, Kind, Chain, Use, first, kind_of, referenceOk, recordOk, references, referencesOf, formOk};
+ghost use Rattle.language.specs.Format.{max_records, record_bytes};
+ghost use Rattle.language.specs.File.{word, Kind, Chain, Use, first, kind_of, reference_ok, record_ok, references, references_of, form_ok};
 ghost use Rattle.records.specs.Lists.{counted};
-ghost use Rattle.records.specs.Table.{table_of, digit, packed, lowMost, highMost};
+ghost use Rattle.records.specs.Table.{table_of, digit, packed, low_most, high_most};
 ghost use Rattle.records.specs.Spare.{LowWords, HighWords};
-ghost use Rattle.records.specs.Form.{Tallied, UseTallied, refersOk, spareOk};
-ghost use Rattle.records.specs.Sizes.{recordWords};
+ghost use Rattle.records.specs.Form.{Tallied, UseTallied, refers_ok, spare_ok};
+ghost use Rattle.records.specs.Sizes.{record_words};
 
 use crate::blank::blank_marks;
 use crate::sizes::{DIGIT_END, KINDS_END, WORD_END};
@@ -101,13 +101,13 @@ fn rows() -> [usize; KINDS_END]
 }
 
 fn low_most() -> [usize; KINDS_END]
-    ensures { result ≡ table_of lowMost }
+    ensures { result ≡ table_of low_most }
 {
     LOW
 }
 
 fn high_most() -> [usize; KINDS_END]
-    ensures { result ≡ table_of highMost }
+    ensures { result ≡ table_of high_most }
 {
     HIGH
 }
@@ -124,7 +124,7 @@ fn row_of(table: &[usize; KINDS_END], kind: usize) -> usize
 
 // w2 and w3 of record i as one number.
 fn low_words(file: &[u8], i: usize) -> usize
-    requires { recordBytes * i + recordBytes ≤ length file.now }
+    requires { record_bytes * i + record_bytes ≤ length file.now }
     ensures { LowWords (word file.now i) result }
 {
     let w2 = word_in(file, i, 2);
@@ -134,7 +134,7 @@ fn low_words(file: &[u8], i: usize) -> usize
 
 // w4 to w7 of record i as one number.
 fn high_words(file: &[u8], i: usize) -> usize
-    requires { recordBytes * i + recordBytes ≤ length file.now }
+    requires { record_bytes * i + record_bytes ≤ length file.now }
     ensures { HighWords (word file.now i) result }
 {
     let w4 = word_in(file, i, 4);
@@ -146,9 +146,9 @@ fn high_words(file: &[u8], i: usize) -> usize
 
 // Whether the words of record i that its kind does not use are 0.
 fn spare_ok(low: &[usize; KINDS_END], high: &[usize; KINDS_END], file: &[u8], i: usize) -> bool
-    requires low_value { (low.now ≡ table_of lowMost) × (high.now ≡ table_of highMost) }
-    requires record_bytes_in_bounds { recordBytes * i + recordBytes ≤ length file.now }
-    ensures { result ≡ spareOk (word file.now) i }
+    requires low_value { (low.now ≡ table_of low_most) × (high.now ≡ table_of high_most) }
+    requires record_bytes_in_bounds { record_bytes * i + record_bytes ≤ length file.now }
+    ensures { result ≡ spare_ok (word file.now) i }
 {
     let kind = word_in(file, i, KIND);
     let first = low_words(file, i);
@@ -169,8 +169,8 @@ fn reference_ok(
     chain: usize,
 ) -> bool
     requires rows_value { rows.now ≡ table_of packed }
-    requires i_lt_n { (i < n) × (recordBytes * n ≤ length file.now) }
-    ensures { ((c : Chain) → chain ≡ digit (first c) → result ≡ referenceOk (word file.now) n i c r) × (result ≡ true → r < n) }
+    requires i_lt_n { (i < n) × (record_bytes * n ≤ length file.now) }
+    ensures { ((c : Chain) → chain ≡ digit (first c) → result ≡ reference_ok (word file.now) n i c r) × (result ≡ true → r < n) }
 {
     if r == 0 {
         return true;
@@ -213,7 +213,7 @@ fn word_ok(
     chain: usize,
 ) -> bool
     requires rows_value { rows.now ≡ table_of packed }
-    requires k_lt_record_words { (k < recordWords) × (i < n) × (n ≤ length seen.old) × (recordBytes * n ≤ length file.now) }
+    requires k_lt_record_words { (k < record_words) × (i < n) × (n ≤ length seen.old) × (record_bytes * n ≤ length file.now) }
     ensures { (u : Use) → chain ≡ digit u → UseTallied (word file.now) n i k u result seen.old seen.new }
 {
     if chain == 0 {
@@ -230,8 +230,8 @@ fn word_ok(
 // Whether the references of record i are in order. Counts what they refer to.
 fn refers_ok(rows: &[usize; KINDS_END], file: &[u8], seen: &mut [u8], n: usize, i: usize) -> bool
     requires rows_value { rows.now ≡ table_of packed }
-    requires i_lt_n { (i < n) × (n ≤ length seen.old) × (recordBytes * n ≤ length file.now) }
-    ensures { Tallied result (refersOk (word file.now) n i) (references (word file.now) n i) seen.old seen.new }
+    requires i_lt_n { (i < n) × (n ≤ length seen.old) × (record_bytes * n ≤ length file.now) }
+    ensures { Tallied result (refers_ok (word file.now) n i) (references (word file.now) n i) seen.old seen.new }
 {
     let mut row = row_of(rows, word_in(file, i, KIND)) / DIGIT_END;
     let mut k: usize = 1;
@@ -255,9 +255,9 @@ fn record_ok(
     n: usize,
     i: usize,
 ) -> bool
-    requires rows_value { (rows.now ≡ table_of packed) × (low.now ≡ table_of lowMost) × (high.now ≡ table_of highMost) }
-    requires i_lt_n { (i < n) × (n ≤ length seen.old) × (recordBytes * n ≤ length file.now) }
-    ensures { Tallied result (recordOk (word file.now) n i) (references (word file.now) n i) seen.old seen.new }
+    requires rows_value { (rows.now ≡ table_of packed) × (low.now ≡ table_of low_most) × (high.now ≡ table_of high_most) }
+    requires i_lt_n { (i < n) × (n ≤ length seen.old) × (record_bytes * n ≤ length file.now) }
+    ensures { Tallied result (record_ok (word file.now) n i) (references (word file.now) n i) seen.old seen.new }
 {
     if !spare_ok(low, high, file, i) {
         return false;
@@ -267,8 +267,8 @@ fn record_ok(
 
 // Whether every record is. Counts what they refer to.
 fn records_ok(file: &[u8], seen: &mut [u8], n: usize) -> bool
-    requires { (n ≤ length seen.old) × (recordBytes * n ≤ length file.now) }
-    ensures { Tallied result (all (recordOk (word file.now) n) (up_from 0 n)) (referencesOf (word file.now) n (up_from 0 n)) seen.old seen.new }
+    requires { (n ≤ length seen.old) × (record_bytes * n ≤ length file.now) }
+    ensures { Tallied result (all (record_ok (word file.now) n) (up_from 0 n)) (references_of (word file.now) n (up_from 0 n)) seen.old seen.new }
 {
     let table = rows();
     let low = low_most();
@@ -299,8 +299,8 @@ fn all_once(seen: &[u8], n: usize) -> bool
 
 // Number 2, over the words of n records.
 pub(crate) fn form_ok(file: &[u8], n: usize) -> bool
-    requires { (n ≤ maxRecords) × (recordBytes * n ≤ length file.now) }
-    ensures { result ≡ formOk (word file.now) n }
+    requires { (n ≤ max_records) × (record_bytes * n ≤ length file.now) }
+    ensures { result ≡ form_ok (word file.now) n }
 {
     let mut seen = blank_marks();
     if !records_ok(file, &mut seen, n) {

@@ -1,6 +1,6 @@
 // Numbers 1 and 2 as a stage, the lower first.
 ghost use Rattle.std.specs.Prelude.{◌≡◌};
-ghost use Rattle.records.specs.Verdicts.{formVerdict};
+ghost use Rattle.records.specs.Verdicts.{form_verdict};
 
 use crate::form::form_ok;
 use crate::words::{header_ok, word};
@@ -8,7 +8,7 @@ use language::format::HEADER_COUNT;
 use language::{Refusal, Verdict};
 
 pub fn check_form(file: &[u8]) -> Verdict
-    ensures { result ≡ formVerdict file.now }
+    ensures { result ≡ form_verdict file.now }
 {
     if !header_ok(file) {
         return Verdict::Refused(Refusal::Header);

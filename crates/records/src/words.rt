@@ -1,22 +1,22 @@
 // Words of a file, and number 1.
 ghost use Rattle.std.specs.Prelude.{◌≡◌, ◌+◌, ◌*◌, ◌≤◌, ◌<◌, length, get_or};
-ghost use Rattle.language.specs.File.{word, headerOk};
-ghost use Rattle.language.specs.Format.{recordBytes};
-ghost use Rattle.records.specs.Sizes.{byteEnd, recordWords, wordEnd};
+ghost use Rattle.language.specs.File.{word, header_ok};
+ghost use Rattle.language.specs.Format.{record_bytes};
+ghost use Rattle.records.specs.Sizes.{byte_end, record_words, word_end};
 
 use crate::sizes::BYTE_END;
 use language::format::{HEADER, HEADER_COUNT, KIND, MAX_BYTES, RECORD_BYTES};
 
 fn wide(x: u8) -> usize
-    ensures { (result ≡ x) × (result < byteEnd) }
+    ensures { (result ≡ x) × (result < byte_end) }
 {
     x as usize
 }
 
 // Word k of record i; what is past the end counts as 0.
 pub fn word(file: &[u8], i: usize, k: usize) -> usize
-    requires { k < recordWords }
-    ensures { (result ≡ word file.now i k) × (result < wordEnd) }
+    requires { k < record_words }
+    ensures { (result ≡ word file.now i k) × (result < word_end) }
 {
     if i < file.len() / RECORD_BYTES {
         return word_in(file, i, k);
@@ -26,8 +26,8 @@ pub fn word(file: &[u8], i: usize, k: usize) -> usize
 
 // The same of a record that the file has whole.
 pub fn word_in(file: &[u8], i: usize, k: usize) -> usize
-    requires { (k < recordWords) × (recordBytes * i + recordBytes ≤ length file.now) }
-    ensures { (result ≡ word file.now i k) × (result < wordEnd) }
+    requires { (k < record_words) × (record_bytes * i + record_bytes ≤ length file.now) }
+    ensures { (result ≡ word file.now i k) × (result < word_end) }
 {
     let at = RECORD_BYTES * i + 2 * k;
     let low = wide(file[at]);
@@ -37,8 +37,8 @@ pub fn word_in(file: &[u8], i: usize, k: usize) -> usize
 
 // The same where the file ends in record i, or before it.
 fn last_word(file: &[u8], i: usize, k: usize) -> usize
-    requires { k < recordWords }
-    ensures { (result ≡ word file.now i k) × (result < wordEnd) }
+    requires { k < record_words }
+    ensures { (result ≡ word file.now i k) × (result < word_end) }
 {
     if i > file.len() / RECORD_BYTES {
         return 0;
@@ -51,14 +51,14 @@ fn last_word(file: &[u8], i: usize, k: usize) -> usize
 
 // The byte at a place; 0 past the end.
 fn byte(file: &[u8], at: usize) -> usize
-    ensures { (result ≡ get_or file.now at 0) × (result < byteEnd) }
+    ensures { (result ≡ get_or file.now at 0) × (result < byte_end) }
 {
     if at < file.len() { wide(file[at]) } else { 0 }
 }
 
 // Number 1.
 pub fn header_ok(file: &[u8]) -> bool
-    ensures { result ≡ headerOk file.now }
+    ensures { result ≡ header_ok file.now }
 {
     if file.len() < RECORD_BYTES {
         return false;

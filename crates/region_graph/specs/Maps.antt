@@ -5,159 +5,159 @@ use Rattle.std.proofs.lemmas.Bool.{false≢true}
 use mathlib.Core.List.{List, [], ◌∷◌, map}
 use Rattle.std.proofs.Common.{inl, inr, ⊎_elim, sym, ap, subst₂, ◌∙◌, arith, eqb-true, eq-eqb}
 use Rattle.std.proofs.Math.Decide.{ℕ_discrete}
-use Rattle.sets.specs.Tests.{◌&◌, truth, and-true, true-and}
+use Rattle.sets.specs.Tests.{◌&◌, truth, and_true, true_and}
 use Rattle.language.specs.Lists.{nth, nth1}
-use Rattle.language.specs.Program.{Functor, Edge, Signature, regionOf, regionAt, variableAt, functorsOf, parametersOf, parameterVariables}
-use Rattle.language.specs.Typing.{Place, isRegion, isRegionOf, haveTypes, parameterTypes, edgesOk, signatureOk}
-use Rattle.language.specs.Regions.{targets, targetsIn, targetFor, regionsOf}
+use Rattle.language.specs.Program.{Functor, Edge, Signature, region_of, region_at, variable_at, functors_of, parameters_of, parameter_variables}
+use Rattle.language.specs.Typing.{Place, is_region, is_region_of, have_types, parameter_types, edges_ok, signature_ok}
+use Rattle.language.specs.Regions.{targets, targets_in, target_for, regions_of}
 use Rattle.laws.specs.Lists
 use Rattle.laws.specs.Lists.{nth_past}
 use Rattle.region_graph.specs.Laws.{target}
-use Rattle.region_graph.specs.EdgePlaces.{typeFor, region-of, edges-cons, edges-found, choose-first, choose-second, Single, single-cons, places-single}
-use Rattle.region_graph.specs.Procedure.{places_of, region-numbers, region-edges}
-pub use Rattle.region_graph.specs.Shared.{none-target}
-use Rattle.region_graph.specs.Alike.{parameterRegions, Paired, paired-nil, paired-cons, Matched, Alike, edges-there}
-use Rattle.region_graph.specs.Calls.{regions-map, arguments-paired}
+use Rattle.region_graph.specs.EdgePlaces.{type_for, region_of_law, edges_cons, edges_found, choose_first, choose_second, Single, single_cons, places_single}
+use Rattle.region_graph.specs.Procedure.{places_of, region_numbers, region_edges_law}
+pub use Rattle.region_graph.specs.Shared.{none_target}
+use Rattle.region_graph.specs.Alike.{parameter_regions, Paired, paired_nil, paired_cons, Matched, Alike, edges_there}
+use Rattle.region_graph.specs.Calls.{regions_map, arguments_paired}
 
 -- region r of the callee Q is mapped to u of the caller C. Where there is no argument or edge, region 0, none, is mapped to none
 pub data Maps (C Q : Signature) (ys : List ℕ) : ℕ → ℕ → Type 0 where
-  argument : (i : ℕ) → Maps C Q ys (regionOf Q (nth 0 (parameterVariables (parametersOf Q)) i)) (regionOf C (nth 0 ys i))
+  argument : (i : ℕ) → Maps C Q ys (region_of Q (nth 0 (parameter_variables (parameters_of Q)) i)) (region_of C (nth 0 ys i))
   along : {r u : ℕ} → Maps C Q ys r u → (f k : ℕ) → Maps C Q ys (target Q r f k) (target C u f k)
 
 -- ---- lists by number
-pub nth-map : (m : ℕ → ℕ) → m 0 ≡ 0 → (rs : List ℕ) (i : ℕ) → nth 0 (map m rs) i ≡ m (nth 0 rs i)
-nth-map m z rs i = ap (λ d. nth d (map m rs) i) (sym z) ∙ Lists.nth-map m 0 rs i
+pub nth_map : (m : ℕ → ℕ) → m 0 ≡ 0 → (rs : List ℕ) (i : ℕ) → nth 0 (map m rs) i ≡ m (nth 0 rs i)
+nth_map m z rs i = ap (λ d. nth d (map m rs) i) (sym z) ∙ Lists.nth_map m 0 rs i
 
-pub none-region : (S : Signature) → regionOf S 0 ≡ 0
-unfolding regionOf variableAt nth1
-none-region S = refl
+pub none_region : (S : Signature) → region_of S 0 ≡ 0
+unfolding region_of variable_at nth1
+none_region S = refl
 
-pub nth-region : (S : Signature) (xs : List ℕ) (i : ℕ) → nth 0 (regionsOf S xs) i ≡ regionOf S (nth 0 xs i)
-nth-region S xs i = rw (regions-map S xs) (nth-map (regionOf S) (none-region S) xs i)
+pub nth_region : (S : Signature) (xs : List ℕ) (i : ℕ) → nth 0 (regions_of S xs) i ≡ region_of S (nth 0 xs i)
+nth_region S xs i = rw (regions_map S xs) (nth_map (region_of S) (none_region S) xs i)
 
 -- two lists that are related by number are related one by one, if they have one length
-paired-nth : {R W : ℕ → ℕ → Type 0} {rs us : List ℕ} → Paired R rs us → ((i : ℕ) → W (nth 0 rs i) (nth 0 us i)) → Paired W rs us
+paired_nth : {R W : ℕ → ℕ → Type 0} {rs us : List ℕ} → Paired R rs us → ((i : ℕ) → W (nth 0 rs i) (nth 0 us i)) → Paired W rs us
 unfolding nth
-paired-nth paired-nil h = paired-nil
-paired-nth (paired-cons a t) h = paired-cons (h 0) (paired-nth t (λ i. h (suc i)))
+paired_nth paired_nil h = paired_nil
+paired_nth (paired_cons a t) h = paired_cons (h 0) (paired_nth t (λ i. h (suc i)))
 
-nth-paired : {R : ℕ → ℕ → Type 0} {rs us : List ℕ} → R 0 0 → Paired R rs us → (i : ℕ) → R (nth 0 rs i) (nth 0 us i)
+nth_paired : {R : ℕ → ℕ → Type 0} {rs us : List ℕ} → R 0 0 → Paired R rs us → (i : ℕ) → R (nth 0 rs i) (nth 0 us i)
 unfolding nth
-nth-paired z paired-nil i = z
-nth-paired z (paired-cons a t) zero = a
-nth-paired z (paired-cons a t) (suc i) = nth-paired z t i
+nth_paired z paired_nil i = z
+nth_paired z (paired_cons a t) zero = a
+nth_paired z (paired_cons a t) (suc i) = nth_paired z t i
 
 -- ---- edges by functor and position, and in order
 module _ (e : Edge) (p : Place) (es : List Edge) (f : e.functor ≡ p.functor) (k : e.position ≡ p.position) where
-  edge_here : targetFor (e ∷ es) p.functor p.position ≡ e.target
-  unfolding targetFor
-  edge_here = choose-first _ e.target _ (true-and (eq-eqb e.functor p.functor f) (eq-eqb e.position p.position k))
+  edge_here : target_for (e ∷ es) p.functor p.position ≡ e.target
+  unfolding target_for
+  edge_here = choose_first _ e.target _ (true_and (eq-eqb e.functor p.functor f) (eq-eqb e.position p.position k))
 
-  edge-later : (g j : ℕ) → (eqb p.functor g & eqb p.position j) ≡ false → targetFor (e ∷ es) g j ≡ targetFor es g j
-  unfolding targetFor
-  edge-later g j h = rw (f, k) (choose-second _ e.target (targetFor es g j) h)
+  edge_later : (g j : ℕ) → (eqb p.functor g & eqb p.position j) ≡ false → target_for (e ∷ es) g j ≡ target_for es g j
+  unfolding target_for
+  edge_later g j h = rw (f, k) (choose_second _ e.target (target_for es g j) h)
 
 -- there is an edge exactly where there is a place, and it leads to a region of the place's type
-module _ (T : List (List Functor)) (S : Signature) (ok : signatureOk T S ≡ true) (ps : List Place) (es : List Edge)
-    (h : edgesOk T S ps es ≡ true) (f k : ℕ) where
-  edge_none : typeFor ps f k ≡ 0 → targetFor es f k ≡ 0
-  edge_none z = ⊎_elim (λ p. p.1) (λ q. absurd (none q)) (edges-found T S ps es h f k)
+module _ (T : List (List Functor)) (S : Signature) (ok : signature_ok T S ≡ true) (ps : List Place) (es : List Edge)
+    (h : edges_ok T S ps es ≡ true) (f k : ℕ) where
+  edge_none : type_for ps f k ≡ 0 → target_for es f k ≡ 0
+  edge_none z = ⊎_elim (λ p. p.1) (λ q. absurd (none q)) (edges_found T S ps es h f k)
     where
-      none : isRegionOf S (typeFor ps f k) (targetFor es f k) ≡ true → ⊥
+      none : is_region_of S (type_for ps f k) (target_for es f k) ≡ true → ⊥
       none q =
-          let r = region-of S (typeFor ps f k) (targetFor es f k) q in
-          region-numbers T S ok (targetFor es f k) r.0 (r.1 ∙ z)
+          let r = region_of_law S (type_for ps f k) (target_for es f k) q in
+          region_numbers T S ok (target_for es f k) r.0 (r.1 ∙ z)
 
-  edge-some : typeFor ps f k ≢ 0 → (isRegion S (targetFor es f k) ≡ true) × ((regionAt S (targetFor es f k)).type ≡ typeFor ps f k)
-  edge-some n = ⊎_elim (λ p. absurd (n p.0)) (region-of S (typeFor ps f k) (targetFor es f k)) (edges-found T S ps es h f k)
+  edge_some : type_for ps f k ≢ 0 → (is_region S (target_for es f k) ≡ true) × ((region_at S (target_for es f k)).type ≡ type_for ps f k)
+  edge_some n = ⊎_elim (λ p. absurd (n p.0)) (region_of_law S (type_for ps f k) (target_for es f k)) (edges_found T S ps es h f k)
 
-single-in : {p : Place} {ps : List Place} → Single (p ∷ ps) → (typeFor ps p.functor p.position ≡ 0) × Single ps
-single-in (single-cons h s) = (h, s)
+single_in : {p : Place} {ps : List Place} → Single (p ∷ ps) → (type_for ps p.functor p.position ≡ 0) × Single ps
+single_in (single_cons h s) = (h, s)
 
-module _ (T : List (List Functor)) (C Q : Signature) (ok_c : signatureOk T C ≡ true) (okQ : signatureOk T Q ≡ true) where
+module _ (T : List (List Functor)) (C Q : Signature) (ok_c : signature_ok T C ≡ true) (ok_q : signature_ok T Q ≡ true) where
   -- what holds with an edge in front holds without it, if no other stands for its place
   behind : (W : ℕ → ℕ → Type 0) → W 0 0 → (p : Place) (ps : List Place) (e d : Edge) (es ds : List Edge)
-      → typeFor ps p.functor p.position ≡ 0 → edgesOk T Q (p ∷ ps) (e ∷ es) ≡ true → edgesOk T C (p ∷ ps) (d ∷ ds) ≡ true
-      → ((f k : ℕ) → W (targetFor (e ∷ es) f k) (targetFor (d ∷ ds) f k)) → (f k : ℕ) → W (targetFor es f k) (targetFor ds f k)
+      → type_for ps p.functor p.position ≡ 0 → edges_ok T Q (p ∷ ps) (e ∷ es) ≡ true → edges_ok T C (p ∷ ps) (d ∷ ds) ≡ true
+      → ((f k : ℕ) → W (target_for (e ∷ es) f k) (target_for (d ∷ ds) f k)) → (f k : ℕ) → W (target_for es f k) (target_for ds f k)
   behind W z p ps e d es ds t h i w f k = ⊎_elim same other (truth (eqb p.functor f & eqb p.position k))
     where
-      same : (eqb p.functor f & eqb p.position k) ≡ true → W (targetFor es f k) (targetFor ds f k)
+      same : (eqb p.functor f & eqb p.position k) ≡ true → W (target_for es f k) (target_for ds f k)
       same q =
-          let n = and-true q in
-          let x : typeFor ps f k ≡ 0 = rw (← eqb-true p.functor f n.0, ← eqb-true p.position k n.1) t in
-          subst₂ W (sym (edge_none T Q okQ ps es (edges-cons T Q p ps e es h).3 f k x))
-          (sym (edge_none T C ok_c ps ds (edges-cons T C p ps d ds i).3 f k x)) z
+          let n = and_true q in
+          let x : type_for ps f k ≡ 0 = rw (← eqb-true p.functor f n.0, ← eqb-true p.position k n.1) t in
+          subst₂ W (sym (edge_none T Q ok_q ps es (edges_cons T Q p ps e es h).3 f k x))
+          (sym (edge_none T C ok_c ps ds (edges_cons T C p ps d ds i).3 f k x)) z
 
-      other : (eqb p.functor f & eqb p.position k) ≡ false → W (targetFor es f k) (targetFor ds f k)
+      other : (eqb p.functor f & eqb p.position k) ≡ false → W (target_for es f k) (target_for ds f k)
       other q =
-          let a = edges-cons T Q p ps e es h in
-          let b = edges-cons T C p ps d ds i in
-          subst₂ W (edge-later e p es a.0 a.1 f k q) (edge-later d p ds b.0 b.1 f k q) (w f k)
+          let a = edges_cons T Q p ps e es h in
+          let b = edges_cons T C p ps d ds i in
+          subst₂ W (edge_later e p es a.0 a.1 f k q) (edge_later d p ds b.0 b.1 f k q) (w f k)
 
   -- what holds by functor and position holds in order, since no place stands twice
   in_order : (W : ℕ → ℕ → Type 0) → W 0 0 → (ps : List Place) (es ds : List Edge) → Single ps
-      → edgesOk T Q ps es ≡ true → edgesOk T C ps ds ≡ true → ((f k : ℕ) → W (targetFor es f k) (targetFor ds f k))
-      → Paired W (targetsIn es) (targetsIn ds)
-  unfolding edgesOk targetsIn
-  in_order W z [] [] [] s h i w = paired-nil
+      → edges_ok T Q ps es ≡ true → edges_ok T C ps ds ≡ true → ((f k : ℕ) → W (target_for es f k) (target_for ds f k))
+      → Paired W (targets_in es) (targets_in ds)
+  unfolding edges_ok targets_in
+  in_order W z [] [] [] s h i w = paired_nil
   in_order W z [] [] (d ∷ ds) s h i w = absurd (false≢true i)
   in_order W z [] (e ∷ es) ds s h i w = absurd (false≢true h)
   in_order W z (p ∷ ps) [] ds s h i w = absurd (false≢true h)
   in_order W z (p ∷ ps) (e ∷ es) [] s h i w = absurd (false≢true i)
   in_order W z (p ∷ ps) (e ∷ es) (d ∷ ds) s h i w =
-      let a = edges-cons T Q p ps e es h in
-      let b = edges-cons T C p ps d ds i in
-      let v = single-in s in
-      paired-cons (subst₂ W (edge_here e p es a.0 a.1) (edge_here d p ds b.0 b.1) (w p.functor p.position))
+      let a = edges_cons T Q p ps e es h in
+      let b = edges_cons T C p ps d ds i in
+      let v = single_in s in
+      paired_cons (subst₂ W (edge_here e p es a.0 a.1) (edge_here d p ds b.0 b.1) (w p.functor p.position))
       (in_order W z ps es ds v.1 a.3 b.3 (behind W z p ps e d es ds v.0 h i w))
 
   -- regions of one type lead to regions of one type, by functor and position
-  target-alike : (r u : ℕ) → Alike C Q r u → (f k : ℕ) → Alike C Q (target Q r f k) (target C u f k)
-  target-alike r u (inl p) f k =
-      inl (ap (λ (q : ℕ). target Q q f k) p.0 ∙ none-target Q f k, ap (λ (q : ℕ). target C q f k) p.1 ∙ none-target C f k)
-  target-alike r u (inr h) f k = go (ℕ_discrete (typeFor ps f k) 0)
+  target_alike : (r u : ℕ) → Alike C Q r u → (f k : ℕ) → Alike C Q (target Q r f k) (target C u f k)
+  target_alike r u (inl p) f k =
+      inl (ap (λ (q : ℕ). target Q q f k) p.0 ∙ none_target Q f k, ap (λ (q : ℕ). target C q f k) p.1 ∙ none_target C f k)
+  target_alike r u (inr h) f k = go (ℕ_discrete (type_for ps f k) 0)
     where
       ps : List Place
       ps = places_of T Q r
 
-      there : edgesOk T Q ps (regionAt Q r).edges ≡ true
-      there = region-edges T Q okQ r h.callee
+      there : edges_ok T Q ps (region_at Q r).edges ≡ true
+      there = region_edges_law T Q ok_q r h.callee
 
-      here : edgesOk T C ps (regionAt C u).edges ≡ true
-      here = edges-there T C Q ok_c okQ r u h
+      here : edges_ok T C ps (region_at C u).edges ≡ true
+      here = edges_there T C Q ok_c ok_q r u h
 
-      go : Dec (typeFor ps f k ≡ 0) → Alike C Q (target Q r f k) (target C u f k)
-      go (yes z) = inl (edge_none T Q okQ ps (regionAt Q r).edges there f k z, edge_none T C ok_c ps (regionAt C u).edges here f k z)
+      go : Dec (type_for ps f k ≡ 0) → Alike C Q (target Q r f k) (target C u f k)
+      go (yes z) = inl (edge_none T Q ok_q ps (region_at Q r).edges there f k z, edge_none T C ok_c ps (region_at C u).edges here f k z)
       go (no n) =
-          let x = edge-some T Q okQ ps (regionAt Q r).edges there f k n in
-          let y = edge-some T C ok_c ps (regionAt C u).edges here f k n in
+          let x = edge_some T Q ok_q ps (region_at Q r).edges there f k n in
+          let y = edge_some T C ok_c ps (region_at C u).edges here f k n in
           inr (record { callee = x.0; caller = y.0; type = y.1 ∙ sym x.1 })
 
-  module _ (ys : List ℕ) (typed : haveTypes C (parameterTypes Q) ys ≡ true) where
+  module _ (ys : List ℕ) (typed : have_types C (parameter_types Q) ys ≡ true) where
     -- past the arguments
     maps_none : Maps C Q ys 0 0
     maps_none =
-        subst₂ (Maps C Q ys) (ap (regionOf Q) (nth_past 0 (parameterVariables (parametersOf Q)) past (omega arith)) ∙ none-region Q)
-        (ap (regionOf C) (nth_past 0 ys past (omega arith)) ∙ none-region C) (argument past)
+        subst₂ (Maps C Q ys) (ap (region_of Q) (nth_past 0 (parameter_variables (parameters_of Q)) past (omega arith)) ∙ none_region Q)
+        (ap (region_of C) (nth_past 0 ys past (omega arith)) ∙ none_region C) (argument past)
       where
         past : ℕ
-        past = length (parameterVariables (parametersOf Q)) + length ys
+        past = length (parameter_variables (parameters_of Q)) + length ys
 
-    pub maps-targets : (r u : ℕ) → Matched C Q r u → Maps C Q ys r u → Paired (Maps C Q ys) (targets Q r) (targets C u)
+    pub maps_targets : (r u : ℕ) → Matched C Q r u → Maps C Q ys r u → Paired (Maps C Q ys) (targets Q r) (targets C u)
     unfolding targets
-    maps-targets r u h w =
-        in_order (Maps C Q ys) maps_none (places_of T Q r) (regionAt Q r).edges (regionAt C u).edges
-        (places-single T 0 (functorsOf T (regionAt Q r).type)) (region-edges T Q okQ r h.callee) (edges-there T C Q ok_c okQ r u h)
+    maps_targets r u h w =
+        in_order (Maps C Q ys) maps_none (places_of T Q r) (region_at Q r).edges (region_at C u).edges
+        (places_single T 0 (functors_of T (region_at Q r).type)) (region_edges_law T Q ok_q r h.callee) (edges_there T C Q ok_c ok_q r u h)
         (along w)
 
-    pub maps-arguments : Paired (Maps C Q ys) (parameterRegions Q) (regionsOf C ys)
-    maps-arguments =
-        paired-nth (arguments-paired T C Q ok_c okQ ys typed)
-        (λ i. subst₂ (Maps C Q ys) (sym (nth-region Q (parameterVariables (parametersOf Q)) i)) (sym (nth-region C ys i)) (argument i))
+    pub maps_arguments : Paired (Maps C Q ys) (parameter_regions Q) (regions_of C ys)
+    maps_arguments =
+        paired_nth (arguments_paired T C Q ok_c ok_q ys typed)
+        (λ i. subst₂ (Maps C Q ys) (sym (nth_region Q (parameter_variables (parameters_of Q)) i)) (sym (nth_region C ys i)) (argument i))
 
     -- what is mapped has one type
-    pub maps-alike : {r u : ℕ} → Maps C Q ys r u → Alike C Q r u
-    maps-alike (argument i) =
-        subst₂ (Alike C Q) (nth-region Q (parameterVariables (parametersOf Q)) i) (nth-region C ys i)
-        (nth-paired (inl (refl, refl)) (arguments-paired T C Q ok_c okQ ys typed) i)
-    maps-alike (along {r = r} {u = u} w f k) = target-alike r u (maps-alike w) f k
+    pub maps_alike : {r u : ℕ} → Maps C Q ys r u → Alike C Q r u
+    maps_alike (argument i) =
+        subst₂ (Alike C Q) (nth_region Q (parameter_variables (parameters_of Q)) i) (nth_region C ys i)
+        (nth_paired (inl (refl, refl)) (arguments_paired T C Q ok_c ok_q ys typed) i)
+    maps_alike (along {r = r} {u = u} w f k) = target_alike r u (maps_alike w) f k

@@ -8,237 +8,237 @@ use Rattle.std.proofs.Math.Path.{refl, ap, ap₂}
 use Rattle.std.proofs.Common.{arith}
 use borrow.Author.Tests.{eqb-true, leb-true}
 use Rattle.std.proofs.Math.ListN.{take}
-use Rattle.sets.specs.Tests.{◌&◌, neg, truth, clash, and-true, true-and, true-neg}
-use Rattle.sets.specs.Sets.{member, emptySet, ◌∪◌, eq-same}
-use Rattle.sets.specs.SetLaws.{empty-subset}
-use Rattle.sets.specs.Members.{setOf}
-use Rattle.sets.specs.MemberLaws.{setOf-in, setOf-mk}
+use Rattle.sets.specs.Tests.{◌&◌, neg, truth, clash, and_true, true_and, true_neg}
+use Rattle.sets.specs.Sets.{member, empty_set, ◌∪◌, eq_same}
+use Rattle.sets.specs.SetLaws.{empty_subset}
+use Rattle.sets.specs.Members.{set_of}
+use Rattle.sets.specs.MemberLaws.{set_of_in, set_of_mk}
 use Rattle.language.specs.Lists.{nth1, all, among, up_from, is_none}
-use Rattle.language.specs.Program.{Functor, Signature, Procedure, Program, done, Arms, noArms, arm, fourWords, variableAt, type_of, regionAt, functorsOf, functorAt, procedureAt, signature_of, parametersOf, parametersFrom, parameterVariables, argumentsIn, variablesIn}
-use Rattle.language.specs.Typing.{types_in, isVariable, isRegion, hasType, haveTypes, types_of, is_type, regioned, typeOk, typesOk, armsOk, variableOk, regionOk, signatureOk, goalsOk, procedureOk, typingOk}
-use Rattle.language.specs.Values.{insOf, outsOf, goalsValues, outsValued, procedureValues, valuesOk}
-use Rattle.language.specs.Regions.{goalsRegions, regionsOk}
-use Rattle.language.specs.Lifetimes.{ofClass, declared, born, dead, kept, startHeld, classesOk, goalsClasses, declaredClassesOk, callClassesOk}
-use Rattle.language.specs.Checking.{checkGoals, endRules, procedureRules, rulesOk}
-use Rattle.laws.specs.Numbers.{among_in, among-mk, upFrom-in, upFrom-mk}
-use Rattle.laws.specs.Lists.{all-or-default, all-nth1, nth1-past}
-use Rattle.laws.specs.MoreSets.{keep-empty}
-use Rattle.laws.specs.Goals.{someArm}
+use Rattle.language.specs.Program.{Functor, Signature, Procedure, Program, done, Arms, no_arms, arm, four_words, variable_at, type_of, region_at, functors_of, functor_at, procedure_at, signature_of, parameters_of, parameters_from, parameter_variables, arguments_in, variables_in}
+use Rattle.language.specs.Typing.{types_in, is_variable, is_region, has_type, have_types, types_of, is_type, regioned, type_ok, types_ok, arms_ok, variable_ok, region_ok, signature_ok, goals_ok, procedure_ok, typing_ok}
+use Rattle.language.specs.Values.{ins_of, outs_of, goals_values, outs_valued, procedure_values, values_ok}
+use Rattle.language.specs.Regions.{goals_regions, regions_ok}
+use Rattle.language.specs.Lifetimes.{of_class, declared, born, dead, kept, start_held, classes_ok, goals_classes, declared_classes_ok, call_classes_ok}
+use Rattle.language.specs.Checking.{check_goals, end_rules, procedure_rules, rules_ok}
+use Rattle.laws.specs.Numbers.{among_in, among_mk, up_from_in, up_from_mk}
+use Rattle.laws.specs.Lists.{all_or_default, all_nth1, nth1_past}
+use Rattle.laws.specs.MoreSets.{keep_empty}
+use Rattle.laws.specs.Goals.{some_arm}
 
 -- ---- a procedure's variables and regions
 module _ (S : Signature) where
-  pub variable-in : (x : ℕ) → isVariable S x ≡ true → (1 ≤ x) × (x ≤ length S.variables)
-  unfolding isVariable
-  variable-in x e = among_in (length S.variables) x e
+  pub variable_in_law : (x : ℕ) → is_variable S x ≡ true → (1 ≤ x) × (x ≤ length S.variables)
+  unfolding is_variable
+  variable_in_law x e = among_in (length S.variables) x e
 
-  pub variable-mk : (x : ℕ) → 1 ≤ x → x ≤ length S.variables → isVariable S x ≡ true
-  unfolding isVariable
-  variable-mk x h l = among-mk (length S.variables) x h l
+  pub variable_mk : (x : ℕ) → 1 ≤ x → x ≤ length S.variables → is_variable S x ≡ true
+  unfolding is_variable
+  variable_mk x h l = among_mk (length S.variables) x h l
 
-  pub region-in : (r : ℕ) → isRegion S r ≡ true → (1 ≤ r) × (r ≤ length S.regions)
-  unfolding isRegion
-  region-in r e = among_in (length S.regions) r e
+  pub region_in_law : (r : ℕ) → is_region S r ≡ true → (1 ≤ r) × (r ≤ length S.regions)
+  unfolding is_region
+  region_in_law r e = among_in (length S.regions) r e
 
-  pub region-mk : (r : ℕ) → 1 ≤ r → r ≤ length S.regions → isRegion S r ≡ true
-  unfolding isRegion
-  region-mk r h l = among-mk (length S.regions) r h l
+  pub region_mk : (r : ℕ) → 1 ≤ r → r ≤ length S.regions → is_region S r ≡ true
+  unfolding is_region
+  region_mk r h l = among_mk (length S.regions) r h l
 
   -- there are at most 64
-  pub variable-small : length S.variables ≤ 64 → (x : ℕ) → isVariable S x ≡ true → (1 ≤ x) × (x ≤ 64)
-  variable-small few x h = let i = variable-in x h in (i.0, omega arith)
+  pub variable_small : length S.variables ≤ 64 → (x : ℕ) → is_variable S x ≡ true → (1 ≤ x) × (x ≤ 64)
+  variable_small few x h = let i = variable_in_law x h in (i.0, omega arith)
 
-  pub region-small : length S.regions ≤ 64 → (r : ℕ) → isRegion S r ≡ true → (1 ≤ r) × (r ≤ 64)
-  region-small few r h = let i = region-in r h in (i.0, omega arith)
+  pub region_small : length S.regions ≤ 64 → (r : ℕ) → is_region S r ≡ true → (1 ≤ r) × (r ≤ 64)
+  region_small few r h = let i = region_in_law r h in (i.0, omega arith)
 
   -- the set of all regions
-  pub declared-in : (r : ℕ) → member (declared S) r ≡ true → isRegion S r ≡ true
+  pub declared_in : (r : ℕ) → member (declared S) r ≡ true → is_region S r ≡ true
   unfolding declared
-  declared-in r m =
-      let i = upFrom-in 1 (length S.regions) r (setOf-in (up_from 1 (length S.regions)) r m) in
-      region-mk r i.0 (omega arith)
+  declared_in r m =
+      let i = up_from_in 1 (length S.regions) r (set_of_in (up_from 1 (length S.regions)) r m) in
+      region_mk r i.0 (omega arith)
 
-  pub declared-mk : length S.regions ≤ 64 → (r : ℕ) → isRegion S r ≡ true → member (declared S) r ≡ true
+  pub declared_mk : length S.regions ≤ 64 → (r : ℕ) → is_region S r ≡ true → member (declared S) r ≡ true
   unfolding declared
-  declared-mk few r h =
-      let i = region-in r h in
-      setOf-mk (up_from 1 (length S.regions)) r (upFrom-mk 1 (length S.regions) r i.0 (omega arith)) i.0 (omega arith)
+  declared_mk few r h =
+      let i = region_in_law r h in
+      set_of_mk (up_from 1 (length S.regions)) r (up_from_mk 1 (length S.regions) r i.0 (omega arith)) i.0 (omega arith)
 
   -- variables of given types
-  pub types-had : (ts ys : List ℕ) → haveTypes S ts ys ≡ true → types_of S ys ≡ ts
-  unfolding haveTypes hasType types_of
-  types-had [] [] h = refl
-  types-had [] (y ∷ ys) h = absurd (false≢true h)
-  types-had (t ∷ ts) [] h = absurd (false≢true h)
-  types-had (t ∷ ts) (y ∷ ys) h =
-      let a = and-true h in
-      ap₂ ◌∷◌ (eqb-true (type_of S y) t (and-true a.0).1) (types-had ts ys a.1)
+  pub types_had : (ts ys : List ℕ) → have_types S ts ys ≡ true → types_of S ys ≡ ts
+  unfolding have_types has_type types_of
+  types_had [] [] h = refl
+  types_had [] (y ∷ ys) h = absurd (false≢true h)
+  types_had (t ∷ ts) [] h = absurd (false≢true h)
+  types_had (t ∷ ts) (y ∷ ys) h =
+      let a = and_true h in
+      ap₂ ◌∷◌ (eqb-true (type_of S y) t (and_true a.0).1) (types_had ts ys a.1)
 
   -- a number that is none finds the empty one
-  pub variable-past : (x : ℕ) → isVariable S x ≡ false → variableAt S x ≡ record { mode = 0; type = 0; region = 0 }
-  unfolding isVariable variableAt
-  variable-past x e = nth1-past _ S.variables x e
+  pub variable_past : (x : ℕ) → is_variable S x ≡ false → variable_at S x ≡ record { mode = 0; type = 0; region = 0 }
+  unfolding is_variable variable_at
+  variable_past x e = nth1_past _ S.variables x e
 
-  pub region-past : (r : ℕ) → isRegion S r ≡ false → regionAt S r ≡ record { type = 0; class = 0; edges = [] }
-  unfolding isRegion regionAt
-  region-past r e = nth1-past _ S.regions r e
+  pub region_past : (r : ℕ) → is_region S r ≡ false → region_at S r ≡ record { type = 0; class = 0; edges = [] }
+  unfolding is_region region_at
+  region_past r e = nth1_past _ S.regions r e
 
-module _ (T : List (List Functor)) (S : Signature) (ok : signatureOk T S ≡ true) where
-  pub variables-few : length S.variables ≤ 64
-  unfolding signatureOk
-  variables-few = leb-true _ 64 (and-true ok).0
+module _ (T : List (List Functor)) (S : Signature) (ok : signature_ok T S ≡ true) where
+  pub variables_few : length S.variables ≤ 64
+  unfolding signature_ok
+  variables_few = leb-true _ 64 (and_true ok).0
 
-  pub regions-few : length S.regions ≤ 64
-  unfolding signatureOk
-  regions-few = leb-true _ 64 (and-true (and-true ok).1).0
+  pub regions_few : length S.regions ≤ 64
+  unfolding signature_ok
+  regions_few = leb-true _ 64 (and_true (and_true ok).1).0
 
-  pub variable-typed : (x : ℕ) → isVariable S x ≡ true → variableOk T S (variableAt S x) ≡ true
-  unfolding signatureOk isVariable variableAt
-  variable-typed x h = all-nth1 _ S.variables (variableOk T S) x (and-true (and-true (and-true ok).1).1).0 h
+  pub variable_typed : (x : ℕ) → is_variable S x ≡ true → variable_ok T S (variable_at S x) ≡ true
+  unfolding signature_ok is_variable variable_at
+  variable_typed x h = all_nth1 _ S.variables (variable_ok T S) x (and_true (and_true (and_true ok).1).1).0 h
 
-  pub region-typed : (r : ℕ) → isRegion S r ≡ true → regionOk T S (regionAt S r) ≡ true
-  unfolding signatureOk isRegion regionAt
-  region-typed r h = all-nth1 _ S.regions (regionOk T S) r (and-true (and-true (and-true ok).1).1).1 h
+  pub region_typed : (r : ℕ) → is_region S r ≡ true → region_ok T S (region_at S r) ≡ true
+  unfolding signature_ok is_region region_at
+  region_typed r h = all_nth1 _ S.regions (region_ok T S) r (and_true (and_true (and_true ok).1).1).1 h
 
   -- a type but that of numbers has a functor, and so a switch on it an arm
-  pub functors-some : typesOk T ≡ true → (x : ℕ) → isVariable S x ≡ true → leb 1 (type_of S x) ≡ true → 1 ≤ length (functorsOf T (type_of S x))
-  unfolding functorsOf type_of variableOk is_type among typesOk typeOk
-  functors-some types x h l =
-      let t = (and-true (and-true (variable-typed x h)).1).0 in
-      let f = all-nth1 [] T (typeOk T) (type_of S x) (and-true types).1 (true-and l t) in
-      leb-true 1 _ (and-true (and-true f).0).0
+  pub functors_some : types_ok T ≡ true → (x : ℕ) → is_variable S x ≡ true → leb 1 (type_of S x) ≡ true → 1 ≤ length (functors_of T (type_of S x))
+  unfolding functors_of type_of variable_ok is_type among types_ok type_ok
+  functors_some types x h l =
+      let t = (and_true (and_true (variable_typed x h)).1).0 in
+      let f = all_nth1 [] T (type_ok T) (type_of S x) (and_true types).1 (true_and l t) in
+      leb-true 1 _ (and_true (and_true f).0).0
 
 -- a type with a functor is not that of numbers
-pub functor-typed : (T : List (List Functor)) (t k : ℕ) → k < length (functorsOf T t) → 1 ≤ t
-unfolding functorsOf nth1
-functor-typed T zero k l = absurd (omega arith)
-functor-typed T (suc t) k l = omega arith
+pub functor_typed : (T : List (List Functor)) (t k : ℕ) → k < length (functors_of T t) → 1 ≤ t
+unfolding functors_of nth1
+functor_typed T zero k l = absurd (omega arith)
+functor_typed T (suc t) k l = omega arith
 
 -- ---- types that have regions: a functor with arguments makes the difference
 module _ (T : List (List Functor)) where
-  pub number-plain : regioned T 0 ≡ false
-  unfolding regioned functorsOf nth1 all neg
-  number-plain = refl
+  pub number_plain : regioned T 0 ≡ false
+  unfolding regioned functors_of nth1 all neg
+  number_plain = refl
 
   -- in a type that has none every functor is a constant
-  pub plain-types : (t k : ℕ) → regioned T t ≡ false → types_in (functorAt (functorsOf T t) k) ≡ []
-  unfolding regioned types_in functorAt
-  plain-types t k h = ap (λ n. take n (fourWords g.argumentTypes)) (eqb-true g.arity 0 (all-or-default _ _ refl (functorsOf T t) k constants))
+  pub plain_types : (t k : ℕ) → regioned T t ≡ false → types_in (functor_at (functors_of T t) k) ≡ []
+  unfolding regioned types_in functor_at
+  plain_types t k h = ap (λ n. take n (four_words g.argument_types)) (eqb-true g.arity 0 (all_or_default _ _ refl (functors_of T t) k constants))
     where
       g : Functor
-      g = functorAt (functorsOf T t) k
+      g = functor_at (functors_of T t) k
 
-      constants : all (λ f. eqb f.arity 0) (functorsOf T t) ≡ true
-      constants = ⊎_elim (λ e. e) (λ e. absurd (clash (true-neg e) h)) (truth (all (λ f. eqb f.arity 0) (functorsOf T t)))
+      constants : all (λ f. eqb f.arity 0) (functors_of T t) ≡ true
+      constants = ⊎_elim (λ e. e) (λ e. absurd (clash (true_neg e) h)) (truth (all (λ f. eqb f.arity 0) (functors_of T t)))
 
   -- so a construct or an arm with arguments is one of a type that has regions
-  pub arguments-regioned : (S : Signature) (t k y : ℕ) (ys : List ℕ) → haveTypes S (types_in (functorAt (functorsOf T t) k)) (y ∷ ys) ≡ true
+  pub arguments_regioned : (S : Signature) (t k y : ℕ) (ys : List ℕ) → have_types S (types_in (functor_at (functors_of T t) k)) (y ∷ ys) ≡ true
       → regioned T t ≡ true
-  unfolding haveTypes
-  arguments-regioned S t k y ys h =
-      ⊎_elim (λ e. e) (λ e. absurd (false≢true (rw (plain-types t k e) at h))) (truth (regioned T t))
+  unfolding have_types
+  arguments_regioned S t k y ys h =
+      ⊎_elim (λ e. e) (λ e. absurd (false≢true (rw (plain_types t k e) at h))) (truth (regioned T t))
 
-pub arms-some : (P : Program) (S : Signature) (cs : Arms) (fs : List Functor) (n : ℕ) → armsOk P S cs fs n ≡ true → 1 ≤ length fs
-    → someArm cs ≡ true
-unfolding armsOk someArm
-arms-some P S noArms [] n e l = absurd (omega arith)
-arms-some P S noArms (f ∷ fs) n e l = absurd (false≢true e)
-arms-some P S (arm g ys gs cs) fs n e l = refl
+pub arms_some : (P : Program) (S : Signature) (cs : Arms) (fs : List Functor) (n : ℕ) → arms_ok P S cs fs n ≡ true → 1 ≤ length fs
+    → some_arm cs ≡ true
+unfolding arms_ok some_arm
+arms_some P S no_arms [] n e l = absurd (omega arith)
+arms_some P S no_arms (f ∷ fs) n e l = absurd (false≢true e)
+arms_some P S (arm g ys gs cs) fs n e l = refl
 
 -- ---- a procedure that is not there
 abbrev pub no_signature : Signature
 no_signature = record { variables = []; regions = [] }
 
-abbrev pub noProcedure : Procedure
-noProcedure = record { signature = no_signature; body = done }
+abbrev pub no_procedure : Procedure
+no_procedure = record { signature = no_signature; body = done }
 
-pub no-signature-typed : (T : List (List Functor)) → signatureOk T no_signature ≡ true
-unfolding signatureOk all ◌&◌
-no-signature-typed T = refl
+pub no_signature_typed : (T : List (List Functor)) → signature_ok T no_signature ≡ true
+unfolding signature_ok all ◌&◌
+no_signature_typed T = refl
 
 -- its sets are empty
-no-outs : outsOf no_signature ≡ emptySet
-unfolding outsOf variablesIn argumentsIn parametersOf parametersFrom parameterVariables setOf
-no-outs = refl
+no_outs : outs_of no_signature ≡ empty_set
+unfolding outs_of variables_in arguments_in parameters_of parameters_from parameter_variables set_of
+no_outs = refl
 
-no-born : born no_signature ≡ emptySet
-unfolding born declared ofClass up_from setOf
-no-born = keep-empty _
+no_born : born no_signature ≡ empty_set
+unfolding born declared of_class up_from set_of
+no_born = keep_empty _
 
-no_dead : dead no_signature ≡ emptySet
-unfolding dead declared ofClass up_from setOf
-no_dead = keep-empty _
+no_dead : dead no_signature ≡ empty_set
+unfolding dead declared of_class up_from set_of
+no_dead = keep_empty _
 
-no-procedure-typed : (P : Program) → procedureOk P noProcedure ≡ true
-unfolding procedureOk goalsOk
-no-procedure-typed P = true-and (no-signature-typed P.types) refl
+no_procedure_typed : (P : Program) → procedure_ok P no_procedure ≡ true
+unfolding procedure_ok goals_ok
+no_procedure_typed P = true_and (no_signature_typed P.types) refl
 
-no-procedure-valued : (P : Program) → procedureValues P noProcedure ≡ true
-unfolding procedureValues goalsValues outsValued
-no-procedure-valued P = rw no-outs (empty-subset (insOf no_signature))
+no_procedure_valued : (P : Program) → procedure_values P no_procedure ≡ true
+unfolding procedure_values goals_values outs_valued
+no_procedure_valued P = rw no_outs (empty_subset (ins_of no_signature))
 
-no-signature-classed : classesOk no_signature ≡ true
-unfolding classesOk
-no-signature-classed = rw (no-born, no_dead) (true-and (empty-subset _) (empty-subset _))
+no_signature_classed : classes_ok no_signature ≡ true
+unfolding classes_ok
+no_signature_classed = rw (no_born, no_dead) (true_and (empty_subset _) (empty_subset _))
 
-no-procedure-ruled : (P : Program) → procedureRules P noProcedure ≡ true
-unfolding procedureRules checkGoals endRules startHeld
-no-procedure-ruled P =
-    rw (no-born, no_dead, no-outs) (true-and (eq-same (emptySet ∪ kept no_signature) _ refl) (empty-subset (insOf no_signature)))
+no_procedure_ruled : (P : Program) → procedure_rules P no_procedure ≡ true
+unfolding procedure_rules check_goals end_rules start_held
+no_procedure_ruled P =
+    rw (no_born, no_dead, no_outs) (true_and (eq_same (empty_set ∪ kept no_signature) _ refl) (empty_subset (ins_of no_signature)))
 
 -- ---- a test of all procedures, at each
-pub each-procedure : (P : Program) (t : Procedure → Bool) → t noProcedure ≡ true → all t P.procedures ≡ true
-    → (p : ℕ) → t (procedureAt P p) ≡ true
-unfolding procedureAt
-each-procedure P t z e p = all-or-default t noProcedure z P.procedures p e
+pub each_procedure : (P : Program) (t : Procedure → Bool) → t no_procedure ≡ true → all t P.procedures ≡ true
+    → (p : ℕ) → t (procedure_at P p) ≡ true
+unfolding procedure_at
+each_procedure P t z e p = all_or_default t no_procedure z P.procedures p e
 
 module _ (P : Program) where
   -- number 3
-  module _ (ok : typingOk P ≡ true) where
-    pub types-typed : typesOk P.types ≡ true
-    unfolding typingOk
-    types-typed = (and-true ok).0
+  module _ (ok : typing_ok P ≡ true) where
+    pub types_typed : types_ok P.types ≡ true
+    unfolding typing_ok
+    types_typed = (and_true ok).0
 
-    pub procedures-count : (1 ≤ length P.procedures) × (length P.procedures ≤ 256)
-    unfolding typingOk
-    procedures-count = among_in 256 (length P.procedures) (and-true (and-true ok).1).0
+    pub procedures_count : (1 ≤ length P.procedures) × (length P.procedures ≤ 256)
+    unfolding typing_ok
+    procedures_count = among_in 256 (length P.procedures) (and_true (and_true ok).1).0
 
-    procedure-typed : (p : ℕ) → procedureOk P (procedureAt P p) ≡ true
-    unfolding typingOk
-    procedure-typed p = each-procedure P (procedureOk P) (no-procedure-typed P) (and-true (and-true ok).1).1 p
+    procedure_typed : (p : ℕ) → procedure_ok P (procedure_at P p) ≡ true
+    unfolding typing_ok
+    procedure_typed p = each_procedure P (procedure_ok P) (no_procedure_typed P) (and_true (and_true ok).1).1 p
 
-    pub signature-typed : (p : ℕ) → signatureOk P.types (signature_of P p) ≡ true
-    unfolding signature_of procedureOk
-    signature-typed p = (and-true (procedure-typed p)).0
+    pub signature_typed : (p : ℕ) → signature_ok P.types (signature_of P p) ≡ true
+    unfolding signature_of procedure_ok
+    signature_typed p = (and_true (procedure_typed p)).0
 
-    pub goals-typed : (p : ℕ) → goalsOk P (signature_of P p) (procedureAt P p).body ≡ true
-    unfolding signature_of procedureOk
-    goals-typed p = (and-true (procedure-typed p)).1
+    pub goals_typed : (p : ℕ) → goals_ok P (signature_of P p) (procedure_at P p).body ≡ true
+    unfolding signature_of procedure_ok
+    goals_typed p = (and_true (procedure_typed p)).1
 
   -- number 4
-  pub entry-bare : valuesOk P ≡ true → is_none (parametersOf (signature_of P 0)) ≡ true
-  unfolding valuesOk
-  entry-bare ok = (and-true ok).0
+  pub entry_bare : values_ok P ≡ true → is_none (parameters_of (signature_of P 0)) ≡ true
+  unfolding values_ok
+  entry_bare ok = (and_true ok).0
 
-  pub procedure-valued : valuesOk P ≡ true → (p : ℕ) → procedureValues P (procedureAt P p) ≡ true
-  unfolding valuesOk
-  procedure-valued ok p = each-procedure P (procedureValues P) (no-procedure-valued P) (and-true ok).1 p
+  pub procedure_valued : values_ok P ≡ true → (p : ℕ) → procedure_values P (procedure_at P p) ≡ true
+  unfolding values_ok
+  procedure_valued ok p = each_procedure P (procedure_values P) (no_procedure_valued P) (and_true ok).1 p
 
   -- number 5
-  pub goals-regioned : regionsOk P ≡ true → (p : ℕ) → goalsRegions P (signature_of P p) (procedureAt P p).body ≡ true
-  unfolding regionsOk signature_of goalsRegions
-  goals-regioned ok p = each-procedure P (λ q. goalsRegions P q.signature q.body) refl ok p
+  pub goals_regioned : regions_ok P ≡ true → (p : ℕ) → goals_regions P (signature_of P p) (procedure_at P p).body ≡ true
+  unfolding regions_ok signature_of goals_regions
+  goals_regioned ok p = each_procedure P (λ q. goals_regions P q.signature q.body) refl ok p
 
   -- number 7
-  pub signature-classed : declaredClassesOk P ≡ true → (p : ℕ) → classesOk (signature_of P p) ≡ true
-  unfolding declaredClassesOk signature_of
-  signature-classed ok p = each-procedure P (λ q. classesOk q.signature) no-signature-classed ok p
+  pub signature_classed : declared_classes_ok P ≡ true → (p : ℕ) → classes_ok (signature_of P p) ≡ true
+  unfolding declared_classes_ok signature_of
+  signature_classed ok p = each_procedure P (λ q. classes_ok q.signature) no_signature_classed ok p
 
-  pub goals-classed : callClassesOk P ≡ true
-      → (p : ℕ) → goalsClasses P (signature_of P p) (procedureAt P p).body (outsOf (signature_of P p)) ≡ true
-  unfolding callClassesOk signature_of goalsClasses
-  goals-classed ok p = each-procedure P (λ q. goalsClasses P q.signature q.body (outsOf q.signature)) refl ok p
+  pub goals_classed : call_classes_ok P ≡ true
+      → (p : ℕ) → goals_classes P (signature_of P p) (procedure_at P p).body (outs_of (signature_of P p)) ≡ true
+  unfolding call_classes_ok signature_of goals_classes
+  goals_classed ok p = each_procedure P (λ q. goals_classes P q.signature q.body (outs_of q.signature)) refl ok p
 
   -- number 8
-  pub procedure-ruled : rulesOk P ≡ true → (p : ℕ) → procedureRules P (procedureAt P p) ≡ true
-  unfolding rulesOk
-  procedure-ruled ok p = each-procedure P (procedureRules P) (no-procedure-ruled P) ok p
+  pub procedure_ruled : rules_ok P ≡ true → (p : ℕ) → procedure_rules P (procedure_at P p) ≡ true
+  unfolding rules_ok
+  procedure_ruled ok p = each_procedure P (procedure_rules P) (no_procedure_ruled P) ok p

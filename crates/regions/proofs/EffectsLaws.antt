@@ -3,161 +3,161 @@ use Prim.Native.Nat.{ℕ, ◌<◌}
 use mathlib.Core.Bool.{Bool, true, false, false≢true}
 use mathlib.Core.List.{List}
 use mathlib.Core.Path.{◌≡◌, refl, sym, ap, ◌∙◌}
-use Rattle.sets.specs.Sets.{single, single-zero}
-use Rattle.language.specs.File.{GoalKind, kLiteral, kSum, kAssign, kConstruct, kSwitch, kIf, kCall, kPrint, kCreate, kRemove, kTry, kTest, kGoal, kind_of, word, recordCount}
-use Rattle.language.specs.Format.{kindWord, literalKind, sumKind, assignKind, constructKind, callKind, printKind, createKind, removeKind, testKind, goalX, lifetimeRegion}
-use Rattle.language.specs.Program.{Four, Step, construct, create, remove, Goal, step, switch, ifLess, try, Signature, Program, regionOf}
+use Rattle.sets.specs.Sets.{single, single_zero}
+use Rattle.language.specs.File.{GoalKind, k_literal, k_sum, k_assign, k_construct, k_switch, k_if, k_call, k_print, k_create, k_remove, k_try, k_test, k_goal, kind_of, word, record_count}
+use Rattle.language.specs.Format.{kind_word, literal_kind, sum_kind, assign_kind, construct_kind, call_kind, print_kind, create_kind, remove_kind, test_kind, goal_x, lifetime_region}
+use Rattle.language.specs.Program.{Four, Step, construct, create, remove, Goal, step, switch, if_less, try, Signature, Program, region_of}
 use Rattle.language.specs.Lifetimes
-use Rattle.language.specs.Lifetimes.{effect, noEffect}
+use Rattle.language.specs.Lifetimes.{effect, no_effect}
 use Rattle.language.specs.Answers.{program}
-use Rattle.chains.specs.Layout.{all-rows}
-use Rattle.chains.specs.Formed.{Formed, goalAt}
+use Rattle.chains.specs.Layout.{all_rows}
+use Rattle.chains.specs.Formed.{Formed, goal_at}
 use Rattle.chains.specs.Kinds.{same_read}
-use Rattle.chains.specs.Goals.{literal-at, sum-at, assign-at, print-at, test_at}
-use Rattle.chains.specs.Parts.{switch-at, if-at, try-at}
-use Rattle.chains.specs.Shapes.{IsLiteral, IsSum, IsAssign, IsConstruct, IsSwitch, IsCall, IsPrint, IsCreate, IsRemove, IsTest, goal-number, goal-kind, literal-here, sum-here, assign-here, construct-here, switch-here, call-here, print-here, create-here, remove-here, test-here}
-use Rattle.tables.specs.Window.{homeIn}
+use Rattle.chains.specs.Goals.{literal_at, sum_at_law, assign_at, print_at, test_at}
+use Rattle.chains.specs.Parts.{switch_at, if_at, try_at}
+use Rattle.chains.specs.Shapes.{IsLiteral, IsSum, IsAssign, IsConstruct, IsSwitch, IsCall, IsPrint, IsCreate, IsRemove, IsTest, goal_number, goal_kind, literal_here, sum_here, assign_here, construct_here, switch_here, call_here, print_here, create_here, remove_here, test_here}
+use Rattle.tables.specs.Window.{home_in}
 use Rattle.tables.specs.Filled.{GoalIsStep}
 use Rattle.tables.specs.declared.Effect.{Effect}
-use Rattle.regions.specs.Here.{signature_at, Here, construct-kind, call-kind}
-use Rattle.regions.proofs.HereLaws.{literal-kind, sum-kind, assign-kind, print-kind, test-kind, create-kind, remove-kind}
-use Rattle.regions.specs.Effects.{EffectAt, Effects, NoStep, SomeStep, effect-made, regionEffect, same_step, step-at}
+use Rattle.regions.specs.Here.{signature_at, Here, construct_kind_law, call_kind_law}
+use Rattle.regions.proofs.HereLaws.{literal_kind_law, sum_kind_law, assign_kind_law, print_kind_law, test_kind_law, create_kind_law, remove_kind_law}
+use Rattle.regions.specs.Effects.{EffectAt, Effects, NoStep, SomeStep, effect_made, region_effect, same_step, step_at}
 
 module _ (P : Program) (S : Signature) where
-  construct-effect : (x f : ℕ) (ws : Four) {r : ℕ} → r ≡ regionOf S x → Effects P S (construct x f ws) (regionEffect r 0 0)
-  unfolding effect regionEffect
-  construct-effect x f ws e = record { needs = ap single e; bears = single-zero; ends = single-zero; unshared = refl }
+  construct_effect : (x f : ℕ) (ws : Four) {r : ℕ} → r ≡ region_of S x → Effects P S (construct x f ws) (region_effect r 0 0)
+  unfolding effect region_effect
+  construct_effect x f ws e = record { needs = ap single e; bears = single_zero; ends = single_zero; unshared = refl }
 
-  create-effect : (r : ℕ) → Effects P S (create r) (regionEffect 0 r 0)
-  unfolding effect regionEffect
-  create-effect r = record { needs = single-zero; bears = refl; ends = single-zero; unshared = refl }
+  create_effect : (r : ℕ) → Effects P S (create r) (region_effect 0 r 0)
+  unfolding effect region_effect
+  create_effect r = record { needs = single_zero; bears = refl; ends = single_zero; unshared = refl }
 
-  remove-effect : (r : ℕ) → Effects P S (remove r) (regionEffect r 0 r)
-  unfolding effect regionEffect
-  remove-effect r = record { needs = refl; bears = single-zero; ends = refl; unshared = refl }
+  remove_effect : (r : ℕ) → Effects P S (remove r) (region_effect r 0 r)
+  unfolding effect region_effect
+  remove_effect r = record { needs = refl; bears = single_zero; ends = refl; unshared = refl }
 
-  pub none-effect : {g : Step} → effect P S g ≡ noEffect → Effects P S g (regionEffect 0 0 0)
-  unfolding noEffect regionEffect
-  none-effect e = record {
-    needs = single-zero ∙ sym (ap (λ (x : Lifetimes.Effect). x.needs) e);
-    bears = single-zero ∙ sym (ap (λ (x : Lifetimes.Effect). x.bears) e);
-    ends = single-zero ∙ sym (ap (λ (x : Lifetimes.Effect). x.ends) e);
+  pub none_effect : {g : Step} → effect P S g ≡ no_effect → Effects P S g (region_effect 0 0 0)
+  unfolding no_effect region_effect
+  none_effect e = record {
+    needs = single_zero ∙ sym (ap (λ (x : Lifetimes.Effect). x.needs) e);
+    bears = single_zero ∙ sym (ap (λ (x : Lifetimes.Effect). x.bears) e);
+    ends = single_zero ∙ sym (ap (λ (x : Lifetimes.Effect). x.ends) e);
     unshared = sym (ap (λ (x : Lifetimes.Effect). x.unshared) e);
   }
 
 -- ---- the step that a goal is
-unfoldable pub isStep : Goal → Bool
-isStep (step s) = true
-isStep (switch x cs) = false
-isStep (ifLess y z a b) = false
-isStep (try c a b) = false
+unfoldable pub is_step : Goal → Bool
+is_step (step s) = true
+is_step (switch x cs) = false
+is_step (if_less y z a b) = false
+is_step (try c a b) = false
 
-pub no_step : (f : List ℕ) (i : ℕ) {h : Goal} → goalAt f i ≡ h → isStep h ≡ false → NoStep f i
-unfolding isStep
-no_step f i v z g s = false≢true (sym z ∙ ap isStep (sym v ∙ s.view))
+pub no_step : (f : List ℕ) (i : ℕ) {h : Goal} → goal_at f i ≡ h → is_step h ≡ false → NoStep f i
+unfolding is_step
+no_step f i v z g s = false≢true (sym z ∙ ap is_step (sym v ∙ s.view))
 
 -- where the goal at record i is the step h, its effect is that of the step at record i
-module _ {f : List ℕ} {i : ℕ} (p : 0 < i) (q : i < recordCount f) (k : GoalKind) (n : kind_of (word f i kindWord) ≡ kGoal k) {h : Step} (v : goalAt f i ≡ step h) where
-  effect-none : {e : Effect} → effect (program f) (signature_at f i) h ≡ noEffect → e ≡ regionEffect 0 0 0 → EffectAt f i e
-  effect-none m d = rw d (effect-made p q k n v (none-effect (program f) (signature_at f i) m))
+module _ {f : List ℕ} {i : ℕ} (p : 0 < i) (q : i < record_count f) (k : GoalKind) (n : kind_of (word f i kind_word) ≡ k_goal k) {h : Step} (v : goal_at f i ≡ step h) where
+  effect_none : {e : Effect} → effect (program f) (signature_at f i) h ≡ no_effect → e ≡ region_effect 0 0 0 → EffectAt f i e
+  effect_none m d = rw d (effect_made p q k n v (none_effect (program f) (signature_at f i) m))
 
 -- ---- by the kind, and the words that the code has read
-module _ {f : List ℕ} {i : ℕ} (F : Formed f) (p : 0 < i) (q : i < recordCount f) where
+module _ {f : List ℕ} {i : ℕ} (F : Formed f) (p : 0 < i) (q : i < record_count f) where
   -- literals, sums, prints and tests have none
-  pub literal-made : {e : Effect} → IsLiteral f i → e ≡ regionEffect 0 0 0 → EffectAt f i e
+  pub literal_made : {e : Effect} → IsLiteral f i → e ≡ region_effect 0 0 0 → EffectAt f i e
   unfolding effect
-  literal-made k = effect-none p q kLiteral (literal-kind f i k) (literal-here F refl k).goal refl
+  literal_made k = effect_none p q k_literal (literal_kind_law f i k) (literal_here F refl k).goal refl
 
-  pub sum-made : {e : Effect} → IsSum f i → e ≡ regionEffect 0 0 0 → EffectAt f i e
+  pub sum_made : {e : Effect} → IsSum f i → e ≡ region_effect 0 0 0 → EffectAt f i e
   unfolding effect
-  sum-made k = effect-none p q kSum (sum-kind f i k) (sum-here F refl k).goal refl
+  sum_made k = effect_none p q k_sum (sum_kind_law f i k) (sum_here F refl k).goal refl
 
-  pub print-made : {e : Effect} → IsPrint f i → e ≡ regionEffect 0 0 0 → EffectAt f i e
+  pub print_made : {e : Effect} → IsPrint f i → e ≡ region_effect 0 0 0 → EffectAt f i e
   unfolding effect
-  print-made k = effect-none p q kPrint (print-kind f i k) (print-here F refl k).goal refl
+  print_made k = effect_none p q k_print (print_kind_law f i k) (print_here F refl k).goal refl
 
-  pub test-made : {e : Effect} → IsTest f i → e ≡ regionEffect 0 0 0 → EffectAt f i e
+  pub test_made : {e : Effect} → IsTest f i → e ≡ region_effect 0 0 0 → EffectAt f i e
   unfolding effect
-  test-made k = effect-none p q kTest (test-kind f i k) (test-here F refl k).goal refl
+  test_made k = effect_none p q k_test (test_kind_law f i k) (test_here F refl k).goal refl
 
   -- steps that ask for a window
-  pub assign-step : IsAssign f i → SomeStep f i
-  assign-step k = (_, step-at f i (assign-here F refl k).goal kAssign (assign-kind f i k) p q)
+  pub assign_step : IsAssign f i → SomeStep f i
+  assign_step k = (_, step_at f i (assign_here F refl k).goal k_assign (assign_kind_law f i k) p q)
 
-  pub construct-step : IsConstruct f i → SomeStep f i
-  construct-step k = (_, step-at f i (construct-here F refl k).goal kConstruct (construct-kind f i k) p q)
+  pub construct_step : IsConstruct f i → SomeStep f i
+  construct_step k = (_, step_at f i (construct_here F refl k).goal k_construct (construct_kind_law f i k) p q)
 
-  pub create-step : IsCreate f i → SomeStep f i
-  create-step k = (_, step-at f i (create-here F refl k).goal kCreate (create-kind f i k) p q)
+  pub create_step : IsCreate f i → SomeStep f i
+  create_step k = (_, step_at f i (create_here F refl k).goal k_create (create_kind_law f i k) p q)
 
-  pub remove-step : IsRemove f i → SomeStep f i
-  remove-step k = (_, step-at f i (remove-here F refl k).goal kRemove (remove-kind f i k) p q)
+  pub remove_step : IsRemove f i → SomeStep f i
+  remove_step k = (_, step_at f i (remove_here F refl k).goal k_remove (remove_kind_law f i k) p q)
 
 pub call_step : {f : List ℕ} {i : ℕ} → Formed f → IsCall f i → SomeStep f i
-call_step {f} {i} F k = let v = call-here F refl k in (_, step-at f i v.goal kCall (call-kind f i k) v.some v.below)
+call_step {f} {i} F k = let v = call_here F refl k in (_, step_at f i v.goal k_call (call_kind_law f i k) v.some v.below)
 
 -- no step
-pub switch-none : {f : List ℕ} {i : ℕ} → Formed f → IsSwitch f i → NoStep f i
-unfolding isStep
-switch-none {f} {i} F k = no_step f i (switch-here F refl k).goal refl
+pub switch_none : {f : List ℕ} {i : ℕ} → Formed f → IsSwitch f i → NoStep f i
+unfolding is_step
+switch_none {f} {i} F k = no_step f i (switch_here F refl k).goal refl
 
-module _ {f : List ℕ} {i : ℕ} (F : Formed f) {w : ℕ} (e : w ≡ word f i kindWord) (n8 : w ≡ literalKind → ⊥) (n9 : w ≡ sumKind → ⊥) (n10 : w ≡ assignKind → ⊥)
-    (n11 : w ≡ constructKind → ⊥) (n15 : w ≡ callKind → ⊥) (n17 : w ≡ printKind → ⊥) (n18 : w ≡ createKind → ⊥) (n19 : w ≡ removeKind → ⊥)
-    (n21 : w ≡ testKind → ⊥) where
-  none_left : (k : GoalKind) → kind_of (word f i kindWord) ≡ kGoal k → NoStep f i
-  unfolding all-rows isStep
-  none_left kLiteral k = absurd (n8 (e ∙ goal-number (word f i kindWord) kLiteral k))
-  none_left kSum k = absurd (n9 (e ∙ goal-number (word f i kindWord) kSum k))
-  none_left kAssign k = absurd (n10 (e ∙ goal-number (word f i kindWord) kAssign k))
-  none_left kConstruct k = absurd (n11 (e ∙ goal-number (word f i kindWord) kConstruct k))
-  none_left kSwitch k = no_step f i (switch-at F refl (same_read f i refl k)).goal refl
-  none_left kIf k = no_step f i (if-at F refl (same_read f i refl k)).goal refl
-  none_left kCall k = absurd (n15 (e ∙ goal-number (word f i kindWord) kCall k))
-  none_left kPrint k = absurd (n17 (e ∙ goal-number (word f i kindWord) kPrint k))
-  none_left kCreate k = absurd (n18 (e ∙ goal-number (word f i kindWord) kCreate k))
-  none_left kRemove k = absurd (n19 (e ∙ goal-number (word f i kindWord) kRemove k))
-  none_left kTry k = no_step f i (try-at F refl (same_read f i refl k)).goal refl
-  none_left kTest k = absurd (n21 (e ∙ goal-number (word f i kindWord) kTest k))
+module _ {f : List ℕ} {i : ℕ} (F : Formed f) {w : ℕ} (e : w ≡ word f i kind_word) (n8 : w ≡ literal_kind → ⊥) (n9 : w ≡ sum_kind → ⊥) (n10 : w ≡ assign_kind → ⊥)
+    (n11 : w ≡ construct_kind → ⊥) (n15 : w ≡ call_kind → ⊥) (n17 : w ≡ print_kind → ⊥) (n18 : w ≡ create_kind → ⊥) (n19 : w ≡ remove_kind → ⊥)
+    (n21 : w ≡ test_kind → ⊥) where
+  none_left : (k : GoalKind) → kind_of (word f i kind_word) ≡ k_goal k → NoStep f i
+  unfolding all_rows is_step
+  none_left k_literal k = absurd (n8 (e ∙ goal_number (word f i kind_word) k_literal k))
+  none_left k_sum k = absurd (n9 (e ∙ goal_number (word f i kind_word) k_sum k))
+  none_left k_assign k = absurd (n10 (e ∙ goal_number (word f i kind_word) k_assign k))
+  none_left k_construct k = absurd (n11 (e ∙ goal_number (word f i kind_word) k_construct k))
+  none_left k_switch k = no_step f i (switch_at F refl (same_read f i refl k)).goal refl
+  none_left k_if k = no_step f i (if_at F refl (same_read f i refl k)).goal refl
+  none_left k_call k = absurd (n15 (e ∙ goal_number (word f i kind_word) k_call k))
+  none_left k_print k = absurd (n17 (e ∙ goal_number (word f i kind_word) k_print k))
+  none_left k_create k = absurd (n18 (e ∙ goal_number (word f i kind_word) k_create k))
+  none_left k_remove k = absurd (n19 (e ∙ goal_number (word f i kind_word) k_remove k))
+  none_left k_try k = no_step f i (try_at F refl (same_read f i refl k)).goal refl
+  none_left k_test k = absurd (n21 (e ∙ goal_number (word f i kind_word) k_test k))
 
-  pub no-step-left : NoStep f i
-  no-step-left g s = let k = goal-kind s.stands s.some in none_left k.0 k.1 g s
+  pub no_step_left : NoStep f i
+  no_step_left g s = let k = goal_kind s.stands s.some in none_left k.0 k.1 g s
 
 -- ---- any goal but a call, by its kind
 module _ {f own : List ℕ} {i : ℕ} (H : Here f own i) where
-  pub construct-made : {w x r : ℕ} {e : Effect} → w ≡ word f i kindWord → w ≡ constructKind → x ≡ word f i goalX → r ≡ homeIn own x → e ≡ regionEffect r 0 0
+  pub construct_made : {w x r : ℕ} {e : Effect} → w ≡ word f i kind_word → w ≡ construct_kind → x ≡ word f i goal_x → r ≡ home_in own x → e ≡ region_effect r 0 0
       → EffectAt f i e
-  construct-made wk k j l d =
-      let n = construct-kind f i (sym wk ∙ k) in
-      rw d (effect-made H.some H.below kConstruct n (construct-here H.formed wk k).goal
-      (construct-effect (program f) (signature_at f i) _ _ _ (l ∙ ap (homeIn own) j ∙ (H.window kConstruct n).home _)))
+  construct_made wk k j l d =
+      let n = construct_kind_law f i (sym wk ∙ k) in
+      rw d (effect_made H.some H.below k_construct n (construct_here H.formed wk k).goal
+      (construct_effect (program f) (signature_at f i) _ _ _ (l ∙ ap (home_in own) j ∙ (H.window k_construct n).home _)))
 
-  pub create-made : {w r : ℕ} {e : Effect} → w ≡ word f i kindWord → w ≡ createKind → r ≡ word f i lifetimeRegion → e ≡ regionEffect 0 r 0 → EffectAt f i e
-  create-made wk k j d =
-      rw (d, j) (effect-made H.some H.below kCreate (create-kind f i (sym wk ∙ k)) (create-here H.formed wk k).goal (create-effect (program f) (signature_at f i) _))
+  pub create_made : {w r : ℕ} {e : Effect} → w ≡ word f i kind_word → w ≡ create_kind → r ≡ word f i lifetime_region → e ≡ region_effect 0 r 0 → EffectAt f i e
+  create_made wk k j d =
+      rw (d, j) (effect_made H.some H.below k_create (create_kind_law f i (sym wk ∙ k)) (create_here H.formed wk k).goal (create_effect (program f) (signature_at f i) _))
 
-  pub remove-made : {w r : ℕ} {e : Effect} → w ≡ word f i kindWord → w ≡ removeKind → r ≡ word f i lifetimeRegion → e ≡ regionEffect r 0 r → EffectAt f i e
-  remove-made wk k j d =
-      rw (d, j) (effect-made H.some H.below kRemove (remove-kind f i (sym wk ∙ k)) (remove-here H.formed wk k).goal (remove-effect (program f) (signature_at f i) _))
+  pub remove_made : {w r : ℕ} {e : Effect} → w ≡ word f i kind_word → w ≡ remove_kind → r ≡ word f i lifetime_region → e ≡ region_effect r 0 r → EffectAt f i e
+  remove_made wk k j d =
+      rw (d, j) (effect_made H.some H.below k_remove (remove_kind_law f i (sym wk ∙ k)) (remove_here H.formed wk k).goal (remove_effect (program f) (signature_at f i) _))
 
-  module _ {w : ℕ} (e : w ≡ word f i kindWord) (n11 : w ≡ constructKind → ⊥) (n18 : w ≡ createKind → ⊥) (n19 : w ≡ removeKind → ⊥) (n15 : IsCall f i → ⊥)
+  module _ {w : ℕ} (e : w ≡ word f i kind_word) (n11 : w ≡ construct_kind → ⊥) (n18 : w ≡ create_kind → ⊥) (n19 : w ≡ remove_kind → ⊥) (n15 : IsCall f i → ⊥)
       (one : SomeStep f i) where
-    none-at : (k : GoalKind) → kind_of (word f i kindWord) ≡ kGoal k → (g : Step) → GoalIsStep f i g → Effects (program f) (signature_at f i) g (regionEffect 0 0 0)
-    unfolding effect all-rows isStep
-    none-at kLiteral k g s = same_step f i (literal-at H.formed refl (same_read f i refl k)).goal (none-effect (program f) (signature_at f i) refl) g s
-    none-at kSum k g s = same_step f i (sum-at H.formed refl (same_read f i refl k)).goal (none-effect (program f) (signature_at f i) refl) g s
-    none-at kAssign k g s = same_step f i (assign-at H.formed refl (same_read f i refl k)).goal (none-effect (program f) (signature_at f i) refl) g s
-    none-at kConstruct k g s = absurd (n11 (e ∙ goal-number (word f i kindWord) kConstruct k))
-    none-at kSwitch k g s = absurd (no_step f i (switch-at H.formed refl (same_read f i refl k)).goal refl g s)
-    none-at kIf k g s = absurd (no_step f i (if-at H.formed refl (same_read f i refl k)).goal refl g s)
-    none-at kCall k g s = absurd (n15 (goal-number (word f i kindWord) kCall k))
-    none-at kPrint k g s = same_step f i (print-at H.formed refl (same_read f i refl k)).goal (none-effect (program f) (signature_at f i) refl) g s
-    none-at kCreate k g s = absurd (n18 (e ∙ goal-number (word f i kindWord) kCreate k))
-    none-at kRemove k g s = absurd (n19 (e ∙ goal-number (word f i kindWord) kRemove k))
-    none-at kTry k g s = absurd (no_step f i (try-at H.formed refl (same_read f i refl k)).goal refl g s)
-    none-at kTest k g s = same_step f i (test_at H.formed refl (same_read f i refl k)).goal (none-effect (program f) (signature_at f i) refl) g s
+    none_at : (k : GoalKind) → kind_of (word f i kind_word) ≡ k_goal k → (g : Step) → GoalIsStep f i g → Effects (program f) (signature_at f i) g (region_effect 0 0 0)
+    unfolding effect all_rows is_step
+    none_at k_literal k g s = same_step f i (literal_at H.formed refl (same_read f i refl k)).goal (none_effect (program f) (signature_at f i) refl) g s
+    none_at k_sum k g s = same_step f i (sum_at_law H.formed refl (same_read f i refl k)).goal (none_effect (program f) (signature_at f i) refl) g s
+    none_at k_assign k g s = same_step f i (assign_at H.formed refl (same_read f i refl k)).goal (none_effect (program f) (signature_at f i) refl) g s
+    none_at k_construct k g s = absurd (n11 (e ∙ goal_number (word f i kind_word) k_construct k))
+    none_at k_switch k g s = absurd (no_step f i (switch_at H.formed refl (same_read f i refl k)).goal refl g s)
+    none_at k_if k g s = absurd (no_step f i (if_at H.formed refl (same_read f i refl k)).goal refl g s)
+    none_at k_call k g s = absurd (n15 (goal_number (word f i kind_word) k_call k))
+    none_at k_print k g s = same_step f i (print_at H.formed refl (same_read f i refl k)).goal (none_effect (program f) (signature_at f i) refl) g s
+    none_at k_create k g s = absurd (n18 (e ∙ goal_number (word f i kind_word) k_create k))
+    none_at k_remove k g s = absurd (n19 (e ∙ goal_number (word f i kind_word) k_remove k))
+    none_at k_try k g s = absurd (no_step f i (try_at H.formed refl (same_read f i refl k)).goal refl g s)
+    none_at k_test k g s = same_step f i (test_at H.formed refl (same_read f i refl k)).goal (none_effect (program f) (signature_at f i) refl) g s
 
-    pub none_made : {d : Effect} → d ≡ regionEffect 0 0 0 → EffectAt f i d
+    pub none_made : {d : Effect} → d ≡ region_effect 0 0 0 → EffectAt f i d
     none_made m = record {
       one = one;
-      made = λ g s. let k = goal-kind s.stands s.some in rw m (none-at k.0 k.1 g s);
+      made = λ g s. let k = goal_kind s.stands s.some in rw m (none_at k.0 k.1 g s);
     }

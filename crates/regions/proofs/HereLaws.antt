@@ -5,146 +5,146 @@ use mathlib.Core.List.{List}
 use mathlib.Core.Path.{◌≡◌, refl, sym, ap, ap₂, ◌∙◌}
 use lib.Dec.{eqb}
 use Rattle.sets.specs.Tests.{◌&◌}
-use Rattle.laws.specs.Tests.{and-stop, and-on}
+use Rattle.laws.specs.Tests.{and_stop, and_on}
 use Rattle.language.specs.File
-use Rattle.language.specs.File.{GoalKind, kLiteral, kSum, kAssign, kConstruct, kSwitch, kIf, kCall, kPrint, kCreate, kRemove, kTry, kTest, Kind, kNone, kHeader, kType, kFunctor, kProcedure, kVariable, kRegion, kEdge, kArm, kArgument, kGoal, kinds, kind_of, word}
-use Rattle.language.specs.Format.{kindWord, nextWord, assignKind, constructKind, switchKind, callKind, goalX, assignY, termFunctor, switchArms}
+use Rattle.language.specs.File.{GoalKind, k_literal, k_sum, k_assign, k_construct, k_switch, k_if, k_call, k_print, k_create, k_remove, k_try, k_test, Kind, k_none, k_header, k_type, k_functor, k_procedure, k_variable, k_region, k_edge, k_arm, k_argument, k_goal, kinds, kind_of, word}
+use Rattle.language.specs.Format.{kind_word, next_word, assign_kind, construct_kind, switch_kind, call_kind, goal_x, assign_y, term_functor, switch_arms}
 use Rattle.language.specs.Lists.{nth}
-use Rattle.language.specs.Program.{argumentsOf, Edge, Arms, noArms, arm, Signature, Program, regionOf, regionAt}
-use Rattle.language.specs.Regions.{stepRegions}
+use Rattle.language.specs.Program.{arguments_of, Edge, Arms, no_arms, arm, Signature, Program, region_of, region_at}
+use Rattle.language.specs.Regions.{step_regions}
 use Rattle.language.specs.Answers.{program}
-use Rattle.chains.specs.Layout.{all-rows}
-use Rattle.chains.specs.Formed.{Formed, Stands, edges_at, armsAt, arms_none}
+use Rattle.chains.specs.Layout.{all_rows}
+use Rattle.chains.specs.Formed.{Formed, Stands, edges_at, arms_at, arms_none}
 use Rattle.chains.specs.Kinds.{same_read}
-use Rattle.chains.specs.Goals.{literal-at, sum-at, print-at, create-at, remove-at, test_at}
-use Rattle.chains.specs.Parts.{if-at, try-at}
-use Rattle.chains.specs.Shapes.{IsLiteral, IsSum, IsAssign, IsSwitch, IsPrint, IsCreate, IsRemove, IsTest, goal-number, assign-here, construct-here, switch-here, arm-here}
-use Rattle.owners.specs.Everywhere.{ifGoal, recordTest}
-use Rattle.owners.specs.TreeLaw.{record-kind}
-use Rattle.tables.specs.Window.{Window, homeIn, edgesIn}
-use Rattle.regions.specs.Terms.{argumentsHere, allIn}
-use Rattle.regions.proofs.TermsLaws.{all-in-targets}
-use Rattle.regions.specs.Single.{armsHere, agreesHere, agrees}
-use Rattle.regions.specs.Here.{Here, armsIn, construct-kind, goal-test, signature_at}
+use Rattle.chains.specs.Goals.{literal_at, sum_at_law, print_at, create_at, remove_at, test_at}
+use Rattle.chains.specs.Parts.{if_at, try_at}
+use Rattle.chains.specs.Shapes.{IsLiteral, IsSum, IsAssign, IsSwitch, IsPrint, IsCreate, IsRemove, IsTest, goal_number, assign_here, construct_here, switch_here, arm_here}
+use Rattle.owners.specs.Everywhere.{if_goal, record_test}
+use Rattle.owners.specs.TreeLaw.{record_kind}
+use Rattle.tables.specs.Window.{Window, home_in, edges_in}
+use Rattle.regions.specs.Terms.{arguments_here, all_in}
+use Rattle.regions.proofs.TermsLaws.{all_in_targets}
+use Rattle.regions.specs.Single.{arms_here, agrees_here, agrees}
+use Rattle.regions.specs.Here.{Here, arms_in, construct_kind_law, goal_test, signature_at}
 
 -- ---- kinds by their numbers
 module _ (f : List ℕ) (i : ℕ) where
-  pub literal-kind : IsLiteral f i → kind_of (word f i kindWord) ≡ kGoal kLiteral
+  pub literal_kind_law : IsLiteral f i → kind_of (word f i kind_word) ≡ k_goal k_literal
   unfolding kind_of kinds nth
-  literal-kind k = ap kind_of k
+  literal_kind_law k = ap kind_of k
 
-  pub sum-kind : IsSum f i → kind_of (word f i kindWord) ≡ kGoal kSum
+  pub sum_kind_law : IsSum f i → kind_of (word f i kind_word) ≡ k_goal k_sum
   unfolding kind_of kinds nth
-  sum-kind k = ap kind_of k
+  sum_kind_law k = ap kind_of k
 
-  pub print-kind : IsPrint f i → kind_of (word f i kindWord) ≡ kGoal kPrint
+  pub print_kind_law : IsPrint f i → kind_of (word f i kind_word) ≡ k_goal k_print
   unfolding kind_of kinds nth
-  print-kind k = ap kind_of k
+  print_kind_law k = ap kind_of k
 
-  pub test-kind : IsTest f i → kind_of (word f i kindWord) ≡ kGoal kTest
+  pub test_kind_law : IsTest f i → kind_of (word f i kind_word) ≡ k_goal k_test
   unfolding kind_of kinds nth
-  test-kind k = ap kind_of k
+  test_kind_law k = ap kind_of k
 
-  pub assign-kind : IsAssign f i → kind_of (word f i kindWord) ≡ kGoal kAssign
+  pub assign_kind_law : IsAssign f i → kind_of (word f i kind_word) ≡ k_goal k_assign
   unfolding kind_of kinds nth
-  assign-kind k = ap kind_of k
+  assign_kind_law k = ap kind_of k
 
-  pub switch-kind : IsSwitch f i → kind_of (word f i kindWord) ≡ kGoal kSwitch
+  pub switch_kind_law : IsSwitch f i → kind_of (word f i kind_word) ≡ k_goal k_switch
   unfolding kind_of kinds nth
-  switch-kind k = ap kind_of k
+  switch_kind_law k = ap kind_of k
 
-  pub create-kind : IsCreate f i → kind_of (word f i kindWord) ≡ kGoal kCreate
+  pub create_kind_law : IsCreate f i → kind_of (word f i kind_word) ≡ k_goal k_create
   unfolding kind_of kinds nth
-  create-kind k = ap kind_of k
+  create_kind_law k = ap kind_of k
 
-  pub remove-kind : IsRemove f i → kind_of (word f i kindWord) ≡ kGoal kRemove
+  pub remove_kind_law : IsRemove f i → kind_of (word f i kind_word) ≡ k_goal k_remove
   unfolding kind_of kinds nth
-  remove-kind k = ap kind_of k
+  remove_kind_law k = ap kind_of k
 
 -- ---- the test by the kind
-arms_same : {f t : List ℕ} (P : Program) {S : Signature} → Window f S t → (r : ℕ) {es : List Edge} → es ≡ (regionAt S r).edges → (cs : Arms)
-    → armsIn t es cs ≡ armsHere P S cs r
-unfolding armsIn armsHere
-arms_same P W r e noArms = refl
-arms_same P W r e (arm fn ys gs cs) = ap₂ ◌&◌ (all-in-targets P W r fn e 1 (argumentsOf ys)) (arms_same P W r e cs)
+arms_same : {f t : List ℕ} (P : Program) {S : Signature} → Window f S t → (r : ℕ) {es : List Edge} → es ≡ (region_at S r).edges → (cs : Arms)
+    → arms_in t es cs ≡ arms_here P S cs r
+unfolding arms_in arms_here
+arms_same P W r e no_arms = refl
+arms_same P W r e (arm fn ys gs cs) = ap₂ ◌&◌ (all_in_targets P W r fn e 1 (arguments_of ys)) (arms_same P W r e cs)
 
 module _ {f own : List ℕ} {i : ℕ} (H : Here f own i) where
-  pub assign-agrees : {w x y r u : ℕ} {b : Bool} → w ≡ word f i kindWord → w ≡ assignKind → x ≡ word f i goalX → r ≡ homeIn own x → y ≡ word f i assignY
-      → u ≡ homeIn own y → b ≡ eqb r u → b ≡ recordTest (agrees f) f i
-  unfolding agreesHere stepRegions
-  assign-agrees wk k e j g l h =
-      let n = assign-kind f i (sym wk ∙ k) in
-      let W = H.window kAssign n in
-      goal-test i H.formed kAssign n (assign-here H.formed wk k).goal (h ∙ ap₂ eqb (j ∙ ap (homeIn own) e ∙ W.home _) (l ∙ ap (homeIn own) g ∙ W.home _))
+  pub assign_agrees : {w x y r u : ℕ} {b : Bool} → w ≡ word f i kind_word → w ≡ assign_kind → x ≡ word f i goal_x → r ≡ home_in own x → y ≡ word f i assign_y
+      → u ≡ home_in own y → b ≡ eqb r u → b ≡ record_test (agrees f) f i
+  unfolding agrees_here step_regions
+  assign_agrees wk k e j g l h =
+      let n = assign_kind_law f i (sym wk ∙ k) in
+      let W = H.window k_assign n in
+      goal_test i H.formed k_assign n (assign_here H.formed wk k).goal (h ∙ ap₂ eqb (j ∙ ap (home_in own) e ∙ W.home _) (l ∙ ap (home_in own) g ∙ W.home _))
 
   -- the edges of the region of variable x
-  module _ (g : GoalKind) (n : kind_of (word f i kindWord) ≡ kGoal g) {x r es : ℕ} (e : x ≡ word f i goalX) (j : r ≡ homeIn own x) (l : es ≡ edgesIn own r) where
-    pub edges-stand : Stands f File.edges es
-    edges-stand = rw l ((H.window g n).edges-stand r)
+  module _ (g : GoalKind) (n : kind_of (word f i kind_word) ≡ k_goal g) {x r es : ℕ} (e : x ≡ word f i goal_x) (j : r ≡ home_in own x) (l : es ≡ edges_in own r) where
+    pub edges_stand : Stands f File.edges es
+    edges_stand = rw l ((H.window g n).edges_stand r)
 
-    edges-here : edges_at f es ≡ (regionAt (signature_at f i) (regionOf (signature_at f i) (word f i goalX))).edges
-    edges-here =
+    edges_here : edges_at f es ≡ (region_at (signature_at f i) (region_of (signature_at f i) (word f i goal_x))).edges
+    edges_here =
         let W = H.window g n in
-        ap (edges_at f) (l ∙ ap (edgesIn own) (j ∙ ap (homeIn own) e ∙ W.home _)) ∙ W.edges _
+        ap (edges_at f) (l ∙ ap (edges_in own) (j ∙ ap (home_in own) e ∙ W.home _)) ∙ W.edges _
 
-  pub construct-agrees : {w x r es : ℕ} {b : Bool} → w ≡ word f i kindWord → w ≡ constructKind → x ≡ word f i goalX → r ≡ homeIn own x → es ≡ edgesIn own r
-      → b ≡ allIn own (edges_at f es) (word f i termFunctor) 1 (argumentsHere f i) → b ≡ recordTest (agrees f) f i
-  unfolding agreesHere stepRegions argumentsHere
-  construct-agrees wk k e j l h =
-      let n = construct-kind f i (sym wk ∙ k) in
-      goal-test i H.formed kConstruct n (construct-here H.formed wk k).goal
-      (h ∙ all-in-targets (program f) (H.window kConstruct n) _ (word f i termFunctor) (edges-here kConstruct n e j l) 1 _)
+  pub construct_agrees : {w x r es : ℕ} {b : Bool} → w ≡ word f i kind_word → w ≡ construct_kind → x ≡ word f i goal_x → r ≡ home_in own x → es ≡ edges_in own r
+      → b ≡ all_in own (edges_at f es) (word f i term_functor) 1 (arguments_here f i) → b ≡ record_test (agrees f) f i
+  unfolding agrees_here step_regions arguments_here
+  construct_agrees wk k e j l h =
+      let n = construct_kind_law f i (sym wk ∙ k) in
+      goal_test i H.formed k_construct n (construct_here H.formed wk k).goal
+      (h ∙ all_in_targets (program f) (H.window k_construct n) _ (word f i term_functor) (edges_here k_construct n e j l) 1 _)
 
-  pub switch-agrees : {w x r es cs : ℕ} {b : Bool} → w ≡ word f i kindWord → w ≡ switchKind → x ≡ word f i goalX → r ≡ homeIn own x → es ≡ edgesIn own r
-      → cs ≡ word f i switchArms → b ≡ armsIn own (edges_at f es) (armsAt f cs) → b ≡ recordTest (agrees f) f i
-  unfolding agreesHere
-  switch-agrees {es = es} wk k e j l c h =
-      let n = switch-kind f i (sym wk ∙ k) in
-      goal-test i H.formed kSwitch n (switch-here H.formed wk k).goal
-      (h ∙ ap (λ (a : ℕ). armsIn own (edges_at f es) (armsAt f a)) c ∙ arms_same (program f) (H.window kSwitch n) _ (edges-here kSwitch n e j l) (armsAt f (word f i switchArms)))
+  pub switch_agrees : {w x r es cs : ℕ} {b : Bool} → w ≡ word f i kind_word → w ≡ switch_kind → x ≡ word f i goal_x → r ≡ home_in own x → es ≡ edges_in own r
+      → cs ≡ word f i switch_arms → b ≡ arms_in own (edges_at f es) (arms_at f cs) → b ≡ record_test (agrees f) f i
+  unfolding agrees_here
+  switch_agrees {es = es} wk k e j l c h =
+      let n = switch_kind_law f i (sym wk ∙ k) in
+      goal_test i H.formed k_switch n (switch_here H.formed wk k).goal
+      (h ∙ ap (λ (a : ℕ). arms_in own (edges_at f es) (arms_at f a)) c ∙ arms_same (program f) (H.window k_switch n) _ (edges_here k_switch n e j l) (arms_at f (word f i switch_arms)))
 
 -- any other record
-module _ {f : List ℕ} (i : ℕ) (F : Formed f) {w : ℕ} (e : w ≡ word f i kindWord) (n10 : w ≡ assignKind → ⊥) (n11 : w ≡ constructKind → ⊥) (n12 : w ≡ switchKind → ⊥)
-    (n15 : w ≡ callKind → ⊥) where
-  other_test : (k : Kind) → kind_of (word f i kindWord) ≡ k → true ≡ recordTest (agrees f) f i
-  unfolding ifGoal agreesHere stepRegions all-rows
-  other_test kNone k = sym (record-kind (agrees f) F i kNone k)
-  other_test kHeader k = sym (record-kind (agrees f) F i kHeader k)
-  other_test kType k = sym (record-kind (agrees f) F i kType k)
-  other_test kFunctor k = sym (record-kind (agrees f) F i kFunctor k)
-  other_test kProcedure k = sym (record-kind (agrees f) F i kProcedure k)
-  other_test kVariable k = sym (record-kind (agrees f) F i kVariable k)
-  other_test kRegion k = sym (record-kind (agrees f) F i kRegion k)
-  other_test kEdge k = sym (record-kind (agrees f) F i kEdge k)
-  other_test kArm k = sym (record-kind (agrees f) F i kArm k)
-  other_test kArgument k = sym (record-kind (agrees f) F i kArgument k)
-  other_test (kGoal kLiteral) k = goal-test i F kLiteral k (literal-at F refl (same_read f i refl k)).goal refl
-  other_test (kGoal kSum) k = goal-test i F kSum k (sum-at F refl (same_read f i refl k)).goal refl
-  other_test (kGoal kAssign) k = absurd (n10 (e ∙ goal-number (word f i kindWord) kAssign k))
-  other_test (kGoal kConstruct) k = absurd (n11 (e ∙ goal-number (word f i kindWord) kConstruct k))
-  other_test (kGoal kSwitch) k = absurd (n12 (e ∙ goal-number (word f i kindWord) kSwitch k))
-  other_test (kGoal kIf) k = goal-test i F kIf k (if-at F refl (same_read f i refl k)).goal refl
-  other_test (kGoal kCall) k = absurd (n15 (e ∙ goal-number (word f i kindWord) kCall k))
-  other_test (kGoal kPrint) k = goal-test i F kPrint k (print-at F refl (same_read f i refl k)).goal refl
-  other_test (kGoal kCreate) k = goal-test i F kCreate k (create-at F refl (same_read f i refl k)).goal refl
-  other_test (kGoal kRemove) k = goal-test i F kRemove k (remove-at F refl (same_read f i refl k)).goal refl
-  other_test (kGoal kTry) k = goal-test i F kTry k (try-at F refl (same_read f i refl k)).goal refl
-  other_test (kGoal kTest) k = goal-test i F kTest k (test_at F refl (same_read f i refl k)).goal refl
+module _ {f : List ℕ} (i : ℕ) (F : Formed f) {w : ℕ} (e : w ≡ word f i kind_word) (n10 : w ≡ assign_kind → ⊥) (n11 : w ≡ construct_kind → ⊥) (n12 : w ≡ switch_kind → ⊥)
+    (n15 : w ≡ call_kind → ⊥) where
+  other_test : (k : Kind) → kind_of (word f i kind_word) ≡ k → true ≡ record_test (agrees f) f i
+  unfolding if_goal agrees_here step_regions all_rows
+  other_test k_none k = sym (record_kind (agrees f) F i k_none k)
+  other_test k_header k = sym (record_kind (agrees f) F i k_header k)
+  other_test k_type k = sym (record_kind (agrees f) F i k_type k)
+  other_test k_functor k = sym (record_kind (agrees f) F i k_functor k)
+  other_test k_procedure k = sym (record_kind (agrees f) F i k_procedure k)
+  other_test k_variable k = sym (record_kind (agrees f) F i k_variable k)
+  other_test k_region k = sym (record_kind (agrees f) F i k_region k)
+  other_test k_edge k = sym (record_kind (agrees f) F i k_edge k)
+  other_test k_arm k = sym (record_kind (agrees f) F i k_arm k)
+  other_test k_argument k = sym (record_kind (agrees f) F i k_argument k)
+  other_test (k_goal k_literal) k = goal_test i F k_literal k (literal_at F refl (same_read f i refl k)).goal refl
+  other_test (k_goal k_sum) k = goal_test i F k_sum k (sum_at_law F refl (same_read f i refl k)).goal refl
+  other_test (k_goal k_assign) k = absurd (n10 (e ∙ goal_number (word f i kind_word) k_assign k))
+  other_test (k_goal k_construct) k = absurd (n11 (e ∙ goal_number (word f i kind_word) k_construct k))
+  other_test (k_goal k_switch) k = absurd (n12 (e ∙ goal_number (word f i kind_word) k_switch k))
+  other_test (k_goal k_if) k = goal_test i F k_if k (if_at F refl (same_read f i refl k)).goal refl
+  other_test (k_goal k_call) k = absurd (n15 (e ∙ goal_number (word f i kind_word) k_call k))
+  other_test (k_goal k_print) k = goal_test i F k_print k (print_at F refl (same_read f i refl k)).goal refl
+  other_test (k_goal k_create) k = goal_test i F k_create k (create_at F refl (same_read f i refl k)).goal refl
+  other_test (k_goal k_remove) k = goal_test i F k_remove k (remove_at F refl (same_read f i refl k)).goal refl
+  other_test (k_goal k_try) k = goal_test i F k_try k (try_at F refl (same_read f i refl k)).goal refl
+  other_test (k_goal k_test) k = goal_test i F k_test k (test_at F refl (same_read f i refl k)).goal refl
 
-  pub other-agrees : true ≡ recordTest (agrees f) f i
-  other-agrees = other_test (kind_of (word f i kindWord)) refl
+  pub other_agrees : true ≡ record_test (agrees f) f i
+  other_agrees = other_test (kind_of (word f i kind_word)) refl
 
 -- ---- along a chain of arms: the rest from record a on decides
 module _ (f t : List ℕ) (es : List Edge) (a : ℕ) (F : Formed f) (s : Stands f File.arms a) (z : a ≡ 0 → ⊥) {b : Bool}
-    (m : b ≡ allIn t es (word f a termFunctor) 1 (argumentsHere f a)) where
-  pub arms-stop : b ≡ false → false ≡ armsIn t es (armsAt f a)
-  unfolding armsIn argumentsHere
-  arms-stop q = rw (arm-here F z s).view (and-stop _ (sym m ∙ q))
+    (m : b ≡ all_in t es (word f a term_functor) 1 (arguments_here f a)) where
+  pub arms_stop : b ≡ false → false ≡ arms_in t es (arms_at f a)
+  unfolding arms_in arguments_here
+  arms_stop q = rw (arm_here F z s).view (and_stop _ (sym m ∙ q))
 
-  pub arms-on : {w : ℕ} → b ≡ true → w ≡ word f a nextWord → armsIn t es (armsAt f w) ≡ armsIn t es (armsAt f a)
-  unfolding armsIn argumentsHere
-  arms-on q e = rw ((arm-here F z s).view, e) (and-on (sym m ∙ q) refl)
+  pub arms_on : {w : ℕ} → b ≡ true → w ≡ word f a next_word → arms_in t es (arms_at f w) ≡ arms_in t es (arms_at f a)
+  unfolding arms_in arguments_here
+  arms_on q e = rw ((arm_here F z s).view, e) (and_on (sym m ∙ q) refl)
 
-pub arms_last : (f t : List ℕ) (es : List Edge) {a : ℕ} → a ≡ 0 → true ≡ armsIn t es (armsAt f a)
-unfolding armsIn
+pub arms_last : (f t : List ℕ) (es : List Edge) {a : ℕ} → a ≡ 0 → true ≡ arms_in t es (arms_at f a)
+unfolding arms_in
 arms_last f t es z = rw (arms_none f z) refl

@@ -4,21 +4,21 @@ use Rattle.std.specs.Prelude.{ℕ, ◌≤◌, true, List, ◌≡◌}
 use Rattle.sets.specs.Sets.{member, ◌∪◌}
 use Rattle.sets.specs.Members.{image}
 use Rattle.sets.specs.declared.Set.{Set}
-use Rattle.language.specs.Lifetimes.{unsharedIn}
-use Rattle.language.specs.Format.{maxRegions}
-use Rattle.tables.specs.Window.{setIn, bornPlace, deadPlace, keptPlace, passedPlace}
+use Rattle.language.specs.Lifetimes.{unshared_in}
+use Rattle.language.specs.Format.{max_regions}
+use Rattle.tables.specs.Window.{set_in, born_place, dead_place, kept_place, passed_place}
 use Rattle.tables.specs.declared.Effect.{Effect}
 
 -- each member of rs is from 1 to maxRegions, and so is its image; no other number has one
 pub record Imaged (m : ℕ → ℕ) (rs : Set) : Type 0 where
   pub only : (r : ℕ) → 1 ≤ m r → member rs r ≡ true
-  pub top : (r : ℕ) → member rs r ≡ true → r ≤ maxRegions
-  pub low-image : (r : ℕ) → member rs r ≡ true → 1 ≤ m r
-  pub top-image : (r : ℕ) → member rs r ≡ true → m r ≤ maxRegions
+  pub top : (r : ℕ) → member rs r ≡ true → r ≤ max_regions
+  pub low_image : (r : ℕ) → member rs r ≡ true → 1 ≤ m r
+  pub top_image : (r : ℕ) → member rs r ≡ true → m r ≤ max_regions
 
 -- ---- the effect, by the callee's window; `unshared` is right where the images are those of a mapping
 pub record ImageEffect (m : ℕ → ℕ) (t : List ℕ) (e : Effect) : Type 0 where
-  pub needs : e.needs ≡ image m (setIn t deadPlace ∪ setIn t keptPlace)
-  pub bears : e.bears ≡ image m (setIn t bornPlace)
-  pub ends : e.ends ≡ image m (setIn t deadPlace)
-  pub unshared : Imaged m (setIn t passedPlace) → e.unshared ≡ unsharedIn m (setIn t deadPlace ∪ setIn t bornPlace) (setIn t passedPlace)
+  pub needs : e.needs ≡ image m (set_in t dead_place ∪ set_in t kept_place)
+  pub bears : e.bears ≡ image m (set_in t born_place)
+  pub ends : e.ends ≡ image m (set_in t dead_place)
+  pub unshared : Imaged m (set_in t passed_place) → e.unshared ≡ unshared_in m (set_in t dead_place ∪ set_in t born_place) (set_in t passed_place)

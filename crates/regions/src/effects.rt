@@ -2,7 +2,7 @@
 ghost use Rattle.std.specs.Prelude.{◌≡◌};
 ghost use Rattle.chains.specs.Shapes.{IsCall};
 ghost use Rattle.regions.specs.Here.{Here};
-ghost use Rattle.regions.specs.Effects.{SomeStep, EffectAt, regionEffect};
+ghost use Rattle.regions.specs.Effects.{SomeStep, EffectAt, region_effect};
 
 use chains::word;
 use language::format;
@@ -11,7 +11,7 @@ use tables::{Effect, home};
 
 // A step that needs, bears and ends a region each, 0 for none.
 pub fn region_effect(needs: usize, bears: usize, ends: usize) -> Effect
-    ensures { result ≡ regionEffect needs bears ends }
+    ensures { result ≡ region_effect needs bears ends }
 {
     Effect {
         needs: Set::of(needs),

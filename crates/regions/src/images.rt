@@ -1,7 +1,7 @@
 // The images of a callee's regions, and what the call does to regions by them.
 ghost use Rattle.std.specs.Prelude.{◌≡◌};
 ghost use Rattle.sets.specs.Members.{image};
-ghost use Rattle.regions.specs.Pairs.{imagesIn};
+ghost use Rattle.regions.specs.Pairs.{images_in};
 ghost use Rattle.regions.specs.Doubled.{Doubled};
 ghost use Rattle.regions.specs.Images.{ImageEffect};
 
@@ -12,7 +12,7 @@ use tables::{BORN, DEAD, Effect, KEPT, PASSED, set_at};
 
 // The images of the regions rs.
 fn images_of(images: &[usize], rs: Set) -> Set
-    ensures { result ≡ image (imagesIn images.now) rs }
+    ensures { result ≡ image (images_in images.now) rs }
 {
     let mut found = Set::EMPTY;
     let mut r = rs.after(0);
@@ -25,7 +25,7 @@ fn images_of(images: &[usize], rs: Set) -> Set
 
 // The images that two of the regions rs share.
 fn shared_images(images: &[usize], rs: Set) -> Set
-    ensures { Doubled (imagesIn images.now) rs result }
+    ensures { Doubled (images_in images.now) rs result }
 {
     let mut seen = Set::EMPTY;
     let mut twice = Set::EMPTY;
@@ -41,7 +41,7 @@ fn shared_images(images: &[usize], rs: Set) -> Set
 
 // "a call needs the images of the callee's dead and kept regions", bears those of its born ones and ends those of its dead ones.
 pub fn image_effect(images: &[usize], callee: &[u64]) -> Effect
-    ensures { ImageEffect (imagesIn images.now) callee.now result }
+    ensures { ImageEffect (images_in images.now) callee.now result }
 {
     let dead = set_at(callee, DEAD);
     let born = set_at(callee, BORN);

@@ -1,17 +1,17 @@
 // Number 5 of a file, in one pass over its records. What each step does to regions goes into its row on the way.
 ghost use Rattle.std.specs.Prelude.{◌≡◌, true, ◌≤◌, ◌<◌, length};
-ghost use Rattle.language.specs.Format.{maxRecords};
-ghost use Rattle.language.specs.File.{recordCount};
-ghost use Rattle.language.specs.Regions.{regionsOk};
+ghost use Rattle.language.specs.Format.{max_records};
+ghost use Rattle.language.specs.File.{record_count};
+ghost use Rattle.language.specs.Regions.{regions_ok};
 ghost use Rattle.language.specs.Answers.{program};
-ghost use Rattle.tables.specs.TablePlaces.{rowWords};
+ghost use Rattle.tables.specs.TablePlaces.{row_words};
 ghost use Rattle.chains.specs.Shapes.{IsCall};
-ghost use Rattle.owners.specs.Everywhere.{recordTest};
-ghost use Rattle.tables.specs.Rows.{effectIn, putEffect};
+ghost use Rattle.owners.specs.Everywhere.{record_test};
+ghost use Rattle.tables.specs.Rows.{effect_in, put_effect};
 ghost use Rattle.regions.specs.Firsts.{Firsts};
 ghost use Rattle.regions.specs.Single.{agrees};
 ghost use Rattle.regions.specs.Here.{Given, Here};
-ghost use Rattle.regions.specs.Effects.{SomeStep, regionEffect};
+ghost use Rattle.regions.specs.Effects.{SomeStep, region_effect};
 ghost use Rattle.regions.specs.CallEffect.{CallHere};
 ghost use Rattle.regions.specs.Rowed.{Before, Rowed, AfterPass};
 
@@ -30,8 +30,8 @@ use tables::{Effect, ROWS, bears_at, ends_at, marked, needs_at, put_effect, star
 // The call at record i of the procedure with the window callee: it maps no region two ways.
 fn call_ok(file: &[u8], own: &[u64], callee: &[u64], i: usize, rows: &mut [u64; ROWS]) -> bool
     requires call_here { CallHere file.now own.now callee.now i }
-    requires row_words_in_bounds { rowWords ≤ length rows.old }
-    ensures value { result ≡ recordTest (agrees file.now) file.now i }
+    requires row_words_in_bounds { row_words ≤ length rows.old }
+    ensures value { result ≡ record_test (agrees file.now) file.now i }
     ensures rowed { Rowed file.now i rows.old result rows.new }
 {
     let mut images = blank_places();
@@ -53,9 +53,9 @@ fn row_ok(
 ) -> bool
     requires here { Here file.now own.now i }
     requires fact { (IsCall file.now i → ⊥) × SomeStep file.now i }
-    requires row_words_in_bounds { rowWords ≤ length rows.old }
+    requires row_words_in_bounds { row_words ≤ length rows.old }
     requires firsts { Firsts file.now firsts.old }
-    ensures value { result ≡ recordTest (agrees file.now) file.now i }
+    ensures value { result ≡ record_test (agrees file.now) file.now i }
     ensures rowed { Rowed file.now i rows.old result rows.new }
     ensures firsts_2 { Firsts file.now firsts.new }
 {
@@ -73,11 +73,11 @@ fn step_ok(
     firsts: &mut [usize; PLACES],
 ) -> bool
     requires given { Given file.now table.now owners.now }
-    requires i_nonzero { (0 < i) × (i < recordCount file.now) }
+    requires i_nonzero { (0 < i) × (i < record_count file.now) }
     requires fact { (IsCall file.now i → ⊥) × SomeStep file.now i }
-    requires row_words_in_bounds { rowWords ≤ length rows.old }
+    requires row_words_in_bounds { row_words ≤ length rows.old }
     requires firsts { Firsts file.now firsts.old }
-    ensures value { result ≡ recordTest (agrees file.now) file.now i }
+    ensures value { result ≡ record_test (agrees file.now) file.now i }
     ensures rowed { Rowed file.now i rows.old result rows.new }
     ensures firsts_2 { Firsts file.now firsts.new }
 {
@@ -94,10 +94,10 @@ fn switch_ok(
     firsts: &mut [usize; PLACES],
 ) -> bool
     requires given { Given file.now table.now owners.now }
-    requires i_nonzero { (0 < i) × (i < recordCount file.now) }
+    requires i_nonzero { (0 < i) × (i < record_count file.now) }
     requires fact { IsCall file.now i → ⊥ }
     requires firsts { Firsts file.now firsts.old }
-    ensures value { result ≡ recordTest (agrees file.now) file.now i }
+    ensures value { result ≡ record_test (agrees file.now) file.now i }
     ensures firsts_2 { Firsts file.now firsts.new }
 {
     let start = start_of(table, owner_of(owners, i));
@@ -106,8 +106,8 @@ fn switch_ok(
 
 // The step at record i has no effect, and asks for nothing.
 fn put_none(rows: &mut [u64; ROWS], i: usize) -> bool
-    requires { i < maxRecords }
-    ensures { (result ≡ true) × (rows.new ≡ putEffect rows.old i (regionEffect 0 0 0)) }
+    requires { i < max_records }
+    ensures { (result ≡ true) × (rows.new ≡ put_effect rows.old i (region_effect 0 0 0)) }
 {
     put_effect(rows, i, region_effect(0, 0, 0));
     true
@@ -115,7 +115,7 @@ fn put_none(rows: &mut [u64; ROWS], i: usize) -> bool
 
 // What the row of record i says that its step does to regions.
 fn effect_at(rows: &[u64; ROWS], i: usize) -> Effect
-    ensures { result ≡ effectIn rows.now i }
+    ensures { result ≡ effect_in rows.now i }
 {
     let needs = needs_at(rows, i);
     let bears = bears_at(rows, i);
@@ -138,10 +138,10 @@ fn next_call_ok(
     rows: &mut [u64; ROWS],
 ) -> bool
     requires given { Given file.now table.now owners.now }
-    requires i_nonzero { (0 < i) × (i < recordCount file.now) × IsCall file.now i }
-    requires row_words_in_bounds { rowWords ≤ length rows.old }
+    requires i_nonzero { (0 < i) × (i < record_count file.now) × IsCall file.now i }
+    requires row_words_in_bounds { row_words ≤ length rows.old }
     requires before { Before file.now rows.old last }
-    ensures value { result ≡ recordTest (agrees file.now) file.now i }
+    ensures value { result ≡ record_test (agrees file.now) file.now i }
     ensures rowed { Rowed file.now i rows.old result rows.new }
 {
     let start = start_of(table, owner_of(owners, i));
@@ -165,11 +165,11 @@ fn next_ok(
     firsts: &mut [usize; PLACES],
 ) -> bool
     requires given { Given file.now table.now owners.now }
-    requires i_nonzero { (0 < i) × (i < recordCount file.now) }
-    requires row_words_in_bounds { rowWords ≤ length rows.old }
+    requires i_nonzero { (0 < i) × (i < record_count file.now) }
+    requires row_words_in_bounds { row_words ≤ length rows.old }
     requires before { Before file.now rows.old last }
     requires firsts { Firsts file.now firsts.old }
-    ensures value { result ≡ recordTest (agrees file.now) file.now i }
+    ensures value { result ≡ record_test (agrees file.now) file.now i }
     ensures rowed { Rowed file.now i rows.old result rows.new }
     ensures firsts_2 { Firsts file.now firsts.new }
 {
@@ -191,8 +191,8 @@ fn next_ok(
 // Number 5. Puts what each step does to regions into its row; where the answer is false, such a row may be as it was. All else in the rows is.
 pub fn regions_agree(file: &[u8], table: &[u64], owners: &[u16], rows: &mut [u64; ROWS]) -> bool
     requires given { Given file.now table.now owners.now }
-    requires row_words_in_bounds { rowWords ≤ length rows.old }
-    ensures value { result ≡ regionsOk (program file.now) }
+    requires row_words_in_bounds { row_words ≤ length rows.old }
+    ensures value { result ≡ regions_ok (program file.now) }
     ensures after_pass { AfterPass file.now rows.old result rows.new }
 {
     let n = record_count(file);

@@ -1,12 +1,12 @@
 // Number 5 of single records, by the window of their procedure.
 ghost use Rattle.std.specs.Prelude.{◌≡◌};
 ghost use Rattle.language.specs.File;
-ghost use Rattle.chains.specs.Formed.{Formed, Stands, edges_at, armsAt};
+ghost use Rattle.chains.specs.Formed.{Formed, Stands, edges_at, arms_at};
 ghost use Rattle.chains.specs.Shapes.{IsCall};
-ghost use Rattle.owners.specs.Everywhere.{recordTest};
+ghost use Rattle.owners.specs.Everywhere.{record_test};
 ghost use Rattle.regions.specs.Firsts.{Firsts};
 ghost use Rattle.regions.specs.Single.{agrees};
-ghost use Rattle.regions.specs.Here.{Here, armsIn};
+ghost use Rattle.regions.specs.Here.{Here, arms_in};
 
 use crate::terms::in_targets;
 use chains::word;
@@ -26,7 +26,7 @@ fn arms_ok(
     requires stands { Stands file.now File.edges edges }
     requires stands_2 { Stands file.now File.arms start }
     requires firsts { Firsts file.now firsts.old }
-    ensures value { result ≡ armsIn own.now (edges_at file.now edges) (armsAt file.now start) }
+    ensures value { result ≡ arms_in own.now (edges_at file.now edges) (arms_at file.now start) }
     ensures firsts_2 { Firsts file.now firsts.new }
 {
     let mut a = start;
@@ -45,7 +45,7 @@ pub fn record_ok(file: &[u8], own: &[u64], i: usize, firsts: &mut [usize; PLACES
     requires here { Here file.now own.now i }
     requires fact { IsCall file.now i → ⊥ }
     requires firsts { Firsts file.now firsts.old }
-    ensures value { result ≡ recordTest (agrees file.now) file.now i }
+    ensures value { result ≡ record_test (agrees file.now) file.now i }
     ensures firsts_2 { Firsts file.now firsts.new }
 {
     match word(file, i, format::KIND) {

@@ -1,12 +1,12 @@
 // The arguments of a construct or an arm against the targets of their edges.
 ghost use Rattle.std.specs.Prelude.{◌≡◌, ℕ, ◌≤◌, ◌<◌};
 ghost use Rattle.language.specs.Format;
-ghost use Rattle.language.specs.File.{edges, recordCount};
-ghost use Rattle.language.specs.Regions.{targetFor};
-ghost use Rattle.language.specs.Format.{maxArity};
+ghost use Rattle.language.specs.File.{edges, record_count};
+ghost use Rattle.language.specs.Regions.{target_for};
+ghost use Rattle.language.specs.Format.{max_arity};
 ghost use Rattle.chains.specs.Formed.{Formed, Stands, edges_at};
 ghost use Rattle.regions.specs.Firsts.{FirstEdge, Firsts};
-ghost use Rattle.regions.specs.Terms.{argumentsHere, wordsFrom, termIn};
+ghost use Rattle.regions.specs.Terms.{arguments_here, words_from, term_in};
 
 use chains::word;
 use language::format::{
@@ -19,7 +19,7 @@ use tables::home;
 fn target_for(file: &[u8], start: usize, f: usize, k: usize) -> usize
     requires formed { Formed file.now }
     requires stands { Stands file.now edges start }
-    ensures { result ≡ targetFor (edges_at file.now start) f k }
+    ensures { result ≡ target_for (edges_at file.now start) f k }
 {
     let mut i = start;
     while i != 0 {
@@ -39,7 +39,7 @@ fn edges_for(file: &[u8], start: usize, f: usize) -> usize
     requires formed { Formed file.now }
     requires stands { Stands file.now edges start }
     ensures stands_2 { Stands file.now edges result }
-    ensures by_index { (k : ℕ) → targetFor (edges_at file.now result) f k ≡ targetFor (edges_at file.now start) f k }
+    ensures by_index { (k : ℕ) → target_for (edges_at file.now result) f k ≡ target_for (edges_at file.now start) f k }
 {
     let mut i = start;
     while i != 0 {
@@ -75,9 +75,9 @@ fn first_edge(file: &[u8], start: usize, f: usize, firsts: &mut [usize; PLACES])
 // How many arguments the construct or arm at record i has: a zero at the end is none.
 fn count_arguments(file: &[u8], i: usize) -> usize
     requires formed { Formed file.now }
-    requires i_bound { i < recordCount file.now }
-    ensures upper_bound { result ≤ maxArity }
-    ensures i_value { argumentsHere file.now i ≡ wordsFrom file.now i Format.termArguments result }
+    requires i_bound { i < record_count file.now }
+    ensures upper_bound { result ≤ max_arity }
+    ensures i_value { arguments_here file.now i ≡ words_from file.now i Format.term_arguments result }
 {
     if word(file, i, TERM_ARGUMENTS + 3) != 0 {
         return MAX_ARITY;
@@ -103,9 +103,9 @@ pub fn in_targets(
     firsts: &mut [usize; PLACES],
 ) -> bool
     requires formed { Formed file.now }
-    requires stands { Stands file.now edges start × (i < recordCount file.now) }
+    requires stands { Stands file.now edges start × (i < record_count file.now) }
     requires firsts { Firsts file.now firsts.old }
-    ensures value { result ≡ termIn file.now own.now start i }
+    ensures value { result ≡ term_in file.now own.now start i }
     ensures firsts_2 { Firsts file.now firsts.new }
 {
     let functor = word(file, i, TERM_FUNCTOR);

@@ -5,13 +5,13 @@ use Rattle.std.proofs.lemmas.Bool.{false≢true}
 use Rattle.language.specs.declared.Refusal.{Refusal}
 use Rattle.language.specs.declared.Verdict.TheVariants.{Refused, Accepted}
 use Rattle.language.specs.declared.Ending.TheVariants.{Refused as RunRefused}
-use Rattle.language.specs.Typing.{typingOk}
-use Rattle.language.specs.Lists.{frontWritten}
-use Rattle.language.specs.Machine.{Lent, Run, printPlaces}
-use Rattle.language.specs.Answers.{endingNumber, program, checked, runFor, ran}
+use Rattle.language.specs.Typing.{typing_ok}
+use Rattle.language.specs.Lists.{front_written}
+use Rattle.language.specs.Machine.{Lent, Run, print_places}
+use Rattle.language.specs.Answers.{ending_number, program, checked, run_for, ran}
 use Rattle.chains.specs.Formed.{Formed}
-use Rattle.word_machine.specs.Machine.{lentWords}
-use Rattle.word_machine.specs.Theorem.{accepted-program, accepted-formed}
+use Rattle.word_machine.specs.Machine.{lent_words}
+use Rattle.word_machine.specs.Theorem.{accepted_program, accepted_formed}
 use Rattle.machine.specs.Joining.{RanAs}
 
 -- the words lent for cells, regions and frames: as many as before, and "free unless the file is refused"
@@ -31,27 +31,27 @@ pub record LentAfter (f m rs fw ps m' rs' fw' ps' : List ℕ) : Type 0 where
 unfoldable refusal : Refusal → Run
 refusal v = record { ending = RunRefused v; steps = 0; printed = [] }
 
-refused-ran : (f : List ℕ) (l : Lent) {v : Refusal} → checked f ≡ Refused v → ran f l ≡ refusal v
-unfolding ran runFor refusal
-refused-ran f l e = ap (λ w. runFor w f l) e
+refused_ran : (f : List ℕ) (l : Lent) {v : Refusal} → checked f ≡ Refused v → ran f l ≡ refusal v
+unfolding ran run_for refusal
+refused_ran f l e = ap (λ w. run_for w f l) e
 
-pub refused-ran-as : {f : List ℕ} (m rs fw ps : List ℕ) (l : ℕ) {v : Refusal} → checked f ≡ Refused v
+pub refused_ran_as : {f : List ℕ} (m rs fw ps : List ℕ) (l : ℕ) {v : Refusal} → checked f ≡ Refused v
     → RanAs f m rs fw ps l (record { ending = RunRefused v; steps = 0; printed = 0 }) ps
-unfolding refusal printPlaces frontWritten
-refused-ran-as {f} m rs fw ps l {v} e =
-    let g = refused-ran f (lentWords m rs fw ps l) e in
+unfolding refusal print_places front_written
+refused_ran_as {f} m rs fw ps l {v} e =
+    let g = refused_ran f (lent_words m rs fw ps l) e in
     record { ending = rw g refl; number = rw g refl; steps = rw g refl; printed = rw g refl; places = rw g refl }
 
-pub refused-leaves : {f : List ℕ} (m rs fw ps : List ℕ) → LentAfter f m rs fw ps m rs fw ps
-refused-leaves m rs fw ps = record { free = (refl, refl, refl); all = λ v e. (refl, refl, refl, refl) }
+pub refused_leaves : {f : List ℕ} (m rs fw ps : List ℕ) → LentAfter f m rs fw ps m rs fw ps
+refused_leaves m rs fw ps = record { free = (refl, refl, refl); all = λ v e. (refl, refl, refl, refl) }
 
 -- an accepted file is not refused
-pub accepted-leaves : {f : List ℕ} → checked f ≡ Accepted → (m rs fw ps m' rs' fw' ps' : List ℕ) → Free m rs fw m' rs' fw' → LentAfter f m rs fw ps m' rs' fw' ps'
-accepted-leaves e m rs fw ps m' rs' fw' ps' n = record { free = n; all = λ v z. absurd (other (sym e ∙ z)) }
+pub accepted_leaves : {f : List ℕ} → checked f ≡ Accepted → (m rs fw ps m' rs' fw' ps' : List ℕ) → Free m rs fw m' rs' fw' → LentAfter f m rs fw ps m' rs' fw' ps'
+accepted_leaves e m rs fw ps m' rs' fw' ps' n = record { free = n; all = λ v z. absurd (other (sym e ∙ z)) }
   where
     other : {v : Refusal} → Accepted ≡ Refused v → ⊥
     other z = false≢true cc
 
 -- ---- what an accepted file has passed
-pub accepted-typed : {f : List ℕ} → checked f ≡ Accepted → Formed f × (typingOk (program f) ≡ true)
-accepted-typed {f} e = (accepted-formed f e, (accepted-program f e).typing)
+pub accepted_typed : {f : List ℕ} → checked f ≡ Accepted → Formed f × (typing_ok (program f) ≡ true)
+accepted_typed {f} e = (accepted_formed f e, (accepted_program f e).typing)

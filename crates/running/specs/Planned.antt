@@ -5,13 +5,13 @@ use Rattle.std.proofs.lemmas.List.{length-replicate}
 use Rattle.language.specs.declared.Verdict.TheVariants.{Accepted}
 use Rattle.language.specs.Answers.{checked}
 use Rattle.word_machine.specs.Tables.{Tabled}
-use Rattle.plans.specs.Plan.{tablesIn, Narrow, Numbered}
+use Rattle.plans.specs.Plan.{tables_in, Narrow, Numbered}
 
-pub blank-length : (n : ℕ) {t : List ℕ} → t ≡ replicate n 0 → length t ≡ n
-blank-length n e = ap length e ∙ length-replicate {A = ℕ} n 0
+pub blank_length : (n : ℕ) {t : List ℕ} → t ≡ replicate n 0 → length t ≡ n
+blank_length n e = ap length e ∙ length-replicate {A = ℕ} n 0
 
 pub record Planned (f plan images callees : List ℕ) : Type 0 where
   pub accepted : checked f ≡ Accepted
-  pub tabled : Tabled f (tablesIn plan images callees)
+  pub tabled : Tabled f (tables_in plan images callees)
   pub narrow : Narrow plan images
   pub numbered : Numbered f plan

@@ -2,7 +2,7 @@
 ghost use Rattle.std.specs.Prelude.{◌≡◌, replicate};
 ghost use Rattle.language.specs.declared.Verdict.TheVariants.{Accepted};
 ghost use Rattle.language.specs.Answers.{checked};
-ghost use Rattle.plans.specs.Plan.{planWords, imageBytes, calleesWords};
+ghost use Rattle.plans.specs.Plan.{plan_words, image_bytes, callees_words};
 ghost use Rattle.machine.specs.Joining.{RanAs};
 ghost use Rattle.running.specs.Planned.{Planned};
 
@@ -19,7 +19,7 @@ pub fn fill_tables(
     callees: &mut [u64; CALLEES],
 )
     requires file_value { checked file.now ≡ Accepted }
-    requires plan_value { (plan.old ≡ replicate planWords 0) × (images.old ≡ replicate imageBytes 0) × (callees.old ≡ replicate calleesWords 0) }
+    requires plan_value { (plan.old ≡ replicate plan_words 0) × (images.old ≡ replicate image_bytes 0) × (callees.old ≡ replicate callees_words 0) }
     ensures { Planned file.now plan.new images.new callees.new }
 {
     let mut table = blank_file_table();

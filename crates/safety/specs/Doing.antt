@@ -10,46 +10,46 @@ use Rattle.std.proofs.Math.Logic.{inl, inr}
 use Prim.Native.Nat.{ℕ, zero, suc, ◌+◌, ◌<◌}
 use native.Mathlib.Omega.{arith}
 use borrow.Author.Tests.{eqb-true, eq-eqb, ne_eqb}
-use Rattle.sets.specs.Tests.{and-true}
-use Rattle.sets.specs.Sets.{◌∪◌, subset, same-eq}
-use Rattle.sets.specs.SetLaws.{subset-refl, subset-trans}
-use Rattle.sets.specs.Members.{setOf}
+use Rattle.sets.specs.Tests.{and_true}
+use Rattle.sets.specs.Sets.{◌∪◌, subset, same_eq}
+use Rattle.sets.specs.SetLaws.{subset_refl, subset_trans}
+use Rattle.sets.specs.Members.{set_of}
 use Rattle.sets.specs.declared.Set.{Set}
 use Rattle.language.specs.Lists.{nth}
-use Rattle.language.specs.Program.{Four, argumentsOf, Functor, Goals, done, ◌then◌, Goal, Arms, noArms, arm, ◌before◌, Signature, Program, functorAt}
-use Rattle.language.specs.Typing.{types_in, haveTypes, argumentsOk, goalsOk, goalOk, armsOk}
-use Rattle.language.specs.Values.{outsOf}
-use Rattle.language.specs.Regions.{inTargets, goalsRegions, goalRegions, armsRegions}
+use Rattle.language.specs.Program.{Four, arguments_of, Functor, Goals, done, ◌then◌, Goal, Arms, no_arms, arm, ◌before◌, Signature, Program, functor_at}
+use Rattle.language.specs.Typing.{types_in, have_types, arguments_ok, goals_ok, goal_ok, arms_ok}
+use Rattle.language.specs.Values.{outs_of}
+use Rattle.language.specs.Regions.{in_targets, goals_regions, goal_regions, arms_regions}
 use Rattle.language.specs.Lifetimes.{born, kept}
-use Rattle.language.specs.Checking.{carries, soundGiven, checkGoals, checkGoal, checkArms, endRules}
+use Rattle.language.specs.Checking.{carries, sound_given, check_goals, check_goal, check_arms, end_rules}
 use Rattle.language.specs.Frames.{picked, pick}
-use Rattle.laws.specs.Choices.{choose-true, choose-false}
-use Rattle.safety.specs.Walks.{carryOn-in, join-in}
+use Rattle.laws.specs.Choices.{choose_true, choose_false}
+use Rattle.safety.specs.Walks.{carry_on_in, join_in}
 
 module _ (P : Program) (S : Signature) where
   pub data Doing : Goals → Set → Set → Type 0 where
-    ends : {h s : Set} → endRules S (carries h s) ≡ true → Doing done h s
-    segment : {goals rest : Goals} {h s k t u : Set} (gs : Goals) → gs before rest ≡ goals → goalsOk P S gs ≡ true
-        → goalsRegions P S gs ≡ true → checkGoals P S gs h s ≡ carries k u → subset t u ≡ true → Doing rest k t → Doing goals h s
+    ends : {h s : Set} → end_rules S (carries h s) ≡ true → Doing done h s
+    segment : {goals rest : Goals} {h s k t u : Set} (gs : Goals) → gs before rest ≡ goals → goals_ok P S gs ≡ true
+        → goals_regions P S gs ≡ true → check_goals P S gs h s ≡ carries k u → subset t u ≡ true → Doing rest k t → Doing goals h s
 
   -- the next goal, with the sound variables that it counts on
   pub record NextGoal (g : Goal) (rest : Goals) (h s : Set) : Type 0 where
     pub counted : Set
     pub fewer : subset counted s ≡ true
-    pub typed : goalOk P S g ≡ true
-    pub regioned : goalRegions P S g ≡ true
+    pub typed : goal_ok P S g ≡ true
+    pub regioned : goal_regions P S g ≡ true
     pub held : Set
     pub sound : Set
-    pub goes : checkGoal P S g h counted ≡ carries held sound
+    pub goes : check_goal P S g h counted ≡ carries held sound
     pub onward : Doing rest held sound
 
   never_done : (g : Goal) (gs : Goals) → done ≡ g then gs → ⊥
   never_done g gs e = false≢true cc
 
-  next-same : {g : Goal} {rest : Goals} {h s k t u : Set} → k ≡ h → u ≡ s → subset t u ≡ true → NextGoal g rest k t → NextGoal g rest h s
-  next-same {h = h} {s = s} {t = t} p q w n = record {
+  next_same : {g : Goal} {rest : Goals} {h s k t u : Set} → k ≡ h → u ≡ s → subset t u ≡ true → NextGoal g rest k t → NextGoal g rest h s
+  next_same {h = h} {s = s} {t = t} p q w n = record {
     counted = n.counted;
-    fewer = subset-trans n.counted t s n.fewer (rw q at w);
+    fewer = subset_trans n.counted t s n.fewer (rw q at w);
     typed = n.typed;
     regioned = n.regioned;
     held = n.held;
@@ -58,38 +58,38 @@ module _ (P : Program) (S : Signature) where
     onward = n.onward;
   }
 
-  pub next-in : {goals : Goals} {h s : Set} → Doing goals h s → (g : Goal) (rest : Goals) → goals ≡ g then rest → NextGoal g rest h s
-  unfolding ◌before◌ goalsOk goalsRegions checkGoals
-  next-in (ends e) g rest q = absurd (never_done g rest q)
-  next-in (segment done b o r c w d) g rest q = next-same (cc) (cc) w (next-in d g rest (b ∙ q))
-  next-in (segment {rest = more} {h = h} {s = s} (a then gs) b o r c w d) g rest q =
+  pub next_in_law : {goals : Goals} {h s : Set} → Doing goals h s → (g : Goal) (rest : Goals) → goals ≡ g then rest → NextGoal g rest h s
+  unfolding ◌before◌ goals_ok goals_regions check_goals
+  next_in_law (ends e) g rest q = absurd (never_done g rest q)
+  next_in_law (segment done b o r c w d) g rest q = next_same (cc) (cc) w (next_in_law d g rest (b ∙ q))
+  next_in_law (segment {rest = more} {h = h} {s = s} (a then gs) b o r c w d) g rest q =
       let t : a ≡ g = cc in
-      let i = carryOn-in c in
+      let i = carry_on_in c in
       record {
         counted = s;
-        fewer = subset-refl s;
-        typed = rw t at (and-true o).0;
-        regioned = rw t at (and-true r).0;
+        fewer = subset_refl s;
+        typed = rw t at (and_true o).0;
+        regioned = rw t at (and_true r).0;
         held = i.0;
         sound = i.1;
-        goes = ap (λ (x : Goal). checkGoal P S x h s) (sym t) ∙ i.2;
-        onward = segment {goals = rest} {rest = more} gs (cc) (and-true o).1 (and-true r).1 i.3 w d;
+        goes = ap (λ (x : Goal). check_goal P S x h s) (sym t) ∙ i.2;
+        onward = segment {goals = rest} {rest = more} gs (cc) (and_true o).1 (and_true r).1 i.3 w d;
       }
 
   -- "At the end: born and kept regions held, no other; out variables sound."
   pub record End (h s : Set) : Type 0 where
     pub holds : h ≡ born S ∪ kept S
-    pub outs : subset (outsOf S) s ≡ true
+    pub outs : subset (outs_of S) s ≡ true
 
-  pub end-in : {goals : Goals} {h s : Set} → Doing goals h s → goals ≡ done → End h s
-  unfolding ◌before◌ checkGoals endRules
-  end-in (ends {h = h} e) q = let p = and-true e in record { holds = same-eq h (born S ∪ kept S) p.0; outs = p.1 }
-  end-in (segment {h = h} {s = s} {k = k} {t = t} {u = u} done b o r c w d) q =
-      let x = end-in d (b ∙ q) in
+  pub end_in : {goals : Goals} {h s : Set} → Doing goals h s → goals ≡ done → End h s
+  unfolding ◌before◌ check_goals end_rules
+  end_in (ends {h = h} e) q = let p = and_true e in record { holds = same_eq h (born S ∪ kept S) p.0; outs = p.1 }
+  end_in (segment {h = h} {s = s} {k = k} {t = t} {u = u} done b o r c w d) q =
+      let x = end_in d (b ∙ q) in
       let p : k ≡ h = cc in
       let z : u ≡ s = cc in
-      record { holds = sym p ∙ x.holds; outs = rw z at (subset-trans (outsOf S) t u x.outs w) }
-  end-in (segment {rest = more} (a then gs) b o r c w d) q = absurd (never_done a (gs before more) (sym (b ∙ q)))
+      record { holds = sym p ∙ x.holds; outs = rw z at (subset_trans (outs_of S) t u x.outs w) }
+  end_in (segment {rest = more} (a then gs) b o r c w d) q = absurd (never_done a (gs before more) (sym (b ∙ q)))
 
   -- the arm that functor k takes, f being what the type says of it
   pub record ArmTaken (cs : Arms) (r : ℕ) (f : Functor) (k : ℕ) (h s h₁ s₁ : Set) : Type 0 where
@@ -97,71 +97,71 @@ module _ (P : Program) (S : Signature) where
     pub goals : Goals
     pub after : Set
     pub picks : pick cs k ≡ picked arguments goals
-    pub have : haveTypes S (types_in f) arguments ≡ true
-    pub targets : inTargets P S r k 1 arguments ≡ true
-    pub typed : goalsOk P S goals ≡ true
-    pub regioned : goalsRegions P S goals ≡ true
-    pub goes : checkGoals P S goals h (soundGiven S (setOf arguments) h s) ≡ carries h₁ after
+    pub have : have_types S (types_in f) arguments ≡ true
+    pub targets : in_targets P S r k 1 arguments ≡ true
+    pub typed : goals_ok P S goals ≡ true
+    pub regioned : goals_regions P S goals ≡ true
+    pub goes : check_goals P S goals h (sound_given S (set_of arguments) h s) ≡ carries h₁ after
     pub more : subset s₁ after ≡ true
 
   -- the first arm, and the others if there are any
   pub record Parted (ys : List ℕ) (gs : Goals) (cs : Arms) (h s h₁ s₁ : Set) : Type 0 where
     pub first : Set
-    pub goes : checkGoals P S gs h (soundGiven S (setOf ys) h s) ≡ carries h₁ first
-    pub in-first : subset s₁ first ≡ true
-    pub others : (cs ≡ noArms) ⊎ ((t : Set) × (checkArms P S cs h s ≡ carries h₁ t) × (subset s₁ t ≡ true))
+    pub goes : check_goals P S gs h (sound_given S (set_of ys) h s) ≡ carries h₁ first
+    pub in_first : subset s₁ first ≡ true
+    pub others : (cs ≡ no_arms) ⊎ ((t : Set) × (check_arms P S cs h s ≡ carries h₁ t) × (subset s₁ t ≡ true))
 
-  parted : (f : ℕ) (ys : Four) (gs : Goals) (cs : Arms) {h s h₁ s₁ : Set} → checkArms P S (arm f ys gs cs) h s ≡ carries h₁ s₁
-      → Parted (argumentsOf ys) gs cs h s h₁ s₁
-  unfolding checkArms
-  parted f ys gs noArms {s₁ = s₁} e = record { first = s₁; goes = e; in-first = subset-refl s₁; others = inl refl }
+  parted : (f : ℕ) (ys : Four) (gs : Goals) (cs : Arms) {h s h₁ s₁ : Set} → check_arms P S (arm f ys gs cs) h s ≡ carries h₁ s₁
+      → Parted (arguments_of ys) gs cs h s h₁ s₁
+  unfolding check_arms
+  parted f ys gs no_arms {s₁ = s₁} e = record { first = s₁; goes = e; in_first = subset_refl s₁; others = inl refl }
   parted f ys gs (arm g zs hs cs) e =
-      let j = join-in e in
-      record { first = j.left; goes = j.goes_left; in-first = j.in_left; others = inr (j.right, j.goes-right, j.in_right) }
+      let j = join_in e in
+      record { first = j.left; goes = j.goes_left; in_first = j.in_left; others = inr (j.right, j.goes_right, j.in_right) }
 
-  none_left : (cs : Arms) (fs : List Functor) (n j : ℕ) → cs ≡ noArms → armsOk P S cs fs n ≡ true → j < length fs → ⊥
-  unfolding armsOk
-  none_left noArms [] n j q o l = omega arith
-  none_left noArms (f ∷ fs) n j q o l = false≢true o
+  none_left : (cs : Arms) (fs : List Functor) (n j : ℕ) → cs ≡ no_arms → arms_ok P S cs fs n ≡ true → j < length fs → ⊥
+  unfolding arms_ok
+  none_left no_arms [] n j q o l = omega arith
+  none_left no_arms (f ∷ fs) n j q o l = false≢true o
   none_left (arm g ys gs cs) fs n j q o l = false≢true (cc)
 
-  pub arms-in : (cs : Arms) (fs : List Functor) (r n j k : ℕ) {h s h₁ s₁ : Set} → k ≡ n + j → j < length fs → armsOk P S cs fs n ≡ true
-      → armsRegions P S cs r ≡ true → checkArms P S cs h s ≡ carries h₁ s₁ → ArmTaken cs r (functorAt fs j) k h s h₁ s₁
-  unfolding armsOk armsRegions argumentsOk pick functorAt nth
-  arms-in noArms [] r n j k q l o w e = absurd (omega arith)
-  arms-in noArms (f ∷ fs) r n j k q l o w e = absurd (false≢true o)
-  arms-in (arm g ys gs cs) [] r n j k q l o w e = absurd (omega arith)
-  arms-in (arm g ys gs cs) (f ∷ fs) r n zero k q l o w e =
-      let a = and-true o in
-      let b = and-true a.1 in
-      let c = and-true b.1 in
-      let u = and-true w in
+  pub arms_in_law : (cs : Arms) (fs : List Functor) (r n j k : ℕ) {h s h₁ s₁ : Set} → k ≡ n + j → j < length fs → arms_ok P S cs fs n ≡ true
+      → arms_regions P S cs r ≡ true → check_arms P S cs h s ≡ carries h₁ s₁ → ArmTaken cs r (functor_at fs j) k h s h₁ s₁
+  unfolding arms_ok arms_regions arguments_ok pick functor_at nth
+  arms_in_law no_arms [] r n j k q l o w e = absurd (omega arith)
+  arms_in_law no_arms (f ∷ fs) r n j k q l o w e = absurd (false≢true o)
+  arms_in_law (arm g ys gs cs) [] r n j k q l o w e = absurd (omega arith)
+  arms_in_law (arm g ys gs cs) (f ∷ fs) r n zero k q l o w e =
+      let a = and_true o in
+      let b = and_true a.1 in
+      let c = and_true b.1 in
+      let u = and_true w in
       let p = parted g ys gs cs e in
       let t = eqb-true g n a.0 in
       let z : g ≡ k = omega arith in
       record {
-        arguments = argumentsOf ys;
+        arguments = arguments_of ys;
         goals = gs;
         after = p.first;
-        picks = choose-true _ _ _ (eq-eqb g k z);
+        picks = choose_true _ _ _ (eq-eqb g k z);
         have = b.0;
         targets = rw z at u.0;
         typed = c.0;
-        regioned = (and-true u.1).0;
+        regioned = (and_true u.1).0;
         goes = p.goes;
-        more = p.in-first;
+        more = p.in_first;
       }
-  arms-in (arm g ys gs cs) (f ∷ fs) r n (suc j) k {h} {s} {h₁} {s₁} q l o w e =
-      let a = and-true o in
-      let c = and-true (and-true a.1).1 in
+  arms_in_law (arm g ys gs cs) (f ∷ fs) r n (suc j) k {h} {s} {h₁} {s₁} q l o w e =
+      let a = and_true o in
+      let c = and_true (and_true a.1).1 in
       let p = parted g ys gs cs e in
       let t = eqb-true g n a.0 in
-      later t c.1 p.others (λ t₁ x. arms-in cs fs r (suc n) j k (omega arith) (omega arith) c.1 (and-true (and-true w).1).1 x)
+      later t c.1 p.others (λ t₁ x. arms_in_law cs fs r (suc n) j k (omega arith) (omega arith) c.1 (and_true (and_true w).1).1 x)
     where
-      later : g ≡ n → armsOk P S cs fs (suc n) ≡ true
-          → (cs ≡ noArms) ⊎ ((t : Set) × (checkArms P S cs h s ≡ carries h₁ t) × (subset s₁ t ≡ true))
-          → ((t : Set) → checkArms P S cs h s ≡ carries h₁ t → ArmTaken cs r (functorAt fs j) k h s h₁ t)
-          → ArmTaken (arm g ys gs cs) r (functorAt (f ∷ fs) (suc j)) k h s h₁ s₁
+      later : g ≡ n → arms_ok P S cs fs (suc n) ≡ true
+          → (cs ≡ no_arms) ⊎ ((t : Set) × (check_arms P S cs h s ≡ carries h₁ t) × (subset s₁ t ≡ true))
+          → ((t : Set) → check_arms P S cs h s ≡ carries h₁ t → ArmTaken cs r (functor_at fs j) k h s h₁ t)
+          → ArmTaken (arm g ys gs cs) r (functor_at (f ∷ fs) (suc j)) k h s h₁ s₁
       later t o' (inl z) ih = absurd (none_left cs fs (suc n) j z o' (omega arith))
       later t o' (inr z) ih =
           let y = ih z.0 z.1 in
@@ -169,11 +169,11 @@ module _ (P : Program) (S : Signature) where
             arguments = y.arguments;
             goals = y.goals;
             after = y.after;
-            picks = choose-false _ _ _ (ne_eqb g k (λ v. omega arith)) ∙ y.picks;
+            picks = choose_false _ _ _ (ne_eqb g k (λ v. omega arith)) ∙ y.picks;
             have = y.have;
             targets = y.targets;
             typed = y.typed;
             regioned = y.regioned;
             goes = y.goes;
-            more = subset-trans s₁ z.0 y.after z.2 y.more;
+            more = subset_trans s₁ z.0 y.after z.2 y.more;
           }

@@ -2,47 +2,47 @@
 use Rattle.std.specs.Prelude.{◌≡◌, Bool, true, false, List, [], ◌∷◌, ℕ}
 use Rattle.std.proofs.Common.{◌∙◌}
 use Rattle.sets.specs.Sets.{member, ◌∪◌}
-use Rattle.sets.specs.Members.{setOf, image}
+use Rattle.sets.specs.Members.{set_of, image}
 use Rattle.sets.specs.declared.Set.{Set}
-use Rattle.language.specs.Program.{Goals, Goal, ◌then◌, Program, signature_of, parametersOf, inMode, outMode, argumentsIn}
-use Rattle.language.specs.Regions.{mapping, imageIn}
+use Rattle.language.specs.Program.{Goals, Goal, ◌then◌, Program, signature_of, parameters_of, in_mode, out_mode, arguments_in}
+use Rattle.language.specs.Regions.{mapping, image_in}
 use Rattle.language.specs.Lifetimes.{born, kept}
-use Rattle.language.specs.Checking.{soundGiven}
+use Rattle.language.specs.Checking.{sound_given}
 use Rattle.language.specs.Frames.{Value, Condition, closed, opened}
 use Rattle.language.specs.AcceptedRun.{RegionFrame, RegionCell, Memory, State, whole}
 use Rattle.region_graph.specs.Laws.{shared, Called}
 use Rattle.safety.specs.Doing.{Doing}
 use Rattle.safety.specs.Premises.{Accepted, laws}
 use Rattle.safety.specs.PlacedValues.{Grows}
-use Rattle.safety.specs.Variables.{Vars, vars-grown}
+use Rattle.safety.specs.Variables.{Vars, vars_grown}
 use Rattle.safety.specs.Owners.{Owner, owner, Owns, Ownership}
 
 module _ (P : Program) where
   -- the image of a callee's region, where procedure p calls q with arguments zs
-  abbrev pub imageAt : ℕ → ℕ → List ℕ → ℕ → ℕ
-  imageAt p q zs = imageIn (mapping (signature_of P p) (signature_of P q) zs)
+  abbrev pub image_at : ℕ → ℕ → List ℕ → ℕ → ℕ
+  image_at p q zs = image_in (mapping (signature_of P p) (signature_of P q) zs)
 
   -- the arguments of a call of q that are given a value, or that are read
-  abbrev pub givenBy : ℕ → List ℕ → List ℕ
-  givenBy q zs = argumentsIn outMode (parametersOf (signature_of P q)) zs
+  abbrev pub given_by : ℕ → List ℕ → List ℕ
+  given_by q zs = arguments_in out_mode (parameters_of (signature_of P q)) zs
 
   abbrev pub read_by : ℕ → List ℕ → List ℕ
-  read_by q zs = argumentsIn inMode (parametersOf (signature_of P q)) zs
+  read_by q zs = arguments_in in_mode (parameters_of (signature_of P q)) zs
 
   -- a frame of procedure q, called with arguments zs, hangs over the waiting frame e: the born regions come when it returns
   pub record Hung (H : List RegionCell) (q : ℕ) (zs : List ℕ) (ρ : ℕ → ℕ) (e : RegionFrame) (w s : Set) (os : List Owner) : Type 0 where
     pub call : Called (signature_of P e.frame.procedure) (signature_of P q) zs
     pub link : (u : ℕ) → member (kept (signature_of P q)) u ≡ true
-        → (ρ u ≡ e.stands (imageAt e.frame.procedure q zs u)) × (member w (imageAt e.frame.procedure q zs u) ≡ true)
-    pub born-free : (u : ℕ) → member (born (signature_of P q)) u ≡ true → member w (imageAt e.frame.procedure q zs u) ≡ false
-    pub born-alone : (u v : ℕ) → member (born (signature_of P q)) u ≡ true → member (born (signature_of P q)) v ≡ true
-        → imageAt e.frame.procedure q zs u ≡ imageAt e.frame.procedure q zs v → u ≡ v
+        → (ρ u ≡ e.stands (image_at e.frame.procedure q zs u)) × (member w (image_at e.frame.procedure q zs u) ≡ true)
+    pub born_free : (u : ℕ) → member (born (signature_of P q)) u ≡ true → member w (image_at e.frame.procedure q zs u) ≡ false
+    pub born_alone : (u v : ℕ) → member (born (signature_of P q)) u ≡ true → member (born (signature_of P q)) v ≡ true
+        → image_at e.frame.procedure q zs u ≡ image_at e.frame.procedure q zs v → u ≡ v
     pub owns : Owns (signature_of P e.frame.procedure) w e.stands os
     pub vars : Vars P.types (signature_of P e.frame.procedure) w s e.stands H e.frame.values
     pub doing : Doing P (signature_of P e.frame.procedure) e.frame.goals
-        (w ∪ image (imageAt e.frame.procedure q zs) (born (signature_of P q)))
-        (soundGiven (signature_of P e.frame.procedure) (setOf (givenBy q zs))
-        (w ∪ image (imageAt e.frame.procedure q zs) (born (signature_of P q))) s)
+        (w ∪ image (image_at e.frame.procedure q zs) (born (signature_of P q)))
+        (sound_given (signature_of P e.frame.procedure) (set_of (given_by q zs))
+        (w ∪ image (image_at e.frame.procedure q zs) (born (signature_of P q))) s)
 
   -- the waiting frames below a frame of procedure q with arguments zs and region numbers ρ; the entry has no input and output regions
   pub data Stack (H : List RegionCell) : ℕ → List ℕ → (ℕ → ℕ) → List RegionFrame → List Owner → Type 0 where
@@ -77,29 +77,29 @@ module _ (P : Program) where
     over : st.frames ≡ [] → ((k : ℕ) → st.memory.alive k ≡ false) → Fine st
 
   -- ---- the waiting frames see of the newest what its kept regions stand for, and only more cells
-  pub stack-stands : {H : List RegionCell} {q : ℕ} {zs : List ℕ} {ρ ρ' : ℕ → ℕ} {fs : List RegionFrame} {os : List Owner}
+  pub stack_stands : {H : List RegionCell} {q : ℕ} {zs : List ℕ} {ρ ρ' : ℕ → ℕ} {fs : List RegionFrame} {os : List Owner}
       → ((u : ℕ) → member (kept (signature_of P q)) u ≡ true → ρ' u ≡ ρ u) → Stack H q zs ρ fs os → Stack H q zs ρ' fs os
-  stack-stands e (bottom n) = bottom n
-  stack-stands e (hang g st) = hang (record {
+  stack_stands e (bottom n) = bottom n
+  stack_stands e (hang g st) = hang (record {
     call = g.call;
     link = λ u i. (e u i ∙ (g.link u i).0, (g.link u i).1);
-    born-free = g.born-free;
-    born-alone = g.born-alone;
+    born_free = g.born_free;
+    born_alone = g.born_alone;
     owns = g.owns;
     vars = g.vars;
     doing = g.doing;
   }) st
 
   module _ (A : Accepted P) where
-    pub stack-grown : {H H' : List RegionCell} {q : ℕ} {zs : List ℕ} {ρ : ℕ → ℕ} {fs : List RegionFrame} {os : List Owner} → Grows H H'
+    pub stack_grown : {H H' : List RegionCell} {q : ℕ} {zs : List ℕ} {ρ : ℕ → ℕ} {fs : List RegionFrame} {os : List Owner} → Grows H H'
         → Stack H q zs ρ fs os → Stack H' q zs ρ fs os
-    stack-grown e (bottom n) = bottom n
-    stack-grown e (hang {e = f} g st) = hang (record {
+    stack_grown e (bottom n) = bottom n
+    stack_grown e (hang {e = f} g st) = hang (record {
       call = g.call;
       link = g.link;
-      born-free = g.born-free;
-      born-alone = g.born-alone;
+      born_free = g.born_free;
+      born_alone = g.born_alone;
       owns = g.owns;
-      vars = vars-grown (laws A f.frame.procedure) e g.vars;
+      vars = vars_grown (laws A f.frame.procedure) e g.vars;
       doing = g.doing;
-    }) (stack-grown e st)
+    }) (stack_grown e st)

@@ -3,86 +3,86 @@
 use Rattle.std.specs.Prelude.{◌≡◌, true, List, ◌⊎◌, ℕ, ◌≤◌}
 use Rattle.std.proofs.Common.{⊎_elim}
 use Rattle.sets.specs.Tests.{clash}
-use Rattle.sets.specs.Sets.{member, emptySet, ◌∪◌, union_left, union_right, union-in, subset-in}
+use Rattle.sets.specs.Sets.{member, empty_set, ◌∪◌, union_left, union_right, union_in, subset_in}
 use Rattle.sets.specs.SetLaws.{apart_in}
-use Rattle.sets.specs.MemberLaws.{unionOver-in}
+use Rattle.sets.specs.MemberLaws.{union_over_in}
 use Rattle.sets.specs.declared.Set.{Set}
 use Rattle.language.specs.Program.{Functor, Signature}
-use Rattle.language.specs.Typing.{isRegion, signatureOk}
-use Rattle.language.specs.Values.{insOf, outsOf}
-use Rattle.language.specs.Regions.{reach, reachAll}
-use Rattle.language.specs.Lifetimes.{inputs, outputs, born, dead, kept, startHeld, classesOk}
-use Rattle.laws.specs.MoreSets.{empty-in}
+use Rattle.language.specs.Typing.{is_region, signature_ok}
+use Rattle.language.specs.Values.{ins_of, outs_of}
+use Rattle.language.specs.Regions.{reach, reach_all}
+use Rattle.language.specs.Lifetimes.{inputs, outputs, born, dead, kept, start_held, classes_ok}
+use Rattle.laws.specs.MoreSets.{empty_in}
 use Rattle.region_graph.specs.Laws.{shared, Declared}
 use Rattle.region_graph.specs.Procedure.{declared}
-use Rattle.region_graph.specs.Parameters.{ins-in, outs-in}
-use Rattle.region_graph.specs.Shared.{region-top, shared-ranged, input-reach, output-reach}
+use Rattle.region_graph.specs.Parameters.{ins_in, outs_in}
+use Rattle.region_graph.specs.Shared.{region_top, shared_ranged, input_reach, output_reach}
 use Rattle.region_graph.specs.Classes
-use Rattle.region_graph.specs.Classes.{dead-kept, born-kept, inputs-sorted, outputs-sorted}
+use Rattle.region_graph.specs.Classes.{dead_kept_law, born_kept, inputs_sorted, outputs_sorted}
 
 -- a procedure that passes number 3 and the declared part of number 7
 pub record Fit (T : List (List Functor)) (S : Signature) : Type 0 where
-  pub typed : signatureOk T S ≡ true
-  pub classes : classesOk S ≡ true
+  pub typed : signature_ok T S ≡ true
+  pub classes : classes_ok S ≡ true
 
 -- no region, or one that is declared
 abbrev pub KnownRegion : Signature → ℕ → Type 0
-KnownRegion S r = (r ≡ 0) ⊎ (isRegion S r ≡ true)
+KnownRegion S r = (r ≡ 0) ⊎ (is_region S r ≡ true)
 
 -- ---- no dead or born region is kept
 module _ (S : Signature) where
-  pub dead-unkept : (r : ℕ) → member (dead S) r ≡ true → member (kept S) r ≡ true → ⊥
-  dead-unkept r d k = clash k (apart_in (dead S) (kept S) (dead-kept S) r d)
+  pub dead_unkept : (r : ℕ) → member (dead S) r ≡ true → member (kept S) r ≡ true → ⊥
+  dead_unkept r d k = clash k (apart_in (dead S) (kept S) (dead_kept_law S) r d)
 
-  pub born-unkept : (r : ℕ) → member (born S) r ≡ true → member (kept S) r ≡ true → ⊥
-  born-unkept r b k = clash k (apart_in (born S) (kept S) (born-kept S) r b)
+  pub born_unkept : (r : ℕ) → member (born S) r ≡ true → member (kept S) r ≡ true → ⊥
+  born_unkept r b k = clash k (apart_in (born S) (kept S) (born_kept S) r b)
 
 -- ---- with number 7
 module _ {T : List (List Functor)} {S : Signature} (F : Fit T S) where
-  pub laws-of : Declared T S
-  laws-of = declared T S F.typed
+  pub laws_of : Declared T S
+  laws_of = declared T S F.typed
 
-  pub born-shared : (r : ℕ) → member (born S) r ≡ true → shared S r
-  born-shared r e = subset-in (born S) (inputs S ∪ outputs S) (Classes.born-shared S F.classes) r e
+  pub born_shared_law : (r : ℕ) → member (born S) r ≡ true → shared S r
+  born_shared_law r e = subset_in (born S) (inputs S ∪ outputs S) (Classes.born_shared_law S F.classes) r e
 
-  pub dead-shared : (r : ℕ) → member (dead S) r ≡ true → shared S r
-  dead-shared r e = subset-in (dead S) (inputs S ∪ outputs S) (Classes.dead-shared S F.classes) r e
+  pub dead_shared_law : (r : ℕ) → member (dead S) r ≡ true → shared S r
+  dead_shared_law r e = subset_in (dead S) (inputs S ∪ outputs S) (Classes.dead_shared_law S F.classes) r e
 
-  pub start-in : (r : ℕ) → member (startHeld S) r ≡ true → (member (dead S) r ≡ true) ⊎ (member (kept S) r ≡ true)
-  unfolding startHeld
-  start-in r e = union-in (dead S) (kept S) r e
+  pub start_in_law : (r : ℕ) → member (start_held S) r ≡ true → (member (dead S) r ≡ true) ⊎ (member (kept S) r ≡ true)
+  unfolding start_held
+  start_in_law r e = union_in (dead S) (kept S) r e
 
-  pub start-dead : (r : ℕ) → member (dead S) r ≡ true → member (startHeld S) r ≡ true
-  unfolding startHeld
-  start-dead r e = union_left (dead S) (kept S) r e
+  pub start_dead : (r : ℕ) → member (dead S) r ≡ true → member (start_held S) r ≡ true
+  unfolding start_held
+  start_dead r e = union_left (dead S) (kept S) r e
 
-  pub start-kept : (r : ℕ) → member (kept S) r ≡ true → member (startHeld S) r ≡ true
-  unfolding startHeld
-  start-kept r e = union_right (dead S) (kept S) r e
+  pub start_kept : (r : ℕ) → member (kept S) r ≡ true → member (start_held S) r ≡ true
+  unfolding start_held
+  start_kept r e = union_right (dead S) (kept S) r e
 
-  pub start-shared : (r : ℕ) → member (startHeld S) r ≡ true → shared S r
-  unfolding startHeld
-  start-shared r e = subset-in (dead S ∪ kept S) (inputs S ∪ outputs S) (Classes.start-shared S F.classes) r e
+  pub start_shared : (r : ℕ) → member (start_held S) r ≡ true → shared S r
+  unfolding start_held
+  start_shared r e = subset_in (dead S ∪ kept S) (inputs S ∪ outputs S) (Classes.start_shared S F.classes) r e
 
-  pub shared-top : (r : ℕ) → shared S r → r ≤ 64
-  shared-top r e = (region-top T S laws-of r (shared-ranged T S laws-of r e)).1
+  pub shared_top : (r : ℕ) → shared S r → r ≤ 64
+  shared_top r e = (region_top T S laws_of r (shared_ranged T S laws_of r e)).1
 
   -- the in variables reach dead and kept regions only, the out variables born and kept ones only
-  pub ins-reach : (x u : ℕ) → member (insOf S) x ≡ true → member (reach S x) u ≡ true → member (startHeld S) u ≡ true
-  unfolding startHeld
-  ins-reach x u i e =
-      subset-in (inputs S) (dead S ∪ kept S) (inputs-sorted S F.classes T laws-of) u
-      (subset-in (reach S x) (inputs S) (input-reach T S laws-of x (ins-in S x i)) u e)
+  pub ins_reach : (x u : ℕ) → member (ins_of S) x ≡ true → member (reach S x) u ≡ true → member (start_held S) u ≡ true
+  unfolding start_held
+  ins_reach x u i e =
+      subset_in (inputs S) (dead S ∪ kept S) (inputs_sorted S F.classes T laws_of) u
+      (subset_in (reach S x) (inputs S) (input_reach T S laws_of x (ins_in S x i)) u e)
 
-  pub outs-reach : (x u : ℕ) → member (outsOf S) x ≡ true → member (reach S x) u ≡ true → member (born S ∪ kept S) u ≡ true
-  outs-reach x u i e =
-      subset-in (outputs S) (born S ∪ kept S) (outputs-sorted S F.classes T laws-of) u
-      (subset-in (reach S x) (outputs S) (output-reach T S laws-of x (outs-in S x i)) u e)
+  pub outs_reach : (x u : ℕ) → member (outs_of S) x ≡ true → member (reach S x) u ≡ true → member (born S ∪ kept S) u ≡ true
+  outs_reach x u i e =
+      subset_in (outputs S) (born S ∪ kept S) (outputs_sorted S F.classes T laws_of) u
+      (subset_in (reach S x) (outputs S) (output_reach T S laws_of x (outs_in S x i)) u e)
 
 -- a procedure with no in and out variables has no input and output regions
-pub none-shared : (S : Signature) → insOf S ≡ emptySet → outsOf S ≡ emptySet → (r : ℕ) → shared S r → ⊥
-unfolding inputs outputs reachAll
-none-shared S p q r e = ⊎_elim (none (insOf S) p) (none (outsOf S) q) (union-in (inputs S) (outputs S) r e)
+pub none_shared : (S : Signature) → ins_of S ≡ empty_set → outs_of S ≡ empty_set → (r : ℕ) → shared S r → ⊥
+unfolding inputs outputs reach_all
+none_shared S p q r e = ⊎_elim (none (ins_of S) p) (none (outs_of S) q) (union_in (inputs S) (outputs S) r e)
   where
-    none : (xs : Set) → xs ≡ emptySet → member (reachAll S xs) r ≡ true → ⊥
-    none xs z a = let w = unionOver-in (reach S) xs r a in empty-in xs z w.0 w.1
+    none : (xs : Set) → xs ≡ empty_set → member (reach_all S xs) r ≡ true → ⊥
+    none xs z a = let w = union_over_in (reach S) xs r a in empty_in xs z w.0 w.1

@@ -9,8 +9,8 @@ use Rattle.std.proofs.Math.Decide.{dec_lt}
 use Rattle.std.proofs.lemmas.Bool.{eqb-false}
 use Rattle.std.specs.Int.Bits.{bit_and, bit_or, bit_xor}
 use Rattle.std.proofs.Math.Dec.{eqb-suc-suc, eqb-suc-zero}
-use Rattle.sets.specs.Digits.{bit, bit-or, bit-and, bit-xor, bit-zero, bit-pow, bit-ext, bit_high, bit-some}
-use Rattle.sets.specs.Tests.{◌&◌, ◌or◌, neg, truth, clash, and-true, true-and, or-true, true-or-left, true-or-right, neg-true, true-neg}
+use Rattle.sets.specs.Digits.{bit, bit_or_law, bit_and_law, bit_xor_law, bit_zero, bit_pow, bit_ext, bit_high, bit_some}
+use Rattle.sets.specs.Tests.{◌&◌, ◌or◌, neg, truth, clash, and_true, true_and, or_true, true_or_left, true_or_right, neg_true, true_neg}
 use Rattle.sets.specs.declared.Set.{Set}
 
 infixl 40 ◌∪◌
@@ -22,16 +22,16 @@ member s zero = false
 member s (suc k) = bit s.bits k
 
 -- `Set::EMPTY`: an abbrev, since a constant stands in a caller's goal as the record that it is
-abbrev pub emptySet : Set
-emptySet = record { bits = 0 }
+abbrev pub empty_set : Set
+empty_set = record { bits = 0 }
 
 unfoldable pub one_at : Bool → ℕ → Set
 one_at true k = record { bits = 2 ^ k }
-one_at false k = emptySet
+one_at false k = empty_set
 
 -- the set of n alone; empty where n is not from 1 to 64
 unfoldable pub single : ℕ → Set
-single zero = emptySet
+single zero = empty_set
 single (suc k) = one_at (ltb k 64) k
 
 unfoldable pub ◌∪◌ : Set → Set → Set
@@ -44,16 +44,16 @@ unfoldable pub ◌∖◌ : Set → Set → Set
 a ∖ b = record { bits = bit_xor a.bits (bit_and a.bits b.bits) }
 
 -- a and b are one set
-unfoldable pub sameSet : Set → Set → Bool
-sameSet a b = eqb a.bits b.bits
+unfoldable pub same_set : Set → Set → Bool
+same_set a b = eqb a.bits b.bits
 
 -- each member of a is one of b
 unfoldable pub subset : Set → Set → Bool
-subset a b = sameSet (a ∖ b) emptySet
+subset a b = same_set (a ∖ b) empty_set
 
 -- a and b have no common member
 unfoldable pub apart : Set → Set → Bool
-apart a b = sameSet (a ∩ b) emptySet
+apart a b = same_set (a ∩ b) empty_set
 
 -- a set kept as one word of memory; 0 is the empty set
 unfoldable pub stored : Set → ℕ
@@ -62,43 +62,43 @@ stored s = s.bits
 unfoldable pub loaded : ℕ → Set
 loaded word = record { bits = word }
 
-pub loaded-stored : (s : Set) → loaded (stored s) ≡ s
+pub loaded_stored : (s : Set) → loaded (stored s) ≡ s
 unfolding stored loaded
-loaded-stored s = refl
+loaded_stored s = refl
 
-pub loaded-zero : loaded 0 ≡ emptySet
+pub loaded_zero : loaded 0 ≡ empty_set
 unfolding loaded
-loaded-zero = refl
+loaded_zero = refl
 
 -- ---- the members of each
-pub member-pos : (s : Set) (n : ℕ) → member s n ≡ true → 1 ≤ n
+pub member_pos : (s : Set) (n : ℕ) → member s n ≡ true → 1 ≤ n
 unfolding member
-member-pos s zero e = absurd (clash e refl)
-member-pos s (suc k) e = omega arith
+member_pos s zero e = absurd (clash e refl)
+member_pos s (suc k) e = omega arith
 
-pub member-empty : (n : ℕ) → member emptySet n ≡ false
+pub member_empty : (n : ℕ) → member empty_set n ≡ false
 unfolding member
-member-empty zero = refl
-member-empty (suc k) = bit-zero k
+member_empty zero = refl
+member_empty (suc k) = bit_zero k
 
-pub single-zero : single 0 ≡ emptySet
+pub single_zero : single 0 ≡ empty_set
 unfolding single
-single-zero = refl
+single_zero = refl
 
-pub single-high : (n : ℕ) → 64 < n → single n ≡ emptySet
+pub single_high : (n : ℕ) → 64 < n → single n ≡ empty_set
 unfolding single one_at
-single-high zero h = refl
-single-high (suc k) h = ap (λ (b : Bool). one_at b k) (le-ltb k 64 (omega arith))
+single_high zero h = refl
+single_high (suc k) h = ap (λ (b : Bool). one_at b k) (le-ltb k 64 (omega arith))
 
-pub member-single : (m n : ℕ) → 1 ≤ m → m ≤ 64 → member (single m) n ≡ eqb m n
+pub member_single : (m n : ℕ) → 1 ≤ m → m ≤ 64 → member (single m) n ≡ eqb m n
 unfolding member single one_at
-member-single zero n h l = absurd (omega arith)
-member-single (suc k) zero h l = sym (eqb-suc-zero k)
-member-single (suc k) (suc n) h l =
-    ap (λ (b : Bool). member (one_at b k) (suc n)) (lt-ltb k 64 (omega arith)) ∙ bit-pow k n ∙ sym (eqb-suc-suc k n)
+member_single zero n h l = absurd (omega arith)
+member_single (suc k) zero h l = sym (eqb-suc-zero k)
+member_single (suc k) (suc n) h l =
+    ap (λ (b : Bool). member (one_at b k) (suc n)) (lt-ltb k 64 (omega arith)) ∙ bit_pow k n ∙ sym (eqb-suc-suc k n)
 
-pub single-mk : (n : ℕ) → 1 ≤ n → n ≤ 64 → member (single n) n ≡ true
-single-mk n h l = member-single n n h l ∙ eq-eqb n n refl
+pub single_mk : (n : ℕ) → 1 ≤ n → n ≤ 64 → member (single n) n ≡ true
+single_mk n h l = member_single n n h l ∙ eq-eqb n n refl
 
 or_is : (a b : Bool) → (a || b) ≡ (a or b)
 unfolding ◌or◌
@@ -110,110 +110,110 @@ unfolding ◌&◌
 and_is true b = refl
 and_is false b = refl
 
-less-is : (a b : Bool) → xor a (a && b) ≡ (a & neg b)
+less_is : (a b : Bool) → xor a (a && b) ≡ (a & neg b)
 unfolding xor ◌&◌ neg
-less-is true true = refl
-less-is true false = refl
-less-is false b = refl
+less_is true true = refl
+less_is true false = refl
+less_is false b = refl
 
 pub member_union : (a b : Set) (n : ℕ) → member (a ∪ b) n ≡ (member a n or member b n)
 unfolding member ◌∪◌ ◌or◌
 member_union a b zero = refl
-member_union a b (suc k) = bit-or a.bits b.bits k ∙ or_is (bit a.bits k) (bit b.bits k)
+member_union a b (suc k) = bit_or_law a.bits b.bits k ∙ or_is (bit a.bits k) (bit b.bits k)
 
-pub member-intersection : (a b : Set) (n : ℕ) → member (a ∩ b) n ≡ (member a n & member b n)
+pub member_intersection : (a b : Set) (n : ℕ) → member (a ∩ b) n ≡ (member a n & member b n)
 unfolding member ◌∩◌ ◌&◌
-member-intersection a b zero = refl
-member-intersection a b (suc k) = bit-and a.bits b.bits k ∙ and_is (bit a.bits k) (bit b.bits k)
+member_intersection a b zero = refl
+member_intersection a b (suc k) = bit_and_law a.bits b.bits k ∙ and_is (bit a.bits k) (bit b.bits k)
 
-pub member-difference : (a b : Set) (n : ℕ) → member (a ∖ b) n ≡ (member a n & neg (member b n))
+pub member_difference : (a b : Set) (n : ℕ) → member (a ∖ b) n ≡ (member a n & neg (member b n))
 unfolding member ◌∖◌ ◌&◌
-member-difference a b zero = refl
-member-difference a b (suc k) =
-    bit-xor a.bits (bit_and a.bits b.bits) k ∙ ap (xor (bit a.bits k)) (bit-and a.bits b.bits k)
-    ∙ less-is (bit a.bits k) (bit b.bits k)
+member_difference a b zero = refl
+member_difference a b (suc k) =
+    bit_xor_law a.bits (bit_and a.bits b.bits) k ∙ ap (xor (bit a.bits k)) (bit_and_law a.bits b.bits k)
+    ∙ less_is (bit a.bits k) (bit b.bits k)
 
 -- ---- the same as steps from one membership to another
-pub single-in : (m n : ℕ) → member (single m) n ≡ true → m ≡ n
-single-in zero n e = absurd (clash e (ap (λ (s : Set). member s n) single-zero ∙ member-empty n))
-single-in (suc k) n e = go (dec_lt k 64)
+pub single_in : (m n : ℕ) → member (single m) n ≡ true → m ≡ n
+single_in zero n e = absurd (clash e (ap (λ (s : Set). member s n) single_zero ∙ member_empty n))
+single_in (suc k) n e = go (dec_lt k 64)
   where
     go : Dec (k < 64) → suc k ≡ n
-    go (yes h) = eqb-true (suc k) n (sym (member-single (suc k) n (omega arith) (omega arith)) ∙ e)
-    go (no f) = absurd (clash e (ap (λ (s : Set). member s n) (single-high (suc k) (omega arith)) ∙ member-empty n))
+    go (yes h) = eqb-true (suc k) n (sym (member_single (suc k) n (omega arith) (omega arith)) ∙ e)
+    go (no f) = absurd (clash e (ap (λ (s : Set). member s n) (single_high (suc k) (omega arith)) ∙ member_empty n))
 
 module _ (a b : Set) (n : ℕ) where
   pub union_left : member a n ≡ true → member (a ∪ b) n ≡ true
-  union_left e = member_union a b n ∙ true-or-left _ e
+  union_left e = member_union a b n ∙ true_or_left _ e
 
   pub union_right : member b n ≡ true → member (a ∪ b) n ≡ true
-  union_right e = member_union a b n ∙ true-or-right _ e
+  union_right e = member_union a b n ∙ true_or_right _ e
 
-  pub union-in : member (a ∪ b) n ≡ true → (member a n ≡ true) ⊎ (member b n ≡ true)
-  union-in e = or-true (sym (member_union a b n) ∙ e)
+  pub union_in : member (a ∪ b) n ≡ true → (member a n ≡ true) ⊎ (member b n ≡ true)
+  union_in e = or_true (sym (member_union a b n) ∙ e)
 
-  pub intersection-mk : member a n ≡ true → member b n ≡ true → member (a ∩ b) n ≡ true
-  intersection-mk p q = member-intersection a b n ∙ true-and p q
+  pub intersection_mk : member a n ≡ true → member b n ≡ true → member (a ∩ b) n ≡ true
+  intersection_mk p q = member_intersection a b n ∙ true_and p q
 
-  pub intersection-in : member (a ∩ b) n ≡ true → (member a n ≡ true) × (member b n ≡ true)
-  intersection-in e = and-true (sym (member-intersection a b n) ∙ e)
+  pub intersection_in : member (a ∩ b) n ≡ true → (member a n ≡ true) × (member b n ≡ true)
+  intersection_in e = and_true (sym (member_intersection a b n) ∙ e)
 
-  pub difference-mk : member a n ≡ true → member b n ≡ false → member (a ∖ b) n ≡ true
-  difference-mk p q = member-difference a b n ∙ true-and p (true-neg q)
+  pub difference_mk : member a n ≡ true → member b n ≡ false → member (a ∖ b) n ≡ true
+  difference_mk p q = member_difference a b n ∙ true_and p (true_neg q)
 
-  pub difference-in : member (a ∖ b) n ≡ true → (member a n ≡ true) × (member b n ≡ false)
-  difference-in e = let p = and-true (sym (member-difference a b n) ∙ e) in (p.0, neg-true p.1)
+  pub difference_in : member (a ∖ b) n ≡ true → (member a n ≡ true) × (member b n ≡ false)
+  difference_in e = let p = and_true (sym (member_difference a b n) ∙ e) in (p.0, neg_true p.1)
 
 -- ---- equal sets
-pub member-ext : (a b : Set) → ((n : ℕ) → member a n ≡ member b n) → a ≡ b
+pub member_ext : (a b : Set) → ((n : ℕ) → member a n ≡ member b n) → a ≡ b
 unfolding member
-member-ext a b h = ap {B = Set} (λ (x : ℕ). record { bits = x }) (bit-ext a.bits b.bits (λ k. h (suc k)))
+member_ext a b h = ap {B = Set} (λ (x : ℕ). record { bits = x }) (bit_ext a.bits b.bits (λ k. h (suc k)))
 
-pub same-eq : (a b : Set) → sameSet a b ≡ true → a ≡ b
-unfolding sameSet
-same-eq a b e = ap {B = Set} (λ (x : ℕ). record { bits = x }) (eqb-true a.bits b.bits e)
+pub same_eq : (a b : Set) → same_set a b ≡ true → a ≡ b
+unfolding same_set
+same_eq a b e = ap {B = Set} (λ (x : ℕ). record { bits = x }) (eqb-true a.bits b.bits e)
 
-pub eq-same : (a b : Set) → a ≡ b → sameSet a b ≡ true
-unfolding sameSet
-eq-same a b e = eq-eqb a.bits b.bits (ap (λ (s : Set). s.bits) e)
+pub eq_same : (a b : Set) → a ≡ b → same_set a b ≡ true
+unfolding same_set
+eq_same a b e = eq-eqb a.bits b.bits (ap (λ (s : Set). s.bits) e)
 
 -- a set that is not empty has a member
-pub member-some : (s : Set) → sameSet s emptySet ≡ false → (n : ℕ) × (member s n ≡ true)
-unfolding sameSet member
-member-some s e = let r = bit-some s.bits (eqb-false s.bits 0 e) in (suc r.0, r.1)
+pub member_some : (s : Set) → same_set s empty_set ≡ false → (n : ℕ) × (member s n ≡ true)
+unfolding same_set member
+member_some s e = let r = bit_some s.bits (eqb-false s.bits 0 e) in (suc r.0, r.1)
 
 -- ---- subsets
-pub subset-in : (a b : Set) → subset a b ≡ true → (n : ℕ) → member a n ≡ true → member b n ≡ true
+pub subset_in : (a b : Set) → subset a b ≡ true → (n : ℕ) → member a n ≡ true → member b n ≡ true
 unfolding subset
-subset-in a b e n m = go (truth (member b n))
+subset_in a b e n m = go (truth (member b n))
   where
     go : (member b n ≡ true) ⊎ (member b n ≡ false) → member b n ≡ true
     go (inl p) = p
     go (inr q) =
-        absurd (clash (difference-mk a b n m q) (ap (λ (s : Set). member s n) (same-eq (a ∖ b) emptySet e) ∙ member-empty n))
+        absurd (clash (difference_mk a b n m q) (ap (λ (s : Set). member s n) (same_eq (a ∖ b) empty_set e) ∙ member_empty n))
 
 -- some member of a is none of b
-pub subset-fails : (a b : Set) → subset a b ≡ false → (n : ℕ) × (member a n ≡ true) × (member b n ≡ false)
+pub subset_fails : (a b : Set) → subset a b ≡ false → (n : ℕ) × (member a n ≡ true) × (member b n ≡ false)
 unfolding subset
-subset-fails a b e =
-    let r = member-some (a ∖ b) e in
-    let p = difference-in a b r.0 r.1 in
+subset_fails a b e =
+    let r = member_some (a ∖ b) e in
+    let p = difference_in a b r.0 r.1 in
     (r.0, p.0, p.1)
 
-pub subset-mk : (a b : Set) → ((n : ℕ) → member a n ≡ true → member b n ≡ true) → subset a b ≡ true
-subset-mk a b h = go (truth (subset a b))
+pub subset_mk : (a b : Set) → ((n : ℕ) → member a n ≡ true → member b n ≡ true) → subset a b ≡ true
+subset_mk a b h = go (truth (subset a b))
   where
     go : (subset a b ≡ true) ⊎ (subset a b ≡ false) → subset a b ≡ true
     go (inl p) = p
-    go (inr q) = let r = subset-fails a b q in absurd (clash (h r.0 r.1) r.2)
+    go (inr q) = let r = subset_fails a b q in absurd (clash (h r.0 r.1) r.2)
 
--- ---- s has no member above 64. Each set that the code holds is such: in a proof of code, `small-of-bits s (search needs)`
+-- ---- s has no member above 64. Each set that the code holds is such: in a proof of code, `small_of_bits s (search needs)`
 pub record Small (s : Set) : Type 0 where
   pub high : (n : ℕ) → 64 < n → member s n ≡ false
 
-pub small-of-bits : (s : Set) → s.bits < 2 ^ 64 → Small s
+pub small_of_bits : (s : Set) → s.bits < 2 ^ 64 → Small s
 unfolding member
-small-of-bits s h = record { high = go }
+small_of_bits s h = record { high = go }
   where
     go : (n : ℕ) → 64 < n → member s n ≡ false
     go zero l = refl

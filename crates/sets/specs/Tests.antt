@@ -36,44 +36,44 @@ same_truth {a = true} f g = sym (f refl)
 same_truth {a = false} f g = sym (false_of (λ e. false≢true (g e)))
 
 -- ---- and
-pub and-true : {a b : Bool} → (a & b) ≡ true → (a ≡ true) × (b ≡ true)
+pub and_true : {a b : Bool} → (a & b) ≡ true → (a ≡ true) × (b ≡ true)
 unfolding ◌&◌
-and-true {a = true} e = (refl, e)
-and-true {a = false} e = absurd (false≢true e)
+and_true {a = true} e = (refl, e)
+and_true {a = false} e = absurd (false≢true e)
 
-pub true-and : {a b : Bool} → a ≡ true → b ≡ true → (a & b) ≡ true
+pub true_and : {a b : Bool} → a ≡ true → b ≡ true → (a & b) ≡ true
 unfolding ◌&◌
-true-and {a = true} p q = q
-true-and {a = false} p q = p
+true_and {a = true} p q = q
+true_and {a = false} p q = p
 
-pub and-false : {a b : Bool} → (a & b) ≡ false → (a ≡ false) ⊎ (b ≡ false)
+pub and_false : {a b : Bool} → (a & b) ≡ false → (a ≡ false) ⊎ (b ≡ false)
 unfolding ◌&◌
-and-false {a = true} e = inr e
-and-false {a = false} e = inl refl
+and_false {a = true} e = inr e
+and_false {a = false} e = inl refl
 
 -- ---- or
-pub or-true : {a b : Bool} → (a or b) ≡ true → (a ≡ true) ⊎ (b ≡ true)
+pub or_true : {a b : Bool} → (a or b) ≡ true → (a ≡ true) ⊎ (b ≡ true)
 unfolding ◌or◌
-or-true {a = true} e = inl refl
-or-true {a = false} e = inr e
+or_true {a = true} e = inl refl
+or_true {a = false} e = inr e
 
-pub true-or-left : {a : Bool} (b : Bool) → a ≡ true → (a or b) ≡ true
+pub true_or_left : {a : Bool} (b : Bool) → a ≡ true → (a or b) ≡ true
 unfolding ◌or◌
-true-or-left {a = true} b e = refl
-true-or-left {a = false} b e = absurd (false≢true e)
+true_or_left {a = true} b e = refl
+true_or_left {a = false} b e = absurd (false≢true e)
 
-pub true-or-right : (a : Bool) {b : Bool} → b ≡ true → (a or b) ≡ true
+pub true_or_right : (a : Bool) {b : Bool} → b ≡ true → (a or b) ≡ true
 unfolding ◌or◌
-true-or-right true e = refl
-true-or-right false e = e
+true_or_right true e = refl
+true_or_right false e = e
 
 -- ---- not
-pub neg-true : {a : Bool} → neg a ≡ true → a ≡ false
+pub neg_true : {a : Bool} → neg a ≡ true → a ≡ false
 unfolding neg
-neg-true {a = true} e = sym e
-neg-true {a = false} e = refl
+neg_true {a = true} e = sym e
+neg_true {a = false} e = refl
 
-pub true-neg : {a : Bool} → a ≡ false → neg a ≡ true
+pub true_neg : {a : Bool} → a ≡ false → neg a ≡ true
 unfolding neg
-true-neg {a = true} e = sym e
-true-neg {a = false} e = refl
+true_neg {a = true} e = sym e
+true_neg {a = false} e = refl

@@ -1,7 +1,7 @@
 // A set of numbers from 1 to 64, by value: the number n is the bit at the place n - 1.
 ghost use Rattle.std.specs.Prelude.{◌≡◌, false};
-ghost use Rattle.sets.specs.Sets.{member, emptySet, single, ◌∪◌, ◌∩◌, ◌∖◌, sameSet, subset, stored, loaded};
-ghost use Rattle.sets.specs.Members.{nextMember};
+ghost use Rattle.sets.specs.Sets.{member, empty_set, single, ◌∪◌, ◌∩◌, ◌∖◌, same_set, subset, stored, loaded};
+ghost use Rattle.sets.specs.Members.{next_member};
 
 // The greatest number that may be a member, and the one that stands for none.
 const GREATEST: usize = 64;
@@ -74,7 +74,7 @@ impl Set {
 
     // Whether both have the same members.
     pub fn same(self, other: Set) -> bool
-        ensures { result ≡ sameSet self other }
+        ensures { result ≡ same_set self other }
     {
         self.bits == other.bits
     }
@@ -88,7 +88,7 @@ impl Set {
 
     // The least member above `n`, or 65 where there is none, in one step. A loop over all members starts at `n` = 0.
     pub fn after(self, n: usize) -> usize
-        ensures { result ≡ nextMember self n }
+        ensures { result ≡ next_member self n }
     {
         if GREATEST <= n {
             return NONE;
@@ -101,14 +101,14 @@ impl Set {
 
     // Whether there is no member.
     pub fn is_empty(self) -> bool
-        ensures { result ≡ sameSet self emptySet }
+        ensures { result ≡ same_set self empty_set }
     {
         self.bits == 0
     }
 
-    // The least member, or 65 where there is none. A loop takes it off until the set is empty: the law `members-lowest`.
+    // The least member, or 65 where there is none. A loop takes it off until the set is empty: the law `members_lowest`.
     pub fn lowest(self) -> usize
-        ensures { result ≡ nextMember self 0 }
+        ensures { result ≡ next_member self 0 }
     {
         let zeros = u64::trailing_zeros(self.bits) as usize;
         1 + zeros
@@ -116,8 +116,8 @@ impl Set {
 
     // The members but for the least one.
     pub fn without_lowest(self) -> Set
-        requires { sameSet self emptySet ≡ false }
-        ensures { result ≡ self ∖ single (nextMember self 0) }
+        requires { same_set self empty_set ≡ false }
+        ensures { result ≡ self ∖ single (next_member self 0) }
     {
         Set {
             bits: self.bits & (self.bits - 1),

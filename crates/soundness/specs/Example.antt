@@ -3,12 +3,12 @@
 use Rattle.std.specs.Prelude.{ℕ, List, [], ◌∷◌, ◌≡◌, refl, pos}
 use Rattle.language.specs.declared.Verdict.TheVariants.{Accepted}
 use Rattle.language.specs.declared.Ending.TheVariants.{Finished}
-use Rattle.language.specs.Machine.{runnerLent}
-use Rattle.language.specs.Answers.{annotated, writes, annotatorBytes, checked, ran}
+use Rattle.language.specs.Machine.{runner_lent}
+use Rattle.language.specs.Answers.{annotated, writes, annotator_bytes, checked, ran}
 use Rattle.language.specs.Computing.{computing}
 use Rattle.language.specs.Table.{eight, rows, file}
 use Rattle.soundness.specs.Statement.{Sound}
-use Rattle.soundness.specs.Demand3.{demand-3, written-accepted}
+use Rattle.soundness.specs.Demand3.{demand_3, written_accepted}
 
 unfoldable pub source : List ℕ
 source =
@@ -42,21 +42,21 @@ listed =
     (5 ∷ 0 ∷ 0 ∷ 1 ∷ 1 ∷ []) ∷ (6 ∷ 0 ∷ 1 ∷ 2 ∷ 53 ∷ []) ∷ (7 ∷ 0 ∷ 1 ∷ 2 ∷ 1 ∷ []) ∷ (12 ∷ 0 ∷ 1 ∷ 55 ∷ []) ∷ (13 ∷ 57 ∷ 56 ∷ []) ∷
     (19 ∷ 0 ∷ 1 ∷ []) ∷ (13 ∷ 0 ∷ 58 ∷ 1 ∷ 2 ∷ 3 ∷ []) ∷ (17 ∷ 59 ∷ 2 ∷ []) ∷ (15 ∷ 0 ∷ 3 ∷ 60 ∷ []) ∷ (16 ∷ 0 ∷ 3 ∷ []) ∷ [])
 
-pub source-annotated : annotated source annotatorBytes ≡ writes listed
+pub source_annotated : annotated source annotator_bytes ≡ writes listed
 unfolding computing eight rows file source listed
-source-annotated = refl
+source_annotated = refl
 
-pub listed-checked : checked listed ≡ Accepted
+pub listed_checked : checked listed ≡ Accepted
 unfolding computing eight rows file listed
-listed-checked = refl
+listed_checked = refl
 
-pub listed-run : ran listed runnerLent ≡ record { ending = Finished; steps = 35; printed = pos 2 ∷ pos 1 ∷ pos 2 ∷ pos 1 ∷ [] }
+pub listed_run : ran listed runner_lent ≡ record { ending = Finished; steps = 35; printed = pos 2 ∷ pos 1 ∷ pos 2 ∷ pos 1 ∷ [] }
 unfolding computing eight rows file listed
-listed-run = refl
+listed_run = refl
 
 -- by the claims, with no further computation
-pub listed-sound : Sound listed
-listed-sound = demand-3 listed listed-checked
+pub listed_sound : Sound listed
+listed_sound = demand_3 listed listed_checked
 
-pub listed-written : checked listed ≡ Accepted
-listed-written = written-accepted source annotatorBytes listed source-annotated
+pub listed_written : checked listed ≡ Accepted
+listed_written = written_accepted source annotator_bytes listed source_annotated

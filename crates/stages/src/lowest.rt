@@ -1,15 +1,15 @@
 // Numbers 1 to 3 of any bytes; then numbers 4, 5 and 17, and 7's part for every program, with the tables that later stages read.
 ghost use Rattle.std.specs.Prelude.{◌≡◌, true, ◌≤◌, length};
 ghost use Rattle.language.specs.declared.Verdict.TheVariants.{Accepted};
-ghost use Rattle.language.specs.Typing.{typingOk};
-ghost use Rattle.language.specs.Regions.{regionsOk};
+ghost use Rattle.language.specs.Typing.{typing_ok};
+ghost use Rattle.language.specs.Regions.{regions_ok};
 ghost use Rattle.language.specs.Answers.{lowest, program};
-ghost use Rattle.tables.specs.TablePlaces.{fileWords, rowWords};
+ghost use Rattle.tables.specs.TablePlaces.{file_words, row_words};
 ghost use Rattle.chains.specs.Formed.{Formed};
 ghost use Rattle.tables.specs.Window.{FileTable};
 ghost use Rattle.tables.specs.Filled.{Prepared};
 ghost use Rattle.regions.specs.Rowed.{AfterPass};
-ghost use Rattle.stages.specs.Stages.{shapeStages, typingStages, regionStages, tableStages};
+ghost use Rattle.stages.specs.Stages.{shape_stages, typing_stages, region_stages, table_stages};
 ghost use Rattle.stages.specs.Tabled.{TablesAfter};
 
 use called::all_reached;
@@ -26,7 +26,7 @@ use windows::list_procedures;
 
 // Numbers 1 and 2.
 fn check_shape(file: &[u8]) -> Verdict
-    ensures { result ≡ lowest (shapeStages file.now) }
+    ensures { result ≡ lowest (shape_stages file.now) }
 {
     let answer = check_form(file);
     let Verdict::Accepted = answer else {
@@ -40,7 +40,7 @@ fn check_shape(file: &[u8]) -> Verdict
 
 // Numbers 1 to 3.
 pub fn check_typing(file: &[u8]) -> Verdict
-    ensures { result ≡ lowest (typingStages file.now) }
+    ensures { result ≡ lowest (typing_stages file.now) }
 {
     let answer = check_shape(file);
     let Verdict::Accepted = answer else {
@@ -55,11 +55,11 @@ pub fn check_typing(file: &[u8]) -> Verdict
 // Numbers 5 and 17, with what each step does to regions in its row. Both go by the procedure that each record belongs to; number 17 puts links over that.
 fn check_regions(file: &[u8], table: &[u64; TABLE], rows: &mut [u64; ROWS]) -> Verdict
     requires formed { Formed file.now }
-    requires file_value { typingOk (program file.now) ≡ true }
+    requires file_value { typing_ok (program file.now) ≡ true }
     requires file_table { FileTable file.now table.now }
-    requires row_words_in_bounds { rowWords ≤ length rows.old }
-    ensures value { result ≡ lowest (regionStages file.now) }
-    ensures after_pass { AfterPass file.now rows.old (regionsOk (program file.now)) rows.new }
+    requires row_words_in_bounds { row_words ≤ length rows.old }
+    ensures value { result ≡ lowest (region_stages file.now) }
+    ensures after_pass { AfterPass file.now rows.old (regions_ok (program file.now)) rows.new }
 {
     let mut owners = blank_owners();
     list_owners(file, &mut owners);
@@ -76,9 +76,9 @@ fn check_regions(file: &[u8], table: &[u64; TABLE], rows: &mut [u64; ROWS]) -> V
 // refusal.
 pub fn check_classes(file: &[u8], table: &mut [u64; TABLE], rows: &mut [u64; ROWS]) -> Verdict
     requires formed { Formed file.now }
-    requires file_value { typingOk (program file.now) ≡ true }
-    requires file_words_in_bounds { (fileWords ≤ length table.old) × (rowWords ≤ length rows.old) }
-    ensures value { result ≡ lowest (tableStages file.now) }
+    requires file_value { typing_ok (program file.now) ≡ true }
+    requires file_words_in_bounds { (file_words ≤ length table.old) × (row_words ≤ length rows.old) }
+    ensures value { result ≡ lowest (table_stages file.now) }
     ensures prepared { result ≡ Accepted → Prepared file.now table.new rows.new }
     ensures tables_after { TablesAfter file.now table.old rows.old result table.new rows.new }
 {

@@ -1,7 +1,7 @@
 // What variables reach, by the window of their procedure.
 ghost use Rattle.std.specs.Prelude.{◌≡◌};
-ghost use Rattle.sets.specs.Members.{unionOver};
-ghost use Rattle.tables.specs.Window.{reachIn};
+ghost use Rattle.sets.specs.Members.{union_over};
+ghost use Rattle.tables.specs.Window.{reach_in};
 
 use crate::window::reach;
 use language::format::PLACES;
@@ -9,7 +9,7 @@ use sets::Set;
 
 // The regions that the variables xs reach.
 pub fn reach_all(own: &[u64], xs: Set) -> Set
-    ensures { result ≡ unionOver (reachIn own.now) xs }
+    ensures { result ≡ union_over (reach_in own.now) xs }
 {
     let mut found = Set::EMPTY;
     let mut x = xs.after(0);

@@ -1,7 +1,7 @@
 // The window of a procedure, found by its start. To read it, lend the file's table from there on, as body_of does.
 ghost use Rattle.std.specs.Prelude.{◌≡◌, ◌≤◌, length, get_or};
-ghost use Rattle.tables.specs.Window.{bodyPlace};
-ghost use Rattle.tables.specs.Starts.{start_in, windowIn};
+ghost use Rattle.tables.specs.Window.{body_place};
+ghost use Rattle.tables.specs.Starts.{start_in, window_in};
 
 use crate::BODY;
 use crate::window::word_at;
@@ -22,7 +22,7 @@ pub fn start_of(table: &[u64], q: usize) -> usize
 
 // The first goal of procedure q.
 pub fn body_of(table: &[u64], q: usize) -> usize
-    ensures { result ≡ get_or (windowIn table.now q) bodyPlace 0 }
+    ensures { result ≡ get_or (window_in table.now q) body_place 0 }
 {
     let start = start_of(table, q);
     word_at(&table[start..], BODY)

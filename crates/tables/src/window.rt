@@ -1,6 +1,6 @@
 // Reading a window. What a window does not have is 0, or the empty set.
 ghost use Rattle.std.specs.Prelude.{◌≡◌, get_or};
-ghost use Rattle.tables.specs.Window.{setIn, is_number, homeIn, reachIn, edgesIn};
+ghost use Rattle.tables.specs.Window.{set_in, is_number, home_in, reach_in, edges_in};
 
 use crate::{EDGES, HOMES, REACHES, REGIONS, VARIABLES};
 use language::format::PLACES;
@@ -15,7 +15,7 @@ pub fn word_at(own: &[u64], k: usize) -> usize
 
 // The set at place k.
 pub fn set_at(own: &[u64], k: usize) -> Set
-    ensures { result ≡ setIn own.now k }
+    ensures { result ≡ set_in own.now k }
 {
     if k < own.len() {
         Set::loaded(own[k])
@@ -39,7 +39,7 @@ fn is_number(n: usize, x: usize) -> bool
 
 // The region of variable x.
 pub fn home(own: &[u64], x: usize) -> usize
-    ensures { result ≡ homeIn own.now x }
+    ensures { result ≡ home_in own.now x }
 {
     if is_number(word_at(own, VARIABLES), x) {
         word_at(own, 2 * x + HOMES)
@@ -50,7 +50,7 @@ pub fn home(own: &[u64], x: usize) -> usize
 
 // The reach of variable x.
 pub fn reach(own: &[u64], x: usize) -> Set
-    ensures { result ≡ reachIn own.now x }
+    ensures { result ≡ reach_in own.now x }
 {
     if is_number(word_at(own, VARIABLES), x) {
         set_at(own, 2 * x + REACHES)
@@ -61,7 +61,7 @@ pub fn reach(own: &[u64], x: usize) -> Set
 
 // The first edge of region r.
 pub fn edges(own: &[u64], r: usize) -> usize
-    ensures { result ≡ edgesIn own.now r }
+    ensures { result ≡ edges_in own.now r }
 {
     let n = word_at(own, VARIABLES);
     if n >= PLACES {

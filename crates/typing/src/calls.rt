@@ -1,6 +1,6 @@
 // A call's arguments against the callee's in and out variables, in chain order.
 ghost use Rattle.std.specs.Prelude.{◌<◌};
-ghost use Rattle.language.specs.File.{variables, arguments, recordCount};
+ghost use Rattle.language.specs.File.{variables, arguments, record_count};
 ghost use Rattle.chains.specs.Formed.{Stands};
 ghost use Rattle.chains.specs.Shapes.{IsCall};
 ghost use Rattle.declarations.specs.Declares.{Declares};
@@ -45,7 +45,7 @@ fn match_arguments(
 // The call of record i.
 pub fn call_ok(file: &[u8], table: &[u16; FILE_PLACES], own: &[u16; OWN_PLACES], i: usize) -> bool
     requires declares { Declares file.now table.now × Own file.now own.now }
-    requires call { IsCall file.now i × (i < recordCount file.now) }
+    requires call { IsCall file.now i × (i < record_count file.now) }
     ensures { GoalTested file.now own.now i result }
 {
     let callee = procedure(table, word(file, i, CALL_PROCEDURE));

@@ -1,7 +1,7 @@
 // A construct, and the arguments of a construct or an arm.
 ghost use Rattle.std.specs.Prelude.{◌<◌};
-ghost use Rattle.language.specs.Format.{maxArity};
-ghost use Rattle.language.specs.File.{recordCount};
+ghost use Rattle.language.specs.Format.{max_arity};
+ghost use Rattle.language.specs.File.{record_count};
 ghost use Rattle.chains.specs.Formed.{Formed};
 ghost use Rattle.chains.specs.Shapes.{IsConstruct};
 ghost use Rattle.declarations.specs.Declares.{Declares};
@@ -17,7 +17,7 @@ use language::format::{
 // Argument k, counted from 0, of record i, against the functor of record g: a variable of its type, or 0 past the arity.
 fn argument_ok(file: &[u8], own: &[u16; OWN_PLACES], g: usize, k: usize, i: usize) -> bool
     requires formed { Formed file.now × Own file.now own.now }
-    requires k_lt_max_arity { (k < maxArity) × (g < recordCount file.now) × (i < recordCount file.now) }
+    requires k_lt_max_arity { (k < max_arity) × (g < record_count file.now) × (i < record_count file.now) }
     ensures { ArgumentTested file.now own.now g k i result }
 {
     let a = word(file, i, TERM_ARGUMENTS + k);
@@ -30,7 +30,7 @@ fn argument_ok(file: &[u8], own: &[u16; OWN_PLACES], g: usize, k: usize, i: usiz
 // The four arguments of record i against the functor of record g.
 fn arguments_ok(file: &[u8], own: &[u16; OWN_PLACES], g: usize, i: usize) -> bool
     requires formed { Formed file.now × Own file.now own.now }
-    requires g_bound { (g < recordCount file.now) × (i < recordCount file.now) }
+    requires g_bound { (g < record_count file.now) × (i < record_count file.now) }
     ensures { ArgumentsTested file.now own.now g i result }
 {
     let mut k = 0;
@@ -46,7 +46,7 @@ fn arguments_ok(file: &[u8], own: &[u16; OWN_PLACES], g: usize, i: usize) -> boo
 // The arm of record i against functor n, of record g: the number and the arguments. There may be no such functor.
 pub fn arm_fits(file: &[u8], own: &[u16; OWN_PLACES], g: usize, n: usize, i: usize) -> bool
     requires formed { Formed file.now × Own file.now own.now }
-    requires g_bound { (g < recordCount file.now) × (i < recordCount file.now) }
+    requires g_bound { (g < record_count file.now) × (i < record_count file.now) }
     ensures { ArmTested file.now own.now g n i result }
 {
     if g == 0 {
@@ -66,7 +66,7 @@ pub fn construct_ok(
     i: usize,
 ) -> bool
     requires declares { Declares file.now table.now × Own file.now own.now }
-    requires construct { IsConstruct file.now i × (i < recordCount file.now) }
+    requires construct { IsConstruct file.now i × (i < record_count file.now) }
     ensures { GoalTested file.now own.now i result }
 {
     let v = variable(own, word(file, i, GOAL_X));

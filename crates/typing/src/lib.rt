@@ -1,4 +1,4 @@
-// Number 3 for a whole file: what it declares, then the goals of each procedure, as the definition `typingOk` says.
+// Number 3 for a whole file: what it declares, then the goals of each procedure, as the definition `typing_ok` says.
 mod calls;
 mod constructs;
 mod stage;

@@ -3,10 +3,10 @@ ghost use Rattle.std.specs.Prelude.{◌≡◌, true};
 ghost use Rattle.language.specs.Lists.{all};
 ghost use Rattle.language.specs.File.{procedures};
 ghost use Rattle.language.specs.Answers.{program};
-ghost use Rattle.language.specs.Typing.{typesOk, typingOk, procedureOk};
-ghost use Rattle.chains.specs.Formed.{Formed, Stands, proceduresAt};
+ghost use Rattle.language.specs.Typing.{types_ok, typing_ok, procedure_ok};
+ghost use Rattle.chains.specs.Formed.{Formed, Stands, procedures_at};
 ghost use Rattle.declarations.specs.Declares.{Declares};
-ghost use Rattle.typing.specs.Procedures.{proceduresOk, procedureAtRecord};
+ghost use Rattle.typing.specs.Procedures.{procedures_ok, procedure_at_record};
 
 use crate::walk::goals;
 use chains::{chain_length, word};
@@ -19,7 +19,7 @@ use language::format::{HEADER_PROCEDURES, MAX_PROCEDURES, NEXT, PROCEDURE_GOALS}
 fn procedure_ok(file: &[u8], table: &[u16; FILE_PLACES], i: usize) -> bool
     requires declares { Declares file.now table.now }
     requires stands { Stands file.now procedures i × (i ≡ 0 → ⊥) }
-    ensures { result ≡ procedureOk (program file.now) (procedureAtRecord file.now i) }
+    ensures { result ≡ procedure_ok (program file.now) (procedure_at_record file.now i) }
 {
     if !counts_ok(file, i) {
         return false;
@@ -36,7 +36,7 @@ fn procedure_ok(file: &[u8], table: &[u16; FILE_PLACES], i: usize) -> bool
 fn each_procedure_ok(file: &[u8], table: &[u16; FILE_PLACES], start: usize) -> bool
     requires declares { Declares file.now table.now }
     requires stands { Stands file.now procedures start }
-    ensures { result ≡ all (procedureOk (program file.now)) (proceduresAt file.now start) }
+    ensures { result ≡ all (procedure_ok (program file.now)) (procedures_at file.now start) }
 {
     let mut i = start;
     while i != 0 {
@@ -51,8 +51,8 @@ fn each_procedure_ok(file: &[u8], table: &[u16; FILE_PLACES], start: usize) -> b
 // The procedures, of a file whose types are in order.
 fn procedures_ok(file: &[u8]) -> bool
     requires formed { Formed file.now }
-    requires file_value { typesOk (program file.now).types ≡ true }
-    ensures { result ≡ proceduresOk (program file.now) }
+    requires file_value { types_ok (program file.now).types ≡ true }
+    ensures { result ≡ procedures_ok (program file.now) }
 {
     let first = word(file, 0, HEADER_PROCEDURES);
     let count = chain_length(file, first);
@@ -70,7 +70,7 @@ fn procedures_ok(file: &[u8]) -> bool
 // Whether number 3 does not apply to a file that passes numbers 1 and 2.
 pub fn typing_ok(file: &[u8]) -> bool
     requires { Formed file.now }
-    ensures { result ≡ typingOk (program file.now) }
+    ensures { result ≡ typing_ok (program file.now) }
 {
     if !types_ok(file) {
         return false;

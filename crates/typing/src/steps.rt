@@ -1,7 +1,7 @@
 // The goals without parts.
 ghost use Rattle.std.specs.Prelude.{◌≡◌, ◌⊎◌, ◌<◌};
-ghost use Rattle.language.specs.File.{word, goals, recordCount};
-ghost use Rattle.records.specs.Sizes.{recordWords};
+ghost use Rattle.language.specs.File.{word, goals, record_count};
+ghost use Rattle.records.specs.Sizes.{record_words};
 ghost use Rattle.chains.specs.Formed.{Formed, Stands};
 ghost use Rattle.chains.specs.Shapes.{IsSum, IsAssign, IsCreate, IsRemove, IsSwitch, IsIf, IsTry, IsTest};
 ghost use Rattle.declarations.specs.Declares.{Declares};
@@ -20,7 +20,7 @@ use language::format::{
 // Whether word k of record i is a variable of type 0.
 pub fn is_number(file: &[u8], own: &[u16; OWN_PLACES], i: usize, k: usize) -> bool
     requires formed { Formed file.now × Own file.now own.now }
-    requires k_lt_record_words { (k < recordWords) × (i < recordCount file.now) }
+    requires k_lt_record_words { (k < record_words) × (i < record_count file.now) }
     ensures { NumberTested file.now own.now i k result }
 {
     has_type(file, own, 0, word(file, i, k))
@@ -28,7 +28,7 @@ pub fn is_number(file: &[u8], own: &[u16; OWN_PLACES], i: usize, k: usize) -> bo
 
 fn sum_ok(file: &[u8], own: &[u16; OWN_PLACES], i: usize) -> bool
     requires formed { Formed file.now × Own file.now own.now }
-    requires sum { IsSum file.now i × (i < recordCount file.now) }
+    requires sum { IsSum file.now i × (i < record_count file.now) }
     ensures { GoalTested file.now own.now i result }
 {
     if !is_number(file, own, i, GOAL_X) {
@@ -45,7 +45,7 @@ fn sum_ok(file: &[u8], own: &[u16; OWN_PLACES], i: usize) -> bool
 
 fn assign_ok(file: &[u8], own: &[u16; OWN_PLACES], i: usize) -> bool
     requires formed { Formed file.now × Own file.now own.now }
-    requires assign { IsAssign file.now i × (i < recordCount file.now) }
+    requires assign { IsAssign file.now i × (i < record_count file.now) }
     ensures { GoalTested file.now own.now i result }
 {
     let v = variable(own, word(file, i, GOAL_X));
@@ -59,7 +59,7 @@ fn assign_ok(file: &[u8], own: &[u16; OWN_PLACES], i: usize) -> bool
 // A create or a remove.
 fn lifetime_ok(file: &[u8], own: &[u16; OWN_PLACES], i: usize) -> bool
     requires formed { Formed file.now × Own file.now own.now }
-    requires create { (IsCreate file.now i ⊎ IsRemove file.now i) × (i < recordCount file.now) }
+    requires create { (IsCreate file.now i ⊎ IsRemove file.now i) × (i < record_count file.now) }
     ensures { GoalTested file.now own.now i result }
 {
     0 < region(own, word(file, i, LIFETIME_REGION))
@@ -67,7 +67,7 @@ fn lifetime_ok(file: &[u8], own: &[u16; OWN_PLACES], i: usize) -> bool
 
 fn test_ok(file: &[u8], own: &[u16; OWN_PLACES], i: usize) -> bool
     requires formed { Formed file.now × Own file.now own.now }
-    requires test { IsTest file.now i × (i < recordCount file.now) }
+    requires test { IsTest file.now i × (i < record_count file.now) }
     ensures { GoalTested file.now own.now i result }
 {
     if !is_number(file, own, i, TEST_Y) {

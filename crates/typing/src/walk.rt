@@ -1,6 +1,6 @@
 // The walk over goals: a chain of goals, a goal, the two parts of an if, the three of a try, a switch with its arms.
 ghost use Rattle.std.specs.Prelude.{◌≡◌, ◌<◌};
-ghost use Rattle.language.specs.File.{functors, goals, arms, recordCount};
+ghost use Rattle.language.specs.File.{functors, goals, arms, record_count};
 ghost use Rattle.chains.specs.Formed.{Stands};
 ghost use Rattle.chains.specs.Shapes.{IsSwitch, IsIf, IsTry};
 ghost use Rattle.declarations.specs.Declares.{Declares};
@@ -52,7 +52,7 @@ fn goal(file: &[u8], table: &[u16; FILE_PLACES], own: &[u16; OWN_PLACES], i: usi
 #[cycle(arms_attempt_branches_goal_goals_switch)]
 fn branches(file: &[u8], table: &[u16; FILE_PLACES], own: &[u16; OWN_PLACES], i: usize) -> bool
     requires declares { Declares file.now table.now × Own file.now own.now }
-    requires fact { IsIf file.now i × (i < recordCount file.now) }
+    requires fact { IsIf file.now i × (i < record_count file.now) }
     ensures { GoalTested file.now own.now i result }
 {
     if !is_number(file, own, i, IF_Y) {
@@ -75,7 +75,7 @@ fn branches(file: &[u8], table: &[u16; FILE_PLACES], own: &[u16; OWN_PLACES], i:
 #[cycle(arms_attempt_branches_goal_goals_switch)]
 fn attempt(file: &[u8], table: &[u16; FILE_PLACES], own: &[u16; OWN_PLACES], i: usize) -> bool
     requires declares { Declares file.now table.now × Own file.now own.now }
-    requires fact { IsTry file.now i × (i < recordCount file.now) }
+    requires fact { IsTry file.now i × (i < record_count file.now) }
     ensures { GoalTested file.now own.now i result }
 {
     if !goals(file, table, own, word(file, i, TRY_CONDITION)) {
@@ -98,7 +98,7 @@ fn attempt(file: &[u8], table: &[u16; FILE_PLACES], own: &[u16; OWN_PLACES], i: 
 #[cycle(arms_attempt_branches_goal_goals_switch)]
 fn switch(file: &[u8], table: &[u16; FILE_PLACES], own: &[u16; OWN_PLACES], i: usize) -> bool
     requires declares { Declares file.now table.now × Own file.now own.now }
-    requires switch { IsSwitch file.now i × (i < recordCount file.now) }
+    requires switch { IsSwitch file.now i × (i < record_count file.now) }
     ensures { GoalTested file.now own.now i result }
 {
     let v = variable(own, word(file, i, GOAL_X));

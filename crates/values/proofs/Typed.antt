@@ -7,147 +7,147 @@ use mathlib.Core.List.{List, [], ◌∷◌}
 use lib.Dec.{eqb}
 use lib.ListN.{length}
 use borrow.Author.Tests.{leb-true}
-use Rattle.sets.specs.Tests.{and-true, clash}
-use Rattle.sets.specs.Members.{consIf}
+use Rattle.sets.specs.Tests.{and_true, clash}
+use Rattle.sets.specs.Members.{cons_if}
 use Rattle.language.specs.Lists.{all, among}
-use Rattle.language.specs.Program.{Four, argumentsOf, Functor, Parameter, Step, literal, sum, assign, construct, call, print, create, remove, test, Goals, ◌then◌, Goal, step, switch, ifLess, try, Arms, arm, Signature, Procedure, Program, parametersOf, signature_of, argumentsIn, outMode}
-use Rattle.language.specs.Typing.{isVariable, hasType, haveTypes, argumentsOk, signatureOk, stepOk, goalsOk, goalOk, armsOk, procedureOk, typingOk}
+use Rattle.language.specs.Program.{Four, arguments_of, Functor, Parameter, Step, literal, sum, assign, construct, call, print, create, remove, test, Goals, ◌then◌, Goal, step, switch, if_less, try, Arms, arm, Signature, Procedure, Program, parameters_of, signature_of, arguments_in, out_mode}
+use Rattle.language.specs.Typing.{is_variable, has_type, have_types, arguments_ok, signature_ok, step_ok, goals_ok, goal_ok, arms_ok, procedure_ok, typing_ok}
 use Rattle.language.specs.Values.{access, accessing}
-use Rattle.language.specs.Format.{maxVariables}
+use Rattle.language.specs.Format.{max_variables}
 use Rattle.accesses.specs.Ranged.{InRange, Ranged}
 
 -- goals of a procedure that passed
 pub record TypedGoals (P : Program) (gs : Goals) : Type 0 where
   pub signature : Signature
-  pub few : length signature.variables ≤ maxVariables
-  pub ok : goalsOk P signature gs ≡ true
+  pub few : length signature.variables ≤ max_variables
+  pub ok : goals_ok P signature gs ≡ true
 
 pub record ArmsTyped (P : Program) (cs : Arms) : Type 0 where
   pub signature : Signature
-  pub few : length signature.variables ≤ maxVariables
+  pub few : length signature.variables ≤ max_variables
   pub functors : List Functor
   pub number : ℕ
-  pub ok : armsOk P signature cs functors number ≡ true
+  pub ok : arms_ok P signature cs functors number ≡ true
 
 -- ---- variables are from 1 to maxVariables
-module _ (S : Signature) (few : length S.variables ≤ maxVariables) where
-  variable-range : (x : ℕ) → isVariable S x ≡ true → InRange x
-  unfolding isVariable among
-  variable-range x e =
-      let p = and-true e in
+module _ (S : Signature) (few : length S.variables ≤ max_variables) where
+  variable_range : (x : ℕ) → is_variable S x ≡ true → InRange x
+  unfolding is_variable among
+  variable_range x e =
+      let p = and_true e in
       let l = leb-true 1 x p.0 in
       let m = leb-true x (length S.variables) p.1 in
       (omega arith, omega arith)
 
-  type-range : (t x : ℕ) → hasType S t x ≡ true → InRange x
-  unfolding hasType
-  type-range t x e = variable-range x (and-true e).0
+  type_range : (t x : ℕ) → has_type S t x ≡ true → InRange x
+  unfolding has_type
+  type_range t x e = variable_range x (and_true e).0
 
-  types-range : (ts xs : List ℕ) → haveTypes S ts xs ≡ true → Ranged xs
-  unfolding haveTypes
-  types-range [] [] e = tt
-  types-range [] (x ∷ xs) e = absurd (clash e refl)
-  types-range (t ∷ ts) [] e = absurd (clash e refl)
-  types-range (t ∷ ts) (x ∷ xs) e = let p = and-true e in (type-range t x p.0, types-range ts xs p.1)
+  types_range : (ts xs : List ℕ) → have_types S ts xs ≡ true → Ranged xs
+  unfolding have_types
+  types_range [] [] e = tt
+  types_range [] (x ∷ xs) e = absurd (clash e refl)
+  types_range (t ∷ ts) [] e = absurd (clash e refl)
+  types_range (t ∷ ts) (x ∷ xs) e = let p = and_true e in (type_range t x p.0, types_range ts xs p.1)
 
-  passed-range : (m : ℕ) (ps : List Parameter) (ys : List ℕ) → Ranged ys → Ranged (argumentsIn m ps ys)
-  unfolding argumentsIn consIf
-  passed-range m [] ys r = tt
-  passed-range m (p ∷ ps) [] r = tt
-  passed-range m (p ∷ ps) (y ∷ ys) r = if-range (eqb p.mode m) y (argumentsIn m ps ys) r.0 (passed-range m ps ys r.1)
+  passed_range : (m : ℕ) (ps : List Parameter) (ys : List ℕ) → Ranged ys → Ranged (arguments_in m ps ys)
+  unfolding arguments_in cons_if
+  passed_range m [] ys r = tt
+  passed_range m (p ∷ ps) [] r = tt
+  passed_range m (p ∷ ps) (y ∷ ys) r = if_range (eqb p.mode m) y (arguments_in m ps ys) r.0 (passed_range m ps ys r.1)
     where
-      if-range : (b : Bool) (y : ℕ) (ys : List ℕ) → InRange y → Ranged ys → Ranged (consIf b y ys)
-      if-range true y ys q r = (q, r)
-      if-range false y ys q r = r
+      if_range : (b : Bool) (y : ℕ) (ys : List ℕ) → InRange y → Ranged ys → Ranged (cons_if b y ys)
+      if_range true y ys q r = (q, r)
+      if_range false y ys q r = r
 
   -- what a step gives
-  given-range : (P : Program) (g : Step) → stepOk P S g ≡ true → Ranged (access P g).given
-  unfolding stepOk access accessing
-  given-range P (literal x v) e = (type-range 0 x e, tt)
-  given-range P (sum x o y z) e = (type-range 0 x (and-true e).0, tt)
-  given-range P (assign x y) e = (variable-range x (and-true e).0, tt)
-  given-range P (construct x f ys) e = (variable-range x (and-true e).0, tt)
-  given-range P (call q ys) e = passed-range outMode (parametersOf (signature_of P q)) ys (types-range _ ys (and-true e).1)
-  given-range P (print y) e = tt
-  given-range P (create r) e = tt
-  given-range P (remove r) e = tt
-  given-range P (test y z) e = tt
+  given_range : (P : Program) (g : Step) → step_ok P S g ≡ true → Ranged (access P g).given
+  unfolding step_ok access accessing
+  given_range P (literal x v) e = (type_range 0 x e, tt)
+  given_range P (sum x o y z) e = (type_range 0 x (and_true e).0, tt)
+  given_range P (assign x y) e = (variable_range x (and_true e).0, tt)
+  given_range P (construct x f ys) e = (variable_range x (and_true e).0, tt)
+  given_range P (call q ys) e = passed_range out_mode (parameters_of (signature_of P q)) ys (types_range _ ys (and_true e).1)
+  given_range P (print y) e = tt
+  given_range P (create r) e = tt
+  given_range P (remove r) e = tt
+  given_range P (test y z) e = tt
 
 -- ---- the parts of goals
 module _ {P : Program} where
-  pub typed-next : {gs hs : Goals} {g : Goal} → TypedGoals P gs → gs ≡ g then hs → TypedGoals P hs
-  unfolding goalsOk
-  typed-next h e = record { signature = h.signature; few = h.few; ok = (and-true (rw e at h.ok)).1 }
+  pub typed_next : {gs hs : Goals} {g : Goal} → TypedGoals P gs → gs ≡ g then hs → TypedGoals P hs
+  unfolding goals_ok
+  typed_next h e = record { signature = h.signature; few = h.few; ok = (and_true (rw e at h.ok)).1 }
 
-  pub typed-step : {gs hs : Goals} {g : Step} → TypedGoals P gs → gs ≡ step g then hs → Ranged (access P g).given
-  unfolding goalsOk goalOk
-  typed-step {g = g} h e = given-range h.signature h.few P g (and-true (rw e at h.ok)).0
+  pub typed_step : {gs hs : Goals} {g : Step} → TypedGoals P gs → gs ≡ step g then hs → Ranged (access P g).given
+  unfolding goals_ok goal_ok
+  typed_step {g = g} h e = given_range h.signature h.few P g (and_true (rw e at h.ok)).0
 
-  pub typed-arms : {gs hs : Goals} {x : ℕ} {cs : Arms} → TypedGoals P gs → gs ≡ switch x cs then hs → ArmsTyped P cs
-  unfolding goalsOk goalOk
-  typed-arms h e =
-      record { signature = h.signature; few = h.few; functors = _; number = 0; ok = (and-true (and-true (and-true (rw e at h.ok)).0).1).1 }
+  pub typed_arms : {gs hs : Goals} {x : ℕ} {cs : Arms} → TypedGoals P gs → gs ≡ switch x cs then hs → ArmsTyped P cs
+  unfolding goals_ok goal_ok
+  typed_arms h e =
+      record { signature = h.signature; few = h.few; functors = _; number = 0; ok = (and_true (and_true (and_true (rw e at h.ok)).0).1).1 }
 
-  pub typed_then : {gs hs bs cs : Goals} {y z : ℕ} → TypedGoals P gs → gs ≡ ifLess y z bs cs then hs → TypedGoals P bs
-  unfolding goalsOk goalOk
-  typed_then h e = record { signature = h.signature; few = h.few; ok = (and-true (and-true (and-true (and-true (rw e at h.ok)).0).1).1).0 }
+  pub typed_then : {gs hs bs cs : Goals} {y z : ℕ} → TypedGoals P gs → gs ≡ if_less y z bs cs then hs → TypedGoals P bs
+  unfolding goals_ok goal_ok
+  typed_then h e = record { signature = h.signature; few = h.few; ok = (and_true (and_true (and_true (and_true (rw e at h.ok)).0).1).1).0 }
 
-  pub typed-else : {gs hs bs cs : Goals} {y z : ℕ} → TypedGoals P gs → gs ≡ ifLess y z bs cs then hs → TypedGoals P cs
-  unfolding goalsOk goalOk
-  typed-else h e = record { signature = h.signature; few = h.few; ok = (and-true (and-true (and-true (and-true (rw e at h.ok)).0).1).1).1 }
+  pub typed_else : {gs hs bs cs : Goals} {y z : ℕ} → TypedGoals P gs → gs ≡ if_less y z bs cs then hs → TypedGoals P cs
+  unfolding goals_ok goal_ok
+  typed_else h e = record { signature = h.signature; few = h.few; ok = (and_true (and_true (and_true (and_true (rw e at h.ok)).0).1).1).1 }
 
-  pub typed-condition : {gs hs bs cs ds : Goals} → TypedGoals P gs → gs ≡ try ds bs cs then hs → TypedGoals P ds
-  unfolding goalsOk goalOk
-  typed-condition h e = record { signature = h.signature; few = h.few; ok = (and-true (and-true (rw e at h.ok)).0).0 }
+  pub typed_condition : {gs hs bs cs ds : Goals} → TypedGoals P gs → gs ≡ try ds bs cs then hs → TypedGoals P ds
+  unfolding goals_ok goal_ok
+  typed_condition h e = record { signature = h.signature; few = h.few; ok = (and_true (and_true (rw e at h.ok)).0).0 }
 
-  pub typed-try-then : {gs hs bs cs ds : Goals} → TypedGoals P gs → gs ≡ try ds bs cs then hs → TypedGoals P bs
-  unfolding goalsOk goalOk
-  typed-try-then h e = record { signature = h.signature; few = h.few; ok = (and-true (and-true (and-true (rw e at h.ok)).0).1).0 }
+  pub typed_try_then : {gs hs bs cs ds : Goals} → TypedGoals P gs → gs ≡ try ds bs cs then hs → TypedGoals P bs
+  unfolding goals_ok goal_ok
+  typed_try_then h e = record { signature = h.signature; few = h.few; ok = (and_true (and_true (and_true (rw e at h.ok)).0).1).0 }
 
-  pub typed-try-else : {gs hs bs cs ds : Goals} → TypedGoals P gs → gs ≡ try ds bs cs then hs → TypedGoals P cs
-  unfolding goalsOk goalOk
-  typed-try-else h e = record { signature = h.signature; few = h.few; ok = (and-true (and-true (and-true (rw e at h.ok)).0).1).1 }
+  pub typed_try_else : {gs hs bs cs ds : Goals} → TypedGoals P gs → gs ≡ try ds bs cs then hs → TypedGoals P cs
+  unfolding goals_ok goal_ok
+  typed_try_else h e = record { signature = h.signature; few = h.few; ok = (and_true (and_true (and_true (rw e at h.ok)).0).1).1 }
 
 -- an arm's arguments, its goals, and the arms behind it
 pub record ArmTyped (P : Program) (ys : Four) (gs : Goals) (cs : Arms) : Type 0 where
-  pub arguments : Ranged (argumentsOf ys)
+  pub arguments : Ranged (arguments_of ys)
   pub goals : TypedGoals P gs
   pub rest : ArmsTyped P cs
 
-typed-arm-in : {P : Program} (f : ℕ) {ys : Four} {gs : Goals} {cs : Arms} (S : Signature) → length S.variables ≤ maxVariables → (fs : List Functor) (n : ℕ)
-    → armsOk P S (arm f ys gs cs) fs n ≡ true → ArmTyped P ys gs cs
-unfolding armsOk argumentsOk
-typed-arm-in f S l [] n e = absurd (clash e refl)
-typed-arm-in {P} f {ys} {gs} {cs} S l (g ∷ fs) n e =
-    let p = and-true (and-true e).1 in
-    let q = and-true p.1 in
+typed_arm_in : {P : Program} (f : ℕ) {ys : Four} {gs : Goals} {cs : Arms} (S : Signature) → length S.variables ≤ max_variables → (fs : List Functor) (n : ℕ)
+    → arms_ok P S (arm f ys gs cs) fs n ≡ true → ArmTyped P ys gs cs
+unfolding arms_ok arguments_ok
+typed_arm_in f S l [] n e = absurd (clash e refl)
+typed_arm_in {P} f {ys} {gs} {cs} S l (g ∷ fs) n e =
+    let p = and_true (and_true e).1 in
+    let q = and_true p.1 in
     record {
-      arguments = types-range S l _ (argumentsOf ys) p.0;
+      arguments = types_range S l _ (arguments_of ys) p.0;
       goals = record { signature = S; few = l; ok = q.0 };
       rest = record { signature = S; few = l; functors = fs; number = suc n; ok = q.1 };
     }
 
-pub typed-arm : {P : Program} {bs cs : Arms} {f : ℕ} {ys : Four} {gs : Goals} → ArmsTyped P bs → bs ≡ arm f ys gs cs → ArmTyped P ys gs cs
-typed-arm {f = f} h e = typed-arm-in f h.signature h.few h.functors h.number (rw e at h.ok)
+pub typed_arm : {P : Program} {bs cs : Arms} {f : ℕ} {ys : Four} {gs : Goals} → ArmsTyped P bs → bs ≡ arm f ys gs cs → ArmTyped P ys gs cs
+typed_arm {f = f} h e = typed_arm_in f h.signature h.few h.functors h.number (rw e at h.ok)
 
 -- ---- the procedures of a program that passed
 pub record TypedAll (P : Program) (ps : List Procedure) : Type 0 where
-  pub ok : all (procedureOk P) ps ≡ true
+  pub ok : all (procedure_ok P) ps ≡ true
 
-pub typed-all : (P : Program) → typingOk P ≡ true → TypedAll P P.procedures
-unfolding typingOk
-typed-all P e = record { ok = (and-true (and-true e).1).1 }
+pub typed_all : (P : Program) → typing_ok P ≡ true → TypedAll P P.procedures
+unfolding typing_ok
+typed_all P e = record { ok = (and_true (and_true e).1).1 }
 
 pub record TypedHead (P : Program) (p : Procedure) (ps : List Procedure) : Type 0 where
   pub goals : TypedGoals P p.body
   pub rest : TypedAll P ps
 
-pub typed-head : {P : Program} {qs ps : List Procedure} {p : Procedure} → TypedAll P qs → qs ≡ p ∷ ps → TypedHead P p ps
-unfolding all procedureOk signatureOk
-typed-head {P} {qs} {ps} {p} h e =
-    let q = and-true (rw e at h.ok) in
-    let r = and-true q.0 in
+pub typed_head : {P : Program} {qs ps : List Procedure} {p : Procedure} → TypedAll P qs → qs ≡ p ∷ ps → TypedHead P p ps
+unfolding all procedure_ok signature_ok
+typed_head {P} {qs} {ps} {p} h e =
+    let q = and_true (rw e at h.ok) in
+    let r = and_true q.0 in
     record {
-      goals = record { signature = p.signature; few = leb-true (length p.signature.variables) maxVariables (and-true r.0).0; ok = r.1 };
+      goals = record { signature = p.signature; few = leb-true (length p.signature.variables) max_variables (and_true r.0).0; ok = r.1 };
       rest = record { ok = q.1 };
     }

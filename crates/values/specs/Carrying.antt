@@ -1,7 +1,7 @@
 -- Number 4's walk as the code makes it: two words carried in place, and what a step and an arm do read off their rows.
 use Rattle.std.specs.Prelude.{ℕ, ◌≡◌, Bool, List}
 use Rattle.language.specs.Answers.{program}
-use Rattle.tables.specs.Rows.{readsIn, givesIn, markIn}
+use Rattle.tables.specs.Rows.{reads_in, gives_in, mark_in}
 use Rattle.walks.specs.Walk.{outcome}
 use Rattle.walks.specs.Along.{GoalsWalked, GoalWalked, ArmsWalked}
 use Rattle.values.specs.Valuing.{valuation, giving, valuer}
@@ -18,4 +18,4 @@ ArmsValued f i c r d = ArmsWalked (valuer (program f)) f i (valuation c) r (valu
 
 -- what row i does
 abbrev pub RowValued : List ℕ → ℕ → List ℕ → Bool → List ℕ → Type 0
-RowValued rows i c r d = outcome r (valuation d) ≡ giving (readsIn rows i) (givesIn rows i) (markIn rows i) (valuation c)
+RowValued rows i c r d = outcome r (valuation d) ≡ giving (reads_in rows i) (gives_in rows i) (mark_in rows i) (valuation c)

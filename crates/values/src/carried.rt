@@ -1,8 +1,8 @@
 // What number 4 carries, in place: a word for the variables with a value on every path that leads here, and one for those with a value on some path.
 ghost use Rattle.std.specs.Prelude.{◌≡◌, ◌≤◌, length};
 ghost use Rattle.sets.specs.Sets.{◌∪◌, ◌∩◌};
-ghost use Rattle.walks.specs.Carried.{walkWords};
-ghost use Rattle.values.specs.Valuing.{everyIn, someIn, both, valuation};
+ghost use Rattle.walks.specs.Carried.{walk_words};
+ghost use Rattle.values.specs.Valuing.{every_in, some_in, both, valuation};
 ghost use Rattle.values.specs.Carrying.{RowValued};
 
 use sets::Set;
@@ -15,19 +15,19 @@ const EVERY: usize = 0;
 const SOME: usize = 1;
 
 pub fn every_in(carried: &[u64; WALK_WORDS]) -> Set
-    ensures { result ≡ everyIn carried.now }
+    ensures { result ≡ every_in carried.now }
 {
     Set::loaded(carried[EVERY])
 }
 
 pub fn some_in(carried: &[u64; WALK_WORDS]) -> Set
-    ensures { result ≡ someIn carried.now }
+    ensures { result ≡ some_in carried.now }
 {
     Set::loaded(carried[SOME])
 }
 
 pub fn carry(carried: &mut [u64], every: Set, some: Set)
-    requires { walkWords ≤ length carried.old }
+    requires { walk_words ≤ length carried.old }
     ensures { valuation carried.new ≡ both every some }
 {
     carried[EVERY] = every.stored();
@@ -36,7 +36,7 @@ pub fn carry(carried: &mut [u64], every: Set, some: Set)
 
 // Where paths meet: another path has those with a value.
 pub fn join(every: Set, some: Set, carried: &mut [u64; WALK_WORDS])
-    ensures { valuation carried.new ≡ both (every ∩ everyIn carried.old) (some ∪ someIn carried.old) }
+    ensures { valuation carried.new ≡ both (every ∩ every_in carried.old) (some ∪ some_in carried.old) }
 {
     let e = every.intersection(every_in(carried));
     let s = some.union(some_in(carried));

@@ -1,11 +1,11 @@
 // Number 4 of a whole file. The rows are filled on the way.
 ghost use Rattle.std.specs.Prelude.{◌≡◌, true, ◌<◌, ◌≤◌, length};
 ghost use Rattle.language.specs.Lists.{all};
-ghost use Rattle.language.specs.Program.{procedureAt};
-ghost use Rattle.language.specs.Typing.{typingOk};
-ghost use Rattle.language.specs.Values.{procedureValues, valuesOk};
+ghost use Rattle.language.specs.Program.{procedure_at};
+ghost use Rattle.language.specs.Typing.{typing_ok};
+ghost use Rattle.language.specs.Values.{procedure_values, values_ok};
 ghost use Rattle.language.specs.Answers.{program};
-ghost use Rattle.tables.specs.TablePlaces.{rowWords};
+ghost use Rattle.tables.specs.TablePlaces.{row_words};
 ghost use Rattle.chains.specs.Formed.{Formed};
 ghost use Rattle.tables.specs.Window.{FileTable};
 ghost use Rattle.accesses.specs.Noting.{AllNoted, RowsKept};
@@ -23,10 +23,10 @@ use walks::blank_walk;
 // Number 4. Fills the rows of steps and arms, whatever the answer.
 pub fn values_ok(file: &[u8], table: &[u64; TABLE], rows: &mut [u64; ROWS]) -> bool
     requires formed { Formed file.now }
-    requires file_value { typingOk (program file.now) ≡ true }
+    requires file_value { typing_ok (program file.now) ≡ true }
     requires file_table { FileTable file.now table.now }
-    requires row_words_in_bounds { rowWords ≤ length rows.old }
-    ensures value { result ≡ valuesOk (program file.now) }
+    requires row_words_in_bounds { row_words ≤ length rows.old }
+    ensures value { result ≡ values_ok (program file.now) }
     ensures all_noted { AllNoted file.now rows.new }
     ensures rows_kept { RowsKept file.now rows.old rows.new }
 {
@@ -41,10 +41,10 @@ pub fn values_ok(file: &[u8], table: &[u64; TABLE], rows: &mut [u64; ROWS]) -> b
 // Whether every procedure passes.
 fn procedures_ok(file: &[u8], table: &[u64; TABLE], rows: &[u64; ROWS]) -> bool
     requires formed { Formed file.now }
-    requires file_value { typingOk (program file.now) ≡ true }
+    requires file_value { typing_ok (program file.now) ≡ true }
     requires file_table { FileTable file.now table.now }
     requires all_noted { AllNoted file.now rows.now }
-    ensures { result ≡ all (procedureValues (program file.now)) (program file.now).procedures }
+    ensures { result ≡ all (procedure_values (program file.now)) (program file.now).procedures }
 {
     let count = chain_length(file, word(file, 0, HEADER_PROCEDURES));
     let mut q = 0;
@@ -60,11 +60,11 @@ fn procedures_ok(file: &[u8], table: &[u64; TABLE], rows: &[u64; ROWS]) -> bool
 // Whether procedure q passes.
 fn procedure_ok(file: &[u8], table: &[u64; TABLE], rows: &[u64; ROWS], q: usize) -> bool
     requires formed { Formed file.now }
-    requires file_value { typingOk (program file.now) ≡ true }
+    requires file_value { typing_ok (program file.now) ≡ true }
     requires file_table { FileTable file.now table.now }
     requires all_noted { AllNoted file.now rows.now }
     requires q_in_bounds { q < length (program file.now).procedures }
-    ensures { result ≡ procedureValues (program file.now) (procedureAt (program file.now) q) }
+    ensures { result ≡ procedure_values (program file.now) (procedure_at (program file.now) q) }
 {
     let window = word_at(table, q);
     let ins = set_at(table, window + INS);

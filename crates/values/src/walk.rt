@@ -1,7 +1,7 @@
 // Number 4's walk over goals. What has a value is carried in place; the answer says that no fault was met.
 ghost use Rattle.std.specs.Prelude.{◌≡◌};
 ghost use Rattle.language.specs.File.{goals, arms, word};
-ghost use Rattle.language.specs.Format.{kindWord, switchKind, ifKind, tryKind};
+ghost use Rattle.language.specs.Format.{kind_word, switch_kind, if_kind, try_kind};
 ghost use Rattle.chains.specs.Formed.{Formed, Stands};
 ghost use Rattle.accesses.specs.Noting.{AllNoted};
 ghost use Rattle.values.specs.Carrying.{GoalsValued, GoalValued, ArmsValued};
@@ -53,7 +53,7 @@ fn goal(file: &[u8], rows: &[u64; ROWS], carried: &mut [u64; WALK_WORDS], i: usi
 fn switch(file: &[u8], rows: &[u64; ROWS], carried: &mut [u64; WALK_WORDS], i: usize) -> bool
     requires formed { Formed file.now }
     requires all_noted { AllNoted file.now rows.now }
-    requires kind_word_value { word file.now i kindWord ≡ switchKind }
+    requires kind_word_value { word file.now i kind_word ≡ switch_kind }
     ensures { GoalValued file.now i carried.old result carried.new }
 {
     if !every_in(carried).has(word(file, i, GOAL_X)) {
@@ -68,7 +68,7 @@ fn switch(file: &[u8], rows: &[u64; ROWS], carried: &mut [u64; WALK_WORDS], i: u
 fn branches(file: &[u8], rows: &[u64; ROWS], carried: &mut [u64; WALK_WORDS], i: usize) -> bool
     requires formed { Formed file.now }
     requires all_noted { AllNoted file.now rows.now }
-    requires kind_word_value { word file.now i kindWord ≡ ifKind }
+    requires kind_word_value { word file.now i kind_word ≡ if_kind }
     ensures { GoalValued file.now i carried.old result carried.new }
 {
     let every = every_in(carried);
@@ -103,7 +103,7 @@ fn branches(file: &[u8], rows: &[u64; ROWS], carried: &mut [u64; WALK_WORDS], i:
 fn attempt(file: &[u8], rows: &[u64; ROWS], carried: &mut [u64; WALK_WORDS], i: usize) -> bool
     requires formed { Formed file.now }
     requires all_noted { AllNoted file.now rows.now }
-    requires kind_word_value { word file.now i kindWord ≡ tryKind }
+    requires kind_word_value { word file.now i kind_word ≡ try_kind }
     ensures { GoalValued file.now i carried.old result carried.new }
 {
     let every = every_in(carried);

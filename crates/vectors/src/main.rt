@@ -4,7 +4,7 @@
 // A pack is jobs one behind the other, as tools/pack-jobs writes them: the length of the name in one byte, the name, the length of the file in three
 // bytes, low byte first, and the file.
 ghost use Rattle.std.specs.Prelude.{◌≡◌, length};
-ghost use Rattle.language.specs.Answers.{annotatorBytes};
+ghost use Rattle.language.specs.Answers.{annotator_bytes};
 
 use annotation::annotated_front;
 use answering::{print_annotated, print_checked, print_run};
@@ -17,7 +17,7 @@ use records::blank::blank_input;
 const MARK: u8 = 251;
 
 fn lent() -> [u8; MAX_BYTES]
-    ensures { annotatorBytes ≡ length result }
+    ensures { annotator_bytes ≡ length result }
 {
     [MARK; MAX_BYTES]
 }

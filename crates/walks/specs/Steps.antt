@@ -4,64 +4,64 @@ use Rattle.std.proofs.Common.{arith, sym}
 use Rattle.std.proofs.Math.Path.{◌≡◌, refl}
 use borrow.Author.Tests.{ne_eqb}
 use Rattle.sets.specs.Tests.{◌or◌}
-use Rattle.sets.specs.Members.{inList}
-use Rattle.language.specs.Format.{literalKind, sumKind, assignKind, constructKind, callKind, printKind, createKind, removeKind, testKind, kindWord}
-use Rattle.language.specs.File.{GoalKind, kLiteral, kSum, kAssign, kConstruct, kSwitch, kIf, kCall, kPrint, kCreate, kRemove, kTry, kTest, kNone, kArm, kGoal, arms, row, kind_of, word, recordCount}
+use Rattle.sets.specs.Members.{in_list}
+use Rattle.language.specs.Format.{literal_kind, sum_kind, assign_kind, construct_kind, call_kind, print_kind, create_kind, remove_kind, test_kind, kind_word}
+use Rattle.language.specs.File.{GoalKind, k_literal, k_sum, k_assign, k_construct, k_switch, k_if, k_call, k_print, k_create, k_remove, k_try, k_test, k_none, k_arm, k_goal, arms, row, kind_of, word, record_count}
 use Rattle.language.specs.Program.{Step, step}
-use Rattle.chains.specs.Layout.{all-rows, starts-kind, arms-kind}
-use Rattle.chains.specs.Formed.{Formed, Stands, stands-starts, goalAt}
-use Rattle.chains.specs.Shapes.{goal-kind, kind-number, switch-here, if_here, try-here}
+use Rattle.chains.specs.Layout.{all_rows, starts_kind, arms_kind}
+use Rattle.chains.specs.Formed.{Formed, Stands, stands_starts, goal_at}
+use Rattle.chains.specs.Shapes.{goal_kind, kind_number, switch_here, if_here, try_here}
 use Rattle.tables.specs.Filled.{GoalIsStep}
 
 -- the kinds of steps
-unfoldable pub isStep : ℕ → Bool
-isStep k =
-    inList k (literalKind ∷ sumKind ∷ assignKind ∷ constructKind ∷ callKind ∷ printKind ∷ createKind ∷ removeKind ∷ testKind ∷ [])
+unfoldable pub is_step : ℕ → Bool
+is_step k =
+    in_list k (literal_kind ∷ sum_kind ∷ assign_kind ∷ construct_kind ∷ call_kind ∷ print_kind ∷ create_kind ∷ remove_kind ∷ test_kind ∷ [])
 
 module _ {k : ℕ} where
-  pub not_step : (k ≡ literalKind → ⊥) → (k ≡ sumKind → ⊥) → (k ≡ assignKind → ⊥) → (k ≡ constructKind → ⊥) → (k ≡ callKind → ⊥) → (k ≡ printKind → ⊥)
-      → (k ≡ createKind → ⊥) → (k ≡ removeKind → ⊥) → (k ≡ testKind → ⊥) → false ≡ isStep k
-  unfolding isStep inList ◌or◌
+  pub not_step : (k ≡ literal_kind → ⊥) → (k ≡ sum_kind → ⊥) → (k ≡ assign_kind → ⊥) → (k ≡ construct_kind → ⊥) → (k ≡ call_kind → ⊥) → (k ≡ print_kind → ⊥)
+      → (k ≡ create_kind → ⊥) → (k ≡ remove_kind → ⊥) → (k ≡ test_kind → ⊥) → false ≡ is_step k
+  unfolding is_step in_list ◌or◌
   not_step a b c d e f g h i =
       rw (
-        ne_eqb literalKind k (λ q. a (sym q)),
-        ne_eqb sumKind k (λ q. b (sym q)),
-        ne_eqb assignKind k (λ q. c (sym q)),
-        ne_eqb constructKind k (λ q. d (sym q)),
-        ne_eqb callKind k (λ q. e (sym q)),
-        ne_eqb printKind k (λ q. f (sym q)),
-        ne_eqb createKind k (λ q. g (sym q)),
-        ne_eqb removeKind k (λ q. h (sym q)),
-        ne_eqb testKind k (λ q. i (sym q)),
+        ne_eqb literal_kind k (λ q. a (sym q)),
+        ne_eqb sum_kind k (λ q. b (sym q)),
+        ne_eqb assign_kind k (λ q. c (sym q)),
+        ne_eqb construct_kind k (λ q. d (sym q)),
+        ne_eqb call_kind k (λ q. e (sym q)),
+        ne_eqb print_kind k (λ q. f (sym q)),
+        ne_eqb create_kind k (λ q. g (sym q)),
+        ne_eqb remove_kind k (λ q. h (sym q)),
+        ne_eqb test_kind k (λ q. i (sym q)),
       ) refl
 
 -- ---- a step's kind
-goal-some : {k : GoalKind} → kGoal k ≡ kNone → ⊥
-goal-some e = let z : ◌≡◌ {A = ℕ} 0 1 = cc in omega arith
+goal_some : {k : GoalKind} → k_goal k ≡ k_none → ⊥
+goal_some e = let z : ◌≡◌ {A = ℕ} 0 1 = cc in omega arith
 
 module _ {f : List ℕ} (i : ℕ) (F : Formed f) where
-  kind-step : (g : Step) (k : GoalKind) → goalAt f i ≡ step g → word f i kindWord ≡ (row (kGoal k)).kind → isStep (word f i kindWord) ≡ true
-  unfolding all-rows isStep inList ◌or◌
-  kind-step g kLiteral v e = rw e refl
-  kind-step g kSum v e = rw e refl
-  kind-step g kAssign v e = rw e refl
-  kind-step g kConstruct v e = rw e refl
-  kind-step g kSwitch v e = let n = (switch-here F refl e).goal in let z : ◌≡◌ {A = ℕ} 0 1 = cc in absurd (omega arith)
-  kind-step g kIf v e = let n = (if_here F refl e).goal in let z : ◌≡◌ {A = ℕ} 0 1 = cc in absurd (omega arith)
-  kind-step g kCall v e = rw e refl
-  kind-step g kPrint v e = rw e refl
-  kind-step g kCreate v e = rw e refl
-  kind-step g kRemove v e = rw e refl
-  kind-step g kTry v e = let n = (try-here F refl e).goal in let z : ◌≡◌ {A = ℕ} 0 1 = cc in absurd (omega arith)
-  kind-step g kTest v e = rw e refl
+  kind_step : (g : Step) (k : GoalKind) → goal_at f i ≡ step g → word f i kind_word ≡ (row (k_goal k)).kind → is_step (word f i kind_word) ≡ true
+  unfolding all_rows is_step in_list ◌or◌
+  kind_step g k_literal v e = rw e refl
+  kind_step g k_sum v e = rw e refl
+  kind_step g k_assign v e = rw e refl
+  kind_step g k_construct v e = rw e refl
+  kind_step g k_switch v e = let n = (switch_here F refl e).goal in let z : ◌≡◌ {A = ℕ} 0 1 = cc in absurd (omega arith)
+  kind_step g k_if v e = let n = (if_here F refl e).goal in let z : ◌≡◌ {A = ℕ} 0 1 = cc in absurd (omega arith)
+  kind_step g k_call v e = rw e refl
+  kind_step g k_print v e = rw e refl
+  kind_step g k_create v e = rw e refl
+  kind_step g k_remove v e = rw e refl
+  kind_step g k_try v e = let n = (try_here F refl e).goal in let z : ◌≡◌ {A = ℕ} 0 1 = cc in absurd (omega arith)
+  kind_step g k_test v e = rw e refl
 
-  pub step-kind : (g : Step) → GoalIsStep f i g → isStep (word f i kindWord) ≡ true
-  step-kind g s = let k = goal-kind s.stands s.some in kind-step g k.0 s.view (kind-number (word f i kindWord) (kGoal k.0) k.1 goal-some)
+  pub step_kind : (g : Step) → GoalIsStep f i g → is_step (word f i kind_word) ≡ true
+  step_kind g s = let k = goal_kind s.stands s.some in kind_step g k.0 s.view (kind_number (word f i kind_word) (k_goal k.0) k.1 goal_some)
 
 -- ---- an arm's kind
-pub arm-some : kArm ≡ kNone → ⊥
-arm-some e = let z : ◌≡◌ {A = ℕ} 0 1 = cc in omega arith
+pub arm_some : k_arm ≡ k_none → ⊥
+arm_some e = let z : ◌≡◌ {A = ℕ} 0 1 = cc in omega arith
 
 module _ (f : List ℕ) (i : ℕ) where
-  pub arm-kind : Stands f arms i → (i ≡ 0 → ⊥) → kind_of (word f i kindWord) ≡ kArm
-  arm-kind s z = arms-kind (starts-kind (word f) (recordCount f) i arms (omega arith) (stands-starts s)).1
+  pub arm_kind_law : Stands f arms i → (i ≡ 0 → ⊥) → kind_of (word f i kind_word) ≡ k_arm
+  arm_kind_law s z = arms_kind (starts_kind (word f) (record_count f) i arms (omega arith) (stands_starts s)).1

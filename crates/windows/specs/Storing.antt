@@ -17,8 +17,8 @@ pub record StoredWords (t₀ : List ℕ) (at : ℕ) (words : List ℕ) (n : ℕ)
   pub behind : (p : ℕ) → at + n ≤ p → get_or t p 0 ≡ get_or t₀ p 0
 
 module _ (t₀ : List ℕ) (at : ℕ) (words : List ℕ) where
-  pub stored-none : (t : List ℕ) {n : ℕ} → n ≡ 0 → t ≡ t₀ → StoredWords t₀ at words n t
-  stored-none t z e = record {
+  pub stored_none : (t : List ℕ) {n : ℕ} → n ≡ 0 → t ≡ t₀ → StoredWords t₀ at words n t
+  stored_none t z e = record {
     there = λ k l. absurd (omega arith);
     before = λ p l. ap (λ (x : List ℕ). get_or x p 0) e;
     behind = λ p l. ap (λ (x : List ℕ). get_or x p 0) e;

@@ -1,9 +1,9 @@
 // Reach along edges: a region's direct targets, and the regions that it leads to by way of others.
 ghost use Rattle.std.specs.Prelude.{◌≡◌, false, ◌≤◌, ◌<◌, length};
-ghost use Rattle.sets.specs.Sets.{member, emptySet, single, ◌∪◌, loaded};
-ghost use Rattle.sets.specs.Members.{setOf};
+ghost use Rattle.sets.specs.Sets.{member, empty_set, single, ◌∪◌, loaded};
+ghost use Rattle.sets.specs.Members.{set_of};
 ghost use Rattle.language.specs.File.{edges};
-ghost use Rattle.language.specs.Regions.{targetsIn};
+ghost use Rattle.language.specs.Regions.{targets_in};
 ghost use Rattle.language.specs.Format.{places};
 ghost use Rattle.chains.specs.Formed.{Formed, Stands, edges_at};
 ghost use Rattle.windows.specs.Targets.{RegionReach, set_at};
@@ -18,7 +18,7 @@ use sets::Set;
 pub fn targets_of(file: &[u8], start: usize) -> Set
     requires formed { Formed file.now }
     requires stands { Stands file.now edges start }
-    ensures { result ≡ setOf (targetsIn (edges_at file.now start)) }
+    ensures { result ≡ set_of (targets_in (edges_at file.now start)) }
 {
     let mut found = Set::EMPTY;
     let mut i = start;
@@ -47,7 +47,7 @@ fn read_edges(targets: &[u64], read: &mut u64, u: usize) -> Set
 // until none is new. The edges of each of them are read once, and no others: `read` has none before, and just these afterwards.
 pub fn reach_from(targets: &[u64], r: usize, read: &mut u64) -> Set
     requires places_value { places ≡ length targets.now }
-    requires read_value { loaded read.old ≡ emptySet }
+    requires read_value { loaded read.old ≡ empty_set }
     ensures region_reach { RegionReach targets.now r result }
     ensures read_just { ReadJust (loaded read.new) result }
 {

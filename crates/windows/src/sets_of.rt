@@ -1,10 +1,10 @@
 // The sets that a procedure's declarations say: its in and out variables, its born and dead regions.
 ghost use Rattle.std.specs.Prelude.{◌≡◌, ◌<◌};
-ghost use Rattle.sets.specs.Members.{setOf};
+ghost use Rattle.sets.specs.Members.{set_of};
 ghost use Rattle.language.specs.File.{variables, regions};
-ghost use Rattle.chains.specs.Formed.{Formed, Stands, variablesAt, regionsAt};
-ghost use Rattle.windows.specs.Modes.{ofMode};
-ghost use Rattle.windows.specs.Sorting.{ofClassIn};
+ghost use Rattle.chains.specs.Formed.{Formed, Stands, variables_at, regions_at};
+ghost use Rattle.windows.specs.Modes.{of_mode};
+ghost use Rattle.windows.specs.Sorting.{of_class_in};
 
 use chains::word;
 use language::format::{NEXT, REGION_CLASS, VARIABLE_MODE};
@@ -15,7 +15,7 @@ pub fn variables_in(file: &[u8], start: usize, mode: usize) -> Set
     requires formed { Formed file.now }
     requires stands { Stands file.now variables start }
     requires mode_nonzero { 0 < mode }
-    ensures { result ≡ setOf (ofMode mode (variablesAt file.now start)) }
+    ensures { result ≡ set_of (of_mode mode (variables_at file.now start)) }
 {
     let mut found = Set::EMPTY;
     let mut i = start;
@@ -34,7 +34,7 @@ pub fn variables_in(file: &[u8], start: usize, mode: usize) -> Set
 pub fn of_class(file: &[u8], start: usize, class: usize) -> Set
     requires formed { Formed file.now }
     requires stands { Stands file.now regions start }
-    ensures { result ≡ setOf (ofClassIn class (regionsAt file.now start)) }
+    ensures { result ≡ set_of (of_class_in class (regions_at file.now start)) }
 {
     let mut found = Set::EMPTY;
     let mut i = start;

@@ -2,7 +2,7 @@
 ghost use Rattle.std.specs.Prelude.{◌≡◌, ◌≤◌, length, drop};
 ghost use Rattle.language.specs.File;
 ghost use Rattle.language.specs.Program.{Signature};
-ghost use Rattle.language.specs.Lifetimes.{classesOk};
+ghost use Rattle.language.specs.Lifetimes.{classes_ok};
 ghost use Rattle.chains.specs.Formed.{Formed, Stands};
 ghost use Rattle.windows.specs.Classed.{SignatureAt, Reached, Classed};
 
@@ -14,7 +14,7 @@ use tables::reach_all;
 impl Classes {
     // Number 7 does not apply: "class 1 not output-only or class 2 not input-only".
     pub fn right(self) -> bool
-        ensures { (S : Signature) → Classed S self → result ≡ classesOk S }
+        ensures { (S : Signature) → Classed S self → result ≡ classes_ok S }
     {
         let inputs = self.inputs;
         let outputs = self.outputs;

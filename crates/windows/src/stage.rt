@@ -1,15 +1,15 @@
 // The windows of all procedures.
 ghost use Rattle.std.specs.Prelude.{◌≡◌, true, ◌+◌, ◌≤◌, length};
 ghost use Rattle.language.specs.File;
-ghost use Rattle.language.specs.Typing.{typingOk};
-ghost use Rattle.language.specs.Lifetimes.{declaredClassesOk};
+ghost use Rattle.language.specs.Typing.{typing_ok};
+ghost use Rattle.language.specs.Lifetimes.{declared_classes_ok};
 ghost use Rattle.language.specs.Answers.{program};
 ghost use Rattle.language.specs.Format.{places};
-ghost use Rattle.tables.specs.TablePlaces.{fileWords, headSize};
+ghost use Rattle.tables.specs.TablePlaces.{file_words, head_size};
 ghost use Rattle.chains.specs.Formed.{Formed, Stands};
 ghost use Rattle.tables.specs.Window.{FileTable};
 ghost use Rattle.windows.specs.Storing.{StoredWords};
-ghost use Rattle.windows.specs.Procedure.{headerWords, WindowRoom, ListedAt};
+ghost use Rattle.windows.specs.Procedure.{header_words, WindowRoom, ListedAt};
 ghost use Rattle.windows.specs.Listing.{OnlyWindows};
 
 use crate::reaching::list_reaches;
@@ -26,8 +26,8 @@ use tables::HEAD;
 
 // Stores the first words of a window.
 fn put_header(table: &mut [u64], at: usize, n: Counts, c: Classes)
-    requires { at + headSize ≤ length table.old }
-    ensures { StoredWords table.old at (headerWords n c) headSize table.new }
+    requires { at + head_size ≤ length table.old }
+    ensures { StoredWords table.old at (header_words n c) head_size table.new }
 {
     let ins = c.ins;
     let outs = c.outs;
@@ -91,9 +91,9 @@ fn list_procedure(
 // procedures that the file has not, and what stands behind the last window, are as they were.
 pub fn list_procedures(file: &[u8], table: &mut [u64]) -> bool
     requires formed { Formed file.now }
-    requires file_value { typingOk (program file.now) ≡ true }
-    requires file_words_in_bounds { fileWords ≤ length table.old }
-    ensures value { result ≡ declaredClassesOk (program file.now) }
+    requires file_value { typing_ok (program file.now) ≡ true }
+    requires file_words_in_bounds { file_words ≤ length table.old }
+    ensures value { result ≡ declared_classes_ok (program file.now) }
     ensures file_table { FileTable file.now table.new }
     ensures only_windows { OnlyWindows file.now table.old table.new }
 {

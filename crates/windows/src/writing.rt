@@ -3,7 +3,7 @@ ghost use Rattle.std.specs.Prelude.{◌≡◌, ◌+◌, ◌*◌, ◌≤◌, ◌<
 ghost use Rattle.language.specs.File;
 ghost use Rattle.language.specs.Format.{places};
 ghost use Rattle.chains.specs.Formed.{Formed, Stands};
-ghost use Rattle.chains.specs.Records.{chainRecords};
+ghost use Rattle.chains.specs.Records.{chain_records};
 ghost use Rattle.windows.specs.Parts.{HomeReach, RegionsListed, VariablesListed};
 ghost use Rattle.windows.specs.Storing.{StoredWords};
 
@@ -23,9 +23,9 @@ pub fn list_regions(
 ) -> usize
     requires formed { Formed file.now }
     requires stands { Stands file.now File.regions first }
-    requires first_in_bounds { from + length (chainRecords file.now first) ≤ length table.old }
-    requires first_in_bounds_2 { length (chainRecords file.now first) < length targets.old }
-    ensures value { result ≡ length (chainRecords file.now first) }
+    requires first_in_bounds { from + length (chain_records file.now first) ≤ length table.old }
+    requires first_in_bounds_2 { length (chain_records file.now first) < length targets.old }
+    ensures value { result ≡ length (chain_records file.now first) }
     ensures regions_listed { RegionsListed file.now first table.old from result table.new targets.new }
 {
     let mut i = first;
@@ -58,9 +58,9 @@ fn home_reach(reaches: &[u64], home: usize) -> Set
 pub fn list_variables(file: &[u8], first: usize, table: &mut [u64], from: usize, reaches: &[u64])
     requires formed { Formed file.now }
     requires stands { Stands file.now File.variables first }
-    requires first_in_bounds { from + 2 * length (chainRecords file.now first) ≤ length table.old }
+    requires first_in_bounds { from + 2 * length (chain_records file.now first) ≤ length table.old }
     requires places_value { places ≡ length reaches.now }
-    ensures { VariablesListed file.now first reaches.now table.old from (length (chainRecords file.now first)) table.new }
+    ensures { VariablesListed file.now first reaches.now table.old from (length (chain_records file.now first)) table.new }
 {
     let mut i = first;
     let mut n: usize = 0;

@@ -6,22 +6,22 @@ use Rattle.language.specs.declared.Ending.TheVariants.{Finished, Stopped}
 use Rattle.language.specs.declared.Stop.TheVariants.{Steps, Cells, Frames, Sums}
 use Rattle.language.specs.Machine.{Run}
 use Rattle.language.specs.Computing.{computing}
-use Rattle.language.specs.Table.{eight, rows, file, new_u, numberVariables, doublings, toTheEnds, over}
+use Rattle.language.specs.Table.{eight, rows, file, new_u, number_variables, doublings, to_the_ends, over}
 use Rattle.chains.specs.Layout.Steps
-use Rattle.records.specs.Records.{recordAt}
-use Rattle.chains.specs.Formed.{argumentsAt}
+use Rattle.records.specs.Records.{record_at}
+use Rattle.chains.specs.Formed.{arguments_at}
 use Rattle.chains.specs.Fields.{field_of}
-use Rattle.chains.specs.Records.{recordsUpTo, chainRecords}
+use Rattle.chains.specs.Records.{records_up_to, chain_records}
 use Rattle.memory.specs.Memory as Memory
 use Rattle.word_machine.specs.Tables.{onto, slot_of, given_of}
-use Rattle.word_machine.specs.Passing.{packed, ofMode}
-use Rattle.owners.specs.Handed.{words_open, nextAnd, handTo, words_of, given, handDown, handedUpTo, handed}
-use Rattle.owners.specs.Owner.{ownerBy, ownersOf, ownerOf}
-use Rattle.word_machine.specs.Filling.{partsOnward, onwardBy, matched, matchedAt, matches, onwards, slots, modes, tables_of}
+use Rattle.word_machine.specs.Passing.{packed, of_mode}
+use Rattle.owners.specs.Handed.{words_open, next_and, hand_to, words_of, given, hand_down, handed_up_to, handed}
+use Rattle.owners.specs.Owner.{owner_by, owners_of, owner_of}
+use Rattle.word_machine.specs.Filling.{parts_onward, onward_by, matched, matched_at, matches, onwards, slots, modes, tables_of}
 use Rattle.word_machine.specs.Machine as M
 
 unfoldable pub opened : Unit {0}
-unfolding computing slot_of given_of packed ofMode Steps.argumentsAt argumentsAt recordAt field_of recordsUpTo chainRecords onto words_open nextAnd handTo words_of given handDown handedUpTo handed ownerBy ownersOf ownerOf partsOnward onwardBy matched matchedAt matches onwards slots modes tables_of Memory.unused Memory.taken Memory.emptyHeap Memory.createdOf Memory.createdRegionsOf Memory.created Memory.createdRegions Memory.filled Memory.hung Memory.builtOf Memory.builtCellsOf Memory.builtRegionsOf Memory.built Memory.builtCells Memory.builtRegions Memory.removed Memory.removedCells Memory.removedRegions M.literalWord M.sumOfWords M.copied M.cleared M.blocks M.armOf M.givesEach M.withFrames M.given M.value_of M.regionFor M.ifRoom M.sums M.termOf M.contentsOf M.constructedBy M.constructed M.constructs M.createdBy M.makesRegion M.dropsRegion M.printsWord M.armWords M.entersArm M.switchesOn M.switches M.valuesIn M.regionsIn M.calleeWords M.calls M.valuesOut M.regionsOut M.returnWords M.returned M.settledFrom M.settled M.settledIf M.steps M.stepped M.endedWith M.afterStep M.runOn M.startWords M.noFrame M.run_from M.lentWords M.wordRun
+unfolding computing slot_of given_of packed of_mode Steps.arguments_at arguments_at record_at field_of records_up_to chain_records onto words_open next_and hand_to words_of given hand_down handed_up_to handed owner_by owners_of owner_of parts_onward onward_by matched matched_at matches onwards slots modes tables_of Memory.unused Memory.taken Memory.empty_heap Memory.created_of Memory.created_regions_of Memory.created Memory.created_regions Memory.filled Memory.hung Memory.built_of Memory.built_cells_of Memory.built_regions_of Memory.built Memory.built_cells Memory.built_regions Memory.removed Memory.removed_cells Memory.removed_regions M.literal_word M.sum_of_words M.copied M.cleared M.blocks M.arm_of M.gives_each M.with_frames M.given M.value_of M.region_for M.if_room M.sums M.term_of M.contents_of M.constructed_by M.constructed M.constructs M.created_by M.makes_region M.drops_region M.prints_word M.arm_words M.enters_arm M.switches_on M.switches M.values_in M.regions_in M.callee_words M.calls M.values_out M.regions_out M.return_words M.returned M.settled_from M.settled M.settled_if M.steps M.stepped M.ended_with M.after_step M.run_on M.start_words M.no_frame M.run_from M.lent_words M.word_run
 opened = tt
 
 -- what a run ended with and printed
@@ -30,32 +30,32 @@ outcome r = record { ending = r.ending; steps = r.done; printed = map (to_z w32)
 
 -- the run of a file in so many words for cells, regions, frames and printed numbers, whatever stands in them
 unfoldable pub tried : List ℕ → ℕ → ℕ → ℕ → ℕ → ℕ → Run
-tried f c r k p l = outcome (M.wordRun f (tables_of f) (replicate c 77) (replicate r 78) (replicate k 79) (replicate p 80) l)
+tried f c r k p l = outcome (M.word_run f (tables_of f) (replicate c 77) (replicate r 78) (replicate k 79) (replicate p 80) l)
 
 -- a constant takes no cell and no region
-pub newU-run : tried new_u 0 0 136 2 10 ≡ record { ending = Finished; steps = 1; printed = [] }
+pub new_u_run : tried new_u 0 0 136 2 10 ≡ record { ending = Finished; steps = 1; printed = [] }
 unfolding opened outcome tried eight rows file new_u
-newU-run = refl
+new_u_run = refl
 
-pub newU-steps : tried new_u 0 0 136 2 0 ≡ record { ending = Stopped Steps; steps = 0; printed = [] }
+pub new_u_steps : tried new_u 0 0 136 2 0 ≡ record { ending = Stopped Steps; steps = 0; printed = [] }
 unfolding opened outcome tried eight rows file new_u
-newU-steps = refl
+new_u_steps = refl
 
-pub newU-frames : tried new_u 16 4 135 2 0 ≡ record { ending = Stopped Frames; steps = 0; printed = [] }
+pub new_u_frames : tried new_u 16 4 135 2 0 ≡ record { ending = Stopped Frames; steps = 0; printed = [] }
 unfolding opened outcome tried eight rows file new_u
-newU-frames = refl
+new_u_frames = refl
 
 -- 2,147,483,647 + 1: the run stops before that step, all steps before it done. Sums and differences at both ends of the range go on
-pub over-sums : tried over 0 0 136 2 30 ≡ record { ending = Stopped Sums; steps = 21; printed = pos 2147483647 ∷ [] }
-unfolding opened outcome tried eight rows file numberVariables doublings toTheEnds over
-over-sums = refl
+pub over_sums : tried over 0 0 136 2 30 ≡ record { ending = Stopped Sums; steps = 21; printed = pos 2147483647 ∷ [] }
+unfolding opened outcome tried eight rows file number_variables doublings to_the_ends over
+over_sums = refl
 
-pub over-steps : tried over 0 0 136 2 21 ≡ record { ending = Stopped Steps; steps = 21; printed = pos 2147483647 ∷ [] }
-unfolding opened outcome tried eight rows file numberVariables doublings toTheEnds over
-over-steps = refl
+pub over_steps : tried over 0 0 136 2 21 ≡ record { ending = Stopped Steps; steps = 21; printed = pos 2147483647 ∷ [] }
+unfolding opened outcome tried eight rows file number_variables doublings to_the_ends over
+over_steps = refl
 
-pub both_ends : tried (toTheEnds 0 0 19 20) 0 0 136 3 30 ≡ record { ending = Finished; steps = 25; printed = pos 2147483647 ∷ pos 2147483647 ∷ negsuc 2147483647 ∷ [] }
-unfolding opened outcome tried eight rows file numberVariables doublings toTheEnds
+pub both_ends : tried (to_the_ends 0 0 19 20) 0 0 136 3 30 ≡ record { ending = Finished; steps = 25; printed = pos 2147483647 ∷ pos 2147483647 ∷ negsuc 2147483647 ∷ [] }
+unfolding opened outcome tried eight rows file number_variables doublings to_the_ends
 both_ends = refl
 
 -- a program with recursion: `make` bears a list, `show` prints it and keeps it, `drop` prints it again and ends its region
@@ -75,11 +75,11 @@ listed =
     (5 ∷ 0 ∷ 0 ∷ 1 ∷ 1 ∷ []) ∷ (6 ∷ 0 ∷ 1 ∷ 2 ∷ 53 ∷ []) ∷ (7 ∷ 0 ∷ 1 ∷ 2 ∷ 1 ∷ []) ∷ (12 ∷ 0 ∷ 1 ∷ 55 ∷ []) ∷ (13 ∷ 57 ∷ 56 ∷ []) ∷
     (19 ∷ 0 ∷ 1 ∷ []) ∷ (13 ∷ 0 ∷ 58 ∷ 1 ∷ 2 ∷ 3 ∷ []) ∷ (17 ∷ 59 ∷ 2 ∷ []) ∷ (15 ∷ 0 ∷ 3 ∷ 60 ∷ []) ∷ (16 ∷ 0 ∷ 3 ∷ []) ∷ [])
 
-pub listed-run : tried listed 80 8 1360 8 100 ≡ record { ending = Finished; steps = 35; printed = pos 2 ∷ pos 1 ∷ pos 2 ∷ pos 1 ∷ [] }
+pub listed_run : tried listed 80 8 1360 8 100 ≡ record { ending = Finished; steps = 35; printed = pos 2 ∷ pos 1 ∷ pos 2 ∷ pos 1 ∷ [] }
 unfolding opened outcome tried eight rows file listed
-listed-run = refl
+listed_run = refl
 
 -- the list has a constant and two cells: there is room for one
-pub listed-cells : tried listed 15 8 1360 8 100 ≡ record { ending = Stopped Cells; steps = 17; printed = [] }
+pub listed_cells : tried listed 15 8 1360 8 100 ≡ record { ending = Stopped Cells; steps = 17; printed = [] }
 unfolding opened outcome tried eight rows file listed
-listed-cells = refl
+listed_cells = refl

@@ -5,7 +5,7 @@ use Rattle.language.specs.declared.Verdict.TheVariants.{Accepted}
 use Rattle.language.specs.Machine.{Run}
 use Rattle.language.specs.Answers.{checked, ran}
 use Rattle.word_machine.specs.Tables.{Tables, Tabled}
-use Rattle.word_machine.specs.Machine.{Outcome, lentWords, wordRun}
+use Rattle.word_machine.specs.Machine.{Outcome, lent_words, word_run}
 use Rattle.word_machine.specs.Printing.{Printed}
 
 -- a run in words gives what a run of the definition does; qs are the words lent for printed numbers
@@ -18,4 +18,4 @@ pub record Gives (qs : List ℕ) (o : Outcome) (r : Run) : Type 0 where
 abbrev pub JoinedRuns : Type 0
 JoinedRuns =
     (f : List ℕ) → checked f ≡ Accepted → (T : Tables) → Tabled f T → (m rs fw ps : List ℕ) (l : ℕ)
-    → Gives ps (wordRun f T m rs fw ps l) (ran f (lentWords m rs fw ps l))
+    → Gives ps (word_run f T m rs fw ps l) (ran f (lent_words m rs fw ps l))

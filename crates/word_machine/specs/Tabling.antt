@@ -5,126 +5,126 @@ use Rattle.std.proofs.Math.Path.{refl, sym, ap}
 use Rattle.std.proofs.Math.Bool.{true, false}
 use Rattle.std.proofs.lemmas.List.{length-replicate, get_or-replicate}
 use Rattle.sets.specs.Tests.{◌&◌, ◌or◌}
-use Rattle.sets.specs.Members.{inList}
+use Rattle.sets.specs.Members.{in_list}
 use Rattle.language.specs.Lists.{choose}
-use Rattle.language.specs.File.{kSwitch, kIf, kTry, Kind, kProcedure, kArm, kGoal, goals, arms, row, kind_of, word, recordCount}
-use Rattle.language.specs.Program.{Parameter, signature_of, parametersOf, argumentsIn, variablesIn}
-use Rattle.language.specs.Typing.{typingOk}
+use Rattle.language.specs.File.{k_switch, k_if, k_try, Kind, k_procedure, k_arm, k_goal, goals, arms, row, kind_of, word, record_count}
+use Rattle.language.specs.Program.{Parameter, signature_of, parameters_of, arguments_in, variables_in}
+use Rattle.language.specs.Typing.{typing_ok}
 use Rattle.language.specs.Answers.{program}
-use Rattle.language.specs.Format.{kindWord, nextWord, procedureGoals, armGoals, switchArms, ifThen, ifElse, tryCondition, tryThen, tryElse, argumentVariable, maxRecords, tryKind}
-use Rattle.records.specs.Records.{recordAt}
+use Rattle.language.specs.Format.{kind_word, next_word, procedure_goals, arm_goals, switch_arms, if_then, if_else, try_condition, try_then, try_else, argument_variable, max_records, try_kind}
+use Rattle.records.specs.Records.{record_at}
 use Rattle.records.specs.declared.Record.TheVariants.{Switch, If, Try, Call}
-use Rattle.chains.specs.Formed.{Formed, Stands, argumentsAt, counted}
-use Rattle.chains.specs.Fields.{field-some}
-use Rattle.chains.specs.Is.{arm_is, procedure-is}
-use Rattle.chains.specs.Kinds.{kindIn, kind-read}
-use Rattle.chains.specs.Goals.{construct-at}
-use Rattle.chains.specs.Parts.{switch-at, if-at, try-at, call_at}
-use Rattle.chains.specs.Records.{chainRecords}
-use Rattle.owners.specs.Handed.{referenceWords, words_open, nextAnd}
-use Rattle.owners.specs.Handing.{handed-by}
-use Rattle.owners.specs.Owner.{ownerOf}
+use Rattle.chains.specs.Formed.{Formed, Stands, arguments_at, counted}
+use Rattle.chains.specs.Fields.{field_some}
+use Rattle.chains.specs.Is.{arm_is, procedure_is}
+use Rattle.chains.specs.Kinds.{kind_in, kind_read}
+use Rattle.chains.specs.Goals.{construct_at}
+use Rattle.chains.specs.Parts.{switch_at, if_at, try_at, call_at}
+use Rattle.chains.specs.Records.{chain_records}
+use Rattle.owners.specs.Handed.{reference_words, words_open, next_and}
+use Rattle.owners.specs.Handing.{handed_by}
+use Rattle.owners.specs.Owner.{owner_of}
 use Rattle.owners.specs.Owners
-use Rattle.owners.specs.Owners.{goals-owned, procedureRecord, procedure-stands, procedure-first}
-use Rattle.word_machine.specs.Tables.{slot_of, given_of, onto, Continues, bodyRecord, Tabled}
+use Rattle.owners.specs.Owners.{goals_owned, procedure_record, procedure_stands, procedure_first}
+use Rattle.word_machine.specs.Tables.{slot_of, given_of, onto, Continues, body_record, Tabled}
 use Rattle.word_machine.specs.Passing.{packed, Matches}
-use Rattle.word_machine.specs.Arguments.{slots-passed, givens-passed}
-use Rattle.word_machine.specs.Filling.{partsOnward, onwardBy, onwards, slots, modes, tables_of}
-use Rattle.word_machine.specs.Matching.{Says, matches-say}
+use Rattle.word_machine.specs.Arguments.{slots_passed, givens_passed}
+use Rattle.word_machine.specs.Filling.{parts_onward, onward_by, onwards, slots, modes, tables_of}
+use Rattle.word_machine.specs.Matching.{Says, matches_say}
 
 unfoldable opened : Unit {0}
-unfolding words_open onwardBy partsOnward nextAnd choose ◌or◌ ◌&◌
+unfolding words_open onward_by parts_onward next_and choose ◌or◌ ◌&◌
 opened = tt
 
 module _ {f : List ℕ} (F : Formed f) where
-  few : recordCount f ≤ length (replicate {A = ℕ} maxRecords 0)
-  few = let c = counted F in omega (arith, length-replicate {A = ℕ} maxRecords 0)
+  few : record_count f ≤ length (replicate {A = ℕ} max_records 0)
+  few = let c = counted F in omega (arith, length-replicate {A = ℕ} max_records 0)
 
   abbrev pub Onward : ℕ → ℕ
   Onward i = get_or (onwards f) i 0
 
   -- ---- where the chains of a record's words go on
-  onward-by : (K : Kind) (i : ℕ) → i < recordCount f → kind_of (word f i kindWord) ≡ K → (k : ℕ) → inList k (referenceWords K) ≡ true → word f i k ≢ 0
-      → Onward (word f i k) ≡ onwardBy f (row K).kind i k (Onward i)
+  onward_by_law : (K : Kind) (i : ℕ) → i < record_count f → kind_of (word f i kind_word) ≡ K → (k : ℕ) → in_list k (reference_words K) ≡ true → word f i k ≢ 0
+      → Onward (word f i k) ≡ onward_by f (row K).kind i k (Onward i)
   unfolding onwards
-  onward-by K i q e k m z = handed-by F (onwardBy f) (replicate maxRecords 0) few (get_or-replicate {A = ℕ} maxRecords 0 0 0 (omega arith)) K i q e k m z
+  onward_by_law K i q e k m z = handed_by F (onward_by f) (replicate max_records 0) few (get_or-replicate {A = ℕ} max_records 0 0 0 (omega arith)) K i q e k m z
 
-  not-condition : (b : Bool) (v : ℕ) → choose (b & false) 0 v ≡ v
+  not_condition : (b : Bool) (v : ℕ) → choose (b & false) 0 v ≡ v
   unfolding choose ◌&◌
-  not-condition true v = refl
-  not-condition false v = refl
+  not_condition true v = refl
+  not_condition false v = refl
 
-  onward-next : (i : ℕ) → i < recordCount f → word f i nextWord ≢ 0 → Onward (word f i nextWord) ≡ Onward i
+  onward_next : (i : ℕ) → i < record_count f → word f i next_word ≢ 0 → Onward (word f i next_word) ≡ Onward i
   unfolding opened
-  onward-next i q z = onward-by (kind_of (word f i kindWord)) i q refl nextWord refl z ∙ not-condition (eqb (row (kind_of (word f i kindWord))).kind tryKind) (Onward i)
+  onward_next i q z = onward_by_law (kind_of (word f i kind_word)) i q refl next_word refl z ∙ not_condition (eqb (row (kind_of (word f i kind_word))).kind try_kind) (Onward i)
 
-  pub goal-next : (i : ℕ) → Stands f goals i → (z : i ≢ 0) → Continues Onward (ownerOf f) (word f i nextWord) (Onward i) (ownerOf f i)
-  goal-next i s z y = (onward-next i s.below y, goals-owned F s z refl y)
+  pub goal_next : (i : ℕ) → Stands f goals i → (z : i ≢ 0) → Continues Onward (owner_of f) (word f i next_word) (Onward i) (owner_of f i)
+  goal_next i s z y = (onward_next i s.below y, goals_owned F s z refl y)
 
-  arm-kind : {i : ℕ} → Stands f arms i → i ≢ 0 → kind_of (word f i kindWord) ≡ kArm
-  arm-kind {i} s z = sym (kind-read f i refl) ∙ ap kindIn (arm_is s z)
+  arm_kind_law : {i : ℕ} → Stands f arms i → i ≢ 0 → kind_of (word f i kind_word) ≡ k_arm
+  arm_kind_law {i} s z = sym (kind_read f i refl) ∙ ap kind_in (arm_is s z)
 
-  pub arm-next : (i : ℕ) → Stands f arms i → (z : i ≢ 0) → Continues Onward (ownerOf f) (word f i nextWord) (Onward i) (ownerOf f i)
-  arm-next i s z y = (onward-next i s.below y, Owners.arm-next F i s.below (arm-kind s z) y)
+  pub arm_next : (i : ℕ) → Stands f arms i → (z : i ≢ 0) → Continues Onward (owner_of f) (word f i next_word) (Onward i) (owner_of f i)
+  arm_next i s z y = (onward_next i s.below y, Owners.arm_next F i s.below (arm_kind_law s z) y)
 
-  pub arm-goals : (i : ℕ) → Stands f arms i → (z : i ≢ 0) → Continues Onward (ownerOf f) (word f i armGoals) (Onward i) (ownerOf f i)
+  pub arm_goals_law : (i : ℕ) → Stands f arms i → (z : i ≢ 0) → Continues Onward (owner_of f) (word f i arm_goals) (Onward i) (owner_of f i)
   unfolding opened
-  arm-goals i s z y =
-      let k = arm-kind s z in
-      (onward-by kArm i s.below k armGoals refl y, Owners.arm-goals F i s.below k y)
+  arm_goals_law i s z y =
+      let k = arm_kind_law s z in
+      (onward_by_law k_arm i s.below k arm_goals refl y, Owners.arm_goals_law F i s.below k y)
 
-  pub switch-arms : (i n x cs : ℕ) → recordAt f i ≡ Switch n x cs → Continues Onward (ownerOf f) cs (onto (word f i nextWord) (Onward i)) (ownerOf f i)
+  pub switch_arms_law : (i n x cs : ℕ) → record_at f i ≡ Switch n x cs → Continues Onward (owner_of f) cs (onto (word f i next_word) (Onward i)) (owner_of f i)
   unfolding opened
-  switch-arms i n x cs e =
-      let c = switch-at F refl e in
-      let k = sym (kind-read f i refl) ∙ ap kindIn e in
-      rw c.w3 (λ y. (onward-by (kGoal kSwitch) i c.below k switchArms refl y, Owners.switch-arms F i c.below k y))
+  switch_arms_law i n x cs e =
+      let c = switch_at F refl e in
+      let k = sym (kind_read f i refl) ∙ ap kind_in e in
+      rw c.w3 (λ y. (onward_by_law (k_goal k_switch) i c.below k switch_arms refl y, Owners.switch_arms_law F i c.below k y))
 
-  pub if-then : (i n y z a b : ℕ) → recordAt f i ≡ If n y z a b → Continues Onward (ownerOf f) a (onto (word f i nextWord) (Onward i)) (ownerOf f i)
+  pub if_then_law : (i n y z a b : ℕ) → record_at f i ≡ If n y z a b → Continues Onward (owner_of f) a (onto (word f i next_word) (Onward i)) (owner_of f i)
   unfolding opened
-  if-then i n y z a b e =
-      let c = if-at F refl e in
-      let k = sym (kind-read f i refl) ∙ ap kindIn e in
-      rw c.w4 (λ q. (onward-by (kGoal kIf) i c.below k ifThen refl q, Owners.if-then F i c.below k q))
+  if_then_law i n y z a b e =
+      let c = if_at F refl e in
+      let k = sym (kind_read f i refl) ∙ ap kind_in e in
+      rw c.w4 (λ q. (onward_by_law (k_goal k_if) i c.below k if_then refl q, Owners.if_then_law F i c.below k q))
 
-  pub if-else : (i n y z a b : ℕ) → recordAt f i ≡ If n y z a b → Continues Onward (ownerOf f) b (onto (word f i nextWord) (Onward i)) (ownerOf f i)
+  pub if_else_law : (i n y z a b : ℕ) → record_at f i ≡ If n y z a b → Continues Onward (owner_of f) b (onto (word f i next_word) (Onward i)) (owner_of f i)
   unfolding opened
-  if-else i n y z a b e =
-      let c = if-at F refl e in
-      let k = sym (kind-read f i refl) ∙ ap kindIn e in
-      rw c.w5 (λ q. (onward-by (kGoal kIf) i c.below k ifElse refl q, Owners.if-else F i c.below k q))
+  if_else_law i n y z a b e =
+      let c = if_at F refl e in
+      let k = sym (kind_read f i refl) ∙ ap kind_in e in
+      rw c.w5 (λ q. (onward_by_law (k_goal k_if) i c.below k if_else refl q, Owners.if_else_law F i c.below k q))
 
-  pub try-condition : (i n c a b : ℕ) → recordAt f i ≡ Try n c a b → Continues Onward (ownerOf f) c 0 (ownerOf f i)
+  pub try_condition_law : (i n c a b : ℕ) → record_at f i ≡ Try n c a b → Continues Onward (owner_of f) c 0 (owner_of f i)
   unfolding opened
-  try-condition i n c a b e =
-      let t = try-at F refl e in
-      let k = sym (kind-read f i refl) ∙ ap kindIn e in
-      rw t.w2 (λ q. (onward-by (kGoal kTry) i t.below k tryCondition refl q, Owners.try-condition F i t.below k q))
+  try_condition_law i n c a b e =
+      let t = try_at F refl e in
+      let k = sym (kind_read f i refl) ∙ ap kind_in e in
+      rw t.w2 (λ q. (onward_by_law (k_goal k_try) i t.below k try_condition refl q, Owners.try_condition_law F i t.below k q))
 
-  pub try-then : (i n c a b : ℕ) → recordAt f i ≡ Try n c a b → Continues Onward (ownerOf f) a (onto (word f i nextWord) (Onward i)) (ownerOf f i)
+  pub try_then_law : (i n c a b : ℕ) → record_at f i ≡ Try n c a b → Continues Onward (owner_of f) a (onto (word f i next_word) (Onward i)) (owner_of f i)
   unfolding opened
-  try-then i n c a b e =
-      let t = try-at F refl e in
-      let k = sym (kind-read f i refl) ∙ ap kindIn e in
-      rw t.w3 (λ q. (onward-by (kGoal kTry) i t.below k tryThen refl q, Owners.try-then F i t.below k q))
+  try_then_law i n c a b e =
+      let t = try_at F refl e in
+      let k = sym (kind_read f i refl) ∙ ap kind_in e in
+      rw t.w3 (λ q. (onward_by_law (k_goal k_try) i t.below k try_then refl q, Owners.try_then_law F i t.below k q))
 
-  pub try-else : (i n c a b : ℕ) → recordAt f i ≡ Try n c a b → Continues Onward (ownerOf f) b (onto (word f i nextWord) (Onward i)) (ownerOf f i)
+  pub try_else_law : (i n c a b : ℕ) → record_at f i ≡ Try n c a b → Continues Onward (owner_of f) b (onto (word f i next_word) (Onward i)) (owner_of f i)
   unfolding opened
-  try-else i n c a b e =
-      let t = try-at F refl e in
-      let k = sym (kind-read f i refl) ∙ ap kindIn e in
-      rw t.w4 (λ q. (onward-by (kGoal kTry) i t.below k tryElse refl q, Owners.try-else F i t.below k q))
+  try_else_law i n c a b e =
+      let t = try_at F refl e in
+      let k = sym (kind_read f i refl) ∙ ap kind_in e in
+      rw t.w4 (λ q. (onward_by_law (k_goal k_try) i t.below k try_else refl q, Owners.try_else_law F i t.below k q))
 
   -- a body goes on nowhere
-  pub body-starts : (p : ℕ) → p < length (program f).procedures → Continues Onward (ownerOf f) (word f (procedureRecord f p) procedureGoals) 0 p
+  pub body_starts : (p : ℕ) → p < length (program f).procedures → Continues Onward (owner_of f) (word f (procedure_record f p) procedure_goals) 0 p
   unfolding opened
-  body-starts p l y =
-      let s = procedure-stands F p l in
-      (onward-by kProcedure (procedureRecord f p) s.0.below (sym (kind-read f (procedureRecord f p) refl) ∙ ap kindIn (procedure-is s.0 s.1)) procedureGoals refl y, procedure-first F p l y)
+  body_starts p l y =
+      let s = procedure_stands F p l in
+      (onward_by_law k_procedure (procedure_record f p) s.0.below (sym (kind_read f (procedure_record f p) refl) ∙ ap kind_in (procedure_is s.0 s.1)) procedure_goals refl y, procedure_first F p l y)
 
-  body-record : (p : ℕ) → p < length (program f).procedures → word f (procedureRecord f p) procedureGoals ≡ bodyRecord f p
-  unfolding procedureRecord
-  body-record p l = field-some f (procedureRecord f p) procedureGoals (procedure-stands F p l).1
+  body_record_law : (p : ℕ) → p < length (program f).procedures → word f (procedure_record f p) procedure_goals ≡ body_record f p
+  unfolding procedure_record
+  body_record_law p l = field_some f (procedure_record f p) procedure_goals (procedure_stands F p l).1
 
   -- ---- arguments
   abbrev pub Slot : ℕ → ℕ
@@ -138,44 +138,44 @@ module _ {f : List ℕ} (F : Formed f) where
   both_say (p ∷ ps) [] a b = tt
   both_say (p ∷ ps) (j ∷ js) a b = (a.0, b.0, both_say ps js a.1 b.1)
 
-  pub argument-matches : (i n q ys : ℕ) → recordAt f i ≡ Call n q ys → Matches Slot Mode (parametersOf (signature_of (program f) q)) (chainRecords f ys)
+  pub argument_matches : (i n q ys : ℕ) → record_at f i ≡ Call n q ys → Matches Slot Mode (parameters_of (signature_of (program f) q)) (chain_records f ys)
   unfolding slots modes
-  argument-matches i n q ys e =
+  argument_matches i n q ys e =
       let c = call_at F refl e in
-      both_say (parametersOf (signature_of (program f) q)) (chainRecords f ys)
-      (matches-say F (λ a. a.variable) (recordCount f - 1) 1 (replicate maxRecords 0) few i n q ys e (omega (arith, c.some)) (omega (arith, c.some, c.below)))
-      (matches-say F (λ a. a.mode) (recordCount f - 1) 1 (replicate maxRecords 0) few i n q ys e (omega (arith, c.some)) (omega (arith, c.some, c.below)))
+      both_say (parameters_of (signature_of (program f) q)) (chain_records f ys)
+      (matches_say F (λ a. a.variable) (record_count f - 1) 1 (replicate max_records 0) few i n q ys e (omega (arith, c.some)) (omega (arith, c.some, c.below)))
+      (matches_say F (λ a. a.mode) (record_count f - 1) 1 (replicate max_records 0) few i n q ys e (omega (arith, c.some)) (omega (arith, c.some, c.below)))
 
   -- ---- all tables, of a file that passes number 3
-  module _ (ok : typingOk (program f) ≡ true) (i n q ys m : ℕ) (e : recordAt f i ≡ Call n q ys) where
-    passed_here : (map slot_of ((tables_of f).passes m i) ≡ variablesIn m (signature_of (program f) q))
-        × (map given_of ((tables_of f).passes m i) ≡ argumentsIn m (parametersOf (signature_of (program f) q)) (argumentsAt f ys))
+  module _ (ok : typing_ok (program f) ≡ true) (i n q ys m : ℕ) (e : record_at f i ≡ Call n q ys) where
+    passed_here : (map slot_of ((tables_of f).passes m i) ≡ variables_in m (signature_of (program f) q))
+        × (map given_of ((tables_of f).passes m i) ≡ arguments_in m (parameters_of (signature_of (program f) q)) (arguments_at f ys))
     unfolding tables_of
     passed_here =
-        let M = argument-matches i n q ys e in
+        let M = argument_matches i n q ys e in
         rw (← (call_at F refl e).w3) (
-          slots-passed F ok i n q ys e Slot Mode M (λ a. packed (Slot a) (word f a argumentVariable) 0) (λ a. 0) (λ a h. refl) m,
-          givens-passed F ok i n q ys e Slot Mode M (λ a. packed (Slot a) (word f a argumentVariable) 0) (λ a. 0) (λ a h. refl) m,
+          slots_passed F ok i n q ys e Slot Mode M (λ a. packed (Slot a) (word f a argument_variable) 0) (λ a. 0) (λ a h. refl) m,
+          givens_passed F ok i n q ys e Slot Mode M (λ a. packed (Slot a) (word f a argument_variable) 0) (λ a. 0) (λ a h. refl) m,
         )
 
-  pub tabled : typingOk (program f) ≡ true → Tabled f (tables_of f)
+  pub tabled : typing_ok (program f) ≡ true → Tabled f (tables_of f)
   unfolding tables_of
   tabled ok = record {
     onward = Onward;
-    owner = ownerOf f;
+    owner = owner_of f;
     next = λ i s z. refl;
-    goal-next = goal-next;
-    arm-next = arm-next;
-    arm-goals = arm-goals;
-    switch-arms = switch-arms;
-    if-then = if-then;
-    if-else = if-else;
-    try-condition = try-condition;
-    try-then = try-then;
-    try-else = try-else;
-    bodies = λ p l. rw (← body-record p l) (body-starts p l);
-    region = λ i n x k a b c d e. rw (construct-at F refl e).w2;
-    arm-entry = λ i s z. refl;
+    goal_next = goal_next;
+    arm_next = arm_next;
+    arm_goals_law = arm_goals_law;
+    switch_arms_law = switch_arms_law;
+    if_then_law = if_then_law;
+    if_else_law = if_else_law;
+    try_condition_law = try_condition_law;
+    try_then_law = try_then_law;
+    try_else_law = try_else_law;
+    bodies = λ p l. rw (← body_record_law p l) (body_starts p l);
+    region = λ i n x k a b c d e. rw (construct_at F refl e).w2;
+    arm_entry = λ i s z. refl;
     slots = λ i n q ys m e d. (passed_here ok i n q ys m e).0;
     givens = λ i n q ys m e d. (passed_here ok i n q ys m e).1;
     image = λ i n q ys r e h. let c = call_at F refl e in rw (c.w2, c.w3);

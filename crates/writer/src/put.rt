@@ -1,7 +1,7 @@
 // Words and records in a lent slice of bytes.
 ghost use Rattle.std.specs.Prelude.{◌≡◌, [], ◌∷◌, ◌+◌, ◌*◌, ◌/◌, ◌%◌, ◌≤◌, ◌<◌, length};
-ghost use Rattle.language.specs.Format.{recordBytes};
-ghost use Rattle.records.specs.Sizes.{byteEnd, wordEnd, recordWords};
+ghost use Rattle.language.specs.Format.{record_bytes};
+ghost use Rattle.records.specs.Sizes.{byte_end, word_end, record_words};
 ghost use Rattle.writer.specs.Laid.{PutWord, Laid, SmallWords, linked, with_next};
 
 use language::format::{KIND, NEXT, RECORD_BYTES};
@@ -9,23 +9,23 @@ use records::sizes::BYTE_END;
 use records::word;
 
 fn low(x: usize) -> u8
-    ensures { result ≡ x % byteEnd }
+    ensures { result ≡ x % byte_end }
 {
     (x % BYTE_END) as u8
 }
 
 fn high(x: usize) -> u8
-    requires { x < wordEnd }
-    ensures { result ≡ x / byteEnd }
+    requires { x < word_end }
+    ensures { result ≡ x / byte_end }
 {
     (x / BYTE_END) as u8
 }
 
 // Writes word k of record i, low byte first.
 pub fn put_word(out: &mut [u8], i: usize, k: usize, x: usize)
-    requires record_bytes_in_bounds { recordBytes * i + recordBytes ≤ length out.old }
-    requires k_lt_record_words { k < recordWords }
-    requires x_lt_word_end { x < wordEnd }
+    requires record_bytes_in_bounds { record_bytes * i + record_bytes ≤ length out.old }
+    requires k_lt_record_words { k < record_words }
+    requires x_lt_word_end { x < word_end }
     ensures { PutWord out.old out.new i k x }
 {
     let at = RECORD_BYTES * i + 2 * k;
@@ -46,7 +46,7 @@ pub fn put_record(
     w6: usize,
     w7: usize,
 )
-    requires record_bytes_in_bounds { recordBytes * i + recordBytes ≤ length out.old }
+    requires record_bytes_in_bounds { record_bytes * i + record_bytes ≤ length out.old }
     requires small_words { SmallWords (w0 ∷ w1 ∷ w2 ∷ w3 ∷ w4 ∷ w5 ∷ w6 ∷ w7 ∷ []) }
     ensures { Laid out.old out.new i ((w0 ∷ w1 ∷ w2 ∷ w3 ∷ w4 ∷ w5 ∷ w6 ∷ w7 ∷ []) ∷ []) }
 {
@@ -69,8 +69,8 @@ pub fn link(w: usize, c: usize) -> usize
 
 // Writes record i of the file as record at, but for the next of its chain, which is given.
 pub fn copy_record(file: &[u8], out: &mut [u8], i: usize, at: usize, next: usize)
-    requires record_bytes_in_bounds { recordBytes * at + recordBytes ≤ length out.old }
-    requires next_lt_word_end { next < wordEnd }
+    requires record_bytes_in_bounds { record_bytes * at + record_bytes ≤ length out.old }
+    requires next_lt_word_end { next < word_end }
     ensures { Laid out.old out.new at (with_next file.now i next ∷ []) }
 {
     let kind = word(file, i, KIND);

@@ -1,9 +1,9 @@
 // Where records would end if they were written, in written order. A place past 4,096 stays above 4,096, so no place overflows.
 ghost use Rattle.std.specs.Prelude.{suc, ◌<◌};
-ghost use Rattle.language.specs.File.{recordCount};
-ghost use Rattle.language.specs.Layout.{size, sizeWords};
+ghost use Rattle.language.specs.File.{record_count};
+ghost use Rattle.language.specs.Layout.{size, size_words};
 ghost use Rattle.chains.specs.Formed.{Formed};
-ghost use Rattle.writer.specs.Ready.{treeAt, wordsAt};
+ghost use Rattle.writer.specs.Ready.{tree_at, words_at};
 ghost use Rattle.writer.specs.Skips.{Behind};
 
 use crate::walk::leads;
@@ -25,8 +25,8 @@ pub fn behind(at: usize) -> usize
 #[cycle(skip_chain_skip_record)]
 pub fn skip_chain(file: &[u8], start: usize, first: usize) -> usize
     requires formed { Formed file.now }
-    requires start_bound { start < recordCount file.now }
-    ensures { Behind first (size (treeAt file.now start)) result }
+    requires start_bound { start < record_count file.now }
+    ensures { Behind first (size (tree_at file.now start)) result }
 {
     let mut i = start;
     let mut at = first;
@@ -41,8 +41,8 @@ pub fn skip_chain(file: &[u8], start: usize, first: usize) -> usize
 #[cycle(skip_chain_skip_record)]
 pub fn skip_record(file: &[u8], i: usize, first: usize) -> usize
     requires formed { Formed file.now }
-    requires i_bound { i < recordCount file.now }
-    ensures { Behind first (suc (sizeWords (wordsAt file.now i))) result }
+    requires i_bound { i < record_count file.now }
+    ensures { Behind first (suc (size_words (words_at file.now i))) result }
 {
     let kind = word(file, i, KIND);
     let mut at = behind(first);

@@ -1,7 +1,7 @@
 // A whole file in written order.
 ghost use Rattle.std.specs.Prelude.{◌≡◌, ◌++◌, ◌*◌, ◌≤◌, length, drop};
-ghost use Rattle.language.specs.Format.{recordBytes};
-ghost use Rattle.language.specs.File.{recordCount};
+ghost use Rattle.language.specs.Format.{record_bytes};
+ghost use Rattle.language.specs.File.{record_count};
 ghost use Rattle.language.specs.Tree.{tree_of};
 ghost use Rattle.language.specs.Layout.{written};
 ghost use Rattle.chains.specs.Formed.{Formed};
@@ -14,8 +14,8 @@ use records::word;
 // behind them stay as they are.
 pub fn write_in_order(file: &[u8], out: &mut [u8])
     requires formed { Formed file.now }
-    requires file_in_bounds { recordBytes * recordCount file.now ≤ length out.old }
-    ensures { out.new ≡ written (tree_of file.now) ++ drop (recordBytes * recordCount file.now) out.old }
+    requires file_in_bounds { record_bytes * record_count file.now ≤ length out.old }
+    ensures { out.new ≡ written (tree_of file.now) ++ drop (record_bytes * record_count file.now) out.old }
 {
     let procedures = word(file, 0, HEADER_PROCEDURES);
     let end = write_record(file, out, 0, procedures, 0);

@@ -1,9 +1,9 @@
 // The walk in written order: a chain's records one after the other, each followed by what its words lead to. The records still ahead fall.
 ghost use Rattle.std.specs.Prelude.{◌≡◌, true, false, ℕ, ◌≤◌, ◌<◌, length};
 ghost use Rattle.language.specs.Layout.{lay};
-ghost use Rattle.records.specs.Sizes.{recordWords};
-ghost use Rattle.writer.specs.Ready.{ChainReady, RecordReady, Wrote, treeAt, frontTo};
-ghost use Rattle.writer.specs.Leads.{leadsAt};
+ghost use Rattle.records.specs.Sizes.{record_words};
+ghost use Rattle.writer.specs.Ready.{ChainReady, RecordReady, Wrote, tree_at, front_to};
+ghost use Rattle.writer.specs.Leads.{leads_at};
 
 use crate::put::{copy_record, link, put_word};
 use chains::word;
@@ -17,8 +17,8 @@ use records::sizes::RECORD_WORDS;
 // Whether word k, from 2 to 7, of a record of that kind leads to a chain.
 pub fn leads(kind: usize, k: usize) -> bool
     requires le_k { 2 ≤ k }
-    requires k_lt_record_words { k < recordWords }
-    ensures { result ≡ leadsAt kind k }
+    requires k_lt_record_words { k < record_words }
+    ensures { result ≡ leads_at kind k }
 {
     match kind {
         HEADER => k == HEADER_TYPES,
@@ -41,7 +41,7 @@ pub fn leads(kind: usize, k: usize) -> bool
 
 // Whether a record of that kind leads to no chain but its own.
 fn is_leaf(kind: usize) -> bool
-    ensures { result ≡ true → (k : ℕ) → 2 ≤ k → k < recordWords → leadsAt kind k ≡ false }
+    ensures { result ≡ true → (k : ℕ) → 2 ≤ k → k < record_words → leads_at kind k ≡ false }
 {
     match kind {
         HEADER => false,
@@ -61,7 +61,7 @@ fn is_leaf(kind: usize) -> bool
 #[cycle(write_chain_write_record)]
 pub fn write_chain(file: &[u8], out: &mut [u8], start: usize, first: usize) -> usize
     requires { ChainReady file.now start first (length out.old) }
-    ensures { Wrote out.old out.new first result (lay (treeAt file.now start) first) }
+    ensures { Wrote out.old out.new first result (lay (tree_at file.now start) first) }
 {
     let mut i = start;
     let mut at = first;
@@ -78,7 +78,7 @@ pub fn write_chain(file: &[u8], out: &mut [u8], start: usize, first: usize) -> u
 #[cycle(write_chain_write_record)]
 pub fn write_record(file: &[u8], out: &mut [u8], i: usize, on: usize, at: usize) -> usize
     requires { RecordReady file.now i at (length out.old) }
-    ensures { Wrote out.old out.new at result (frontTo file.now i on at) }
+    ensures { Wrote out.old out.new at result (front_to file.now i on at) }
 {
     let kind = word(file, i, KIND);
     let mut end = at + 1;

@@ -1,15 +1,15 @@
 -- `main`: what was read fits.
-use Rattle.input.specs.Input.{bytes-taken}
+use Rattle.input.specs.Input.{bytes_taken}
 use borrow.Author.Rules.{rules}
 use Rattle.annotator.proofs.main.Statement.{statement}
 use Rattle.annotator.proofs.main.Tie as tie
 
 array-share-prefix-file : tie.Need-array-share-prefix-file
-array-share-prefix-file c = (bytes-taken _ _ _ _ c.before.n.given.1 c.before.before.before.before.read-standard.ensures).0
+array-share-prefix-file c = (bytes_taken _ _ _ _ c.before.n.given.1 c.before.before.before.before.read-standard.ensures).0
 
 slice-aggregate-print-annotated : tie.Need-slice-aggregate-print-annotated
 slice-aggregate-print-annotated c =
-    (bytes-taken _ _ _ _ c.before.before.n.given.1 c.before.before.before.before.before.read-standard.ensures).1
+    (bytes_taken _ _ _ _ c.before.before.n.given.1 c.before.before.before.before.before.read-standard.ensures).1
 
 pub main_spec : {M : Type 1} → statement M
 main_spec =

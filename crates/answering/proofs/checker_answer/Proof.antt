@@ -4,16 +4,16 @@ use mathlib.Core.List.{List}
 use mathlib.Core.Path.{◌≡◌, subst}
 use borrow.Author.Rules.{rules}
 use Rattle.language.specs.declared.Verdict.{Verdict}
-use Rattle.language.specs.Output.{checkerOutput}
+use Rattle.language.specs.Output.{checker_output}
 use Rattle.lines.specs.Put.{Front}
 use Rattle.answering.proofs.checker_answer.Statement.{statement}
 use Rattle.answering.proofs.checker_answer.Tie as tie
 
-of-answer : {b m : List ℕ} {n : ℕ} (v w : Verdict) → v ≡ w → Front (checkerOutput v) b m n → Front (checkerOutput w) b m n
-of-answer {b} {m} {n} v w e p = subst (λ (a : Verdict). Front (checkerOutput a) b m n) e p
+of_answer : {b m : List ℕ} {n : ℕ} (v w : Verdict) → v ≡ w → Front (checker_output v) b m n → Front (checker_output w) b m n
+of_answer {b} {m} {n} v w e p = subst (λ (a : Verdict). Front (checker_output a) b m n) e p
 
 returns : tie.Need-returns
-returns c = of-answer _ _ c.before.before.check.ensures.0 c.checker-output.ensures
+returns c = of_answer _ _ c.before.before.check.ensures.0 c.checker-output.ensures
 
-pub checker-answer-spec : {M : Type 1} → statement M
-checker-answer-spec = tie.close (tie.spec (search rules) (search rules) returns)
+pub checker_answer_spec : {M : Type 1} → statement M
+checker_answer_spec = tie.close (tie.spec (search rules) (search rules) returns)

@@ -8,5 +8,5 @@ returns c =
     let h = c.before.before.before.before.before.before.before.before.before.run.ensures in
     (c.ending-number.ensures ∙ h.0.number, (h.0.steps, (h.0.printed, (h.0.places, h.1))))
 
-pub gumreta-run-spec : {M : Type 1} → statement M
-gumreta-run-spec = tie.close (tie.spec (search rules) (search rules) (search rules) (search rules) (search rules) (search rules) returns)
+pub gumreta_run_spec : {M : Type 1} → statement M
+gumreta_run_spec = tie.close (tie.spec (search rules) (search rules) (search rules) (search rules) (search rules) (search rules) returns)

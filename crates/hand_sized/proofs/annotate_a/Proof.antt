@@ -1,15 +1,15 @@
 use mathlib.Core.Path.{refl}
 use borrow.Author.Rules.{rules}
-use Rattle.language.specs.Answers.{refusalNumber}
+use Rattle.language.specs.Answers.{refusal_number}
 use Rattle.language.specs.Table.{table}
-use Rattle.language.specs.Format.{maxBytes}
+use Rattle.language.specs.Format.{max_bytes}
 use Rattle.hand_sized.specs.Joined.{refused}
 use Rattle.hand_sized.proofs.annotate_a.Statement.{statement}
 use Rattle.hand_sized.proofs.annotate_a.Tie as tie
 
 returns : tie.Need-returns
-unfolding refusalNumber
-returns c = let p = refused _ c.before.before.before.before.args.out.now c.annotate.ensures c.before.before.before.a.ensures maxBytes table.already-annotated (search rules) in (p.0, (refl, p.1))
+unfolding refusal_number
+returns c = let p = refused _ c.before.before.before.before.args.out.now c.annotate.ensures c.before.before.before.a.ensures max_bytes table.already_annotated (search rules) in (p.0, (refl, p.1))
 
-pub annotate-a-spec : {M : Type 1} → statement M
-annotate-a-spec = tie.close (tie.spec (search rules) (search rules) (search rules) returns)
+pub annotate_a_spec : {M : Type 1} → statement M
+annotate_a_spec = tie.close (tie.spec (search rules) (search rules) (search rules) returns)

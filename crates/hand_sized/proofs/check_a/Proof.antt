@@ -8,5 +8,5 @@ use Rattle.hand_sized.proofs.check_a.Tie as tie
 returns : tie.Need-returns
 returns c = c.check.ensures.0 ∙ ap checked c.before.before.a.ensures ∙ table.A-checked
 
-pub check-a-spec : {M : Type 1} → statement M
-check-a-spec = tie.close (tie.spec (search rules) (search rules) (search rules) returns)
+pub check_a_spec : {M : Type 1} → statement M
+check_a_spec = tie.close (tie.spec (search rules) (search rules) (search rules) returns)

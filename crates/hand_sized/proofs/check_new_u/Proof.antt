@@ -6,7 +6,7 @@ use Rattle.hand_sized.proofs.check_new_u.Statement.{statement}
 use Rattle.hand_sized.proofs.check_new_u.Tie as tie
 
 returns : tie.Need-returns
-returns c = c.check.ensures.0 ∙ ap checked c.before.before.new-u.ensures ∙ table.newU-checked
+returns c = c.check.ensures.0 ∙ ap checked c.before.before.new-u.ensures ∙ table.new_u_checked
 
-pub check-new-u-spec : {M : Type 1} → statement M
-check-new-u-spec = tie.close (tie.spec (search rules) (search rules) (search rules) returns)
+pub check_new_u_spec : {M : Type 1} → statement M
+check_new_u_spec = tie.close (tie.spec (search rules) (search rules) (search rules) returns)

@@ -6,7 +6,7 @@ use Rattle.hand_sized.proofs.check_removed_early.Statement.{statement}
 use Rattle.hand_sized.proofs.check_removed_early.Tie as tie
 
 returns : tie.Need-returns
-returns c = c.check.ensures.0 ∙ ap checked c.before.before.removed-early.ensures ∙ table.removed-early
+returns c = c.check.ensures.0 ∙ ap checked c.before.before.removed_early.ensures ∙ table.removed_early
 
-pub check-removed-early-spec : {M : Type 1} → statement M
-check-removed-early-spec = tie.close (tie.spec (search rules) (search rules) (search rules) returns)
+pub check_removed_early_spec : {M : Type 1} → statement M
+check_removed_early_spec = tie.close (tie.spec (search rules) (search rules) (search rules) returns)

@@ -6,7 +6,7 @@ use Rattle.hand_sized.proofs.check_removed_twice.Statement.{statement}
 use Rattle.hand_sized.proofs.check_removed_twice.Tie as tie
 
 returns : tie.Need-returns
-returns c = c.check.ensures.0 ∙ ap checked c.before.before.removed-twice.ensures ∙ table.removed-twice
+returns c = c.check.ensures.0 ∙ ap checked c.before.before.removed_twice_law.ensures ∙ table.removed_twice_law
 
-pub check-removed-twice-spec : {M : Type 1} → statement M
-check-removed-twice-spec = tie.close (tie.spec (search rules) (search rules) (search rules) returns)
+pub check_removed_twice_spec : {M : Type 1} → statement M
+check_removed_twice_spec = tie.close (tie.spec (search rules) (search rules) (search rules) returns)

@@ -1,13 +1,13 @@
 use borrow.Author.Rules.{rules}
-use Rattle.language.specs.Machine.{runnerLent}
+use Rattle.language.specs.Machine.{runner_lent}
 use Rattle.language.specs.Table.{table}
-use Rattle.hand_sized.specs.Joined.{not-run, lent_by}
+use Rattle.hand_sized.specs.Joined.{not_run, lent_by}
 use Rattle.hand_sized.proofs.run_a.Statement.{statement}
 use Rattle.hand_sized.proofs.run_a.Tie as tie
 
 returns : tie.Need-returns
-unfolding runnerLent
-returns c = not-run c.run.ensures.0 c.run.ensures.1 c.before.before.before.before.before.before.a.ensures runnerLent table.A-run table.A-checked (lent_by _ _ _ _ _ (search rules) (search rules) (search rules) (search rules))
+unfolding runner_lent
+returns c = not_run c.run.ensures.0 c.run.ensures.1 c.before.before.before.before.before.before.a.ensures runner_lent table.A-run table.A-checked (lent_by _ _ _ _ _ (search rules) (search rules) (search rules) (search rules))
 
-pub run-a-spec : {M : Type 1} → statement M
-run-a-spec = tie.close (tie.spec (search rules) (search rules) (search rules) returns)
+pub run_a_spec : {M : Type 1} → statement M
+run_a_spec = tie.close (tie.spec (search rules) (search rules) (search rules) returns)

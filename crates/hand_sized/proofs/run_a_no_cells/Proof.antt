@@ -1,13 +1,13 @@
 use borrow.Author.Rules.{rules}
-use Rattle.language.specs.Machine.{runnerLent}
-use Rattle.language.specs.Table.{table, lending, noCells}
-use Rattle.hand_sized.specs.Joined.{not-run, lent_by}
+use Rattle.language.specs.Machine.{runner_lent}
+use Rattle.language.specs.Table.{table, lending, no_cells}
+use Rattle.hand_sized.specs.Joined.{not_run, lent_by}
 use Rattle.hand_sized.proofs.run_a_no_cells.Statement.{statement}
 use Rattle.hand_sized.proofs.run_a_no_cells.Tie as tie
 
 returns : tie.Need-returns
-unfolding runnerLent lending noCells
-returns c = not-run c.run.ensures.0 c.run.ensures.1 c.before.before.before.before.before.before.a.ensures noCells table.no_cell table.A-checked (lent_by _ _ _ _ _ (search rules) (search rules) (search rules) (search rules))
+unfolding runner_lent lending no_cells
+returns c = not_run c.run.ensures.0 c.run.ensures.1 c.before.before.before.before.before.before.a.ensures no_cells table.no_cell table.A-checked (lent_by _ _ _ _ _ (search rules) (search rules) (search rules) (search rules))
 
-pub run-a-no-cells-spec : {M : Type 1} → statement M
-run-a-no-cells-spec = tie.close (tie.spec (search rules) (search rules) (search rules) returns)
+pub run_a_no_cells_spec : {M : Type 1} → statement M
+run_a_no_cells_spec = tie.close (tie.spec (search rules) (search rules) (search rules) returns)

@@ -1,14 +1,14 @@
 use borrow.Author.Rules.{rules}
-use Rattle.language.specs.Lists.{frontWritten}
-use Rattle.language.specs.Machine.{runnerLent, printPlaces}
-use Rattle.language.specs.Table.{table, silent, lending, noCells}
+use Rattle.language.specs.Lists.{front_written}
+use Rattle.language.specs.Machine.{runner_lent, print_places}
+use Rattle.language.specs.Table.{table, silent, lending, no_cells}
 use Rattle.hand_sized.specs.Joined.{printing, lent_by}
 use Rattle.hand_sized.proofs.run_new_u_no_cells.Statement.{statement}
 use Rattle.hand_sized.proofs.run_new_u_no_cells.Tie as tie
 
 returns : tie.Need-returns
-unfolding runnerLent lending noCells silent printPlaces frontWritten
-returns c = printing c.run.ensures.0 c.run.ensures.1 c.before.before.before.before.before.before.new-u.ensures noCells table.newU-no-cell (lent_by _ _ _ _ _ (search rules) (search rules) (search rules) (search rules))
+unfolding runner_lent lending no_cells silent print_places front_written
+returns c = printing c.run.ensures.0 c.run.ensures.1 c.before.before.before.before.before.before.new-u.ensures no_cells table.new_u_no_cell (lent_by _ _ _ _ _ (search rules) (search rules) (search rules) (search rules))
 
-pub run-new-u-no-cells-spec : {M : Type 1} → statement M
-run-new-u-no-cells-spec = tie.close (tie.spec (search rules) (search rules) (search rules) returns)
+pub run_new_u_no_cells_spec : {M : Type 1} → statement M
+run_new_u_no_cells_spec = tie.close (tie.spec (search rules) (search rules) (search rules) returns)

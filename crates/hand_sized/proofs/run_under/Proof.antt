@@ -1,15 +1,15 @@
 use borrow.Author.Rules.{rules}
 use Rattle.language.specs.Numbers.{residue}
-use Rattle.language.specs.Lists.{frontWritten}
-use Rattle.language.specs.Machine.{runnerLent, printPlaces}
-use Rattle.language.specs.Table.{table, stoppedThere}
+use Rattle.language.specs.Lists.{front_written}
+use Rattle.language.specs.Machine.{runner_lent, print_places}
+use Rattle.language.specs.Table.{table, stopped_there}
 use Rattle.hand_sized.specs.Joined.{printing, lent_by}
 use Rattle.hand_sized.proofs.run_under.Statement.{statement}
 use Rattle.hand_sized.proofs.run_under.Tie as tie
 
 returns : tie.Need-returns
-unfolding runnerLent stoppedThere printPlaces frontWritten residue
-returns c = printing c.run.ensures.0 c.run.ensures.1 c.before.before.before.before.before.before.under.ensures runnerLent table.difference-under (lent_by _ _ _ _ _ (search rules) (search rules) (search rules) (search rules))
+unfolding runner_lent stopped_there print_places front_written residue
+returns c = printing c.run.ensures.0 c.run.ensures.1 c.before.before.before.before.before.before.under.ensures runner_lent table.difference_under (lent_by _ _ _ _ _ (search rules) (search rules) (search rules) (search rules))
 
-pub run-under-spec : {M : Type 1} → statement M
-run-under-spec = tie.close (tie.spec (search rules) (search rules) (search rules) returns)
+pub run_under_spec : {M : Type 1} → statement M
+run_under_spec = tie.close (tie.spec (search rules) (search rules) (search rules) returns)

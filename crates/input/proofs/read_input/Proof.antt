@@ -7,7 +7,7 @@ use lib.ListN.{length}
 use borrow.Author.Rules.{rules}
 use Rattle.input.specs.declared.Input.{Input}
 use Rattle.input.specs.declared.Input.TheVariants.{Bytes}
-use Rattle.input.specs.Input.{Taken, taken, bytes-taken}
+use Rattle.input.specs.Input.{Taken, taken, bytes_taken}
 use Rattle.input.proofs.read_input.Statement.{statement}
 use Rattle.input.proofs.read_input.Tie as tie
 
@@ -19,7 +19,7 @@ decreases-loop fd file₀ at₀ file at = length file - at
 
 -- where the bytes end after a part
 part : (at n : ℕ) (r : Input) (bytes : List ℕ) → r ≡ Bytes n → Taken at r bytes → (n ≤ length bytes) × (at ≤ n)
-part at n r bytes e t = let p = bytes-taken at r n bytes e t in (p.0, p.2)
+part at n r bytes e t = let p = bytes_taken at r n bytes e t in (p.0, p.2)
 
 returns-2 : tie.Need-returns-2 invariant-loop decreases-loop
 returns-2 c = taken _ _ (search rules) (omega arith)
@@ -33,8 +33,8 @@ loop-again c = ((part _ _ _ _ c.before.before.end.given.1 c.before.before.before
 returns-3 : tie.Need-returns-3 invariant-loop decreases-loop
 returns-3 c = taken _ _ (search rules) (omega arith)
 
-pub read-input-spec : {M : Type 1} → statement M
-read-input-spec =
+pub read_input_spec : {M : Type 1} → statement M
+read_input_spec =
     tie.close
     (tie.spec invariant-loop decreases-loop (search rules) (search rules) (search rules) (search rules) (search rules) (search rules) returns-2 loop-less loop-again
     (search rules) returns-3)

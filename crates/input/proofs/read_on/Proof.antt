@@ -24,7 +24,7 @@ loop-again c = (c.before.before.before.before.read-part.ensures.1 ∙ c.before.b
 returns-2 : tie.Need-returns-2 invariant-loop decreases-loop
 returns-2 c = (tt, c.before.loop.invariant.0)
 
-pub read-on-spec : {M : Type 1} → statement M
-read-on-spec =
+pub read_on_spec : {M : Type 1} → statement M
+read_on_spec =
     tie.close
     (tie.spec invariant-loop decreases-loop loop-holds (search rules) (search rules) (search rules) returns (search rules) (search rules) loop-again (search rules) returns-2)

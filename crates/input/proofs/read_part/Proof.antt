@@ -24,8 +24,8 @@ returns-3 c =
       take_put q.args.at (length q.args.file.now - q.args.at) q.args.file.now c.before.before.before.before.before.before.read.new.1.0 q.requires,
     )
 
-pub read-part-spec : {M : Type 1} → statement M
-read-part-spec =
+pub read_part_spec : {M : Type 1} → statement M
+read_part_spec =
     tie.close
     (tie.spec (search rules) (search rules) (search rules) (search rules) (search rules) (search rules) returns (search rules) returns-2 (search rules)
     (search rules) (search rules) (search rules) (search rules) (search rules) returns-3)

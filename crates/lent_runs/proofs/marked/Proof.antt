@@ -11,7 +11,7 @@ invariant-loop words at i₀ i = Unit {0}
 abbrev decreases-loop : tie.decreases-loop
 decreases-loop words at i₀ i = length words - i
 
-pub marked-spec : {M : Type 1} → statement M
-marked-spec =
+pub marked_spec : {M : Type 1} → statement M
+marked_spec =
     tie.close
     (tie.spec invariant-loop decreases-loop (search rules) (search rules) (search rules) (search rules) (search rules) (search rules) (search rules) (search rules))

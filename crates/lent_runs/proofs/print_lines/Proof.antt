@@ -13,8 +13,8 @@ runner-output-requires c κs =
     let h = c.before.before.before.requires in
     omega (arith, length-take-le c.before.before.before.args.r.printed c.before.before.before.args.prints.now h.0, h.1)
 
-pub print-lines-spec : {M : Type 1} → statement M
-print-lines-spec =
+pub print_lines_spec : {M : Type 1} → statement M
+print_lines_spec =
     tie.close
     (tie.spec slice-aggregate-runner-output (search rules) runner-output-requires (search rules) (search rules) (search rules) (search rules)
     (search rules) (search rules) (search rules) (search rules))

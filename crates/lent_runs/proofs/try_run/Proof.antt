@@ -13,12 +13,12 @@ slice-aggregate-try-in c = sym (length-take-le _ _ (search rules))
 try-in-requires : tie.Need-try-in-requires
 try-in-requires c κs =
     let n = c.before.before.before.next-lent4 in
-    let p = c.before.print-words in
+    let p = c.before.print_words_law in
     let fits : n.result ≤ length p.result = omega (arith, n.ensures, p.ensures) in
     ((c.before.before.before.before.before.before.next-lent.ensures, c.before.before.before.before.before.next-lent2.ensures, c.before.before.before.before.next-lent3.ensures), omega (arith, length-take-le n.result p.result fits, n.ensures))
 
-pub try-run-spec : {M : Type 1} → statement M
-try-run-spec =
+pub try_run_spec : {M : Type 1} → statement M
+try_run_spec =
     tie.close
     (tie.spec (search rules) (search rules) (search rules) (search rules) (search rules) (search rules) (search rules) slice-aggregate-try-in
     try-in-requires (search rules))

@@ -9,5 +9,5 @@ invariant-loop file n left₀ left = Unit {0}
 abbrev decreases-loop : tie.decreases-loop
 decreases-loop file n left₀ left = left
 
-pub try-runs-spec : {M : Type 1} → statement M
-try-runs-spec = tie.close (tie.spec invariant-loop decreases-loop (search rules) (search rules) (search rules) (search rules) (search rules) (search rules))
+pub try_runs_spec : {M : Type 1} → statement M
+try_runs_spec = tie.close (tie.spec invariant-loop decreases-loop (search rules) (search rules) (search rules) (search rules) (search rules) (search rules))

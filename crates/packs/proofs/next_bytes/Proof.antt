@@ -9,8 +9,8 @@ use Rattle.io.specs.Counts.{IsPrefixLen}
 use Rattle.packs.proofs.next_bytes.Statement.{statement}
 use Rattle.packs.proofs.next_bytes.Tie as tie
 
-in-front : (n : ℕ) (a b : List ℕ) → n ≤ length a → IsPrefixLen n (a ++ b)
-in-front n a b l =
+in_front_law : (n : ℕ) (a b : List ℕ) → n ≤ length a → IsPrefixLen n (a ++ b)
+in_front_law n a b l =
     let m : n ≤ length (a ++ b) = simp length-append (omega arith) in
     (m, sym (length-take-le n (a ++ b) m))
 
@@ -19,10 +19,10 @@ slice-aggregate-read-full c = sym (length-take-le _ _ (search rules))
 
 returns : tie.Need-returns
 returns c =
-    in-front c.before.before.read-full.result c.before.before.read-full.new.1.0 (drop c.before.before.before.before.before.before.args.n c.before.before.before.before.before.before.args.out.now)
+    in_front_law c.before.before.read-full.result c.before.before.read-full.new.1.0 (drop c.before.before.before.before.before.before.args.n c.before.before.before.before.before.before.args.out.now)
     c.before.before.read-full.ensures.0
 
-pub next-bytes-spec : {M : Type 1} → statement M
-next-bytes-spec =
+pub next_bytes_spec : {M : Type 1} → statement M
+next_bytes_spec =
     tie.close
     (tie.spec (search rules) slice-aggregate-read-full (search rules) (search rules) (search rules) returns (search rules) (search rules))

@@ -11,8 +11,8 @@ print-accepted-requires c κs = (sym c.before.before.before.check.ensures.0 ∙ 
 print-accepted-requires-2 : tie.Need-print-accepted-requires-2
 print-accepted-requires-2 c κs = (sym c.before.before.before.check.ensures.0 ∙ c.before.enum_told.given.1, (omega arith, omega arith))
 
-pub print-profile-spec : {M : Type 1} → statement M
-print-profile-spec =
+pub print_profile_spec : {M : Type 1} → statement M
+print_profile_spec =
     tie.close
     (tie.spec (search rules) (search rules) (search rules) (search rules) (search rules) (search rules) (search rules) (search rules)
     print-accepted-requires (search rules) (search rules) print-accepted-requires-2 (search rules))

@@ -9,8 +9,8 @@ invariant-loop path fd left₀ left = Unit {0}
 abbrev decreases-loop : tie.decreases-loop
 decreases-loop path fd left₀ left = left
 
-pub try-pack-spec : {M : Type 1} → statement M
-try-pack-spec =
+pub try_pack_spec : {M : Type 1} → statement M
+try_pack_spec =
     tie.close
     (tie.spec invariant-loop decreases-loop (search rules) (search rules) (search rules) (search rules) (search rules) (search rules) (search rules) (search rules)
     (search rules) (search rules) (search rules) (search rules))

@@ -1,11 +1,11 @@
-use Rattle.accesses.specs.Gathering.{noAccess}
+use Rattle.accesses.specs.Gathering.{no_access}
 use mathlib.Core.Path.{refl}
 use Rattle.accesses.proofs.steps.no_access.Statement.{statement}
 use Rattle.accesses.proofs.steps.no_access.Tie as tie
 
 returns : tie.Need-returns
-unfolding noAccess
+unfolding no_access
 returns c = refl
 
-pub no-access-spec : {M : Type 1} → statement M
-no-access-spec = tie.close (tie.spec returns)
+pub no_access_spec : {M : Type 1} → statement M
+no_access_spec = tie.close (tie.spec returns)

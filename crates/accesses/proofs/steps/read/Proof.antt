@@ -1,10 +1,10 @@
-use Rattle.accesses.specs.Gathering.{readIn}
+use Rattle.accesses.specs.Gathering.{read_in}
 use borrow.Author.Rules.{rules}
 use Rattle.accesses.proofs.steps.read.Statement.{statement}
 use Rattle.accesses.proofs.steps.read.Tie as tie
 
 returns : tie.Need-returns
-unfolding readIn
+unfolding read_in
 returns c = cc
 
 pub read_spec : {M : Type 1} → statement M

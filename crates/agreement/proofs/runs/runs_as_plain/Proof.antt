@@ -6,5 +6,5 @@ use Rattle.agreement.proofs.runs.runs_as_plain.Tie as tie
 returns : tie.Need-returns
 returns c = let h = c.before.before.before.before.before.before.before.before.run.ensures in ((λ a. as_plain h.0 a), h)
 
-pub runs-as-plain-spec : {M : Type 1} → statement M
-runs-as-plain-spec = tie.close (tie.spec (search rules) (search rules) (search rules) (search rules) (search rules) returns)
+pub runs_as_plain_spec : {M : Type 1} → statement M
+runs_as_plain_spec = tie.close (tie.spec (search rules) (search rules) (search rules) (search rules) (search rules) returns)

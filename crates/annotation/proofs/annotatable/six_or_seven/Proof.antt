@@ -9,5 +9,5 @@ returns c = seven c.before.is-unannotated.ensures c.if1.true
 returns-2 : tie.Need-returns-2
 returns-2 c = six c.before.is-unannotated.ensures c.if1.false
 
-pub six-or-seven-spec : {M : Type 1} → statement M
-six-or-seven-spec = tie.close (tie.spec (λ c κs. search rules) returns returns-2)
+pub six_or_seven_spec : {M : Type 1} → statement M
+six_or_seven_spec = tie.close (tie.spec (λ c κs. search rules) returns returns-2)

@@ -4,5 +4,5 @@ use Rattle.chains.specs.Formed.{counted}
 use Rattle.chains.proofs.words.record_count.Statement.{statement}
 use Rattle.chains.proofs.words.record_count.Tie as tie
 
-pub record-count-spec : {M : Type 1} → statement M
-record-count-spec = tie.close (tie.spec (λ c. let n = counted c.requires in omega arith))
+pub record_count_spec : {M : Type 1} → statement M
+record_count_spec = tie.close (tie.spec (λ c. let n = counted c.requires in omega arith))

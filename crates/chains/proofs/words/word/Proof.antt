@@ -8,5 +8,5 @@ use Rattle.chains.proofs.words.word.Tie as tie
 word-in-requires : tie.Need-word-in-requires
 word-in-requires c κs = let n = counted c.before.requires.0 in (omega arith, omega arith)
 
-pub word-spec : {M : Type 1} → statement M
-word-spec = tie.close (tie.spec word-in-requires (search rules))
+pub word_spec : {M : Type 1} → statement M
+word_spec = tie.close (tie.spec word-in-requires (search rules))

@@ -1,27 +1,27 @@
 -- The sound variables are taken off one by one.
 use mathlib.Core.Logic.{⊎_elim}
 use mathlib.Core.Path.{sym, ◌∙◌}
-use Rattle.sets.specs.Sets.{small-of-bits}
+use Rattle.sets.specs.Sets.{small_of_bits}
 use Rattle.sets.specs.Size.{size}
-use Rattle.checking.proofs.SoundLaws.{Keeping, keep-first, some_left, keep-falls, keep_one, keep-none, keep-last, reachApart, apart-here, without_is}
+use Rattle.checking.proofs.SoundLaws.{Keeping, keep_first, some_left, keep_falls, keep_one, keep_none, keep_last, reach_apart, apart_here, without_is}
 use borrow.Author.Rules.{rules}
 use Rattle.checking.proofs.sound.without_some.Statement.{statement}
 use Rattle.checking.proofs.sound.without_some.Tie as tie
 
 abbrev invariant-loop : tie.invariant-loop
-invariant-loop own gone found₀ left₀ found left = Keeping (reachApart own gone) left₀ found left
+invariant-loop own gone found₀ left₀ found left = Keeping (reach_apart own gone) left₀ found left
 
 abbrev decreases-loop : tie.decreases-loop
 decreases-loop own gone found₀ left₀ found left = size left
 
 loop-holds : tie.Need-loop-init invariant-loop decreases-loop
-loop-holds c = keep-first _ _ (small-of-bits _ (search rules))
+loop-holds c = keep_first _ _ (small_of_bits _ (search rules))
 
 without-lowest-requires : tie.Need-without-lowest-requires invariant-loop decreases-loop
 without-lowest-requires c κs = search (some_left, rules)
 
 loop-less : tie.Need-loop-smaller invariant-loop decreases-loop
-loop-less c = search (keep-falls, rules)
+loop-less c = search (keep_falls, rules)
 
 loop-again : tie.Need-loop-preserved invariant-loop decreases-loop
 loop-again c =
@@ -30,16 +30,16 @@ loop-again c =
     let i = o.before in
     let l = i.before.before in
     let a = l.before.before.args in
-    let e = apart-here a.own.now _ _ w.before.before.reach.ensures w.before.intersection.ensures w.same.ensures in
+    let e = apart_here a.own.now _ _ w.before.before.reach.ensures w.before.intersection.ensures w.same.ensures in
     ⊎_elim
     (λ t. keep_one _ _ l.loop.invariant i.before.is-empty.ensures i.if1.true c.without-lowest.ensures o.lowest.ensures (sym e ∙ t.0.taken) t.1.ensures (t.3 ∙ t.2.ensures))
-    (λ t. rw t.1 (keep-none _ _ l.loop.invariant i.before.is-empty.ensures i.if1.true c.without-lowest.ensures o.lowest.ensures (sym e ∙ t.0.left))) c.before.if2.branch
+    (λ t. rw t.1 (keep_none _ _ l.loop.invariant i.before.is-empty.ensures i.if1.true c.without-lowest.ensures o.lowest.ensures (sym e ∙ t.0.left))) c.before.if2.branch
 
 returns : tie.Need-returns invariant-loop decreases-loop
-returns c = search (keep-last, without_is, rules)
+returns c = search (keep_last, without_is, rules)
 
-pub without-some-spec : {M : Type 1} → statement M
-without-some-spec =
+pub without_some_spec : {M : Type 1} → statement M
+without_some_spec =
     tie.close
     (tie.spec invariant-loop decreases-loop loop-holds (search rules) (search rules) (search rules) (search rules) (search rules) (search rules) (search rules)
     without-lowest-requires loop-less loop-again returns)

@@ -3,9 +3,9 @@ use borrow.Author.Tests.{not-true, not-false}
 use native.Mathlib.Omega.{arith}
 use mathlib.Core.Path.{refl, ◌∙◌}
 use Rattle.chains.specs.Formed.{ahead}
-use Rattle.chains.specs.Shapes.{switch-here, if_here, try-here, to-arms, to-then, to-else, to-condition, to-try-then, to-try-else, arm-goals, arm-next}
-use Rattle.walks.specs.Closed.{goal-closed, arm-closed}
-use Rattle.checking.proofs.Walking.{Walking, none-checked, walk-last, walk-onward, walk-stop, walk-next, step-checked, switch-broken, switch-done, if-broken, if-broken-2, then-broken, else-broken, if-done, condition-broken, try-then-broken, try-else-broken, try-done, arms-none-checked, arm-broken, arm-ended, rest-broken, arm_more}
+use Rattle.chains.specs.Shapes.{switch_here, if_here, try_here, to_arms, to_then, to_else, to_condition, to_try_then, to_try_else, arm_goals_law, arm_next}
+use Rattle.walks.specs.Closed.{goal_closed, arm_closed}
+use Rattle.checking.proofs.Walking.{Walking, none_checked, walk_last, walk_onward, walk_stop, walk_next, step_checked, switch_broken, switch_done, if_broken, if_broken_2, then_broken, else_broken, if_done, condition_broken, try_then_broken, try_else_broken, try_done, arms_none_checked, arm_broken, arm_ended, rest_broken, arm_more}
 use borrow.Author.Rules.{rules}
 use Prim.Native.Nat.{ℕ, ◌<◌, ◌+◌, ◌*◌}
 use borrow.Fn.Kinds.{In}
@@ -58,105 +58,105 @@ abbrev μ-goals : Measures 4 goals-kinds.ps ℕ
 abbrev μ-switch : Measures 4 switch-kinds.ps ℕ
 μ-switch κs a = 4 * ahead a.0.now a.1.1.1.1.0 + 1
 
-abbrev arms_at : ℕ → In 4 arms-kinds.ps
-arms_at t = and 4 arms-kinds.ps (is 4 arms-kinds.ps μ-arms t) arms.Pre
+abbrev arms_at_law : ℕ → In 4 arms-kinds.ps
+arms_at_law t = and 4 arms-kinds.ps (is 4 arms-kinds.ps μ-arms t) arms.Pre
 
-abbrev arms-below : ℕ → In 4 arms-kinds.ps
-arms-below t = and 4 arms-kinds.ps (falls 4 arms-kinds.ps ◌<◌ μ-arms t) arms.Pre
+abbrev arms_below : ℕ → In 4 arms-kinds.ps
+arms_below t = and 4 arms-kinds.ps (falls 4 arms-kinds.ps ◌<◌ μ-arms t) arms.Pre
 
-abbrev attempt-at : ℕ → In 4 attempt-kinds.ps
-attempt-at t = and 4 attempt-kinds.ps (is 4 attempt-kinds.ps μ-attempt t) attempt.Pre
+abbrev attempt_at : ℕ → In 4 attempt-kinds.ps
+attempt_at t = and 4 attempt-kinds.ps (is 4 attempt-kinds.ps μ-attempt t) attempt.Pre
 
-abbrev attempt-below : ℕ → In 4 attempt-kinds.ps
-attempt-below t = and 4 attempt-kinds.ps (falls 4 attempt-kinds.ps ◌<◌ μ-attempt t) attempt.Pre
+abbrev attempt_below : ℕ → In 4 attempt-kinds.ps
+attempt_below t = and 4 attempt-kinds.ps (falls 4 attempt-kinds.ps ◌<◌ μ-attempt t) attempt.Pre
 
 abbrev branches_at : ℕ → In 4 branches-kinds.ps
 branches_at t = and 4 branches-kinds.ps (is 4 branches-kinds.ps μ-branches t) branches.Pre
 
-abbrev branches-below : ℕ → In 4 branches-kinds.ps
-branches-below t =
+abbrev branches_below : ℕ → In 4 branches-kinds.ps
+branches_below t =
     and 4 branches-kinds.ps (falls 4 branches-kinds.ps ◌<◌ μ-branches t) branches.Pre
 
-abbrev goal-at : ℕ → In 4 goal-kinds.ps
-goal-at t = and 4 goal-kinds.ps (is 4 goal-kinds.ps μ-goal t) goal.Pre
+abbrev goal_at_law : ℕ → In 4 goal-kinds.ps
+goal_at_law t = and 4 goal-kinds.ps (is 4 goal-kinds.ps μ-goal t) goal.Pre
 
-abbrev goal-below : ℕ → In 4 goal-kinds.ps
-goal-below t = and 4 goal-kinds.ps (falls 4 goal-kinds.ps ◌<◌ μ-goal t) goal.Pre
+abbrev goal_below : ℕ → In 4 goal-kinds.ps
+goal_below t = and 4 goal-kinds.ps (falls 4 goal-kinds.ps ◌<◌ μ-goal t) goal.Pre
 
-abbrev goals-at : ℕ → In 4 goals-kinds.ps
-goals-at t = and 4 goals-kinds.ps (is 4 goals-kinds.ps μ-goals t) goals.Pre
+abbrev goals_at_law : ℕ → In 4 goals-kinds.ps
+goals_at_law t = and 4 goals-kinds.ps (is 4 goals-kinds.ps μ-goals t) goals.Pre
 
-abbrev goals-below : ℕ → In 4 goals-kinds.ps
-goals-below t = and 4 goals-kinds.ps (falls 4 goals-kinds.ps ◌<◌ μ-goals t) goals.Pre
+abbrev goals_below : ℕ → In 4 goals-kinds.ps
+goals_below t = and 4 goals-kinds.ps (falls 4 goals-kinds.ps ◌<◌ μ-goals t) goals.Pre
 
-abbrev switch-at : ℕ → In 4 switch-kinds.ps
-switch-at t = and 4 switch-kinds.ps (is 4 switch-kinds.ps μ-switch t) switch.Pre
+abbrev switch_at : ℕ → In 4 switch-kinds.ps
+switch_at t = and 4 switch-kinds.ps (is 4 switch-kinds.ps μ-switch t) switch.Pre
 
-abbrev switch-below : ℕ → In 4 switch-kinds.ps
-switch-below t = and 4 switch-kinds.ps (falls 4 switch-kinds.ps ◌<◌ μ-switch t) switch.Pre
+abbrev switch_below : ℕ → In 4 switch-kinds.ps
+switch_below t = and 4 switch-kinds.ps (falls 4 switch-kinds.ps ◌<◌ μ-switch t) switch.Pre
 
 -- what each member's callees ask and give
-abbrev arms-calls : ℕ → arms-lts.Claims
-arms-calls t =
-    (word-reads.Asked, word-reads.Learnt, held-in-reads.Asked, held-in-reads.Learnt, sound-in-reads.Asked, sound-in-reads.Learnt, enter-reads.Asked, enter-reads.Learnt, goals-below t, goals.Post, carry-reads.Asked, carry-reads.Learnt, arms-below t, arms.Post, join-reads.Asked, join-reads.Learnt)
+abbrev arms_calls : ℕ → arms-lts.Claims
+arms_calls t =
+    (word-reads.Asked, word-reads.Learnt, held-in-reads.Asked, held-in-reads.Learnt, sound-in-reads.Asked, sound-in-reads.Learnt, enter-reads.Asked, enter-reads.Learnt, goals_below t, goals.Post, carry-reads.Asked, carry-reads.Learnt, arms_below t, arms.Post, join-reads.Asked, join-reads.Learnt)
 
-abbrev attempt-calls : ℕ → attempt-lts.Claims
-attempt-calls t =
-    (held-in-reads.Asked, held-in-reads.Learnt, sound-in-reads.Asked, sound-in-reads.Learnt, word-reads.Asked, word-reads.Learnt, goals-below t, goals.Post, carry-reads.Asked, carry-reads.Learnt, join-reads.Asked, join-reads.Learnt)
+abbrev attempt_calls : ℕ → attempt-lts.Claims
+attempt_calls t =
+    (held-in-reads.Asked, held-in-reads.Learnt, sound-in-reads.Asked, sound-in-reads.Learnt, word-reads.Asked, word-reads.Learnt, goals_below t, goals.Post, carry-reads.Asked, carry-reads.Learnt, join-reads.Asked, join-reads.Learnt)
 
-abbrev branches-calls : ℕ → branches-lts.Claims
-branches-calls t =
-    (held-in-reads.Asked, held-in-reads.Learnt, sound-in-reads.Asked, sound-in-reads.Learnt, word-reads.Asked, word-reads.Learnt, has-reads.Asked, has-reads.Learnt, goals-below t, goals.Post, carry-reads.Asked, carry-reads.Learnt, join-reads.Asked, join-reads.Learnt)
+abbrev branches_calls : ℕ → branches-lts.Claims
+branches_calls t =
+    (held-in-reads.Asked, held-in-reads.Learnt, sound-in-reads.Asked, sound-in-reads.Learnt, word-reads.Asked, word-reads.Learnt, has-reads.Asked, has-reads.Learnt, goals_below t, goals.Post, carry-reads.Asked, carry-reads.Learnt, join-reads.Asked, join-reads.Learnt)
 
-abbrev goal-calls : ℕ → goal-lts.Claims
-goal-calls t =
-    (word-reads.Asked, word-reads.Learnt, switch-below t, switch.Post, branches-below t, branches.Post, attempt-below t, attempt.Post, is-step-reads.Asked, is-step-reads.Learnt, step-reads.Asked, step-reads.Learnt)
+abbrev goal_calls : ℕ → goal-lts.Claims
+goal_calls t =
+    (word-reads.Asked, word-reads.Learnt, switch_below t, switch.Post, branches_below t, branches.Post, attempt_below t, attempt.Post, is-step-reads.Asked, is-step-reads.Learnt, step-reads.Asked, step-reads.Learnt)
 
-abbrev goals-calls : ℕ → goals-lts.Claims
-goals-calls t =
-    (goal-below t, goal.Post, word-reads.Asked, word-reads.Learnt)
+abbrev goals_calls : ℕ → goals-lts.Claims
+goals_calls t =
+    (goal_below t, goal.Post, word-reads.Asked, word-reads.Learnt)
 
-abbrev switch-calls : ℕ → switch-lts.Claims
-switch-calls t =
-    (sound-in-reads.Asked, sound-in-reads.Learnt, word-reads.Asked, word-reads.Learnt, has-reads.Asked, has-reads.Learnt, arms-below t, arms.Post)
+abbrev switch_calls : ℕ → switch-lts.Claims
+switch_calls t =
+    (sound-in-reads.Asked, sound-in-reads.Learnt, word-reads.Asked, word-reads.Learnt, has-reads.Asked, has-reads.Learnt, arms_below t, arms.Post)
 
-arms-returns : (t : ℕ) → arms-lts.Need-returns (arms-calls t) (arms_at t) arms.Post
-arms-returns t c = arms-none-checked _ _ _ _ _ c.if1.true
+arms_returns : (t : ℕ) → arms-lts.Need-returns (arms_calls t) (arms_at_law t) arms.Post
+arms_returns t c = arms_none_checked _ _ _ _ _ c.if1.true
 
-arms-returns-2 : (t : ℕ) → arms-lts.Need-returns-2 (arms-calls t) (arms_at t) arms.Post
-arms-returns-2 t c =
+arms_returns_2 : (t : ℕ) → arms-lts.Need-returns-2 (arms_calls t) (arms_at_law t) arms.Post
+arms_returns_2 t c =
     let at-word = c.before in
     let at-if1 = at-word.before in
     let start = at-if1.before.before.before in
     let p = start.requires.1 in
-    arm-closed p.1 at-if1.if1.false at-word.word.ensures.0 c.if2.true
+    arm_closed p.1 at-if1.if1.false at-word.word.ensures.0 c.if2.true
 
-arms-goals-requires : (t : ℕ) → arms-lts.Need-goals-requires (arms-calls t) (arms_at t) arms.Post
-arms-goals-requires t c κs =
+arms_goals_requires : (t : ℕ) → arms-lts.Need-goals-requires (arms_calls t) (arms_at_law t) arms.Post
+arms_goals_requires t c κs =
     let at-word2 = c.before in
     let at-if1 = at-word2.before.before.before.before.before.before.before.before.before in
     let start = at-if1.before.before.before in
     let a = start.requires in
-    let o = arm-goals a.1.0 at-if1.if1.false a.1.1 at-word2.word2.ensures.0 in
+    let o = arm_goals_law a.1.0 at-if1.if1.false a.1.1 at-word2.word2.ensures.0 in
     (omega (arith, o.falls, a.0), (a.1.0, o.stands))
 
-arms-returns-3 : (t : ℕ) → arms-lts.Need-returns-3 (arms-calls t) (arms_at t) arms.Post
-arms-returns-3 t c = search (not-true, arm-broken, rules)
+arms_returns_3 : (t : ℕ) → arms-lts.Need-returns-3 (arms_calls t) (arms_at_law t) arms.Post
+arms_returns_3 t c = search (not-true, arm_broken, rules)
 
-arms-returns-4 : (t : ℕ) → arms-lts.Need-returns-4 (arms-calls t) (arms_at t) arms.Post
-arms-returns-4 t c = search (not-false, arm-ended, rules)
+arms_returns_4 : (t : ℕ) → arms-lts.Need-returns-4 (arms_calls t) (arms_at_law t) arms.Post
+arms_returns_4 t c = search (not-false, arm_ended, rules)
 
-arms-arms-requires : (t : ℕ) → arms-lts.Need-arms-requires (arms-calls t) (arms_at t) arms.Post
-arms-arms-requires t c κs =
+arms_arms_requires : (t : ℕ) → arms-lts.Need-arms-requires (arms_calls t) (arms_at_law t) arms.Post
+arms_arms_requires t c κs =
     let at-word3 = c.before.before.before.before.before.before.before.before in
     let at-if1 = at-word3.before.before.before.before.before.before.before.before.before.before.before.before.before in
     let start = at-if1.before.before.before in
     let a = start.requires in
-    let o = arm-next a.1.0 at-if1.if1.false a.1.1 at-word3.word3.ensures.0 in
+    let o = arm_next a.1.0 at-if1.if1.false a.1.1 at-word3.word3.ensures.0 in
     (omega (arith, o.falls, a.0), (a.1.0, o.stands))
 
-arms-returns-5 : (t : ℕ) → arms-lts.Need-returns-5 (arms-calls t) (arms_at t) arms.Post
-arms-returns-5 t c =
+arms_returns_5 : (t : ℕ) → arms-lts.Need-returns-5 (arms_calls t) (arms_at_law t) arms.Post
+arms_returns_5 t c =
     let at-arms = c.before in
     let at-carry = at-arms.before.before in
     let at-if4 = at-carry.before.before.before.before.before.before in
@@ -170,13 +170,13 @@ arms-returns-5 t c =
     let at-if1 = at-held-in.before.before.before.before in
     let start = at-if1.before.before.before in
     let p = start.requires.1 in
-    rest-broken _ _ _ _ p.0 p.1 at-if1.if1.false _ at-enter.enter.ensures.0 at-enter.enter.ensures.1 at-word2.word2.ensures.0
+    rest_broken _ _ _ _ p.0 p.1 at-if1.if1.false _ at-enter.enter.ensures.0 at-enter.enter.ensures.1 at-word2.word2.ensures.0
     _ _ at-goals.goals.ensures (not-false _ at-if3.if3.false) at-word3.word3.ensures.0 at-if4.if4.false _
     (at-carry.carry.ensures.0 ∙ at-held-in.held_in.ensures) (at-carry.carry.ensures.1 ∙ at-sound-in.sound-in.ensures) _ _
     at-arms.arms.ensures _ (not-true _ c.if5.true)
 
-arms-returns-6 : (t : ℕ) → arms-lts.Need-returns-6 (arms-calls t) (arms_at t) arms.Post
-arms-returns-6 t c =
+arms_returns_6 : (t : ℕ) → arms-lts.Need-returns-6 (arms_calls t) (arms_at_law t) arms.Post
+arms_returns_6 t c =
     let at-if5 = c.before.before in
     let at-arms = at-if5.before in
     let at-carry = at-arms.before.before in
@@ -199,29 +199,29 @@ arms-returns-6 t c =
     at-arms.arms.ensures _ _ (not-false _ at-if5.if5.false) at-held-in2.held-in2.ensures at-sound-in2.sound-in2.ensures
     c.join.ensures
 
-attempt-word-requires : (t : ℕ) → attempt-lts.Need-word-requires (attempt-calls t) (attempt-at t) attempt.Post
-attempt-word-requires t c κs = let p = c.before.before.before.before.before.before.requires.1 in (p.0, (omega arith, (try-here p.0 refl p.1).below))
+attempt_word_requires : (t : ℕ) → attempt-lts.Need-word-requires (attempt_calls t) (attempt_at t) attempt.Post
+attempt_word_requires t c κs = let p = c.before.before.before.before.before.before.requires.1 in (p.0, (omega arith, (try_here p.0 refl p.1).below))
 
-attempt-goals-requires : (t : ℕ) → attempt-lts.Need-goals-requires (attempt-calls t) (attempt-at t) attempt.Post
-attempt-goals-requires t c κs = let a = c.before.before.before.before.before.before.before.before.requires in let o = to-condition a.1.0 a.1.1 c.before.word.ensures.0 in (omega (arith, o.falls, a.0), (a.1.0, o.stands))
+attempt_goals_requires : (t : ℕ) → attempt-lts.Need-goals-requires (attempt_calls t) (attempt_at t) attempt.Post
+attempt_goals_requires t c κs = let a = c.before.before.before.before.before.before.before.before.requires in let o = to_condition a.1.0 a.1.1 c.before.word.ensures.0 in (omega (arith, o.falls, a.0), (a.1.0, o.stands))
 
-attempt-returns : (t : ℕ) → attempt-lts.Need-returns (attempt-calls t) (attempt-at t) attempt.Post
-attempt-returns t c = search (not-true, condition-broken, rules)
+attempt_returns : (t : ℕ) → attempt-lts.Need-returns (attempt_calls t) (attempt_at t) attempt.Post
+attempt_returns t c = search (not-true, condition_broken, rules)
 
-attempt-word-requires-2 : (t : ℕ) → attempt-lts.Need-word-requires-2 (attempt-calls t) (attempt-at t) attempt.Post
-attempt-word-requires-2 t c κs = let p = c.before.before.before.before.before.before.before.before.before.before.requires.1 in (p.0, (omega arith, (try-here p.0 refl p.1).below))
+attempt_word_requires_2 : (t : ℕ) → attempt-lts.Need-word-requires-2 (attempt_calls t) (attempt_at t) attempt.Post
+attempt_word_requires_2 t c κs = let p = c.before.before.before.before.before.before.before.before.before.before.requires.1 in (p.0, (omega arith, (try_here p.0 refl p.1).below))
 
-attempt-goals-requires-2 : (t : ℕ) → attempt-lts.Need-goals-requires-2 (attempt-calls t) (attempt-at t) attempt.Post
-attempt-goals-requires-2 t c κs = let a = c.before.before.before.before.before.before.before.before.before.before.before.before.requires in let o = to-try-then a.1.0 a.1.1 c.before.word2.ensures.0 in (omega (arith, o.falls, a.0), (a.1.0, o.stands))
+attempt_goals_requires_2 : (t : ℕ) → attempt-lts.Need-goals-requires-2 (attempt_calls t) (attempt_at t) attempt.Post
+attempt_goals_requires_2 t c κs = let a = c.before.before.before.before.before.before.before.before.before.before.before.before.requires in let o = to_try_then a.1.0 a.1.1 c.before.word2.ensures.0 in (omega (arith, o.falls, a.0), (a.1.0, o.stands))
 
-attempt-returns-2 : (t : ℕ) → attempt-lts.Need-returns-2 (attempt-calls t) (attempt-at t) attempt.Post
-attempt-returns-2 t c = search (not-true, not-false, try-then-broken, rules)
+attempt_returns_2 : (t : ℕ) → attempt-lts.Need-returns-2 (attempt_calls t) (attempt_at t) attempt.Post
+attempt_returns_2 t c = search (not-true, not-false, try_then_broken, rules)
 
-attempt-word-requires-3 : (t : ℕ) → attempt-lts.Need-word-requires-3 (attempt-calls t) (attempt-at t) attempt.Post
-attempt-word-requires-3 t c κs = let p = c.before.before.before.before.before.before.before.before.before.before.before.before.before.before.before.before.before.before.before.before.requires.1 in (p.0, (omega arith, (try-here p.0 refl p.1).below))
+attempt_word_requires_3 : (t : ℕ) → attempt-lts.Need-word-requires-3 (attempt_calls t) (attempt_at t) attempt.Post
+attempt_word_requires_3 t c κs = let p = c.before.before.before.before.before.before.before.before.before.before.before.before.before.before.before.before.before.before.before.before.requires.1 in (p.0, (omega arith, (try_here p.0 refl p.1).below))
 
-attempt-returns-3 : (t : ℕ) → attempt-lts.Need-returns-3 (attempt-calls t) (attempt-at t) attempt.Post
-attempt-returns-3 t c =
+attempt_returns_3 : (t : ℕ) → attempt-lts.Need-returns-3 (attempt_calls t) (attempt_at t) attempt.Post
+attempt_returns_3 t c =
     let at-if3 = c.before.before in
     let at-word3 = at-if3.before in
     let at-carry = at-word3.before in
@@ -237,16 +237,16 @@ attempt-returns-3 t c =
     let at-held-in = at-sound-in.before.before in
     let start = at-held-in.before.before.before.before in
     let p = start.requires.1 in
-    try-done _ _ _ p.0 p.1 at-word.word.ensures.0 _ _ at-goals.goals.ensures (not-false _ at-if1.if1.false) at-word2.word2.ensures.0 _ _
+    try_done _ _ _ p.0 p.1 at-word.word.ensures.0 _ _ at-goals.goals.ensures (not-false _ at-if1.if1.false) at-word2.word2.ensures.0 _ _
     at-goals2.goals2.ensures (not-false _ at-if2.if2.false) at-word3.word3.ensures.0 _
     (at-carry.carry.ensures.0 ∙ at-held-in.held_in.ensures) (at-carry.carry.ensures.1 ∙ at-sound-in.sound-in.ensures) _ _
-    (none-checked _ _ _ _ at-if3.if3.true) _ _ refl at-held-in2.held-in2.ensures at-sound-in2.sound-in2.ensures c.join.ensures
+    (none_checked _ _ _ _ at-if3.if3.true) _ _ refl at-held-in2.held-in2.ensures at-sound-in2.sound-in2.ensures c.join.ensures
 
-attempt-goals-requires-3 : (t : ℕ) → attempt-lts.Need-goals-requires-3 (attempt-calls t) (attempt-at t) attempt.Post
-attempt-goals-requires-3 t c κs = let a = c.before.before.before.before.before.before.before.before.before.before.before.before.before.before.before.before.before.before.before.before.before.before.before.requires in let o = to-try-else a.1.0 a.1.1 c.before.before.word3.ensures.0 in (omega (arith, o.falls, a.0), (a.1.0, o.stands))
+attempt_goals_requires_3 : (t : ℕ) → attempt-lts.Need-goals-requires-3 (attempt_calls t) (attempt_at t) attempt.Post
+attempt_goals_requires_3 t c κs = let a = c.before.before.before.before.before.before.before.before.before.before.before.before.before.before.before.before.before.before.before.before.before.before.before.requires in let o = to_try_else a.1.0 a.1.1 c.before.before.word3.ensures.0 in (omega (arith, o.falls, a.0), (a.1.0, o.stands))
 
-attempt-returns-4 : (t : ℕ) → attempt-lts.Need-returns-4 (attempt-calls t) (attempt-at t) attempt.Post
-attempt-returns-4 t c =
+attempt_returns_4 : (t : ℕ) → attempt-lts.Need-returns-4 (attempt_calls t) (attempt_at t) attempt.Post
+attempt_returns_4 t c =
     let at-goals3 = c.before in
     let at-word3 = at-goals3.before.before.before in
     let at-carry = at-word3.before in
@@ -260,13 +260,13 @@ attempt-returns-4 t c =
     let at-held-in = at-sound-in.before.before in
     let start = at-held-in.before.before.before.before in
     let p = start.requires.1 in
-    try-else-broken _ _ _ p.0 p.1 at-word.word.ensures.0 _ _ at-goals.goals.ensures (not-false _ at-if1.if1.false) at-word2.word2.ensures.0 _ _
+    try_else_broken _ _ _ p.0 p.1 at-word.word.ensures.0 _ _ at-goals.goals.ensures (not-false _ at-if1.if1.false) at-word2.word2.ensures.0 _ _
     at-goals2.goals2.ensures (not-false _ at-if2.if2.false) at-word3.word3.ensures.0 _
     (at-carry.carry.ensures.0 ∙ at-held-in.held_in.ensures) (at-carry.carry.ensures.1 ∙ at-sound-in.sound-in.ensures) _ _
     at-goals3.goals3.ensures _ (not-true _ c.if4.true)
 
-attempt-returns-5 : (t : ℕ) → attempt-lts.Need-returns-5 (attempt-calls t) (attempt-at t) attempt.Post
-attempt-returns-5 t c =
+attempt_returns_5 : (t : ℕ) → attempt-lts.Need-returns-5 (attempt_calls t) (attempt_at t) attempt.Post
+attempt_returns_5 t c =
     let at-if4 = c.before.before in
     let at-goals3 = at-if4.before in
     let at-word3 = at-goals3.before.before.before in
@@ -283,38 +283,38 @@ attempt-returns-5 t c =
     let at-held-in = at-sound-in.before.before in
     let start = at-held-in.before.before.before.before in
     let p = start.requires.1 in
-    try-done _ _ _ p.0 p.1 at-word.word.ensures.0 _ _ at-goals.goals.ensures (not-false _ at-if1.if1.false) at-word2.word2.ensures.0 _ _
+    try_done _ _ _ p.0 p.1 at-word.word.ensures.0 _ _ at-goals.goals.ensures (not-false _ at-if1.if1.false) at-word2.word2.ensures.0 _ _
     at-goals2.goals2.ensures (not-false _ at-if2.if2.false) at-word3.word3.ensures.0 _
     (at-carry.carry.ensures.0 ∙ at-held-in.held_in.ensures) (at-carry.carry.ensures.1 ∙ at-sound-in.sound-in.ensures) _ _
     at-goals3.goals3.ensures _ _ (not-false _ at-if4.if4.false) at-held-in2.held-in2.ensures at-sound-in2.sound-in2.ensures
     c.join2.ensures
 
-branches-word-requires : (t : ℕ) → branches-lts.Need-word-requires (branches-calls t) (branches_at t) branches.Post
-branches-word-requires t c κs = let p = c.before.before.before.before.before.before.requires.1 in (p.0, (omega arith, (if_here p.0 refl p.1).below))
+branches_word_requires : (t : ℕ) → branches-lts.Need-word-requires (branches_calls t) (branches_at t) branches.Post
+branches_word_requires t c κs = let p = c.before.before.before.before.before.before.requires.1 in (p.0, (omega arith, (if_here p.0 refl p.1).below))
 
-branches-returns : (t : ℕ) → branches-lts.Need-returns (branches-calls t) (branches_at t) branches.Post
-branches-returns t c = search (not-true, if-broken, rules)
+branches_returns : (t : ℕ) → branches-lts.Need-returns (branches_calls t) (branches_at t) branches.Post
+branches_returns t c = search (not-true, if_broken, rules)
 
-branches-word-requires-2 : (t : ℕ) → branches-lts.Need-word-requires-2 (branches-calls t) (branches_at t) branches.Post
-branches-word-requires-2 t c κs = let p = c.before.before.before.before.before.before.before.before.before.requires.1 in (p.0, (omega arith, (if_here p.0 refl p.1).below))
+branches_word_requires_2 : (t : ℕ) → branches-lts.Need-word-requires-2 (branches_calls t) (branches_at t) branches.Post
+branches_word_requires_2 t c κs = let p = c.before.before.before.before.before.before.before.before.before.requires.1 in (p.0, (omega arith, (if_here p.0 refl p.1).below))
 
-branches-returns-2 : (t : ℕ) → branches-lts.Need-returns-2 (branches-calls t) (branches_at t) branches.Post
-branches-returns-2 t c = search (not-true, not-false, if-broken-2, rules)
+branches_returns_2 : (t : ℕ) → branches-lts.Need-returns-2 (branches_calls t) (branches_at t) branches.Post
+branches_returns_2 t c = search (not-true, not-false, if_broken_2, rules)
 
-branches-word-requires-3 : (t : ℕ) → branches-lts.Need-word-requires-3 (branches-calls t) (branches_at t) branches.Post
-branches-word-requires-3 t c κs = let p = c.before.before.before.before.before.before.before.before.before.before.before.before.requires.1 in (p.0, (omega arith, (if_here p.0 refl p.1).below))
+branches_word_requires_3 : (t : ℕ) → branches-lts.Need-word-requires-3 (branches_calls t) (branches_at t) branches.Post
+branches_word_requires_3 t c κs = let p = c.before.before.before.before.before.before.before.before.before.before.before.before.requires.1 in (p.0, (omega arith, (if_here p.0 refl p.1).below))
 
-branches-goals-requires : (t : ℕ) → branches-lts.Need-goals-requires (branches-calls t) (branches_at t) branches.Post
-branches-goals-requires t c κs = let a = c.before.before.before.before.before.before.before.before.before.before.before.before.before.before.requires in let o = to-then a.1.0 a.1.1 c.before.word3.ensures.0 in (omega (arith, o.falls, a.0), (a.1.0, o.stands))
+branches_goals_requires : (t : ℕ) → branches-lts.Need-goals-requires (branches_calls t) (branches_at t) branches.Post
+branches_goals_requires t c κs = let a = c.before.before.before.before.before.before.before.before.before.before.before.before.before.before.requires in let o = to_then a.1.0 a.1.1 c.before.word3.ensures.0 in (omega (arith, o.falls, a.0), (a.1.0, o.stands))
 
-branches-returns-3 : (t : ℕ) → branches-lts.Need-returns-3 (branches-calls t) (branches_at t) branches.Post
-branches-returns-3 t c = search (not-true, not-false, then-broken, rules)
+branches_returns_3 : (t : ℕ) → branches-lts.Need-returns-3 (branches_calls t) (branches_at t) branches.Post
+branches_returns_3 t c = search (not-true, not-false, then_broken, rules)
 
-branches-word-requires-4 : (t : ℕ) → branches-lts.Need-word-requires-4 (branches-calls t) (branches_at t) branches.Post
-branches-word-requires-4 t c κs = let p = c.before.before.before.before.before.before.before.before.before.before.before.before.before.before.before.before.before.before.before.before.before.before.requires.1 in (p.0, (omega arith, (if_here p.0 refl p.1).below))
+branches_word_requires_4 : (t : ℕ) → branches-lts.Need-word-requires-4 (branches_calls t) (branches_at t) branches.Post
+branches_word_requires_4 t c κs = let p = c.before.before.before.before.before.before.before.before.before.before.before.before.before.before.before.before.before.before.before.before.before.before.requires.1 in (p.0, (omega arith, (if_here p.0 refl p.1).below))
 
-branches-returns-4 : (t : ℕ) → branches-lts.Need-returns-4 (branches-calls t) (branches_at t) branches.Post
-branches-returns-4 t c =
+branches_returns_4 : (t : ℕ) → branches-lts.Need-returns-4 (branches_calls t) (branches_at t) branches.Post
+branches_returns_4 t c =
     let at-if4 = c.before.before in
     let at-word4 = at-if4.before in
     let at-carry = at-word4.before in
@@ -333,17 +333,17 @@ branches-returns-4 t c =
     let at-held-in = at-sound-in.before.before in
     let start = at-held-in.before.before.before.before in
     let p = start.requires.1 in
-    if-done _ _ _ p.0 p.1 at-sound-in.sound-in.ensures at-word.word.ensures.0 at_has.has.ensures (not-false _ at-if1.if1.false)
+    if_done _ _ _ p.0 p.1 at-sound-in.sound-in.ensures at-word.word.ensures.0 at_has.has.ensures (not-false _ at-if1.if1.false)
     at-word2.word2.ensures.0 at-has2.has2.ensures (not-false _ at-if2.if2.false) at-word3.word3.ensures.0 _ _
     at-goals.goals.ensures (not-false _ at-if3.if3.false) at-word4.word4.ensures.0 _
     (at-carry.carry.ensures.0 ∙ at-held-in.held_in.ensures) (at-carry.carry.ensures.1 ∙ at-sound-in.sound-in.ensures) _ _
-    (none-checked _ _ _ _ at-if4.if4.true) _ _ refl at-held-in2.held-in2.ensures at-sound-in2.sound-in2.ensures c.join.ensures
+    (none_checked _ _ _ _ at-if4.if4.true) _ _ refl at-held-in2.held-in2.ensures at-sound-in2.sound-in2.ensures c.join.ensures
 
-branches-goals-requires-2 : (t : ℕ) → branches-lts.Need-goals-requires-2 (branches-calls t) (branches_at t) branches.Post
-branches-goals-requires-2 t c κs = let a = c.before.before.before.before.before.before.before.before.before.before.before.before.before.before.before.before.before.before.before.before.before.before.before.before.before.requires in let o = to-else a.1.0 a.1.1 c.before.before.word4.ensures.0 in (omega (arith, o.falls, a.0), (a.1.0, o.stands))
+branches_goals_requires_2 : (t : ℕ) → branches-lts.Need-goals-requires-2 (branches_calls t) (branches_at t) branches.Post
+branches_goals_requires_2 t c κs = let a = c.before.before.before.before.before.before.before.before.before.before.before.before.before.before.before.before.before.before.before.before.before.before.before.before.before.requires in let o = to_else a.1.0 a.1.1 c.before.before.word4.ensures.0 in (omega (arith, o.falls, a.0), (a.1.0, o.stands))
 
-branches-returns-5 : (t : ℕ) → branches-lts.Need-returns-5 (branches-calls t) (branches_at t) branches.Post
-branches-returns-5 t c =
+branches_returns_5 : (t : ℕ) → branches-lts.Need-returns-5 (branches_calls t) (branches_at t) branches.Post
+branches_returns_5 t c =
     let at-goals2 = c.before in
     let at-word4 = at-goals2.before.before.before in
     let at-carry = at-word4.before in
@@ -360,14 +360,14 @@ branches-returns-5 t c =
     let at-held-in = at-sound-in.before.before in
     let start = at-held-in.before.before.before.before in
     let p = start.requires.1 in
-    else-broken _ _ _ p.0 p.1 at-sound-in.sound-in.ensures at-word.word.ensures.0 at_has.has.ensures
+    else_broken _ _ _ p.0 p.1 at-sound-in.sound-in.ensures at-word.word.ensures.0 at_has.has.ensures
     (not-false _ at-if1.if1.false) at-word2.word2.ensures.0 at-has2.has2.ensures (not-false _ at-if2.if2.false)
     at-word3.word3.ensures.0 _ _ at-goals.goals.ensures (not-false _ at-if3.if3.false) at-word4.word4.ensures.0 _
     (at-carry.carry.ensures.0 ∙ at-held-in.held_in.ensures) (at-carry.carry.ensures.1 ∙ at-sound-in.sound-in.ensures) _ _
     at-goals2.goals2.ensures _ (not-true _ c.if5.true)
 
-branches-returns-6 : (t : ℕ) → branches-lts.Need-returns-6 (branches-calls t) (branches_at t) branches.Post
-branches-returns-6 t c =
+branches_returns_6 : (t : ℕ) → branches-lts.Need-returns-6 (branches_calls t) (branches_at t) branches.Post
+branches_returns_6 t c =
     let at-if5 = c.before.before in
     let at-goals2 = at-if5.before in
     let at-word4 = at-goals2.before.before.before in
@@ -387,93 +387,93 @@ branches-returns-6 t c =
     let at-held-in = at-sound-in.before.before in
     let start = at-held-in.before.before.before.before in
     let p = start.requires.1 in
-    if-done _ _ _ p.0 p.1 at-sound-in.sound-in.ensures at-word.word.ensures.0 at_has.has.ensures (not-false _ at-if1.if1.false)
+    if_done _ _ _ p.0 p.1 at-sound-in.sound-in.ensures at-word.word.ensures.0 at_has.has.ensures (not-false _ at-if1.if1.false)
     at-word2.word2.ensures.0 at-has2.has2.ensures (not-false _ at-if2.if2.false) at-word3.word3.ensures.0 _ _
     at-goals.goals.ensures (not-false _ at-if3.if3.false) at-word4.word4.ensures.0 _
     (at-carry.carry.ensures.0 ∙ at-held-in.held_in.ensures) (at-carry.carry.ensures.1 ∙ at-sound-in.sound-in.ensures) _ _
     at-goals2.goals2.ensures _ _ (not-false _ at-if5.if5.false) at-held-in2.held-in2.ensures at-sound-in2.sound-in2.ensures
     c.join2.ensures
 
-goal-returns : (t : ℕ) → goal-lts.Need-returns (goal-calls t) (goal-at t) goal.Post
-goal-returns t c =
+goal_returns : (t : ℕ) → goal-lts.Need-returns (goal_calls t) (goal_at_law t) goal.Post
+goal_returns t c =
     let at-is-step = c.before in
     let at-match = at-is-step.before in
     let at-word = at-match.before in
     let start = at-word.before.before.before in
     let p = start.requires.1 in
-    goal-closed p.0 _ p.1.0 p.1.1 at-word.word.ensures.0 at-match.match.rest.0.0.1 at-match.match.rest.0.1
+    goal_closed p.0 _ p.1.0 p.1.1 at-word.word.ensures.0 at-match.match.rest.0.0.1 at-match.match.rest.0.1
     at-match.match.rest.1
     at-is-step.is-step.ensures (not-true _ c.if1.true)
 
-goal-returns-2 : (t : ℕ) → goal-lts.Need-returns-2 (goal-calls t) (goal-at t) goal.Post
-goal-returns-2 t c = c.switch.ensures
+goal_returns_2 : (t : ℕ) → goal-lts.Need-returns-2 (goal_calls t) (goal_at_law t) goal.Post
+goal_returns_2 t c = c.switch.ensures
 
-goal-returns-3 : (t : ℕ) → goal-lts.Need-returns-3 (goal-calls t) (goal-at t) goal.Post
-goal-returns-3 t c = c.branches.ensures
+goal_returns_3 : (t : ℕ) → goal-lts.Need-returns-3 (goal_calls t) (goal_at_law t) goal.Post
+goal_returns_3 t c = c.branches.ensures
 
-goal-returns-4 : (t : ℕ) → goal-lts.Need-returns-4 (goal-calls t) (goal-at t) goal.Post
-goal-returns-4 t c = c.attempt.ensures
+goal_returns_4 : (t : ℕ) → goal-lts.Need-returns-4 (goal_calls t) (goal_at_law t) goal.Post
+goal_returns_4 t c = c.attempt.ensures
 
-goal-returns-5 : (t : ℕ) → goal-lts.Need-returns-5 (goal-calls t) (goal-at t) goal.Post
-goal-returns-5 t c = search (step-checked, rules)
+goal_returns_5 : (t : ℕ) → goal-lts.Need-returns-5 (goal_calls t) (goal_at_law t) goal.Post
+goal_returns_5 t c = search (step_checked, rules)
 
-abbrev goals-Inv-loop : goals-lts.invariant-loop
-goals-Inv-loop file rows own carried₀ start i₀ carried i = Walking file rows own start carried₀ carried i
+abbrev goals_inv_loop : goals-lts.invariant-loop
+goals_inv_loop file rows own carried₀ start i₀ carried i = Walking file rows own start carried₀ carried i
 
-abbrev goals-μ-loop : goals-lts.decreases-loop
-goals-μ-loop file rows own carried₀ start i₀ carried i = ahead file i
+abbrev goals_μ_loop : goals-lts.decreases-loop
+goals_μ_loop file rows own carried₀ start i₀ carried i = ahead file i
 
-goals-returns : (t : ℕ) → goals-lts.Need-returns (goals-calls t) (goals-at t) goals.Post goals-Inv-loop goals-μ-loop
-goals-returns t c = search (not-true, walk-stop, rules)
+goals_returns : (t : ℕ) → goals-lts.Need-returns (goals_calls t) (goals_at_law t) goals.Post goals_inv_loop goals_μ_loop
+goals_returns t c = search (not-true, walk_stop, rules)
 
-goals-loop-less : (t : ℕ) → goals-lts.Need-loop-smaller (goals-calls t) (goals-at t) goals.Post goals-Inv-loop goals-μ-loop
-goals-loop-less t c =
+goals_loop_less : (t : ℕ) → goals-lts.Need-loop-smaller (goals_calls t) (goals_at_law t) goals.Post goals_inv_loop goals_μ_loop
+goals_loop_less t c =
     let at-loop-test = c.before.before.before.before in
     let at-loop = at-loop-test.before in
     let start = at-loop.before.before.before in
-    (walk-onward start.requires.1.0 at-loop.loop.invariant at-loop-test.loop-test.true c.word.ensures.0).falls
+    (walk_onward start.requires.1.0 at-loop.loop.invariant at-loop-test.loop-test.true c.word.ensures.0).falls
 
-goals-loop-again : (t : ℕ) → goals-lts.Need-loop-preserved (goals-calls t) (goals-at t) goals.Post goals-Inv-loop goals-μ-loop
-goals-loop-again t c = search (not-false, walk-next, rules)
+goals_loop_again : (t : ℕ) → goals-lts.Need-loop-preserved (goals_calls t) (goals_at_law t) goals.Post goals_inv_loop goals_μ_loop
+goals_loop_again t c = search (not-false, walk_next, rules)
 
-goals-returns-2 : (t : ℕ) → goals-lts.Need-returns-2 (goals-calls t) (goals-at t) goals.Post goals-Inv-loop goals-μ-loop
-goals-returns-2 t c = search (walk-last, rules)
+goals_returns_2 : (t : ℕ) → goals-lts.Need-returns-2 (goals_calls t) (goals_at_law t) goals.Post goals_inv_loop goals_μ_loop
+goals_returns_2 t c = search (walk_last, rules)
 
-switch-word-requires : (t : ℕ) → switch-lts.Need-word-requires (switch-calls t) (switch-at t) switch.Post
-switch-word-requires t c κs = let p = c.before.before.before.before.requires.1 in (p.0, (omega arith, (switch-here p.0 refl p.1).below))
+switch_word_requires : (t : ℕ) → switch-lts.Need-word-requires (switch_calls t) (switch_at t) switch.Post
+switch_word_requires t c κs = let p = c.before.before.before.before.requires.1 in (p.0, (omega arith, (switch_here p.0 refl p.1).below))
 
-switch-returns : (t : ℕ) → switch-lts.Need-returns (switch-calls t) (switch-at t) switch.Post
-switch-returns t c = search (not-true, switch-broken, rules)
+switch_returns : (t : ℕ) → switch-lts.Need-returns (switch_calls t) (switch_at t) switch.Post
+switch_returns t c = search (not-true, switch_broken, rules)
 
-switch-word-requires-2 : (t : ℕ) → switch-lts.Need-word-requires-2 (switch-calls t) (switch-at t) switch.Post
-switch-word-requires-2 t c κs = let p = c.before.before.before.before.before.before.before.requires.1 in (p.0, (omega arith, (switch-here p.0 refl p.1).below))
+switch_word_requires_2 : (t : ℕ) → switch-lts.Need-word-requires-2 (switch_calls t) (switch_at t) switch.Post
+switch_word_requires_2 t c κs = let p = c.before.before.before.before.before.before.before.requires.1 in (p.0, (omega arith, (switch_here p.0 refl p.1).below))
 
-switch-arms-requires : (t : ℕ) → switch-lts.Need-arms-requires (switch-calls t) (switch-at t) switch.Post
-switch-arms-requires t c κs = let a = c.before.before.before.before.before.before.before.before.before.requires in let o = to-arms a.1.0 a.1.1 c.before.word2.ensures.0 in (omega (arith, o.falls, a.0), (a.1.0, o.stands))
+switch_arms_requires : (t : ℕ) → switch-lts.Need-arms-requires (switch_calls t) (switch_at t) switch.Post
+switch_arms_requires t c κs = let a = c.before.before.before.before.before.before.before.before.before.requires in let o = to_arms a.1.0 a.1.1 c.before.word2.ensures.0 in (omega (arith, o.falls, a.0), (a.1.0, o.stands))
 
-switch-returns-2 : (t : ℕ) → switch-lts.Need-returns-2 (switch-calls t) (switch-at t) switch.Post
-switch-returns-2 t c = search (not-false, switch-done, rules)
+switch_returns_2 : (t : ℕ) → switch-lts.Need-returns-2 (switch_calls t) (switch_at t) switch.Post
+switch_returns_2 t c = search (not-false, switch_done, rules)
 
 pub +arms-attempt-branches-goal-goals-switch-spec : {M : Type 1} → statement M
 +arms-attempt-branches-goal-goals-switch-spec =
     close μ-arms μ-attempt μ-branches μ-goal μ-goals μ-switch
-    (λ t. arms-lts.spec (arms-calls t) (arms_at t) arms.Post (arms-returns t) (λ c κs. search rules) (arms-returns-2 t) (λ c κs. search rules)
-    (λ c κs. search rules) (λ c κs. search rules) (λ c κs. search rules) (arms-goals-requires t) (arms-returns-3 t) (λ c κs. search rules)
-    (arms-returns-4 t) (λ c κs. search rules) (λ c κs. search rules) (λ c κs. search rules) (arms-arms-requires t) (arms-returns-5 t)
-    (λ c κs. search rules) (arms-returns-6 t))
-    (λ t. attempt-lts.spec (attempt-calls t) (attempt-at t) attempt.Post (λ c κs. search rules) (λ c κs. search rules) (attempt-word-requires t)
-    (attempt-goals-requires t) (attempt-returns t) (attempt-word-requires-2 t) (attempt-goals-requires-2 t) (attempt-returns-2 t)
-    (λ c κs. search rules) (λ c κs. search rules) (λ c κs. search rules) (attempt-word-requires-3 t) (λ c κs. search rules)
-    (attempt-returns-3 t) (attempt-goals-requires-3 t) (attempt-returns-4 t) (λ c κs. search rules) (attempt-returns-5 t))
-    (λ t. branches-lts.spec (branches-calls t) (branches_at t) branches.Post (λ c κs. search rules) (λ c κs. search rules) (branches-word-requires t)
-    (λ c κs. search rules) (branches-returns t) (branches-word-requires-2 t) (λ c κs. search rules) (branches-returns-2 t)
-    (branches-word-requires-3 t) (branches-goals-requires t) (branches-returns-3 t) (λ c κs. search rules) (λ c κs. search rules)
-    (λ c κs. search rules) (branches-word-requires-4 t) (λ c κs. search rules) (branches-returns-4 t) (branches-goals-requires-2 t)
-    (branches-returns-5 t) (λ c κs. search rules) (branches-returns-6 t))
-    (λ t. goal-lts.spec (goal-calls t) (goal-at t) goal.Post (λ c κs. search rules) (λ c κs. search rules) (λ c κs. search rules)
-    (λ c κs. search rules) (λ c κs. search rules) (goal-returns t) (λ c κs. search rules) (goal-returns-2 t) (goal-returns-3 t) (goal-returns-4 t)
-    (goal-returns-5 t))
-    (λ t. goals-lts.spec (goal-below t, goal.Post, word-reads.Asked, word-reads.Learnt) (goals-at t) goals.Post goals-Inv-loop goals-μ-loop
-    (λ c. search rules) (λ c κs. search rules) (goals-returns t) (λ c κs. search rules) (goals-loop-less t) (goals-loop-again t) (goals-returns-2 t))
-    λ t. switch-lts.spec (switch-calls t) (switch-at t) switch.Post (λ c κs. search rules) (switch-word-requires t) (λ c κs. search rules)
-    (switch-returns t) (switch-word-requires-2 t) (switch-arms-requires t) (switch-returns-2 t)
+    (λ t. arms-lts.spec (arms_calls t) (arms_at_law t) arms.Post (arms_returns t) (λ c κs. search rules) (arms_returns_2 t) (λ c κs. search rules)
+    (λ c κs. search rules) (λ c κs. search rules) (λ c κs. search rules) (arms_goals_requires t) (arms_returns_3 t) (λ c κs. search rules)
+    (arms_returns_4 t) (λ c κs. search rules) (λ c κs. search rules) (λ c κs. search rules) (arms_arms_requires t) (arms_returns_5 t)
+    (λ c κs. search rules) (arms_returns_6 t))
+    (λ t. attempt-lts.spec (attempt_calls t) (attempt_at t) attempt.Post (λ c κs. search rules) (λ c κs. search rules) (attempt_word_requires t)
+    (attempt_goals_requires t) (attempt_returns t) (attempt_word_requires_2 t) (attempt_goals_requires_2 t) (attempt_returns_2 t)
+    (λ c κs. search rules) (λ c κs. search rules) (λ c κs. search rules) (attempt_word_requires_3 t) (λ c κs. search rules)
+    (attempt_returns_3 t) (attempt_goals_requires_3 t) (attempt_returns_4 t) (λ c κs. search rules) (attempt_returns_5 t))
+    (λ t. branches-lts.spec (branches_calls t) (branches_at t) branches.Post (λ c κs. search rules) (λ c κs. search rules) (branches_word_requires t)
+    (λ c κs. search rules) (branches_returns t) (branches_word_requires_2 t) (λ c κs. search rules) (branches_returns_2 t)
+    (branches_word_requires_3 t) (branches_goals_requires t) (branches_returns_3 t) (λ c κs. search rules) (λ c κs. search rules)
+    (λ c κs. search rules) (branches_word_requires_4 t) (λ c κs. search rules) (branches_returns_4 t) (branches_goals_requires_2 t)
+    (branches_returns_5 t) (λ c κs. search rules) (branches_returns_6 t))
+    (λ t. goal-lts.spec (goal_calls t) (goal_at_law t) goal.Post (λ c κs. search rules) (λ c κs. search rules) (λ c κs. search rules)
+    (λ c κs. search rules) (λ c κs. search rules) (goal_returns t) (λ c κs. search rules) (goal_returns_2 t) (goal_returns_3 t) (goal_returns_4 t)
+    (goal_returns_5 t))
+    (λ t. goals-lts.spec (goal_below t, goal.Post, word-reads.Asked, word-reads.Learnt) (goals_at_law t) goals.Post goals_inv_loop goals_μ_loop
+    (λ c. search rules) (λ c κs. search rules) (goals_returns t) (λ c κs. search rules) (goals_loop_less t) (goals_loop_again t) (goals_returns_2 t))
+    λ t. switch-lts.spec (switch_calls t) (switch_at t) switch.Post (λ c κs. search rules) (switch_word_requires t) (λ c κs. search rules)
+    (switch_returns t) (switch_word_requires_2 t) (switch_arms_requires t) (switch_returns_2 t)

@@ -5,5 +5,5 @@ use Rattle.declarations.proofs.names.regioned.Tie as tie
 returns : tie.Need-returns
 returns c = rw c.before.before.functor.ensures at c.wide.ensures
 
-pub regioned-spec : {M : Type 1} → statement M
-regioned-spec = tie.close (tie.spec (search rules) (search rules) (search rules) (search rules) returns)
+pub regioned_spec : {M : Type 1} → statement M
+regioned_spec = tie.close (tie.spec (search rules) (search rules) (search rules) (search rules) returns)

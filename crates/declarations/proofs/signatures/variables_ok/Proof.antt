@@ -5,23 +5,23 @@ use borrow.Author.Tests.{not-true, not-false}
 use Rattle.language.specs.Lists.{all}
 use Rattle.language.specs.File.{variables}
 use Rattle.language.specs.Answers.{program}
-use Rattle.language.specs.Typing.{variableOk}
-use Rattle.chains.specs.Formed.{Stands, variablesAt, variables-none, ahead}
+use Rattle.language.specs.Typing.{variable_ok}
+use Rattle.chains.specs.Formed.{Stands, variables_at, variables_none, ahead}
 use Rattle.chains.specs.Is.{chain_next}
-use Rattle.laws.specs.Lists.{all_end, all-no, all_yes}
+use Rattle.laws.specs.Lists.{all_end, all_no, all_yes}
 use Rattle.declarations.specs.Own.{declared}
-use Rattle.declarations.proofs.SignaturesLaws.{variables-step}
+use Rattle.declarations.proofs.SignaturesLaws.{variables_step}
 use Rattle.declarations.proofs.signatures.variables_ok.Statement.{statement}
 use Rattle.declarations.proofs.signatures.variables_ok.Tie as tie
 
 abbrev invariant-loop : tie.invariant-loop
-invariant-loop file table own start i₀ i = Stands file variables i × (all (variableOk (program file).types (declared file own)) (variablesAt file i) ≡ all (variableOk (program file).types (declared file own)) (variablesAt file start))
+invariant-loop file table own start i₀ i = Stands file variables i × (all (variable_ok (program file).types (declared file own)) (variables_at file i) ≡ all (variable_ok (program file).types (declared file own)) (variables_at file start))
 
 abbrev decreases-loop : tie.decreases-loop
 decreases-loop file table own start i₀ i = ahead file i
 
 returns : tie.Need-returns invariant-loop decreases-loop
-returns c = all-no _ (variables-step c.before.before.before.before.before.requires.0.0.formed c.before.before.before.loop.invariant.0 c.before.before.loop-test.true) c.before.variable-ok.ensures (not-true _ c.if1.true) ∙ c.before.before.before.loop.invariant.1
+returns c = all_no _ (variables_step c.before.before.before.before.before.requires.0.0.formed c.before.before.before.loop.invariant.0 c.before.before.loop-test.true) c.before.variable-ok.ensures (not-true _ c.if1.true) ∙ c.before.before.before.loop.invariant.1
 
 word-requires : tie.Need-word-requires invariant-loop decreases-loop
 word-requires c κs = (c.before.before.before.before.before.requires.0.0.formed, (omega arith, c.before.before.before.loop.invariant.0.below))
@@ -30,13 +30,13 @@ loop-less : tie.Need-loop-smaller invariant-loop decreases-loop
 loop-less c = (chain_next c.before.before.before.before.before.before.requires.0.0.formed c.before.before.before.before.loop.invariant.0 c.before.before.before.loop-test.true c.word.ensures.0).falls
 
 loop-again : tie.Need-loop-preserved invariant-loop decreases-loop
-loop-again c = ((chain_next c.before.before.before.before.before.before.requires.0.0.formed c.before.before.before.before.loop.invariant.0 c.before.before.before.loop-test.true c.word.ensures.0).stands, rw c.word.ensures.0 (all_yes _ (variables-step c.before.before.before.before.before.before.requires.0.0.formed c.before.before.before.before.loop.invariant.0 c.before.before.before.loop-test.true) c.before.before.variable-ok.ensures (not-false _ c.before.if1.false)) ∙ c.before.before.before.before.loop.invariant.1)
+loop-again c = ((chain_next c.before.before.before.before.before.before.requires.0.0.formed c.before.before.before.before.loop.invariant.0 c.before.before.before.loop-test.true c.word.ensures.0).stands, rw c.word.ensures.0 (all_yes _ (variables_step c.before.before.before.before.before.before.requires.0.0.formed c.before.before.before.before.loop.invariant.0 c.before.before.before.loop-test.true) c.before.before.variable-ok.ensures (not-false _ c.before.if1.false)) ∙ c.before.before.before.before.loop.invariant.1)
 
 returns-2 : tie.Need-returns-2 invariant-loop decreases-loop
-returns-2 c = all_end _ (variables-none _ c.loop-test.false) ∙ c.before.loop.invariant.1
+returns-2 c = all_end _ (variables_none _ c.loop-test.false) ∙ c.before.loop.invariant.1
 
-pub variables-ok-spec : {M : Type 1} → statement M
-variables-ok-spec =
+pub variables_ok_spec : {M : Type 1} → statement M
+variables_ok_spec =
     tie.close
     (tie.spec invariant-loop decreases-loop (λ c. (c.before.requires.1, refl)) (λ c κs. (c.before.before.before.requires.0, c.before.loop.invariant.0)) returns
     word-requires loop-less loop-again returns-2)

@@ -14,5 +14,5 @@ returns c =
     let b : to_z w32 (of_z w32 c.signed2.result) ≡ to_z w32 c.before.before.args.b = to_z-of_z (search rules) ∙ c.signed2.ensures in
     cc
 
-pub less-words-spec : {M : Type 1} → statement M
-less-words-spec = tie.close (tie.spec (search rules) (search rules) returns)
+pub less_words_spec : {M : Type 1} → statement M
+less_words_spec = tie.close (tie.spec (search rules) (search rules) returns)

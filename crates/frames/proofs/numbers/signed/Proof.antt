@@ -13,5 +13,5 @@ sub-result-2 c = (complement w32 c.before.args.x (4294967295 - c.before.args.x) 
 returns-2 : tie.Need-returns-2
 returns-2 c = (complement w32 c.before.args.x (4294967295 - c.before.args.x) _ (omega (arith, c.before.ranges.x)) (to_z_pos w32 (omega (arith, c.before.ranges.x))) (omega arith) c.if1.false).1
 
-pub signed-spec : {M : Type 1} → statement M
-signed-spec = tie.close (tie.spec (search rules) (search rules) (search rules) sub-result-2 (search rules) returns-2)
+pub signed_spec : {M : Type 1} → statement M
+signed_spec = tie.close (tie.spec (search rules) (search rules) (search rules) sub-result-2 (search rules) returns-2)

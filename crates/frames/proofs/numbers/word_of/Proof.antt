@@ -18,5 +18,5 @@ returns c = (high_word _ _ (to_z-of_z c.before.ranges.sum) c.before.requires c.i
 returns-2 : tie.Need-returns-2
 returns-2 c = (low_word _ _ (to_z-of_z c.before.ranges.sum) c.before.requires c.if1.false).1.1
 
-pub word-of-spec : {M : Type 1} → statement M
-word-of-spec = tie.close (tie.spec cast-result add-result cast-result-2 returns returns-2)
+pub word_of_spec : {M : Type 1} → statement M
+word_of_spec = tie.close (tie.spec cast-result add-result cast-result-2 returns returns-2)

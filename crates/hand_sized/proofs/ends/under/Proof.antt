@@ -2,12 +2,12 @@ use mathlib.Core.Path.{ap}
 use lib.ListN.{set}
 use borrow.Author.Rules.{rules}
 use Rattle.language.specs.Computing.{computing}
-use Rattle.language.specs.Table.{eight, rows, file, numberVariables, doublings, toTheEnds, over}
+use Rattle.language.specs.Table.{eight, rows, file, number_variables, doublings, to_the_ends, over}
 use Rattle.hand_sized.proofs.ends.under.Statement.{statement}
 use Rattle.hand_sized.proofs.ends.under.Tie as tie
 
 returns : tie.Need-returns
-unfolding computing eight rows file numberVariables doublings toTheEnds over
+unfolding computing eight rows file number_variables doublings to_the_ends over
 returns c = ap (λ f. set (set f 726 1) 728 17) c.over.ensures
 
 pub under_spec : {M : Type 1} → statement M

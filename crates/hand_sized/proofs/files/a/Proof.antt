@@ -8,5 +8,5 @@ returns : tie.Need-returns
 unfolding computing eight rows file five with5 A
 returns c = refl
 
-pub a-spec : {M : Type 1} → statement M
-a-spec = tie.close (tie.spec returns)
+pub a_spec : {M : Type 1} → statement M
+a_spec = tie.close (tie.spec returns)

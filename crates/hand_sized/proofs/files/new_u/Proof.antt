@@ -8,5 +8,5 @@ returns : tie.Need-returns
 unfolding computing eight rows file new_u
 returns c = refl
 
-pub new-u-spec : {M : Type 1} → statement M
-new-u-spec = tie.close (tie.spec returns)
+pub new_u_spec : {M : Type 1} → statement M
+new_u_spec = tie.close (tie.spec returns)

@@ -9,5 +9,5 @@ returns : tie.Need-returns
 unfolding U6
 returns c = ap (λ f. set f 110 1) c.u.ensures
 
-pub past-arity-spec : {M : Type 1} → statement M
-past-arity-spec = tie.close (tie.spec (search rules) (search rules) (search rules) (search rules) returns)
+pub past_arity_spec : {M : Type 1} → statement M
+past_arity_spec = tie.close (tie.spec (search rules) (search rules) (search rules) (search rules) returns)

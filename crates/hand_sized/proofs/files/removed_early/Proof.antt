@@ -8,5 +8,5 @@ returns : tie.Need-returns
 unfolding computing eight rows file five with5 early
 returns c = refl
 
-pub removed-early-spec : {M : Type 1} → statement M
-removed-early-spec = tie.close (tie.spec returns)
+pub removed_early_spec : {M : Type 1} → statement M
+removed_early_spec = tie.close (tie.spec returns)

@@ -8,5 +8,5 @@ returns : tie.Need-returns
 unfolding computing eight rows file five with5 twice
 returns c = refl
 
-pub removed-twice-spec : {M : Type 1} → statement M
-removed-twice-spec = tie.close (tie.spec returns)
+pub removed_twice_spec : {M : Type 1} → statement M
+removed_twice_spec = tie.close (tie.spec returns)

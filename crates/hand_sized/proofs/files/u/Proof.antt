@@ -8,5 +8,5 @@ returns : tie.Need-returns
 unfolding computing eight rows file five with5 U
 returns c = refl
 
-pub u-spec : {M : Type 1} → statement M
-u-spec = tie.close (tie.spec returns)
+pub u_spec : {M : Type 1} → statement M
+u_spec = tie.close (tie.spec returns)

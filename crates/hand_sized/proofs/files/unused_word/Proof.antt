@@ -9,5 +9,5 @@ returns : tie.Need-returns
 unfolding U5
 returns c = ap (λ f. set f 94 1) c.u.ensures
 
-pub unused-word-spec : {M : Type 1} → statement M
-unused-word-spec = tie.close (tie.spec (search rules) (search rules) (search rules) (search rules) returns)
+pub unused_word_spec : {M : Type 1} → statement M
+unused_word_spec = tie.close (tie.spec (search rules) (search rules) (search rules) (search rules) returns)

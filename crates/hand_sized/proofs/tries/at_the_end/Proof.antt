@@ -1,13 +1,13 @@
 use mathlib.Core.Path.{refl}
 use Rattle.language.specs.Computing.{computing}
 use Rattle.language.specs.Table.{eight, rows, file}
-use Rattle.language.specs.Conditional.{removeAtConditionEndThenCreate}
+use Rattle.language.specs.Conditional.{remove_at_condition_end_then_create}
 use Rattle.hand_sized.proofs.tries.at_the_end.Statement.{statement}
 use Rattle.hand_sized.proofs.tries.at_the_end.Tie as tie
 
 returns : tie.Need-returns
-unfolding computing eight rows file removeAtConditionEndThenCreate
+unfolding computing eight rows file remove_at_condition_end_then_create
 returns c = refl
 
-pub at-the-end-spec : {M : Type 1} → statement M
-at-the-end-spec = tie.close (tie.spec returns)
+pub at_the_end_spec : {M : Type 1} → statement M
+at_the_end_spec = tie.close (tie.spec returns)

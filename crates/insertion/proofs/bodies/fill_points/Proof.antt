@@ -1,4 +1,4 @@
-use Rattle.insertion.proofs.BodiesLaws.{points-start, points-filled}
+use Rattle.insertion.proofs.BodiesLaws.{points_start, points_filled}
 use borrow.Author.Rules.{rules}
 use Rattle.insertion.proofs.bodies.fill_points.Statement.{statement}
 use Rattle.insertion.proofs.bodies.fill_points.Tie as tie
@@ -11,12 +11,12 @@ list-live-requires c κs =
 list-wanted-requires : tie.Need-list-wanted-requires
 list-wanted-requires c κs =
     let e = c.before.list-live.ensures in
-    (e.0, points-start _ _ _ _ _ _ _ _ e.0 c.before.before.before.before.word_at.ensures c.before.before.before.set_at.ensures e.1.0)
+    (e.0, points_start _ _ _ _ _ _ _ _ e.0 c.before.before.before.before.word_at.ensures c.before.before.before.set_at.ensures e.1.0)
 
 returns : tie.Need-returns
 returns c =
     let e = c.before.before.list-live.ensures in
-    points-filled _ _ _ _ _ _ _ _ e.0 c.before.before.before.before.before.word_at.ensures c.before.before.before.before.set_at.ensures e.1.0 c.list-wanted.ensures
+    points_filled _ _ _ _ _ _ _ _ e.0 c.before.before.before.before.before.word_at.ensures c.before.before.before.before.set_at.ensures e.1.0 c.list-wanted.ensures
 
-pub fill-points-spec : {M : Type 1} → statement M
-fill-points-spec = tie.close (tie.spec (search rules) (search rules) list-live-requires list-wanted-requires returns)
+pub fill_points_spec : {M : Type 1} → statement M
+fill_points_spec = tie.close (tie.spec (search rules) (search rules) list-live-requires list-wanted-requires returns)

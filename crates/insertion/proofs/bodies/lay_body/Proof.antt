@@ -1,6 +1,6 @@
 use mathlib.Core.Path.{sym}
-use Rattle.insertion.proofs.AlongLaws.{along-rest}
-use Rattle.insertion.proofs.BodiesLaws.{body-laid}
+use Rattle.insertion.proofs.AlongLaws.{along_rest}
+use Rattle.insertion.proofs.BodiesLaws.{body_laid}
 use borrow.Author.Rules.{rules}
 use Rattle.insertion.proofs.bodies.lay_body.Statement.{statement}
 use Rattle.insertion.proofs.bodies.lay_body.Tie as tie
@@ -21,11 +21,11 @@ returns c =
     let e = c.before.before.before.before.before.before.before.before.before.before.before.before.cursor.ensures in
     let g = c.before.before.before.before.before.before.before.before.before.before.before.before.before.before.before.before.before.before.fill-points.ensures in (
       g.0,
-      body-laid _ _ p.0 p.1.1.0 _ _ _ _ _ g c.before.before.before.before.before.before.before.before.before.before.before.before.before.before.before.before.start-removed.ensures c.before.before.before.before.before.before.before.before.before.before.before.before.before.before.before.word_at.ensures c.before.before.before.before.before.before.before.before.before.before.before.before.before.lay-marks.ensures
-          (rw (e.record_is, e.point-is, sym c.record-in.ensures) at (along-rest c.before.before.before.before.before.before.before.steps.ensures.0 c.before.before.goals.ensures)),
+      body_laid _ _ p.0 p.1.1.0 _ _ _ _ _ g c.before.before.before.before.before.before.before.before.before.before.before.before.before.before.before.before.start_removed.ensures c.before.before.before.before.before.before.before.before.before.before.before.before.before.before.before.word_at.ensures c.before.before.before.before.before.before.before.before.before.before.before.before.before.lay-marks.ensures
+          (rw (e.record_is, e.point_is, sym c.record-in.ensures) at (along_rest c.before.before.before.before.before.before.before.steps.ensures.0 c.before.before.goals.ensures)),
     )
 
-pub lay-body-spec : {M : Type 1} → statement M
-lay-body-spec =
+pub lay_body_spec : {M : Type 1} → statement M
+lay_body_spec =
     tie.close
     (tie.spec (λ c κs. search rules) (search rules) (search rules) (search rules) (search rules) steps-requires goals-requires (search rules) returns)

@@ -1,11 +1,11 @@
-use Rattle.insertion.proofs.BodiesLaws.{start-removed}
+use Rattle.insertion.proofs.BodiesLaws.{start_removed}
 use borrow.Author.Rules.{rules}
 use Rattle.insertion.proofs.bodies.start_removed.Statement.{statement}
 use Rattle.insertion.proofs.bodies.start_removed.Tie as tie
 
 returns : tie.Need-returns
 returns c =
-    start-removed _ c.before.before.before.before.set_at.ensures c.before.before.before.set-at2.ensures c.before.before.union.ensures c.before.wanted-in.ensures c.difference.ensures
+    start_removed _ c.before.before.before.before.set_at.ensures c.before.before.before.set-at2.ensures c.before.before.union.ensures c.before.wanted-in.ensures c.difference.ensures
 
-pub start-removed-spec : {M : Type 1} → statement M
-start-removed-spec = tie.close (tie.spec (search rules) (search rules) (search rules) (search rules) (search rules) returns)
+pub start_removed_spec : {M : Type 1} → statement M
+start_removed_spec = tie.close (tie.spec (search rules) (search rules) (search rules) (search rules) (search rules) returns)

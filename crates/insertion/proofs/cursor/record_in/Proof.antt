@@ -1,11 +1,11 @@
-use Rattle.insertion.specs.Cursor.{recordIn}
+use Rattle.insertion.specs.Cursor.{record_in}
 use borrow.Author.Rules.{rules}
 use Rattle.insertion.proofs.cursor.record_in.Statement.{statement}
 use Rattle.insertion.proofs.cursor.record_in.Tie as tie
 
 returns : tie.Need-returns
-unfolding recordIn
+unfolding record_in
 returns c = search rules
 
-pub record-in-spec : {M : Type 1} → statement M
-record-in-spec = tie.close (tie.spec (search rules) returns)
+pub record_in_spec : {M : Type 1} → statement M
+record_in_spec = tie.close (tie.spec (search rules) returns)

@@ -6,5 +6,5 @@ returns : tie.Need-returns
 returns c =
     cc (c.before.before.union.ensures, c.before.difference.ensures, c.difference2.ensures)
 
-pub created-for-spec : {M : Type 1} → statement M
-created-for-spec = tie.close (tie.spec (search rules) (search rules) (search rules) returns)
+pub created_for_spec : {M : Type 1} → statement M
+created_for_spec = tie.close (tie.spec (search rules) (search rules) (search rules) returns)

@@ -6,5 +6,5 @@ returns : tie.Need-returns
 returns c =
     cc (c.before.before.difference.ensures, c.before.union.ensures, c.difference2.ensures)
 
-pub removed-after-spec : {M : Type 1} → statement M
-removed-after-spec = tie.close (tie.spec (search rules) (search rules) (search rules) returns)
+pub removed_after_spec : {M : Type 1} → statement M
+removed_after_spec = tie.close (tie.spec (search rules) (search rules) (search rules) returns)

@@ -10,5 +10,5 @@ returns-2 : tie.Need-returns-2
 returns-2 c =
     (λ e. absurd (c.before.before.before.if1.false e), λ n. cc (c.before.before.before.before.before_at.ensures, c.before.before-at2.ensures, c.difference2.ensures))
 
-pub left-over-spec : {M : Type 1} → statement M
-left-over-spec = tie.close (tie.spec (search rules) (search rules) (search rules) returns (search rules) (search rules) returns-2)
+pub left_over_spec : {M : Type 1} → statement M
+left_over_spec = tie.close (tie.spec (search rules) (search rules) (search rules) returns (search rules) (search rules) returns-2)

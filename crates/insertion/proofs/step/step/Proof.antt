@@ -1,6 +1,6 @@
 use native.Mathlib.Omega.{arith}
 use mathlib.Core.Path.{sym}
-use Rattle.insertion.proofs.StepsLaws.{step-laid}
+use Rattle.insertion.proofs.StepsLaws.{step_laid}
 use borrow.Author.Rules.{rules}
 use Rattle.insertion.proofs.step.step.Statement.{statement}
 use Rattle.insertion.proofs.step.step.Tie as tie
@@ -20,8 +20,8 @@ returns c =
     let e = c.put.ensures in
     let ep = c.before.before.before.before.before.before.before.before.before.before.before.before.before.before.before.before.before.point-in.ensures in
     let er = c.before.before.before.before.before.before.before.before.before.before.record-in.ensures in
-    rw (sym ep, sym er, e.record_is, e.point-is)
-    (step-laid _ _ _ p.0 p.1.0.0 p.1.0.1 p.1.1.0 p.1.1.1.0 p.1.1.1.1 c.before.before.before.before.before.before.before.before.before.before.before.before.before.before.before.before.created-at.ensures c.before.before.before.before.before.before.before.before.before.before.before.before.before.before.before.removed-at.ensures c.before.before.before.before.before.before.before.before.before.before.before.before.before.word.ensures.0 c.before.before.before.before.before.before.before.before.before.lay-marks.ensures c.before.before.before.before.before.before.follows.ensures c.before.before.before.before.before.lay-record.ensures c.before.before.before.lay-marks2.ensures c.before.past.ensures)
+    rw (sym ep, sym er, e.record_is, e.point_is)
+    (step_laid _ _ _ p.0 p.1.0.0 p.1.0.1 p.1.1.0 p.1.1.1.0 p.1.1.1.1 c.before.before.before.before.before.before.before.before.before.before.before.before.before.before.before.before.created-at.ensures c.before.before.before.before.before.before.before.before.before.before.before.before.before.before.before.removed-at.ensures c.before.before.before.before.before.before.before.before.before.before.before.before.before.word.ensures.0 c.before.before.before.before.before.before.before.before.before.lay-marks.ensures c.before.before.before.before.before.before.follows.ensures c.before.before.before.before.before.lay-record.ensures c.before.before.before.lay-marks2.ensures c.before.past.ensures)
 
 pub step_spec : {M : Type 1} → statement M
 step_spec =

@@ -1,22 +1,22 @@
 use native.Mathlib.Omega.{arith}
 use mathlib.Core.Path.{sym, ◌∙◌}
 use Rattle.chains.specs.Formed.{ahead}
-use Rattle.insertion.specs.Cursor.{recordIn, pointIn}
+use Rattle.insertion.specs.Cursor.{record_in, point_in}
 use Rattle.insertion.specs.Along.{LaidAlong}
-use Rattle.insertion.proofs.AlongLaws.{along-first, along-onward, along-next}
+use Rattle.insertion.proofs.AlongLaws.{along_first, along_onward, along_next}
 use Rattle.insertion.proofs.step.steps.Statement.{statement}
 use Rattle.insertion.proofs.step.steps.Tie as tie
 
 abbrev invariant-loop : tie.invariant-loop
 invariant-loop file rows points out₀ at₀ start i₀ out at i =
-    LaidAlong file.now rows points start (pointIn at₀) out₀ out (recordIn at₀) i (pointIn at) (recordIn at)
+    LaidAlong file.now rows points start (point_in at₀) out₀ out (record_in at₀) i (point_in at) (record_in at)
 
 abbrev decreases-loop : tie.decreases-loop
 decreases-loop file rows points out₀ at₀ start i₀ out at i = ahead file.now i
 
 loop-holds : tie.Need-loop-init invariant-loop decreases-loop
 loop-holds c =
-    along-first _ _ _ _ _ _ _ c.requires.1
+    along_first _ _ _ _ _ _ _ c.requires.1
 
 word-requires : tie.Need-word-requires invariant-loop decreases-loop
 word-requires c κs =
@@ -46,18 +46,18 @@ word-requires-2 c κs =
 
 loop-less : tie.Need-loop-smaller invariant-loop decreases-loop
 loop-less c =
-    (along-onward c.before.before.before.before.before.before.before.before.before.loop.invariant c.before.before.before.before.before.before.before.before.before.before.requires.0 c.before.before.before.before.before.before.before.before.loop-test.true c.word2.ensures.0).falls
+    (along_onward c.before.before.before.before.before.before.before.before.before.loop.invariant c.before.before.before.before.before.before.before.before.before.before.requires.0 c.before.before.before.before.before.before.before.before.loop-test.true c.word2.ensures.0).falls
 
 loop-again : tie.Need-loop-preserved invariant-loop decreases-loop
 loop-again c =
-    along-next c.before.before.before.before.before.before.before.before.before.loop.invariant c.before.before.before.before.before.before.before.before.before.before.requires.0 c.before.before.before.before.before.before.before.before.loop-test.true c.before.before.step.ensures c.word2.ensures.0
+    along_next c.before.before.before.before.before.before.before.before.before.loop.invariant c.before.before.before.before.before.before.before.before.before.before.requires.0 c.before.before.before.before.before.before.before.before.loop-test.true c.before.before.step.ensures c.word2.ensures.0
 
 returns-4 : tie.Need-returns-4 invariant-loop decreases-loop
 returns-4 c =
     (c.before.loop.invariant, λ z. absurd (z c.loop-test.false))
 
-pub steps-spec : {M : Type 1} → statement M
-steps-spec =
+pub steps_spec : {M : Type 1} → statement M
+steps_spec =
     tie.close
     (tie.spec
     invariant-loop

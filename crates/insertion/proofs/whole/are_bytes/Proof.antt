@@ -5,5 +5,5 @@ use Rattle.insertion.proofs.whole.are_bytes.Tie as tie
 returns : tie.Need-returns
 returns c = λ j. (c.before.shared-slice-known.given j).fits
 
-pub are-bytes-spec : {M : Type 1} → statement M
-are-bytes-spec = tie.close (tie.spec (search rules) returns)
+pub are_bytes_spec : {M : Type 1} → statement M
+are_bytes_spec = tie.close (tie.spec (search rules) returns)

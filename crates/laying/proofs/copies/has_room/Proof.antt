@@ -7,11 +7,11 @@ use Rattle.laying.proofs.copies.has_room.Tie as tie
 
 returns : tie.Need-returns
 returns c =
-    record { yes-room = λ e. absurd (false≢true e); no_room = λ e l. absurd (omega arith) }
+    record { yes_room = λ e. absurd (false≢true e); no_room = λ e l. absurd (omega arith) }
 
 returns-2 : tie.Need-returns-2
 returns-2 c =
-    record { yes-room = λ e. (omega arith, leb-true _ _ e); no_room = λ e l. leb-false _ _ e }
+    record { yes_room = λ e. (omega arith, leb-true _ _ e); no_room = λ e l. leb-false _ _ e }
 
-pub has-room-spec : {M : Type 1} → statement M
-has-room-spec = tie.close (tie.spec returns (search rules) returns-2)
+pub has_room_spec : {M : Type 1} → statement M
+has_room_spec = tie.close (tie.spec returns (search rules) returns-2)

@@ -1,12 +1,12 @@
-use Rattle.laying.proofs.HeadsLaws.{three-stored}
+use Rattle.laying.proofs.HeadsLaws.{three_stored}
 use borrow.Author.Rules.{rules}
 use Rattle.laying.proofs.heads.store_try.Statement.{statement}
 use Rattle.laying.proofs.heads.store_try.Tie as tie
 
 returns : tie.Need-returns
-returns c = search (three-stored, rules)
+returns c = search (three_stored, rules)
 
-pub store-try-spec : {M : Type 1} → statement M
-store-try-spec =
+pub store_try_spec : {M : Type 1} → statement M
+store_try_spec =
     tie.close
     (tie.spec (λ c κs. search rules) (search rules) (search rules) (search rules) (search rules) (search rules) (search rules) returns)

@@ -7,5 +7,5 @@ returns : tie.Need-returns
 returns c =
     follows_is _ _ c.before.after.ensures c.more.ensures.0 c.more.ensures.1
 
-pub follows-spec : {M : Type 1} → statement M
-follows-spec = tie.close (tie.spec (search rules) (search rules) returns)
+pub follows_spec : {M : Type 1} → statement M
+follows_spec = tie.close (tie.spec (search rules) (search rules) returns)

@@ -3,7 +3,7 @@ use Prim.Native.Nat.{◌+◌, ◌-◌, ◌≤◌}
 use mathlib.Core.Path.{refl}
 use native.Mathlib.Omega.{arith}
 use lib.ListN.{length, take}
-use Rattle.lines.specs.Put.{Put, put-more, put_all, put-length}
+use Rattle.lines.specs.Put.{Put, put_more, put_all, put_length}
 use Rattle.lines.proofs.text.put_text.Statement.{statement}
 use Rattle.lines.proofs.text.put_text.Tie as tie
 
@@ -23,7 +23,7 @@ add-out : tie.Need-overflow-add-out invariant-loop decreases-loop
 add-out c = omega arith
 
 slice-write-out : tie.Need-slice-write-out invariant-loop decreases-loop
-slice-write-out c = omega (arith, put-length c.before.before.loop.invariant.1)
+slice-write-out c = omega (arith, put_length c.before.before.loop.invariant.1)
 
 add-i : tie.Need-overflow-add-i invariant-loop decreases-loop
 add-i c = omega arith
@@ -32,19 +32,19 @@ loop-less : tie.Need-loop-smaller invariant-loop decreases-loop
 loop-less c = omega arith
 
 loop-again : tie.Need-loop-preserved invariant-loop decreases-loop
-loop-again c = (omega arith, put-more c.before.before.before.args.text.now _ _ _ _ (omega arith) c.before.before.loop.invariant.1)
+loop-again c = (omega arith, put_more c.before.before.before.args.text.now _ _ _ _ (omega arith) c.before.before.loop.invariant.1)
 
 add-result : tie.Need-overflow-add-result invariant-loop decreases-loop
 add-result c = omega arith
 
 same_length : tie.Need-same-length invariant-loop decreases-loop
-same_length c = put-length c.before.loop.invariant.1
+same_length c = put_length c.before.loop.invariant.1
 
 returns : tie.Need-returns invariant-loop decreases-loop
 returns c = put_all c.before.before.args.text.now _ _ _ _ (omega arith) c.before.loop.invariant.1
 
-pub put-text-spec : {M : Type 1} → statement M
-put-text-spec =
+pub put_text_spec : {M : Type 1} → statement M
+put_text_spec =
     tie.close
     (tie.spec
     invariant-loop

@@ -1,11 +1,11 @@
-use Rattle.liveness.specs.Carried.{classesIn}
+use Rattle.liveness.specs.Carried.{classes_in}
 use borrow.Author.Rules.{rules}
 use Rattle.liveness.proofs.carried.classes_in.Statement.{statement}
 use Rattle.liveness.proofs.carried.classes_in.Tie as tie
 
 returns : tie.Need-returns
-unfolding classesIn
+unfolding classes_in
 returns c = search rules
 
-pub classes-in-spec : {M : Type 1} → statement M
-classes-in-spec = tie.close (tie.spec (search rules) returns)
+pub classes_in_spec : {M : Type 1} → statement M
+classes_in_spec = tie.close (tie.spec (search rules) returns)

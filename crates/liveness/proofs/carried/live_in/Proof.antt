@@ -7,5 +7,5 @@ returns : tie.Need-returns
 unfolding live_in
 returns c = cc
 
-pub live-in-spec : {M : Type 1} → statement M
-live-in-spec = tie.close (tie.spec (search rules) (search rules) returns)
+pub live_in_spec : {M : Type 1} → statement M
+live_in_spec = tie.close (tie.spec (search rules) (search rules) returns)

@@ -8,5 +8,5 @@ list-live-requires c κs = let p = c.before.before.before.before.before.requires
 returns : tie.Need-returns
 returns c = (c.list-live.ensures.0, rw (c.before.before.before.word_at.ensures, c.before.before.set_at.ensures) at c.list-live.ensures.1.1)
 
-pub window-ok-spec : {M : Type 1} → statement M
-window-ok-spec = tie.close (tie.spec (search rules) (search rules) list-live-requires returns)
+pub window_ok_spec : {M : Type 1} → statement M
+window_ok_spec = tie.close (tie.spec (search rules) (search rules) list-live-requires returns)

@@ -1,13 +1,13 @@
-use Rattle.liveness.proofs.StepLaws.{step_keeps, step-breaks}
+use Rattle.liveness.proofs.StepLaws.{step_keeps_law, step_breaks}
 use borrow.Author.Rules.{rules}
 use Rattle.liveness.proofs.step.step.Statement.{statement}
 use Rattle.liveness.proofs.step.step.Tie as tie
 
 returns : tie.Need-returns
-returns c = search (step_keeps, rules)
+returns c = search (step_keeps_law, rules)
 
 returns-2 : tie.Need-returns-2
-returns-2 c = search (step-breaks, rules)
+returns-2 c = search (step_breaks, rules)
 
 pub step_spec : {M : Type 1} → statement M
 step_spec =

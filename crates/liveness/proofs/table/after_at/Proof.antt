@@ -1,6 +1,6 @@
 use native.Mathlib.Omega.{arith}
 use Rattle.liveness.specs.Table.{after_at}
-use Rattle.liveness.proofs.TableLaws.{before-past}
+use Rattle.liveness.proofs.TableLaws.{before_past}
 use borrow.Author.Rules.{rules}
 use Rattle.liveness.proofs.table.after_at.Statement.{statement}
 use Rattle.liveness.proofs.table.after_at.Tie as tie
@@ -11,7 +11,7 @@ returns c = search rules
 
 returns-2 : tie.Need-returns-2
 unfolding after_at
-returns-2 c = before-past c.before.before.args.table.now _ (omega arith)
+returns-2 c = before_past c.before.before.args.table.now _ (omega arith)
 
-pub after-at-spec : {M : Type 1} → statement M
-after-at-spec = tie.close (tie.spec (search rules) (search rules) returns returns-2)
+pub after_at_spec : {M : Type 1} → statement M
+after_at_spec = tie.close (tie.spec (search rules) (search rules) returns returns-2)

@@ -1,15 +1,15 @@
-use Rattle.liveness.specs.Table.{beforeAt}
-use Rattle.liveness.proofs.TableLaws.{before-past}
+use Rattle.liveness.specs.Table.{before_at}
+use Rattle.liveness.proofs.TableLaws.{before_past}
 use borrow.Author.Rules.{rules}
 use Rattle.liveness.proofs.table.before_at.Statement.{statement}
 use Rattle.liveness.proofs.table.before_at.Tie as tie
 
 returns : tie.Need-returns
-unfolding beforeAt
+unfolding before_at
 returns c = search rules
 
 returns-2 : tie.Need-returns-2
-returns-2 c = search (before-past, rules)
+returns-2 c = search (before_past, rules)
 
-pub before-at-spec : {M : Type 1} → statement M
-before-at-spec = tie.close (tie.spec (search rules) (search rules) (search rules) returns returns-2)
+pub before_at_spec : {M : Type 1} → statement M
+before_at_spec = tie.close (tie.spec (search rules) (search rules) (search rules) returns returns-2)

@@ -4,8 +4,8 @@ use native.Mathlib.Omega.{arith}
 use Rattle.language.specs.File.{word}
 use Rattle.chains.specs.Formed.{ahead}
 use Rattle.chains.specs.Is.{chain_next}
-use Rattle.chains.specs.Shapes.{arm-here}
-use Rattle.liveness.proofs.Walking.{goals-last, to-next, goals-more, step-done, to-arms, switch-done, to-then, to-else, if-done, to-condition, to-try-then, to-try-else, try-done, arms_last, arms_more, part-stands, part-done, switch-there, if-there, try-there}
+use Rattle.chains.specs.Shapes.{arm_here}
+use Rattle.liveness.proofs.Walking.{goals_last, to_next, goals_more, step_done, to_arms, switch_done, to_then, to_else, if_done, to_condition, to_try_then, to_try_else, try_done, arms_last, arms_more, part_stands, part_done, switch_there, if_there, try_there}
 use borrow.Author.Rules.{rules}
 use Prim.Native.Nat.{ℕ, ◌+◌, ◌*◌, ◌<◌}
 use borrow.Fn.Kinds.{In}
@@ -64,82 +64,82 @@ abbrev μ-part : Measures 5 part-kinds.ps ℕ
 abbrev μ-switch : Measures 5 switch-kinds.ps ℕ
 μ-switch κs a = 5 * ahead a.0.now.now a.1.1.0 + 1
 
-abbrev arms_at : ℕ → In 5 arms-kinds.ps
-arms_at t = and 5 arms-kinds.ps (is 5 arms-kinds.ps μ-arms t) arms.Pre
+abbrev arms_at_law : ℕ → In 5 arms-kinds.ps
+arms_at_law t = and 5 arms-kinds.ps (is 5 arms-kinds.ps μ-arms t) arms.Pre
 
-abbrev arms-below : ℕ → In 5 arms-kinds.ps
-arms-below t = and 5 arms-kinds.ps (falls 5 arms-kinds.ps ◌<◌ μ-arms t) arms.Pre
+abbrev arms_below : ℕ → In 5 arms-kinds.ps
+arms_below t = and 5 arms-kinds.ps (falls 5 arms-kinds.ps ◌<◌ μ-arms t) arms.Pre
 
-abbrev attempt-at : ℕ → In 5 attempt-kinds.ps
-attempt-at t = and 5 attempt-kinds.ps (is 5 attempt-kinds.ps μ-attempt t) attempt.Pre
+abbrev attempt_at : ℕ → In 5 attempt-kinds.ps
+attempt_at t = and 5 attempt-kinds.ps (is 5 attempt-kinds.ps μ-attempt t) attempt.Pre
 
-abbrev attempt-below : ℕ → In 5 attempt-kinds.ps
-attempt-below t = and 5 attempt-kinds.ps (falls 5 attempt-kinds.ps ◌<◌ μ-attempt t) attempt.Pre
+abbrev attempt_below : ℕ → In 5 attempt-kinds.ps
+attempt_below t = and 5 attempt-kinds.ps (falls 5 attempt-kinds.ps ◌<◌ μ-attempt t) attempt.Pre
 
 abbrev branches_at : ℕ → In 5 branches-kinds.ps
 branches_at t = and 5 branches-kinds.ps (is 5 branches-kinds.ps μ-branches t) branches.Pre
 
-abbrev branches-below : ℕ → In 5 branches-kinds.ps
-branches-below t =
+abbrev branches_below : ℕ → In 5 branches-kinds.ps
+branches_below t =
     and 5 branches-kinds.ps (falls 5 branches-kinds.ps ◌<◌ μ-branches t) branches.Pre
 
-abbrev goal-at : ℕ → In 5 goal-kinds.ps
-goal-at t = and 5 goal-kinds.ps (is 5 goal-kinds.ps μ-goal t) goal.Pre
+abbrev goal_at_law : ℕ → In 5 goal-kinds.ps
+goal_at_law t = and 5 goal-kinds.ps (is 5 goal-kinds.ps μ-goal t) goal.Pre
 
-abbrev goal-below : ℕ → In 5 goal-kinds.ps
-goal-below t = and 5 goal-kinds.ps (falls 5 goal-kinds.ps ◌<◌ μ-goal t) goal.Pre
+abbrev goal_below : ℕ → In 5 goal-kinds.ps
+goal_below t = and 5 goal-kinds.ps (falls 5 goal-kinds.ps ◌<◌ μ-goal t) goal.Pre
 
-abbrev goals-at : ℕ → In 5 goals-kinds.ps
-goals-at t = and 5 goals-kinds.ps (is 5 goals-kinds.ps μ-goals t) goals.Pre
+abbrev goals_at_law : ℕ → In 5 goals-kinds.ps
+goals_at_law t = and 5 goals-kinds.ps (is 5 goals-kinds.ps μ-goals t) goals.Pre
 
-abbrev goals-below : ℕ → In 5 goals-kinds.ps
-goals-below t = and 5 goals-kinds.ps (falls 5 goals-kinds.ps ◌<◌ μ-goals t) goals.Pre
+abbrev goals_below : ℕ → In 5 goals-kinds.ps
+goals_below t = and 5 goals-kinds.ps (falls 5 goals-kinds.ps ◌<◌ μ-goals t) goals.Pre
 
 abbrev part_at : ℕ → In 5 part-kinds.ps
 part_at t = and 5 part-kinds.ps (is 5 part-kinds.ps μ-part t) part.Pre
 
-abbrev part-below : ℕ → In 5 part-kinds.ps
-part-below t = and 5 part-kinds.ps (falls 5 part-kinds.ps ◌<◌ μ-part t) part.Pre
+abbrev part_below : ℕ → In 5 part-kinds.ps
+part_below t = and 5 part-kinds.ps (falls 5 part-kinds.ps ◌<◌ μ-part t) part.Pre
 
-abbrev switch-at : ℕ → In 5 switch-kinds.ps
-switch-at t = and 5 switch-kinds.ps (is 5 switch-kinds.ps μ-switch t) switch.Pre
+abbrev switch_at : ℕ → In 5 switch-kinds.ps
+switch_at t = and 5 switch-kinds.ps (is 5 switch-kinds.ps μ-switch t) switch.Pre
 
-abbrev switch-below : ℕ → In 5 switch-kinds.ps
-switch-below t = and 5 switch-kinds.ps (falls 5 switch-kinds.ps ◌<◌ μ-switch t) switch.Pre
+abbrev switch_below : ℕ → In 5 switch-kinds.ps
+switch_below t = and 5 switch-kinds.ps (falls 5 switch-kinds.ps ◌<◌ μ-switch t) switch.Pre
 
-abbrev arms-calls : ℕ → arms-lts.Claims
-arms-calls t =
-    (put-live-reads.Asked, put-live-reads.Learnt, live-in-reads.Asked, live-in-reads.Learnt, word-reads.Asked, word-reads.Learnt, arms-below t, arms.Post, part-below t, part.Post, gives-at-reads.Asked, gives-at-reads.Learnt, difference-reads.Asked, difference-reads.Learnt, union-reads.Asked, union-reads.Learnt)
+abbrev arms_calls : ℕ → arms-lts.Claims
+arms_calls t =
+    (put-live-reads.Asked, put-live-reads.Learnt, live-in-reads.Asked, live-in-reads.Learnt, word-reads.Asked, word-reads.Learnt, arms_below t, arms.Post, part_below t, part.Post, gives-at-reads.Asked, gives-at-reads.Learnt, difference-reads.Asked, difference-reads.Learnt, union-reads.Asked, union-reads.Learnt)
 
-abbrev attempt-calls : ℕ → attempt-lts.Claims
-attempt-calls t =
-    (live-in-reads.Asked, live-in-reads.Learnt, part-below t, part.Post, put-live-reads.Asked, put-live-reads.Learnt, union-reads.Asked, union-reads.Learnt, put-point-reads.Asked, put-point-reads.Learnt)
+abbrev attempt_calls : ℕ → attempt-lts.Claims
+attempt_calls t =
+    (live-in-reads.Asked, live-in-reads.Learnt, part_below t, part.Post, put-live-reads.Asked, put-live-reads.Learnt, union-reads.Asked, union-reads.Learnt, put-point-reads.Asked, put-point-reads.Learnt)
 
-abbrev branches-calls : ℕ → branches-lts.Claims
-branches-calls t =
-    (live-in-reads.Asked, live-in-reads.Learnt, part-below t, part.Post, put-live-reads.Asked, put-live-reads.Learnt, word-reads.Asked, word-reads.Learnt, of-reads.Asked, of-reads.Learnt, union-reads.Asked, union-reads.Learnt, put-point-reads.Asked, put-point-reads.Learnt)
+abbrev branches_calls : ℕ → branches-lts.Claims
+branches_calls t =
+    (live-in-reads.Asked, live-in-reads.Learnt, part_below t, part.Post, put-live-reads.Asked, put-live-reads.Learnt, word-reads.Asked, word-reads.Learnt, of-reads.Asked, of-reads.Learnt, union-reads.Asked, union-reads.Learnt, put-point-reads.Asked, put-point-reads.Learnt)
 
-abbrev goal-calls : ℕ → goal-lts.Claims
-goal-calls t =
-    (word-reads.Asked, word-reads.Learnt, switch-below t, switch.Post, branches-below t, branches.Post, attempt-below t, attempt.Post, step-reads.Asked, step-reads.Learnt)
+abbrev goal_calls : ℕ → goal-lts.Claims
+goal_calls t =
+    (word-reads.Asked, word-reads.Learnt, switch_below t, switch.Post, branches_below t, branches.Post, attempt_below t, attempt.Post, step-reads.Asked, step-reads.Learnt)
 
-abbrev goals-calls : ℕ → goals-lts.Claims
-goals-calls t =
-    (part-below t, part.Post, goal-below t, goal.Post)
+abbrev goals_calls : ℕ → goals-lts.Claims
+goals_calls t =
+    (part_below t, part.Post, goal_below t, goal.Post)
 
-abbrev part-calls : ℕ → part-lts.Claims
-part-calls t =
-    (word-reads.Asked, word-reads.Learnt, goals-below t, goals.Post)
+abbrev part_calls : ℕ → part-lts.Claims
+part_calls t =
+    (word-reads.Asked, word-reads.Learnt, goals_below t, goals.Post)
 
-abbrev switch-calls : ℕ → switch-lts.Claims
-switch-calls t =
-    (live-in-reads.Asked, live-in-reads.Learnt, word-reads.Asked, word-reads.Learnt, arms-below t, arms.Post, of-reads.Asked, of-reads.Learnt, union-reads.Asked, union-reads.Learnt, put-point-reads.Asked, put-point-reads.Learnt)
+abbrev switch_calls : ℕ → switch-lts.Claims
+switch_calls t =
+    (live-in-reads.Asked, live-in-reads.Learnt, word-reads.Asked, word-reads.Learnt, arms_below t, arms.Post, of-reads.Asked, of-reads.Learnt, union-reads.Asked, union-reads.Learnt, put-point-reads.Asked, put-point-reads.Learnt)
 
-arms-returns : (t : ℕ) → arms-lts.Need-returns (arms-calls t) (arms_at t) arms.Post
-arms-returns t c = search (arms_last, rules)
+arms_returns : (t : ℕ) → arms-lts.Need-returns (arms_calls t) (arms_at_law t) arms.Post
+arms_returns t c = search (arms_last, rules)
 
-arms-arms-requires : (t : ℕ) → arms-lts.Need-arms-requires (arms-calls t) (arms_at t) arms.Post
-arms-arms-requires t c κs =
+arms_arms_requires : (t : ℕ) → arms-lts.Need-arms-requires (arms_calls t) (arms_at_law t) arms.Post
+arms_arms_requires t c κs =
     let at-word = c.before.before in
     let at-if1 = at-word.before.before.before.before in
     let start = at-if1.before in
@@ -147,15 +147,15 @@ arms-arms-requires t c κs =
     let o = chain_next p.0 p.1.1 at-if1.if1.false at-word.word.ensures.0 in
     (omega (arith, o.falls, start.requires.0), (p.0, (p.1.0, o.stands)))
 
-arms-part-requires : (t : ℕ) → arms-lts.Need-part-requires (arms-calls t) (arms_at t) arms.Post
-arms-part-requires t c κs =
+arms_part_requires : (t : ℕ) → arms-lts.Need-part-requires (arms_calls t) (arms_at_law t) arms.Post
+arms_part_requires t c κs =
     let start = c.before.before.before.before.before.before.before.before.before.before.before.before.before.before in
     let p = start.requires.1 in
-    let o = (arm-here p.0 c.before.before.before.before.before.before.before.before.before.before.before.before.before.if1.false p.1.1).to-goals in
+    let o = (arm_here p.0 c.before.before.before.before.before.before.before.before.before.before.before.before.before.if1.false p.1.1).to_goals in
     (omega (arith, o.falls, start.requires.0), (p.0, (p.1.0, (omega arith, (p.1.1.below, o.stands)))))
 
-arms-returns-2 : (t : ℕ) → arms-lts.Need-returns-2 (arms-calls t) (arms_at t) arms.Post
-arms-returns-2 t c =
+arms_returns_2 : (t : ℕ) → arms-lts.Need-returns-2 (arms_calls t) (arms_at_law t) arms.Post
+arms_returns_2 t c =
     let at-union = c.before in
     let at-difference = at-union.before in
     let at-gives-at = at-difference.before.before in
@@ -171,32 +171,32 @@ arms-returns-2 t c =
     let p = start.requires.1 in
     arms_more _ _ _ p.0 p.1.1 at-if1.if1.false at-live-in.live_in.ensures at-word.word.ensures.0 at-arms.arms.ensures
     at-live-in2.live-in2.ensures at-put-live2.put-live2.ensures at_part.part.ensures at-live-in3.live-in3.ensures
-    (at-gives-at.Gives-at.ensures ∙ p.1.0.arm-gives _ p.1.1 at-if1.if1.false) at-difference.difference.ensures
+    (at-gives-at.Gives-at.ensures ∙ p.1.0.arm_gives _ p.1.1 at-if1.if1.false) at-difference.difference.ensures
     at-union.union.ensures c.put-live3.ensures
 
-attempt-part-requires : (t : ℕ) → attempt-lts.Need-part-requires (attempt-calls t) (attempt-at t) attempt.Post
-attempt-part-requires t c κs =
+attempt_part_requires : (t : ℕ) → attempt-lts.Need-part-requires (attempt_calls t) (attempt_at t) attempt.Post
+attempt_part_requires t c κs =
     let start = c.before.before.before.before in
     let p = start.requires.1 in
-    let o = to-try-else _ _ p.0 p.1.1 in
-    (omega (arith, o.falls, start.requires.0), (p.0, (p.1.0, (omega arith, (try-there _ _ p.0 p.1.1, o.stands)))))
+    let o = to_try_else _ _ p.0 p.1.1 in
+    (omega (arith, o.falls, start.requires.0), (p.0, (p.1.0, (omega arith, (try_there _ _ p.0 p.1.1, o.stands)))))
 
-attempt-part-requires-2 : (t : ℕ) → attempt-lts.Need-part-requires-2 (attempt-calls t) (attempt-at t) attempt.Post
-attempt-part-requires-2 t c κs =
+attempt_part_requires_2 : (t : ℕ) → attempt-lts.Need-part-requires-2 (attempt_calls t) (attempt_at t) attempt.Post
+attempt_part_requires_2 t c κs =
     let start = c.before.before.before.before.before.before.before.before.before.before.before in
     let p = start.requires.1 in
-    let o = to-try-then _ _ p.0 p.1.1 in
-    (omega (arith, o.falls, start.requires.0), (p.0, (p.1.0, (omega arith, (try-there _ _ p.0 p.1.1, o.stands)))))
+    let o = to_try_then _ _ p.0 p.1.1 in
+    (omega (arith, o.falls, start.requires.0), (p.0, (p.1.0, (omega arith, (try_there _ _ p.0 p.1.1, o.stands)))))
 
-attempt-part-requires-3 : (t : ℕ) → attempt-lts.Need-part-requires-3 (attempt-calls t) (attempt-at t) attempt.Post
-attempt-part-requires-3 t c κs =
+attempt_part_requires_3 : (t : ℕ) → attempt-lts.Need-part-requires-3 (attempt_calls t) (attempt_at t) attempt.Post
+attempt_part_requires_3 t c κs =
     let start = c.before.before.before.before.before.before.before.before.before.before.before.before.before.before in
     let p = start.requires.1 in
-    let o = to-condition _ _ p.0 p.1.1 in
-    (omega (arith, o.falls, start.requires.0), (p.0, (p.1.0, (omega arith, (try-there _ _ p.0 p.1.1, o.stands)))))
+    let o = to_condition _ _ p.0 p.1.1 in
+    (omega (arith, o.falls, start.requires.0), (p.0, (p.1.0, (omega arith, (try_there _ _ p.0 p.1.1, o.stands)))))
 
-attempt-returns : (t : ℕ) → attempt-lts.Need-returns (attempt-calls t) (attempt-at t) attempt.Post
-attempt-returns t c =
+attempt_returns : (t : ℕ) → attempt-lts.Need-returns (attempt_calls t) (attempt_at t) attempt.Post
+attempt_returns t c =
     let at-union = c.before.before.before in
     let at-live-in3 = at-union.before in
     let at-part3 = at-live-in3.before.before in
@@ -207,34 +207,34 @@ attempt-returns t c =
     let at-live-in = at_part.before.before.before in
     let start = at-live-in.before.before in
     let p = start.requires.1 in
-    try-done _ _ _ p.0 p.1.1 at-live-in.live_in.ensures at_part.part.ensures at-live-in2.live-in2.ensures
+    try_done _ _ _ p.0 p.1.1 at-live-in.live_in.ensures at_part.part.ensures at-live-in2.live-in2.ensures
     at-put-live.put-live.ensures at-part2.part2.ensures at-part3.part3.ensures at-live-in3.live-in3.ensures
     at-union.union.ensures c.put-point.ensures
 
-branches-part-requires : (t : ℕ) → branches-lts.Need-part-requires (branches-calls t) (branches_at t) branches.Post
-branches-part-requires t c κs =
+branches_part_requires : (t : ℕ) → branches-lts.Need-part-requires (branches_calls t) (branches_at t) branches.Post
+branches_part_requires t c κs =
     let start = c.before.before.before.before in
     let p = start.requires.1 in
-    let o = to-else _ _ p.0 p.1.1 in
-    (omega (arith, o.falls, start.requires.0), (p.0, (p.1.0, (omega arith, (if-there _ _ p.0 p.1.1, o.stands)))))
+    let o = to_else _ _ p.0 p.1.1 in
+    (omega (arith, o.falls, start.requires.0), (p.0, (p.1.0, (omega arith, (if_there _ _ p.0 p.1.1, o.stands)))))
 
-branches-part-requires-2 : (t : ℕ) → branches-lts.Need-part-requires-2 (branches-calls t) (branches_at t) branches.Post
-branches-part-requires-2 t c κs =
+branches_part_requires_2 : (t : ℕ) → branches-lts.Need-part-requires-2 (branches_calls t) (branches_at t) branches.Post
+branches_part_requires_2 t c κs =
     let start = c.before.before.before.before.before.before.before.before.before.before.before in
     let p = start.requires.1 in
-    let o = to-then _ _ p.0 p.1.1 in
-    (omega (arith, o.falls, start.requires.0), (p.0, (p.1.0, (omega arith, (if-there _ _ p.0 p.1.1, o.stands)))))
+    let o = to_then _ _ p.0 p.1.1 in
+    (omega (arith, o.falls, start.requires.0), (p.0, (p.1.0, (omega arith, (if_there _ _ p.0 p.1.1, o.stands)))))
 
-branches-word-requires : (t : ℕ) → branches-lts.Need-word-requires (branches-calls t) (branches_at t) branches.Post
-branches-word-requires t c κs = search (if-there, rules)
+branches_word_requires : (t : ℕ) → branches-lts.Need-word-requires (branches_calls t) (branches_at t) branches.Post
+branches_word_requires t c κs = search (if_there, rules)
 
-branches-word-requires-2 : (t : ℕ) → branches-lts.Need-word-requires-2 (branches-calls t) (branches_at t) branches.Post
-branches-word-requires-2 t c κs =
+branches_word_requires_2 : (t : ℕ) → branches-lts.Need-word-requires-2 (branches_calls t) (branches_at t) branches.Post
+branches_word_requires_2 t c κs =
     let p = c.before.before.before.before.before.before.before.before.before.before.before.before.before.before.before.before.before.before.requires.1 in
-    (p.0, (omega arith, if-there _ _ p.0 p.1.1))
+    (p.0, (omega arith, if_there _ _ p.0 p.1.1))
 
-branches-returns : (t : ℕ) → branches-lts.Need-returns (branches-calls t) (branches_at t) branches.Post
-branches-returns t c =
+branches_returns : (t : ℕ) → branches-lts.Need-returns (branches_calls t) (branches_at t) branches.Post
+branches_returns t c =
     let at-union3 = c.before.before.before in
     let at-union2 = at-union3.before in
     let at-union = at-union2.before in
@@ -250,104 +250,104 @@ branches-returns t c =
     let at-live-in = at_part.before.before.before in
     let start = at-live-in.before.before in
     let p = start.requires.1 in
-    if-done _ _ _ p.0 p.1.1 at-live-in.live_in.ensures at_part.part.ensures at-live-in2.live-in2.ensures
+    if_done _ _ _ p.0 p.1.1 at-live-in.live_in.ensures at_part.part.ensures at-live-in2.live-in2.ensures
     at-put-live.put-live.ensures at-part2.part2.ensures at-live-in3.live-in3.ensures at-word.word.ensures.0 at_of.of.ensures
     at-word2.word2.ensures.0 at-of2.of2.ensures at-union.union.ensures at-union2.union2.ensures at-union3.union3.ensures
     c.put-point.ensures
 
-goal-word-requires : (t : ℕ) → goal-lts.Need-word-requires (goal-calls t) (goal-at t) goal.Post
-goal-word-requires t c κs =
+goal_word_requires : (t : ℕ) → goal-lts.Need-word-requires (goal_calls t) (goal_at_law t) goal.Post
+goal_word_requires t c κs =
     let p = c.before.requires.1 in
     (p.0, (omega arith, p.1.1.0.below))
 
-goal-switch-requires : (t : ℕ) → goal-lts.Need-switch-requires (goal-calls t) (goal-at t) goal.Post
-goal-switch-requires t c κs =
+goal_switch_requires : (t : ℕ) → goal-lts.Need-switch-requires (goal_calls t) (goal_at_law t) goal.Post
+goal_switch_requires t c κs =
     let at-match = c.before.before in
     let at-word = at-match.before in
     let start = at-word.before.before in
     let p = start.requires.1 in
     (omega (arith, start.requires.0), (p.0, (p.1.0, sym at-word.word.ensures.0 ∙ at-match.match.keys1)))
 
-goal-branches-requires : (t : ℕ) → goal-lts.Need-branches-requires (goal-calls t) (goal-at t) goal.Post
-goal-branches-requires t c κs =
+goal_branches_requires : (t : ℕ) → goal-lts.Need-branches-requires (goal_calls t) (goal_at_law t) goal.Post
+goal_branches_requires t c κs =
     let at-match = c.before.before in
     let at-word = at-match.before in
     let start = at-word.before.before in
     let p = start.requires.1 in
     (omega (arith, start.requires.0), (p.0, (p.1.0, sym at-word.word.ensures.0 ∙ at-match.match.keys2)))
 
-goal-attempt-requires : (t : ℕ) → goal-lts.Need-attempt-requires (goal-calls t) (goal-at t) goal.Post
-goal-attempt-requires t c κs =
+goal_attempt_requires : (t : ℕ) → goal-lts.Need-attempt-requires (goal_calls t) (goal_at_law t) goal.Post
+goal_attempt_requires t c κs =
     let at-match = c.before.before in
     let at-word = at-match.before in
     let start = at-word.before.before in
     let p = start.requires.1 in
     (omega (arith, start.requires.0), (p.0, (p.1.0, sym at-word.word.ensures.0 ∙ at-match.match.keys3)))
 
-goal-returns : (t : ℕ) → goal-lts.Need-returns (goal-calls t) (goal-at t) goal.Post
-goal-returns t c = c.switch.ensures
+goal_returns : (t : ℕ) → goal-lts.Need-returns (goal_calls t) (goal_at_law t) goal.Post
+goal_returns t c = c.switch.ensures
 
-goal-returns-2 : (t : ℕ) → goal-lts.Need-returns-2 (goal-calls t) (goal-at t) goal.Post
-goal-returns-2 t c = c.branches.ensures
+goal_returns_2 : (t : ℕ) → goal-lts.Need-returns-2 (goal_calls t) (goal_at_law t) goal.Post
+goal_returns_2 t c = c.branches.ensures
 
-goal-returns-3 : (t : ℕ) → goal-lts.Need-returns-3 (goal-calls t) (goal-at t) goal.Post
-goal-returns-3 t c = c.attempt.ensures
+goal_returns_3 : (t : ℕ) → goal-lts.Need-returns-3 (goal_calls t) (goal_at_law t) goal.Post
+goal_returns_3 t c = c.attempt.ensures
 
-goal-returns-4 : (t : ℕ) → goal-lts.Need-returns-4 (goal-calls t) (goal-at t) goal.Post
-goal-returns-4 t c =
+goal_returns_4 : (t : ℕ) → goal-lts.Need-returns-4 (goal_calls t) (goal_at_law t) goal.Post
+goal_returns_4 t c =
     let at-match = c.before.before.before in
     let at-word = at-match.before in
     let start = at-word.before.before in
     let p = start.requires.1 in
-    step-done _ _ _ p.0 p.1.1.0 p.1.1.1 (λ e. at-match.match.rest.0.0.1 (at-word.word.ensures.0 ∙ e))
+    step_done _ _ _ p.0 p.1.1.0 p.1.1.1 (λ e. at-match.match.rest.0.0.1 (at-word.word.ensures.0 ∙ e))
     (λ e. at-match.match.rest.0.1 (at-word.word.ensures.0 ∙ e)) (λ e. at-match.match.rest.1 (at-word.word.ensures.0 ∙ e)) _ p.1.0 c.step.ensures
 
-goals-returns : (t : ℕ) → goals-lts.Need-returns (goals-calls t) (goals-at t) goals.Post
-goals-returns t c = goals-last _ _ _ _ _ c.if1.true
+goals_returns : (t : ℕ) → goals-lts.Need-returns (goals_calls t) (goals_at_law t) goals.Post
+goals_returns t c = goals_last _ _ _ _ _ c.if1.true
 
-goals-part-requires : (t : ℕ) → goals-lts.Need-part-requires (goals-calls t) (goals-at t) goals.Post
-goals-part-requires t c κs =
+goals_part_requires : (t : ℕ) → goals-lts.Need-part-requires (goals_calls t) (goals_at_law t) goals.Post
+goals_part_requires t c κs =
     let start = c.before.before.before in
     let p = start.requires.1 in
-    let o = to-next _ _ p.0 p.1.1 c.before.before.if1.false in
+    let o = to_next _ _ p.0 p.1.1 c.before.before.if1.false in
     (omega (arith, o.falls, start.requires.0), (p.0, (p.1.0, (omega arith, (p.1.1.below, o.stands)))))
 
-goals-returns-2 : (t : ℕ) → goals-lts.Need-returns-2 (goals-calls t) (goals-at t) goals.Post
-goals-returns-2 t c = search (goals-more, rules)
+goals_returns_2 : (t : ℕ) → goals-lts.Need-returns-2 (goals_calls t) (goals_at_law t) goals.Post
+goals_returns_2 t c = search (goals_more, rules)
 
-part-word-requires : (t : ℕ) → part-lts.Need-word-requires (part-calls t) (part_at t) part.Post
-part-word-requires t c κs =
+part_word_requires : (t : ℕ) → part-lts.Need-word-requires (part_calls t) (part_at t) part.Post
+part_word_requires t c κs =
     let p = c.before.requires.1 in
     (p.0, (p.1.1.0, p.1.1.1.0))
 
-part-returns : (t : ℕ) → part-lts.Need-returns (part-calls t) (part_at t) part.Post
-part-returns t c = goals-last _ _ _ _ _ (sym c.before.word.ensures.0 ∙ c.if1.true)
+part_returns : (t : ℕ) → part-lts.Need-returns (part_calls t) (part_at t) part.Post
+part_returns t c = goals_last _ _ _ _ _ (sym c.before.word.ensures.0 ∙ c.if1.true)
 
-part-goals-requires : (t : ℕ) → part-lts.Need-goals-requires (part-calls t) (part_at t) part.Post
-part-goals-requires t c κs =
+part_goals_requires : (t : ℕ) → part-lts.Need-goals-requires (part_calls t) (part_at t) part.Post
+part_goals_requires t c κs =
     let start = c.before.before.before.before.before in
     let p = start.requires.1 in
     let e = c.before.before.before.word.ensures.0 in
-    (omega (arith, ap (ahead start.args.file.now.now) e, start.requires.0), (p.0, (p.1.0, part-stands _ _ _ e p.1.1.1.1)))
+    (omega (arith, ap (ahead start.args.file.now.now) e, start.requires.0), (p.0, (p.1.0, part_stands _ _ _ e p.1.1.1.1)))
 
-part-returns-2 : (t : ℕ) → part-lts.Need-returns-2 (part-calls t) (part_at t) part.Post
-part-returns-2 t c = search (part-done, rules)
+part_returns_2 : (t : ℕ) → part-lts.Need-returns-2 (part_calls t) (part_at t) part.Post
+part_returns_2 t c = search (part_done, rules)
 
-switch-word-requires : (t : ℕ) → switch-lts.Need-word-requires (switch-calls t) (switch-at t) switch.Post
-switch-word-requires t c κs = search (switch-there, rules)
+switch_word_requires : (t : ℕ) → switch-lts.Need-word-requires (switch_calls t) (switch_at t) switch.Post
+switch_word_requires t c κs = search (switch_there, rules)
 
-switch-arms-requires : (t : ℕ) → switch-lts.Need-arms-requires (switch-calls t) (switch-at t) switch.Post
-switch-arms-requires t c κs =
+switch_arms_requires : (t : ℕ) → switch-lts.Need-arms-requires (switch_calls t) (switch_at t) switch.Post
+switch_arms_requires t c κs =
     let start = c.before.before.before.before.before.before in
     let p = start.requires.1 in
-    let o = to-arms _ _ p.0 p.1.1 c.before.before.word.ensures.0 in
+    let o = to_arms _ _ p.0 p.1.1 c.before.before.word.ensures.0 in
     (omega (arith, o.falls, start.requires.0), (p.0, (p.1.0, o.stands)))
 
-switch-word-requires-2 : (t : ℕ) → switch-lts.Need-word-requires-2 (switch-calls t) (switch-at t) switch.Post
-switch-word-requires-2 t c κs = search (switch-there, rules)
+switch_word_requires_2 : (t : ℕ) → switch-lts.Need-word-requires-2 (switch_calls t) (switch_at t) switch.Post
+switch_word_requires_2 t c κs = search (switch_there, rules)
 
-switch-returns : (t : ℕ) → switch-lts.Need-returns (switch-calls t) (switch-at t) switch.Post
-switch-returns t c =
+switch_returns : (t : ℕ) → switch-lts.Need-returns (switch_calls t) (switch_at t) switch.Post
+switch_returns t c =
     let at-union = c.before.before.before in
     let at-live-in2 = at-union.before in
     let at_of = at-live-in2.before.before in
@@ -357,27 +357,27 @@ switch-returns t c =
     let at-live-in = at-word.before.before in
     let start = at-live-in.before.before in
     let p = start.requires.1 in
-    switch-done _ _ _ p.0 p.1.1 at-live-in.live_in.ensures at-word.word.ensures.0 at-arms.arms.ensures
+    switch_done _ _ _ p.0 p.1.1 at-live-in.live_in.ensures at-word.word.ensures.0 at-arms.arms.ensures
     at-word2.word2.ensures.0 at_of.of.ensures at-live-in2.live-in2.ensures at-union.union.ensures c.put-point.ensures
 
 pub +arms-attempt-branches-goal-goals-part-switch-spec : {M : Type 1} → statement M
 +arms-attempt-branches-goal-goals-part-switch-spec =
     close μ-arms μ-attempt μ-branches μ-goal μ-goals μ-part μ-switch
-    (λ t. arms-lts.spec (arms-calls t) (arms_at t) arms.Post (λ c κs. search rules) (arms-returns t) (λ c κs. search rules) (λ c κs. search rules)
-    (arms-arms-requires t) (λ c κs. search rules) (λ c κs. search rules) (arms-part-requires t) (λ c κs. search rules) (λ c κs. search rules)
-    (λ c κs. search rules) (λ c κs. search rules) (λ c κs. search rules) (arms-returns-2 t))
-    (λ t. attempt-lts.spec (attempt-calls t) (attempt-at t) attempt.Post (λ c κs. search rules) (attempt-part-requires t) (λ c κs. search rules)
-    (λ c κs. search rules) (attempt-part-requires-2 t) (attempt-part-requires-3 t) (λ c κs. search rules) (λ c κs. search rules) (λ c κs. search rules)
-    (attempt-returns t))
-    (λ t. branches-lts.spec (branches-calls t) (branches_at t) branches.Post (λ c κs. search rules) (branches-part-requires t) (λ c κs. search rules)
-    (λ c κs. search rules) (branches-part-requires-2 t) (λ c κs. search rules) (branches-word-requires t) (λ c κs. search rules)
-    (branches-word-requires-2 t) (λ c κs. search rules) (λ c κs. search rules) (λ c κs. search rules) (λ c κs. search rules) (λ c κs. search rules)
-    (branches-returns t))
-    (λ t. goal-lts.spec (goal-calls t) (goal-at t) goal.Post (goal-word-requires t) (goal-switch-requires t) (goal-branches-requires t)
-    (goal-attempt-requires t) (λ c κs. search rules) (goal-returns t) (goal-returns-2 t) (goal-returns-3 t) (goal-returns-4 t))
-    (λ t. goals-lts.spec (part-below t, part.Post, goal-below t, goal.Post) (goals-at t) goals.Post (goals-returns t) (goals-part-requires t)
-    (λ c κs. search rules) (goals-returns-2 t))
-    (λ t. part-lts.spec (word-reads.Asked, word-reads.Learnt, goals-below t, goals.Post) (part_at t) part.Post (part-word-requires t) (part-returns t)
-    (part-goals-requires t) (part-returns-2 t))
-    λ t. switch-lts.spec (switch-calls t) (switch-at t) switch.Post (λ c κs. search rules) (switch-word-requires t) (switch-arms-requires t)
-    (switch-word-requires-2 t) (λ c κs. search rules) (λ c κs. search rules) (λ c κs. search rules) (λ c κs. search rules) (switch-returns t)
+    (λ t. arms-lts.spec (arms_calls t) (arms_at_law t) arms.Post (λ c κs. search rules) (arms_returns t) (λ c κs. search rules) (λ c κs. search rules)
+    (arms_arms_requires t) (λ c κs. search rules) (λ c κs. search rules) (arms_part_requires t) (λ c κs. search rules) (λ c κs. search rules)
+    (λ c κs. search rules) (λ c κs. search rules) (λ c κs. search rules) (arms_returns_2 t))
+    (λ t. attempt-lts.spec (attempt_calls t) (attempt_at t) attempt.Post (λ c κs. search rules) (attempt_part_requires t) (λ c κs. search rules)
+    (λ c κs. search rules) (attempt_part_requires_2 t) (attempt_part_requires_3 t) (λ c κs. search rules) (λ c κs. search rules) (λ c κs. search rules)
+    (attempt_returns t))
+    (λ t. branches-lts.spec (branches_calls t) (branches_at t) branches.Post (λ c κs. search rules) (branches_part_requires t) (λ c κs. search rules)
+    (λ c κs. search rules) (branches_part_requires_2 t) (λ c κs. search rules) (branches_word_requires t) (λ c κs. search rules)
+    (branches_word_requires_2 t) (λ c κs. search rules) (λ c κs. search rules) (λ c κs. search rules) (λ c κs. search rules) (λ c κs. search rules)
+    (branches_returns t))
+    (λ t. goal-lts.spec (goal_calls t) (goal_at_law t) goal.Post (goal_word_requires t) (goal_switch_requires t) (goal_branches_requires t)
+    (goal_attempt_requires t) (λ c κs. search rules) (goal_returns t) (goal_returns_2 t) (goal_returns_3 t) (goal_returns_4 t))
+    (λ t. goals-lts.spec (part_below t, part.Post, goal_below t, goal.Post) (goals_at_law t) goals.Post (goals_returns t) (goals_part_requires t)
+    (λ c κs. search rules) (goals_returns_2 t))
+    (λ t. part-lts.spec (word-reads.Asked, word-reads.Learnt, goals_below t, goals.Post) (part_at t) part.Post (part_word_requires t) (part_returns t)
+    (part_goals_requires t) (part_returns_2 t))
+    λ t. switch-lts.spec (switch_calls t) (switch_at t) switch.Post (λ c κs. search rules) (switch_word_requires t) (switch_arms_requires t)
+    (switch_word_requires_2 t) (λ c κs. search rules) (λ c κs. search rules) (λ c κs. search rules) (λ c κs. search rules) (switch_returns t)

@@ -10,5 +10,5 @@ returns c = entry_past _ _ _ c.if1.true
 returns-2 : tie.Need-returns-2
 returns-2 c = entry_in _ _ _ (omega (arith, c.before.if1.false))
 
-pub entry-word-spec : {M : Type 1} → statement M
-entry-word-spec = tie.close (tie.spec returns (search rules) (search rules) (search rules) (search rules) returns-2)
+pub entry_word_spec : {M : Type 1} → statement M
+entry_word_spec = tie.close (tie.spec returns (search rules) (search rules) (search rules) (search rules) returns-2)

@@ -4,8 +4,8 @@ use Prim.Native.Nat.{ℕ, ◌≤◌}
 use mathlib.Core.Path.{◌≡◌, refl}
 use mathlib.Core.List.{List}
 use lib.ListN.{length}
-use Rattle.memory.specs.Log.{stored, undone, undo-none, is_same}
-use Rattle.machine.specs.Entries.{Logs, log-undo-next}
+use Rattle.memory.specs.Log.{stored, undone, undo_none, is_same}
+use Rattle.machine.specs.Entries.{Logs, log_undo_next}
 use Rattle.machine.proofs.entries.undo_log.Statement.{statement}
 use Rattle.machine.proofs.entries.undo_log.Tie as tie
 
@@ -29,7 +29,7 @@ loop-less c = omega arith
 loop-again : tie.Need-loop-preserved invariant-loop decreases-loop
 loop-again c =
     let v = c.before.before.before.before.before.before.before.before.before.before.loop.invariant in (
-      (λ told L. log-undo-next L _ _ _ _ _ _ _ _ c.before.before.before.before.before.before.before.before.before.loop-test.true v.1 _ _ c.before.before.before.before.before.before.before.before.entry-word.ensures c.before.before.before.before.before.before.before.entry-word2.ensures (v.0 told L) c.before.before.before.before.undo-entry.ensures),
+      (λ told L. log_undo_next L _ _ _ _ _ _ _ _ c.before.before.before.before.before.before.before.before.before.loop-test.true v.1 _ _ c.before.before.before.before.before.before.before.before.entry-word.ensures c.before.before.before.before.before.before.before.entry-word2.ensures (v.0 told L) c.before.before.before.before.undo-entry.ensures),
       omega (arith, v.1),
       omega (arith, c.before.before.before.before.undo-entry.auto, v.2),
       omega (arith, c.before.before.before.before.undo-entry.auto, v.3),
@@ -42,10 +42,10 @@ same-length-2 : tie.Need-same-length-2 invariant-loop decreases-loop
 same-length-2 c = c.before.loop.invariant.3
 
 returns : tie.Need-returns invariant-loop decreases-loop
-returns c = λ told L. is_same (undo-none _ _ _ _ (omega arith) (c.before.loop.invariant.0 told L))
+returns c = λ told L. is_same (undo_none _ _ _ _ (omega arith) (c.before.loop.invariant.0 told L))
 
-pub undo-log-spec : {M : Type 1} → statement M
-undo-log-spec =
+pub undo_log_spec : {M : Type 1} → statement M
+undo_log_spec =
     tie.close
     (tie.spec invariant-loop decreases-loop loop-holds sub-i (λ c κs. search rules) (λ c κs. search rules) (λ c κs. search rules) loop-less loop-again same_length
     same-length-2 returns)

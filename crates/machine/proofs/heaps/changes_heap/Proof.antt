@@ -14,5 +14,5 @@ returns-3 c = inr (inr c.match.keys3)
 returns-4 : tie.Need-returns-4
 returns-4 c = (c.match.rest.0.0.1, c.match.rest.0.1, c.match.rest.1)
 
-pub changes-heap-spec : {M : Type 1} → statement M
-changes-heap-spec = tie.close (tie.spec returns returns-2 returns-3 returns-4)
+pub changes_heap_spec : {M : Type 1} → statement M
+changes_heap_spec = tie.close (tie.spec returns returns-2 returns-3 returns-4)

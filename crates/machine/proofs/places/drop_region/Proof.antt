@@ -1,10 +1,10 @@
-use Rattle.machine.proofs.GoalsLaws.{region-as, remove-as}
+use Rattle.machine.proofs.GoalsLaws.{region_as, remove_as}
 use borrow.Author.Rules.{rules}
 use Rattle.machine.proofs.places.drop_region.Statement.{statement}
 use Rattle.machine.proofs.places.drop_region.Tie as tie
 
 returns : tie.Need-returns
-returns c = remove-as _ _ _ _ _ _ _ _ c.before.before.before.before.remove.ensures (region-as _ _ _ _ _ c.before.before.before.before.before.before.before.before.before.before.before.before.before.args.frames.now c.before.before.before.before.before.before.before.region.ensures c.before.before.before.before.before.before.before.before.word_in.ensures.0)
+returns c = remove_as _ _ _ _ _ _ _ _ c.before.before.before.before.remove.ensures (region_as _ _ _ _ _ c.before.before.before.before.before.before.before.before.before.before.before.before.before.args.frames.now c.before.before.before.before.before.before.before.region.ensures c.before.before.before.before.before.before.before.before.word_in.ensures.0)
 
-pub drop-region-spec : {M : Type 1} → statement M
-drop-region-spec = tie.close (tie.spec (search rules) (search rules) (search rules) (search rules) (search rules) returns)
+pub drop_region_spec : {M : Type 1} → statement M
+drop_region_spec = tie.close (tie.spec (search rules) (search rules) (search rules) (search rules) (search rules) returns)

@@ -4,14 +4,14 @@ use native.Mathlib.Omega.{arith}
 use mathlib.Core.Path.{refl, sym, ◌∙◌}
 use mathlib.Core.Logic.{inl, inr}
 use mathlib.Core.List.{[]}
-use Rattle.plans.specs.Plan.{tablesIn}
-use Rattle.frames.specs.Strays.{whole, in-length, past-length}
-use Rattle.machine.specs.Calls.{successor-as}
-use Rattle.machine.specs.Runs.{runFirst}
-use Rattle.machine.proofs.RunsLaws.{Going, placed-as, first, first-as, arrives, past-on, changed-on, went_on, run-finished, run-spent, change-stopped, went-stopped, told, tried-on, tried-stopped}
-use Rattle.machine.proofs.StepsLaws.{went-tries, stops-tries}
-use Rattle.machine.proofs.TriesLaws.{tried-apart}
-use Rattle.machine.specs.Words.{onward-placed}
+use Rattle.plans.specs.Plan.{tables_in}
+use Rattle.frames.specs.Strays.{whole, in_length, past_length}
+use Rattle.machine.specs.Calls.{successor_as}
+use Rattle.machine.specs.Runs.{run_first}
+use Rattle.machine.proofs.RunsLaws.{Going, placed_as, first, first_as, arrives, past_on, changed_on, went_on_law, run_finished, run_spent, change_stopped, went_stopped, told, tried_on, tried_stopped}
+use Rattle.machine.proofs.StepsLaws.{went_tries, stops_tries}
+use Rattle.machine.proofs.TriesLaws.{tried_apart}
+use Rattle.machine.specs.Words.{onward_placed}
 use Rattle.machine.specs.Heaps.{changed, unchanged}
 use native.Mathlib.Omega.{arith}
 use Rattle.machine.proofs.runs.run_on.Statement.{statement}
@@ -19,14 +19,14 @@ use Rattle.machine.proofs.runs.run_on.Tie as tie
 
 abbrev invariant-loop : tie.invariant-loop
 invariant-loop file plan images callees cells₀ regions₀ frames₀ prints₀ log₀ own₀ steps heap₀ state₀ left₀ cells regions frames prints log own heap state left =
-    Going file (tablesIn plan images callees) steps cells₀ regions₀ frames₀ prints₀ (runFirst file (tablesIn plan images callees) steps heap₀ cells₀ regions₀ frames₀ prints₀ state₀) left heap cells regions frames prints state
+    Going file (tables_in plan images callees) steps cells₀ regions₀ frames₀ prints₀ (run_first file (tables_in plan images callees) steps heap₀ cells₀ regions₀ frames₀ prints₀ state₀) left heap cells regions frames prints state
 
 abbrev decreases-loop : tie.decreases-loop
 decreases-loop file plan images callees cells₀ regions₀ frames₀ prints₀ log₀ own₀ steps heap₀ state₀ left₀ cells regions frames prints log own heap state left =
     left
 
 loop-holds : tie.Need-loop-init invariant-loop decreases-loop
-loop-holds c = first _ _ _ _ _ _ _ _ c.before.before.before.before.before.before.before.before.before.before.args.callees.now _ c.first-state.ensures c.before.before.before.before.before.before.before.before.before.before.requires.1
+loop-holds c = first _ _ _ _ _ _ _ _ c.before.before.before.before.before.before.before.before.before.before.args.callees.now _ c.first_state_law.ensures c.before.before.before.before.before.before.before.before.before.before.requires.1
 
 settle-requires : tie.Need-settle-requires invariant-loop decreases-loop
 settle-requires c κs = ((c.before.before.before.before.before.before.before.before.before.before.before.before.requires.0.0, c.before.loop.invariant.placed), c.before.before.before.before.before.before.before.before.before.before.before.before.requires.0.1)
@@ -53,8 +53,8 @@ returns c =
     let at-loop = at-settle.before.before in
     let at-first-state = at-loop.before in
     let at-empty = at-first-state.before in
-    first-as _ _ _ _ _ _ _ _ _ _ _ _ _ _ _ _ at-empty.empty.ensures at-first-state.first-state.ensures
-    (run-finished _ _ _ _ _ _ _ _ _ _ _ _ _ _ _ (arrives _ _ _ _ _ _ _ _ _ _ _ _ _ _ _ _ _ at-loop.loop.invariant at-settle.settle.ensures.0 at-settle.settle.ensures.1 at-settle.settle.auto.1.1.1.1.1.0) _ at-if1.if1.true c.ended.ensures)
+    first_as _ _ _ _ _ _ _ _ _ _ _ _ _ _ _ _ at-empty.empty.ensures at-first-state.first_state_law.ensures
+    (run_finished _ _ _ _ _ _ _ _ _ _ _ _ _ _ _ (arrives _ _ _ _ _ _ _ _ _ _ _ _ _ _ _ _ _ at-loop.loop.invariant at-settle.settle.ensures.0 at-settle.settle.ensures.1 at-settle.settle.auto.1.1.1.1.1.0) _ at-if1.if1.true c.ended.ensures)
 
 sub-ended-2 : tie.Need-overflow-sub-ended-2 invariant-loop decreases-loop
 sub-ended-2 c = omega (arith, c.before.before.before.before.before.before.loop.invariant.most)
@@ -79,8 +79,8 @@ returns-2 c =
     let at-loop = at-settle.before.before in
     let at-first-state = at-loop.before in
     let at-empty = at-first-state.before in
-    first-as _ _ _ _ _ _ _ _ _ _ _ _ _ _ _ _ at-empty.empty.ensures at-first-state.first-state.ensures
-    (run-spent _ _ _ _ _ _ _ _ _ _ _ _ _ _ _ (arrives _ _ _ _ _ _ _ _ _ _ _ _ _ _ _ _ _ at-loop.loop.invariant at-settle.settle.ensures.0 at-settle.settle.ensures.1 at-settle.settle.auto.1.1.1.1.1.0) _ at-if1.if1.false at-if2.if2.true c.ended2.ensures)
+    first_as _ _ _ _ _ _ _ _ _ _ _ _ _ _ _ _ at-empty.empty.ensures at-first-state.first_state_law.ensures
+    (run_spent _ _ _ _ _ _ _ _ _ _ _ _ _ _ _ (arrives _ _ _ _ _ _ _ _ _ _ _ _ _ _ _ _ _ at-loop.loop.invariant at-settle.settle.ensures.0 at-settle.settle.ensures.1 at-settle.settle.auto.1.1.1.1.1.0) _ at-if1.if1.false at-if2.if2.true c.ended2.ensures)
 
 sub-left : tie.Need-overflow-sub-left invariant-loop decreases-loop
 sub-left c = omega (arith, c.before.if2.false)
@@ -95,12 +95,12 @@ loop-again c =
     let at-settle = at-if1.before.before.before in
     let at-loop = at-settle.before.before in
     let start = at-loop.before.before.before.before.before.before.before.before.before.before.before in
-    past-on _ _ _ _ _ _ _ _ _ _ _ _ _ _ _
+    past_on _ _ _ _ _ _ _ _ _ _ _ _ _ _ _
     (arrives _ _ _ _ _ _ _ _ _ _ _ _ _ _ _ _ _ at-loop.loop.invariant at-settle.settle.ensures.0 at-settle.settle.ensures.1 at-settle.settle.auto.1.1.1.1.1.0)
-    start.requires.0.0 at-if1.if1.false (omega (arith, at-if2.if2.false)) (past-length start.requires.0.0 _ c.if3.true)
+    start.requires.0.0 at-if1.if1.false (omega (arith, at-if2.if2.false)) (past_length start.requires.0.0 _ c.if3.true)
 
 word-in-requires : tie.Need-word-in-requires invariant-loop decreases-loop
-word-in-requires c κs = let w = whole c.before.before.before.before.before.before.before.before.before.before.before.before.before.before.before.before.before.before.requires.0.0 _ (in-length c.before.before.before.before.before.before.before.before.before.before.before.before.before.before.before.before.before.before.requires.0.0 _ c.if3.false) in search rules
+word-in-requires c κs = let w = whole c.before.before.before.before.before.before.before.before.before.before.before.before.before.before.before.before.before.before.requires.0.0 _ (in_length c.before.before.before.before.before.before.before.before.before.before.before.before.before.before.before.before.before.before.requires.0.0 _ c.if3.false) in search rules
 
 change-heap-requires : tie.Need-change-heap-requires invariant-loop decreases-loop
 change-heap-requires c κs =
@@ -110,10 +110,10 @@ change-heap-requires c κs =
     let at-if3 = at-word-in.before in
     let at-settle = at-if3.before.before.before.before.before in
     let start = at-settle.before.before.before.before.before.before.before.before.before.before.before.before.before in
-    ((start.requires.0.0, start.requires.0.2), ((in-length start.requires.0.0 _ at-if3.if3.false, at-settle.settle.ensures.1), changed _ _ _ at-word-in.word_in.ensures.0 at-changes-heap.changes-heap.ensures at-if4.if4.true))
+    ((start.requires.0.0, start.requires.0.2), ((in_length start.requires.0.0 _ at-if3.if3.false, at-settle.settle.ensures.1), changed _ _ _ at-word-in.word_in.ensures.0 at-changes-heap.changes-heap.ensures at-if4.if4.true))
 
 successor-requires : tie.Need-successor-requires invariant-loop decreases-loop
-successor-requires c κs = let w = whole c.before.before.before.before.before.before.before.before.before.before.before.before.before.before.before.before.before.before.before.before.before.before.before.before.before.before.before.before.before.before.before.before.before.before.requires.0.0 _ (in-length c.before.before.before.before.before.before.before.before.before.before.before.before.before.before.before.before.before.before.before.before.before.before.before.before.before.before.before.before.before.before.before.before.before.before.requires.0.0 _ c.before.before.before.before.before.before.before.before.before.before.before.before.before.before.before.before.if3.false) in search rules
+successor-requires c κs = let w = whole c.before.before.before.before.before.before.before.before.before.before.before.before.before.before.before.before.before.before.before.before.before.before.before.before.before.before.before.before.before.before.before.before.before.before.requires.0.0 _ (in_length c.before.before.before.before.before.before.before.before.before.before.before.before.before.before.before.before.before.before.before.before.before.before.before.before.before.before.before.before.before.before.before.before.before.before.requires.0.0 _ c.before.before.before.before.before.before.before.before.before.before.before.before.before.before.before.before.if3.false) in search rules
 
 sub-left-2 : tie.Need-overflow-sub-left-2 invariant-loop decreases-loop
 sub-left-2 c = omega (arith, c.before.before.before.before.before.before.before.before.before.before.before.before.before.before.before.before.before.before.before.if2.false)
@@ -130,10 +130,10 @@ loop-again-2 c =
     let at-if1 = at-if2.before in
     let at-settle = at-if1.before.before.before in
     let at-loop = at-settle.before.before in
-    changed-on _ _ _ _ _ _ _ _ _ _ _ _ _ _ _
+    changed_on _ _ _ _ _ _ _ _ _ _ _ _ _ _ _
     (arrives _ _ _ _ _ _ _ _ _ _ _ _ _ _ _ _ _ at-loop.loop.invariant at-settle.settle.ensures.0 at-settle.settle.ensures.1 at-settle.settle.auto.1.1.1.1.1.0)
     _ _ _ _ _ _ _ at-if1.if1.false (omega (arith, at-if2.if2.false)) (at-change-heap.change-heap.ensures _ _) at-stepped.stepped.given.1
-    (successor-as _ _ _ _ _ at-successor.successor.ensures) c.onward.ensures at-change-heap.change-heap.auto.1.1.1.1.0
+    (successor_as _ _ _ _ _ at-successor.successor.ensures) c.onward.ensures at-change-heap.change-heap.auto.1.1.1.1.0
     at-change-heap.change-heap.auto.1.1.1.1.1.0 at-change-heap.change-heap.auto.1.1.1.1.1.1.0
 
 sub-ended-3 : tie.Need-overflow-sub-ended-3 invariant-loop decreases-loop
@@ -165,8 +165,8 @@ returns-3 c =
     let at-loop = at-settle.before.before in
     let at-first-state = at-loop.before in
     let at-empty = at-first-state.before in
-    first-as _ _ _ _ _ _ _ _ _ _ _ _ _ _ _ _ at-empty.empty.ensures at-first-state.first-state.ensures
-    (change-stopped _ _ _ _ _ _ _ _ _ _ _ _ _ _ _ (arrives _ _ _ _ _ _ _ _ _ _ _ _ _ _ _ _ _ at-loop.loop.invariant at-settle.settle.ensures.0 at-settle.settle.ensures.1 at-settle.settle.auto.1.1.1.1.1.0) _ _ _ _ _ _ at-if1.if1.false (omega (arith, at-if2.if2.false)) (at-change-heap.change-heap.ensures _ _) at-stepped2.stepped2.given.1 c.ended3.ensures)
+    first_as _ _ _ _ _ _ _ _ _ _ _ _ _ _ _ _ at-empty.empty.ensures at-first-state.first_state_law.ensures
+    (change_stopped _ _ _ _ _ _ _ _ _ _ _ _ _ _ _ (arrives _ _ _ _ _ _ _ _ _ _ _ _ _ _ _ _ _ at-loop.loop.invariant at-settle.settle.ensures.0 at-settle.settle.ensures.1 at-settle.settle.auto.1.1.1.1.1.0) _ _ _ _ _ _ at-if1.if1.false (omega (arith, at-if2.if2.false)) (at-change-heap.change-heap.ensures _ _) at-stepped2.stepped2.given.1 c.ended3.ensures)
 
 go-requires : tie.Need-go-requires invariant-loop decreases-loop
 go-requires c κs =
@@ -176,7 +176,7 @@ go-requires c κs =
     let at-if3 = at-word-in.before in
     let at-settle = at-if3.before.before.before.before.before in
     let start = at-settle.before.before.before.before.before.before.before.before.before.before.before.before.before in
-    ((start.requires.0.0, start.requires.0.2), (start.requires.0.1, ((in-length start.requires.0.0 _ at-if3.if3.false, at-settle.settle.ensures.1), unchanged _ _ _ at-word-in.word_in.ensures.0 at-changes-heap.changes-heap.ensures at-if4.if4.false)))
+    ((start.requires.0.0, start.requires.0.2), (start.requires.0.1, ((in_length start.requires.0.0 _ at-if3.if3.false, at-settle.settle.ensures.1), unchanged _ _ _ at-word-in.word_in.ensures.0 at-changes-heap.changes-heap.ensures at-if4.if4.false)))
 
 sub-left-3 : tie.Need-overflow-sub-left-3 invariant-loop decreases-loop
 sub-left-3 c = omega (arith, c.before.before.before.before.before.before.before.before.before.before.before.before.before.before.before.if2.false)
@@ -192,9 +192,9 @@ loop-again-3 c =
     let at-if1 = at-if2.before in
     let at-settle = at-if1.before.before.before in
     let at-loop = at-settle.before.before in
-    went_on _ _ _ _ _ _ _ _ _ _ _ _ _ _ _
+    went_on_law _ _ _ _ _ _ _ _ _ _ _ _ _ _ _
     (arrives _ _ _ _ _ _ _ _ _ _ _ _ _ _ _ _ _ at-loop.loop.invariant at-settle.settle.ensures.0 at-settle.settle.ensures.1 at-settle.settle.auto.1.1.1.1.1.0)
-    _ _ _ _ at-if1.if1.false (omega (arith, at-if2.if2.false)) (at-go.go.ensures.goes (λ z. went-tries _ (sym at-went.went.given.1 ∙ z))) at-went.went.given.1
+    _ _ _ _ at-if1.if1.false (omega (arith, at-if2.if2.false)) (at-go.go.ensures.goes (λ z. went_tries _ (sym at-went.went.given.1 ∙ z))) at-went.went.given.1
     at-go.go.auto.1.1.1.1.1.1.0 at-go.go.auto.1.1.1.1.1.1.1.0
 
 sub-ended-4 : tie.Need-overflow-sub-ended-4 invariant-loop decreases-loop
@@ -226,8 +226,8 @@ returns-4 c =
     let at-loop = at-settle.before.before in
     let at-first-state = at-loop.before in
     let at-empty = at-first-state.before in
-    first-as _ _ _ _ _ _ _ _ _ _ _ _ _ _ _ _ at-empty.empty.ensures at-first-state.first-state.ensures
-    (went-stopped _ _ _ _ _ _ _ _ _ _ _ _ _ _ _ (arrives _ _ _ _ _ _ _ _ _ _ _ _ _ _ _ _ _ at-loop.loop.invariant at-settle.settle.ensures.0 at-settle.settle.ensures.1 at-settle.settle.auto.1.1.1.1.1.0) _ _ _ _ _ at-if1.if1.false (omega (arith, at-if2.if2.false)) (at-go.go.ensures.goes (λ z. stops-tries _ (sym at-went2.went2.given.1 ∙ z))) at-went2.went2.given.1 c.ended4.ensures)
+    first_as _ _ _ _ _ _ _ _ _ _ _ _ _ _ _ _ at-empty.empty.ensures at-first-state.first_state_law.ensures
+    (went_stopped _ _ _ _ _ _ _ _ _ _ _ _ _ _ _ (arrives _ _ _ _ _ _ _ _ _ _ _ _ _ _ _ _ _ at-loop.loop.invariant at-settle.settle.ensures.0 at-settle.settle.ensures.1 at-settle.settle.auto.1.1.1.1.1.0) _ _ _ _ _ at-if1.if1.false (omega (arith, at-if2.if2.false)) (at-go.go.ensures.goes (λ z. stops_tries _ (sym at-went2.went2.given.1 ∙ z))) at-went2.went2.given.1 c.ended4.ensures)
 
 run-try-requires : tie.Need-run-try-requires invariant-loop decreases-loop
 run-try-requires c κs =
@@ -242,7 +242,7 @@ run-try-requires c κs =
     let t = at-go.go.ensures.tries at_told.enum_told.given.1 in (
       (start.requires.0.0, start.requires.0.2, omega arith, omega (arith, at-if2.if2.false)),
       rw at-start.onward2.ensures
-          (in-length start.requires.0.0 _ at-if3.if3.false, at-if1.if1.false, t.0, onward-placed _ (placed-as at-go.go.auto.1.1.1.1.1.1.0 at-settle.settle.ensures.1)),
+          (in_length start.requires.0.0 _ at-if3.if3.false, at-if1.if1.false, t.0, onward_placed _ (placed_as at-go.go.auto.1.1.1.1.1.1.0 at-settle.settle.ensures.1)),
     )
 
 run-try-requires-2 : tie.Need-run-try-requires-2 invariant-loop decreases-loop
@@ -258,7 +258,7 @@ run-try-requires-2 c κs =
     let t = at-go.go.ensures.tries at_told.enum_told.given.1 in (
       (start.requires.0.0, start.requires.0.2, omega arith, omega (arith, at-if2.if2.false)),
       rw at-start.onward2.ensures
-          (in-length start.requires.0.0 _ at-if3.if3.false, at-if1.if1.false, t.0, onward-placed _ (placed-as at-go.go.auto.1.1.1.1.1.1.0 at-settle.settle.ensures.1)),
+          (in_length start.requires.0.0 _ at-if3.if3.false, at-if1.if1.false, t.0, onward_placed _ (placed_as at-go.go.auto.1.1.1.1.1.1.0 at-settle.settle.ensures.1)),
     )
 
 loop-less-4 : tie.Need-loop-smaller-4 invariant-loop decreases-loop
@@ -285,10 +285,10 @@ loop-again-4 c =
     let here = told _ _ _ _ _ _ _ _ _ _ _ _ _ _ _ (arrives _ _ _ _ _ _ _ _ _ _ _ _ _ _ _ _ _ at-loop.loop.invariant at-settle.settle.ensures.0 at-settle.settle.ensures.1 at-settle.settle.auto.1.1.1.1.1.0) _ _ e.1 e.2 in
     elim at_join.if5.branch [
       | inl t ↦ rw (t.13, t.14, t.15)
-          (tried-on _ _ _ _ _ _ _ _ _ _ _ _ _ _ _ here _ _ _ _ _ _ _ _ _ (tried-apart _ _ _ _ _ _ _ _ _ _ _ _ _ _ at-start.onward2.ensures (at_old.limited.ensures refl refl) (t.6.ensures _ _)) (sym t.18 ∙ at_tried.tried.given.1)
+          (tried_on _ _ _ _ _ _ _ _ _ _ _ _ _ _ _ here _ _ _ _ _ _ _ _ _ (tried_apart _ _ _ _ _ _ _ _ _ _ _ _ _ _ at-start.onward2.ensures (at_old.limited.ensures refl refl) (t.6.ensures _ _)) (sym t.18 ∙ at_tried.tried.given.1)
           c.onward3.ensures at-limited.limited2.ensures t.6.kept.1.1.1.1.0 t.6.kept.1.1.1.1.1.0 t.6.kept.1.1.1.1.1.1.0)
       | inr t ↦ rw (t.13, t.14, t.15)
-          (tried-on _ _ _ _ _ _ _ _ _ _ _ _ _ _ _ here _ _ _ _ _ _ _ _ _ (tried-apart _ _ _ _ _ _ _ _ _ _ _ _ _ _ at-start.onward2.ensures (at_old.limited.ensures refl refl) (t.6.ensures _ _)) (sym t.18 ∙ at_tried.tried.given.1)
+          (tried_on _ _ _ _ _ _ _ _ _ _ _ _ _ _ _ here _ _ _ _ _ _ _ _ _ (tried_apart _ _ _ _ _ _ _ _ _ _ _ _ _ _ at-start.onward2.ensures (at_old.limited.ensures refl refl) (t.6.ensures _ _)) (sym t.18 ∙ at_tried.tried.given.1)
           c.onward3.ensures at-limited.limited2.ensures t.6.kept.1.1.1.1.0 t.6.kept.1.1.1.1.1.0 t.6.kept.1.1.1.1.1.1.0)
     ]
 
@@ -378,16 +378,16 @@ returns-5 c =
     let at-empty = at-first-state.before in
     let e = at-go.go.ensures.tries at_told.enum_told.given.1 in
     let here = told _ _ _ _ _ _ _ _ _ _ _ _ _ _ _ (arrives _ _ _ _ _ _ _ _ _ _ _ _ _ _ _ _ _ at-loop.loop.invariant at-settle.settle.ensures.0 at-settle.settle.ensures.1 at-settle.settle.auto.1.1.1.1.1.0) _ _ e.1 e.2 in
-    first-as _ _ _ _ _ _ _ _ _ _ _ _ _ _ _ _ at-empty.empty.ensures at-first-state.first-state.ensures
+    first_as _ _ _ _ _ _ _ _ _ _ _ _ _ _ _ _ at-empty.empty.ensures at-first-state.first_state_law.ensures
     (elim at_join.if5.branch [
       | inl t ↦ rw (t.13, t.14, t.15)
-          (tried-stopped _ _ _ _ _ _ _ _ _ _ _ _ _ _ _ here _ _ _ _ _ _ _ (tried-apart _ _ _ _ _ _ _ _ _ _ _ _ _ _ at-start.onward2.ensures (at_old.limited.ensures refl refl) (t.6.ensures _ _)) (sym t.18 ∙ at_tried.tried2.given.1) c.ended5.ensures)
+          (tried_stopped _ _ _ _ _ _ _ _ _ _ _ _ _ _ _ here _ _ _ _ _ _ _ (tried_apart _ _ _ _ _ _ _ _ _ _ _ _ _ _ at-start.onward2.ensures (at_old.limited.ensures refl refl) (t.6.ensures _ _)) (sym t.18 ∙ at_tried.tried2.given.1) c.ended5.ensures)
       | inr t ↦ rw (t.13, t.14, t.15)
-          (tried-stopped _ _ _ _ _ _ _ _ _ _ _ _ _ _ _ here _ _ _ _ _ _ _ (tried-apart _ _ _ _ _ _ _ _ _ _ _ _ _ _ at-start.onward2.ensures (at_old.limited.ensures refl refl) (t.6.ensures _ _)) (sym t.18 ∙ at_tried.tried2.given.1) c.ended5.ensures)
+          (tried_stopped _ _ _ _ _ _ _ _ _ _ _ _ _ _ _ here _ _ _ _ _ _ _ (tried_apart _ _ _ _ _ _ _ _ _ _ _ _ _ _ at-start.onward2.ensures (at_old.limited.ensures refl refl) (t.6.ensures _ _)) (sym t.18 ∙ at_tried.tried2.given.1) c.ended5.ensures)
     ])
 
-pub run-on-spec : {M : Type 1} → statement M
-run-on-spec =
+pub run_on_spec : {M : Type 1} → statement M
+run_on_spec =
     tie.close
     (tie.spec invariant-loop decreases-loop (search rules) (search rules) loop-holds settle-requires sub-ended (search rules) same_length same-length-2
     same-length-3 same-length-4 returns sub-ended-2 (search rules) same-length-5 same-length-6 same-length-7 same-length-8 returns-2 sub-left

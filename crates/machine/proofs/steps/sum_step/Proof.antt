@@ -4,10 +4,10 @@ use borrow.Author.Tests.{not-true, not-false}
 use mir.Facts.{to_z-of_z}
 use Rattle.language.specs.Numbers.{residue}
 use Rattle.frames.specs.Strays.{whole}
-use Rattle.machine.specs.Calls.{successor-as}
-use Rattle.machine.proofs.GoalsLaws.{gives, range-as}
+use Rattle.machine.specs.Calls.{successor_as}
+use Rattle.machine.proofs.GoalsLaws.{gives, range_as}
 use Rattle.machine.proofs.Numbers.{sum_low}
-use Rattle.machine.proofs.StepsLaws.{goes_same, sum_goes, sum-stops}
+use Rattle.machine.proofs.StepsLaws.{goes_same, sum_goes, sum_stops}
 use borrow.Author.Rules.{rules}
 use Rattle.machine.proofs.steps.sum_step.Statement.{statement}
 use Rattle.machine.proofs.steps.sum_step.Tie as tie
@@ -16,7 +16,7 @@ sum-requires : tie.Need-sum-requires
 sum-requires c κs = let p = c.before.before.before.requires in let l = sum_low p.0.1 _ refl p.1.1 in (((whole p.0.0 _ p.1.0).1, p.1.2.fits), (l.1, l.2))
 
 returns : tie.Need-returns
-returns c = λ images callees m ps. sum-stops _ _ _ _ _ _ c.before.before.before.before.before.before.requires.1.2 _ refl _ c.before.before.before.before.before.before.requires.1.1 c.before.before.sum.ensures (sym (range-as _ _ (search rules) c.before.in-range.ensures) ∙ not-true _ c.if1.true)
+returns c = λ images callees m ps. sum_stops _ _ _ _ _ _ c.before.before.before.before.before.before.requires.1.2 _ refl _ c.before.before.before.before.before.before.requires.1.1 c.before.before.sum.ensures (sym (range_as _ _ (search rules) c.before.in-range.ensures) ∙ not-true _ c.if1.true)
 
 word-in-requires : tie.Need-word-in-requires
 word-in-requires c κs = let p = c.before.before.before.before.before.before.before.requires in (omega arith, (whole p.0.0 _ p.1.0).1)
@@ -33,11 +33,11 @@ successor-requires c κs = let p = c.before.before.before.before.before.before.b
 returns-2 : tie.Need-returns-2
 returns-2 c =
     λ images callees m ps. goes_same _ _ _ _ _ _ _ _ _ _ c.onward.ensures
-    (sum_goes _ _ _ _ _ _ c.before.before.before.before.before.before.before.before.before.before.before.before.before.before.requires.1.2 _ _ refl (successor-as _ _ _ _ _ c.before.successor.ensures) _ _ c.before.before.before.before.before.before.before.before.before.before.before.before.before.before.requires.1.1 c.before.before.before.before.before.before.before.before.before.before.sum.ensures (sym (range-as _ _ (search rules) c.before.before.before.before.before.before.before.before.before.in-range.ensures) ∙ not-false _ c.before.before.before.before.before.before.before.before.if1.false)
+    (sum_goes _ _ _ _ _ _ c.before.before.before.before.before.before.before.before.before.before.before.before.before.before.requires.1.2 _ _ refl (successor_as _ _ _ _ _ c.before.successor.ensures) _ _ c.before.before.before.before.before.before.before.before.before.before.before.before.before.before.requires.1.1 c.before.before.before.before.before.before.before.before.before.before.sum.ensures (sym (range_as _ _ (search rules) c.before.before.before.before.before.before.before.before.before.in-range.ensures) ∙ not-false _ c.before.before.before.before.before.before.before.before.if1.false)
     (gives c.before.before.before.before.before.before.before.before.before.before.before.before.before.before.args.state.at _ _ _ _ c.before.before.before.before.before.before.before.before.before.before.before.before.before.before.args.frames.now _ c.before.before.before.before.give.ensures c.before.before.before.before.before.before.word_in.ensures.0 (c.before.before.before.before.before.word_of.ensures ∙ ap residue (to_z-of_z (search rules)))))
 
-pub sum-step-spec : {M : Type 1} → statement M
-sum-step-spec =
+pub sum_step_spec : {M : Type 1} → statement M
+sum_step_spec =
     tie.close
     (tie.spec sum-requires (search rules) (search rules) returns word-in-requires word-of-requires give-requires successor-requires (search rules)
     (search rules) returns-2)

@@ -5,5 +5,5 @@ use Rattle.machine.proofs.tries.limited.Tie as tie
 returns : tie.Need-returns
 returns c = λ e d. rw (← e, ← d) refl
 
-pub limited-spec : {M : Type 1} → statement M
-limited-spec = tie.close (tie.spec returns)
+pub limited_spec : {M : Type 1} → statement M
+limited_spec = tie.close (tie.spec returns)

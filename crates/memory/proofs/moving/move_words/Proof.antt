@@ -3,7 +3,7 @@ use Prim.Native.Nat.{◌≤◌}
 use native.Mathlib.Omega.{arith}
 use mathlib.Core.Path.{◌≡◌, refl}
 use lib.ListN.{length, length-set}
-use Rattle.memory.specs.Moved.{moved, moved-next, moved_none}
+use Rattle.memory.specs.Moved.{moved, moved_next, moved_none}
 use borrow.Author.Rules.{rules}
 use Rattle.memory.proofs.moving.move_words.Statement.{statement}
 use Rattle.memory.proofs.moving.move_words.Tie as tie
@@ -43,7 +43,7 @@ loop-less c = omega arith
 
 loop-again : tie.Need-loop-preserved invariant-loop decreases-loop
 loop-again c = (
-  moved-next _ _ _ _ _ _ _ c.before.loop-test.true c.before.before.loop.invariant.0 refl,
+  moved_next _ _ _ _ _ _ _ c.before.loop-test.true c.before.before.loop.invariant.0 refl,
   simp length-set c.before.before.loop.invariant.1,
   omega (arith, c.before.before.loop.invariant.2),
 )
@@ -54,8 +54,8 @@ same_length c = search rules
 returns : tie.Need-returns invariant-loop decreases-loop
 returns c = moved_none _ _ _ _ _ _ (omega arith) c.before.loop.invariant.0
 
-pub move-words-spec : {M : Type 1} → statement M
-move-words-spec =
+pub move_words_spec : {M : Type 1} → statement M
+move_words_spec =
     tie.close
     (tie.spec
     invariant-loop

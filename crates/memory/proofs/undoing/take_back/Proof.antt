@@ -1,4 +1,4 @@
-use Rattle.memory.specs.Log.{unbuild-only, unbuild-more}
+use Rattle.memory.specs.Log.{unbuild_only, unbuild_more}
 use borrow.Author.Rules.{rules}
 use Rattle.memory.proofs.undoing.take_back.Statement.{statement}
 use Rattle.memory.proofs.undoing.take_back.Tie as tie
@@ -46,7 +46,7 @@ same-length-2 : tie.Need-same-length-2
 same-length-2 c = search rules
 
 returns : tie.Need-returns
-returns c = unbuild-only _ _ _ _ _ _ _ c.before.before.before.before.before.before.before.before.before.before.before.before.before.before.before.before.before.word.ensures c.before.before.before.before.before.before.before.before.before.before.before.before.before.before.before.word2.ensures c.before.before.before.before.before.before.before.before.before.before.before.before.before.word3.ensures _ c.before.before.before.before.before.before.before.before.before.before.before.put.ensures _ c.before.before.before.before.before.before.before.put2.ensures c.before.before.before.before.if1.true _ c.before.before.put3.ensures
+returns c = unbuild_only _ _ _ _ _ _ _ c.before.before.before.before.before.before.before.before.before.before.before.before.before.before.before.before.before.word.ensures c.before.before.before.before.before.before.before.before.before.before.before.before.before.before.before.word2.ensures c.before.before.before.before.before.before.before.before.before.before.before.before.before.word3.ensures _ c.before.before.before.before.before.before.before.before.before.before.before.put.ensures _ c.before.before.before.before.before.before.before.put2.ensures c.before.before.before.before.if1.true _ c.before.before.put3.ensures
 
 same-length-3 : tie.Need-same-length-3
 same-length-3 c = search rules
@@ -55,10 +55,10 @@ same-length-4 : tie.Need-same-length-4
 same-length-4 c = search rules
 
 returns-2 : tie.Need-returns-2
-returns-2 c = unbuild-more _ _ _ _ _ _ _ c.before.before.before.before.before.before.before.before.before.before.before.before.before.word.ensures c.before.before.before.before.before.before.before.before.before.before.before.word2.ensures c.before.before.before.before.before.before.before.before.before.word3.ensures _ c.before.before.before.before.before.before.before.put.ensures _ c.before.before.before.put2.ensures c.if1.false
+returns-2 c = unbuild_more _ _ _ _ _ _ _ c.before.before.before.before.before.before.before.before.before.before.before.before.before.word.ensures c.before.before.before.before.before.before.before.before.before.before.before.word2.ensures c.before.before.before.before.before.before.before.before.before.word3.ensures _ c.before.before.before.before.before.before.before.put.ensures _ c.before.before.before.put2.ensures c.if1.false
 
-pub take-back-spec : {M : Type 1} → statement M
-take-back-spec =
+pub take_back_spec : {M : Type 1} → statement M
+take_back_spec =
     tie.close
     (tie.spec
     mul_at

@@ -7,5 +7,5 @@ use Rattle.memory.proofs.words.word.Tie as tie
 returns-2 : tie.Need-returns-2
 returns-2 c = sym (get_or-eq_default c.before.args.mem.now 0 c.if1.false)
 
-pub word-spec : {M : Type 1} → statement M
-word-spec = tie.close (tie.spec (search rules) (search rules) (search rules) returns-2)
+pub word_spec : {M : Type 1} → statement M
+word_spec = tie.close (tie.spec (search rules) (search rules) (search rules) returns-2)

@@ -4,15 +4,15 @@ use mathlib.Core.Path.{◌≡◌, refl, ◌∙◌}
 use native.Mathlib.Omega.{arith}
 use lib.ListN.{length, length-set}
 use Rattle.chains.specs.Formed.{counted}
-use Rattle.owners.specs.Handed.{handedUpTo}
-use Rattle.owners.specs.Owner.{ownerBy}
+use Rattle.owners.specs.Handed.{handed_up_to}
+use Rattle.owners.specs.Owner.{owner_by}
 use Rattle.owners.proofs.Filling.{fits_more, next, last}
 use borrow.Author.Rules.{rules}
 use Rattle.owners.proofs.pass.list_owners.Statement.{statement}
 use Rattle.owners.proofs.pass.list_owners.Tie as tie
 
 abbrev invariant-loop : tie.invariant-loop
-invariant-loop file owners₀ n parts i₀ owners i = (owners ≡ handedUpTo ownerBy file i owners₀) × (i ≤ n) × (length owners ≡ length owners₀)
+invariant-loop file owners₀ n parts i₀ owners i = (owners ≡ handed_up_to owner_by file i owners₀) × (i ≤ n) × (length owners ≡ length owners₀)
 
 abbrev decreases-loop : tie.decreases-loop
 decreases-loop file owners₀ n parts i₀ owners i = n - i
@@ -21,7 +21,7 @@ clear-requires : tie.Need-clear-requires invariant-loop decreases-loop
 clear-requires c κs = omega (arith, c.before.record-count.ensures, c.before.before.before.before.requires.1)
 
 loop-holds : tie.Need-loop-init invariant-loop decreases-loop
-unfolding handedUpTo
+unfolding handed_up_to
 loop-holds c = (refl, omega arith, refl)
 
 hand-down-requires : tie.Need-hand-down-requires invariant-loop decreases-loop
@@ -55,8 +55,8 @@ returns c =
     let l = c.before.loop in
     last c.before.before.before.before.before.before.before.before.before.before.requires.0 c.before.before.before.before.before.before.before.before.before.before.args.owners.now c.before.before.before.before.before.before.before.record-count.ensures c.before.before.before.before.before.clear.ensures l.i l.invariant.0 l.invariant.1 c.loop-test.false
 
-pub list-owners-spec : {M : Type 1} → statement M
-list-owners-spec =
+pub list_owners_spec : {M : Type 1} → statement M
+list_owners_spec =
     tie.close
     (tie.spec invariant-loop decreases-loop (λ c κs. search rules) clear-requires (λ c κs. search rules) loop-holds hand-down-requires (search rules) (search rules) loop-again
     slice-write-owners same_length returns)

@@ -3,7 +3,7 @@ use native.Mathlib.Omega.{arith}
 use borrow.Author.Rules.{rules}
 use Rattle.chains.specs.Formed.{ahead, counted}
 use Rattle.chains.specs.Is.{chain_next}
-use Rattle.plans.specs.Arguments.{Walked, walk_first, walk_ends, walk-stops, walk-skips, walk-matches}
+use Rattle.plans.specs.Arguments.{Walked, walk_first, walk_ends, walk_stops, walk_skips, walk_matches}
 use Rattle.plans.proofs.arguments.match_call.Statement.{statement}
 use Rattle.plans.proofs.arguments.match_call.Tie as tie
 
@@ -25,7 +25,7 @@ add-k c =
     omega (arith, W.number c.before.before.loop-test.true, W.variable.below, (counted p.0).most)
 
 returns : tie.Need-returns invariant-loop decreases-loop
-returns c = walk-stops c.before.before.before.before.before.loop.invariant c.if2.true c.before.before.before.before.before.before.word_at.ensures
+returns c = walk_stops c.before.before.before.before.before.loop.invariant c.if2.true c.before.before.before.before.before.before.word_at.ensures
 
 put-match-requires : tie.Need-put-match-requires invariant-loop decreases-loop
 put-match-requires c κs =
@@ -44,7 +44,7 @@ loop-again c =
     let l = c.before.before.before.before.before.before.before.before in
     let p = l.before.before.before.before.requires in
     let w = c.before.before.before.before.before in
-    walk-matches l.loop.invariant p.0 w.before.before.loop-test.true w.before.word.ensures.0 w.word2.ensures.0 c.before.before.before.before.if1.true c.before.before.before.if2.false c.word3.ensures.0 c.before.put-match.ensures
+    walk_matches l.loop.invariant p.0 w.before.before.loop-test.true w.before.word.ensures.0 w.word2.ensures.0 c.before.before.before.before.if1.true c.before.before.before.if2.false c.word3.ensures.0 c.before.put-match.ensures
 
 loop-less-2 : tie.Need-loop-smaller-2 invariant-loop decreases-loop
 loop-less-2 c =
@@ -56,13 +56,13 @@ loop-again-2 : tie.Need-loop-preserved-2 invariant-loop decreases-loop
 loop-again-2 c =
     let l = c.before.before.before.before in
     let p = l.before.before.before.before.requires in
-    walk-skips l.loop.invariant p.0 c.before.before.before.loop-test.true c.before.before.word.ensures.0 c.before.word2.ensures.0 c.if1.false
+    walk_skips l.loop.invariant p.0 c.before.before.before.loop-test.true c.before.before.word.ensures.0 c.before.word2.ensures.0 c.if1.false
 
 returns-2 : tie.Need-returns-2 invariant-loop decreases-loop
 returns-2 c = walk_ends c.before.loop.invariant c.loop-test.false c.before.before.word_at.ensures
 
-pub match-call-spec : {M : Type 1} → statement M
-match-call-spec =
+pub match_call_spec : {M : Type 1} → statement M
+match_call_spec =
     tie.close
     (tie.spec invariant-loop decreases-loop (search rules) loop-holds (search rules) (search rules) add-k returns put-match-requires (search rules) loop-less
     loop-again loop-less-2 loop-again-2 returns-2)

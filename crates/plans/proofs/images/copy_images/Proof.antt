@@ -5,7 +5,7 @@ use mathlib.Core.Path.{◌≡◌}
 use borrow.Author.Rules.{rules}
 use lib.ListN.{get_or}
 use Rattle.plans.specs.Passes.{copied}
-use Rattle.plans.specs.Turns.{copied_more, copied_none, copied-last}
+use Rattle.plans.specs.Turns.{copied_more, copied_none, copied_last}
 use Rattle.plans.proofs.images.copy_images.Statement.{statement}
 use Rattle.plans.proofs.images.copy_images.Tie as tie
 
@@ -34,9 +34,9 @@ loop-again : tie.Need-loop-preserved invariant-loop decreases-loop
 loop-again c = (omega arith, copied_more (λ q. get_or c.before.before.before.args.found.now q 0) _ _ _ c.before.before.loop.invariant.1)
 
 returns : tie.Need-returns invariant-loop decreases-loop
-returns c = copied-last _ _ _ _ _ c.before.loop.invariant.1 c.before.loop.invariant.0 (omega arith)
+returns c = copied_last _ _ _ _ _ c.before.loop.invariant.1 c.before.loop.invariant.0 (omega arith)
 
-pub copy-images-spec : {M : Type 1} → statement M
-copy-images-spec =
+pub copy_images_spec : {M : Type 1} → statement M
+copy_images_spec =
     tie.close
     (tie.spec invariant-loop decreases-loop loop-holds add_r (search rules) (search rules) cast-images add-images (search rules) loop-less loop-again returns)

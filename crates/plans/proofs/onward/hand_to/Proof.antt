@@ -2,23 +2,23 @@
 use mathlib.Core.Path.{◌≡◌, refl, ◌∙◌}
 use native.Mathlib.Omega.{arith}
 use lib.ListN.{length, length-set}
-use Rattle.language.specs.Format.{kindWord}
+use Rattle.language.specs.Format.{kind_word}
 use Rattle.language.specs.File.{kind_of, word}
-use Rattle.owners.specs.Handed.{partWords, nextAnd, handTo}
-use Rattle.owners.specs.Digits.{PartsLeft, record-room, next_place, parts_first, parts_next, parts_last, next-done}
+use Rattle.owners.specs.Handed.{part_words, next_and, hand_to}
+use Rattle.owners.specs.Digits.{PartsLeft, record_room, next_place, parts_first, parts_next, parts_last, next_done}
 use borrow.Author.Rules.{rules}
 use Rattle.plans.proofs.onward.hand_to.Statement.{statement}
 use Rattle.plans.proofs.onward.hand_to.Tie as tie
 
 abbrev invariant-loop : tie.invariant-loop
 invariant-loop file i words on x table₀ next left₀ table left =
-    PartsLeft file i on x left table (handTo (nextAnd on x) (word file i) (partWords (kind_of (word file i kindWord))) table₀) × (length table ≡ length table₀)
+    PartsLeft file i on x left table (hand_to (next_and on x) (word file i) (part_words (kind_of (word file i kind_word))) table₀) × (length table ≡ length table₀)
 
 abbrev decreases-loop : tie.decreases-loop
 decreases-loop file i words on x table₀ next left₀ table left = left
 
 word-in-requires : tie.Need-word-in-requires invariant-loop decreases-loop
-word-in-requires c κs = let H = c.before.before.requires in (omega arith, record-room H.formed _ H.below)
+word-in-requires c κs = let H = c.before.before.requires in (omega arith, record_room H.formed _ H.below)
 
 slice-write-table : tie.Need-slice-write-table invariant-loop decreases-loop
 slice-write-table c = omega (arith, next_place c.before.before.before.requires, c.word_in.ensures.0)
@@ -29,7 +29,7 @@ loop-holds c = (parts_first c.before.before.before.requires _ _ _, refl)
 word-in-requires-2 : tie.Need-word-in-requires-2 invariant-loop decreases-loop
 word-in-requires-2 c κs =
     let H = c.before.before.before.before.before.requires in
-    ((parts_next c.before.loop.invariant.0 c.loop-test.true).small, record-room H.formed _ H.below)
+    ((parts_next c.before.loop.invariant.0 c.loop-test.true).small, record_room H.formed _ H.below)
 
 slice-write-table-2 : tie.Need-slice-write-table-2 invariant-loop decreases-loop
 slice-write-table-2 c =
@@ -50,10 +50,10 @@ same_length c = c.before.loop.invariant.1 ∙ simp length-set refl
 returns : tie.Need-returns invariant-loop decreases-loop
 returns c =
     parts_last c.before.loop.invariant.0 c.loop-test.false
-    ∙ next-done _ _ _ _ c.before.before.before.before.before.args.table.now c.before.before.word_in.ensures.0
+    ∙ next_done _ _ _ _ c.before.before.before.before.before.args.table.now c.before.before.word_in.ensures.0
 
-pub hand-to-spec : {M : Type 1} → statement M
-hand-to-spec =
+pub hand_to_spec : {M : Type 1} → statement M
+hand_to_spec =
     tie.close
     (tie.spec invariant-loop decreases-loop word-in-requires (search rules) slice-write-table loop-holds word-in-requires-2 (search rules) slice-write-table-2 loop-less
     loop-again same_length returns)

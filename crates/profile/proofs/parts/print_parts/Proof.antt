@@ -3,23 +3,23 @@ use Prim.Native.Nat.{◌-◌}
 use native.Mathlib.Omega.{arith}
 use mathlib.Core.Path.{sym, ◌∙◌}
 use lib.Seq.{length-take-le}
-use Rattle.plans.specs.Plan.{tablesIn}
-use Rattle.running.specs.Lent.{stepsLent}
-use Rattle.profile.specs.Parts.{PartsGoing, going-first, going_on, advanced, last_fits}
+use Rattle.plans.specs.Plan.{tables_in}
+use Rattle.running.specs.Lent.{steps_lent}
+use Rattle.profile.specs.Parts.{PartsGoing, going_first, going_on_law, advanced, last_fits}
 use borrow.Author.Rules.{rules}
 use Rattle.profile.proofs.parts.print_parts.Statement.{statement}
 use Rattle.profile.proofs.parts.print_parts.Tie as tie
 
 abbrev invariant-loop : tie.invariant-loop
 invariant-loop file plan images callees cells₀ regions₀ frames₀ prints₀ log₀ own₀ out₀ point₀ cells regions frames prints log own out point =
-    PartsGoing file (tablesIn plan images callees) stepsLent cells₀ regions₀ frames₀ prints₀ out₀ cells regions frames prints log own out point
+    PartsGoing file (tables_in plan images callees) steps_lent cells₀ regions₀ frames₀ prints₀ out₀ cells regions frames prints log own out point
 
 abbrev decreases-loop : tie.decreases-loop
 decreases-loop file plan images callees cells₀ regions₀ frames₀ prints₀ log₀ own₀ out₀ point₀ cells regions frames prints log own out point =
-    stepsLent - point.done
+    steps_lent - point.done
 
 loop-holds : tie.Need-loop-init invariant-loop decreases-loop
-loop-holds c = going-first _ c.before.before.before.before.before.before.before.requires.1.1
+loop-holds c = going_first _ c.before.before.before.before.before.before.before.requires.1.1
 
 advance-requires : tie.Need-advance-requires invariant-loop decreases-loop
 advance-requires c κs = (c.before.before.before.before.before.before.before.before.before.before.before.before.before.before.before.requires.0, (omega (arith, c.before.before.before.before.before.before.before.before.before.before.before.before.before.before.before.requires.1.0, c.before.before.before.before.before.before.before.loop.invariant.size), c.before.before.before.before.before.before.before.loop.invariant.stands))
@@ -37,7 +37,7 @@ loop-less c =
 
 loop-again : tie.Need-loop-preserved invariant-loop decreases-loop
 loop-again c =
-    going_on c.before.before.before.before.before.before.before.before.before.before.before.before.before.before.before.before.before.before.before.before.before.before.before.loop.invariant c.before.before.before.before.before.before.before.before.before.before.before.before.before.before.before.advance.auto.1.1.1.1.1.0 c.before.before.before.before.before.before.before.before.before.before.before.before.before.before.before.advance.auto.1.1.1.1.1.1.0 c.before.before.before.before.before.before.before.before.before.before.before.before.before.before.before.advance.auto.1.1.1.1.1.1.1.0 c.before.before.before.before.before.before.before.before.before.before.before.before.before.before.before.advance.auto.1.1.1.1.1.1.1.1.0 c.before.before.before.before.before.before.before.before.before.before.before.before.before.before.before.advance.auto.1.1.1.1.1.1.1.1.1.1.1.1.0
+    going_on_law c.before.before.before.before.before.before.before.before.before.before.before.before.before.before.before.before.before.before.before.before.before.before.before.loop.invariant c.before.before.before.before.before.before.before.before.before.before.before.before.before.before.before.advance.auto.1.1.1.1.1.0 c.before.before.before.before.before.before.before.before.before.before.before.before.before.before.before.advance.auto.1.1.1.1.1.1.0 c.before.before.before.before.before.before.before.before.before.before.before.before.before.before.before.advance.auto.1.1.1.1.1.1.1.0 c.before.before.before.before.before.before.before.before.before.before.before.before.before.before.before.advance.auto.1.1.1.1.1.1.1.1.0 c.before.before.before.before.before.before.before.before.before.before.before.before.before.before.before.advance.auto.1.1.1.1.1.1.1.1.1.1.1.1.0
     (advanced c.before.before.before.before.before.before.before.before.before.before.before.before.before.before.before.advance.ensures c.before.before.before.part.given.1).stands
 
 slice-reshare-prefix-print-2 : tie.Need-slice-reshare-prefix-print-2 invariant-loop decreases-loop
@@ -65,8 +65,8 @@ same-length-4 c = c.before.before.before.before.before.before.before.before.befo
 same-length-5 : tie.Need-same-length-5 invariant-loop decreases-loop
 same-length-5 c = c.before.before.print-ending.auto.0 ∙ (c.before.before.before.before.before.before.before.before.before.before.before.before.before.before.before.before.before.before.before.advance.auto.1.1.1.1.1.1.1.1.1.1.1.1.0 ∙ c.before.before.before.before.before.before.before.before.before.before.before.before.before.before.before.before.before.before.before.before.before.before.before.before.before.before.before.loop.invariant.size)
 
-pub print-parts-spec : {M : Type 1} → statement M
-print-parts-spec =
+pub print_parts_spec : {M : Type 1} → statement M
+print_parts_spec =
     tie.close
     (tie.spec invariant-loop decreases-loop loop-holds advance-requires (search rules) slice-reshare-prefix-print slice-aggregate-print (search rules) loop-less
     loop-again (search rules) slice-reshare-prefix-print-2 slice-aggregate-print-2 (search rules) print-ending-requires same_length same-length-2

@@ -1,8 +1,8 @@
 use Prim.Native.Nat.{◌-◌}
 use native.Mathlib.Omega.{arith}
 use mathlib.Core.Path.{◌∙◌}
-use Rattle.plans.specs.Plan.{tablesIn}
-use Rattle.profiling.specs.Moving.{moved_on, moved-ended}
+use Rattle.plans.specs.Plan.{tables_in}
+use Rattle.profiling.specs.Moving.{moved_on, moved_ended}
 use Rattle.profiling.specs.Advancing.{Under, under_first, under_next, under_last, under_more}
 use borrow.Author.Rules.{rules}
 use Rattle.profiling.proofs.advancing.advance.Statement.{statement}
@@ -10,7 +10,7 @@ use Rattle.profiling.proofs.advancing.advance.Tie as tie
 
 abbrev invariant-loop : tie.invariant-loop
 invariant-loop file plan images callees cells₀ regions₀ frames₀ prints₀ log₀ own₀ steps out₀ here₀ at₀ cells regions frames prints log own out here at =
-    Under file (tablesIn plan images callees) steps cells₀ regions₀ frames₀ prints₀ here₀ out₀ cells regions frames prints log own out here at
+    Under file (tables_in plan images callees) steps cells₀ regions₀ frames₀ prints₀ here₀ out₀ cells regions frames prints log own out here at
 
 abbrev decreases-loop : tie.decreases-loop
 decreases-loop file plan images callees cells₀ regions₀ frames₀ prints₀ log₀ own₀ steps out₀ here₀ at₀ cells regions frames prints log own out here at = steps - here.done
@@ -51,7 +51,7 @@ same-length-5 : tie.Need-same-length-5 invariant-loop decreases-loop
 same-length-5 c = c.before.before.before.before.before.before.before.before.before.before.before.before.before.before.before.before.before.before.before.loop.invariant.size
 
 returns : tie.Need-returns invariant-loop decreases-loop
-returns c = under_last c.before.before.before.before.before.before.before.before.before.before.before.before.before.before.before.before.before.before.before.loop.invariant _ _ _ _ _ _ _ (moved-ended c.before.before.before.before.before.before.before.before.before.before.before.forward.ensures c.before.moved2.given.1)
+returns c = under_last c.before.before.before.before.before.before.before.before.before.before.before.before.before.before.before.before.before.before.before.loop.invariant _ _ _ _ _ _ _ (moved_ended c.before.before.before.before.before.before.before.before.before.before.before.forward.ensures c.before.moved2.given.1)
 
 same-length-6 : tie.Need-same-length-6 invariant-loop decreases-loop
 same-length-6 c = c.before.loop.invariant.cells
@@ -71,8 +71,8 @@ same-length-10 c = c.before.loop.invariant.size
 returns-2 : tie.Need-returns-2 invariant-loop decreases-loop
 returns-2 c = under_more c.before.loop.invariant c.before.before.before.before.before.before.before.before.before.requires.1.0 (omega arith)
 
-pub advance-spec : {M : Type 1} → statement M
-advance-spec =
+pub advance_spec : {M : Type 1} → statement M
+advance_spec =
     tie.close
     (tie.spec invariant-loop decreases-loop loop-holds sub-loop forward-requires (search rules) note-requires loop-less loop-again (search rules) same_length
     same-length-2 same-length-3 same-length-4 same-length-5 returns same-length-6 same-length-7 same-length-8 same-length-9 same-length-10 returns-2)

@@ -1,5 +1,5 @@
 use native.Mathlib.Omega.{arith}
-use Rattle.profiling.specs.Text.{line-put}
+use Rattle.profiling.specs.Text.{line_put}
 use borrow.Author.Rules.{rules}
 use Rattle.profiling.proofs.text.put_line.Statement.{statement}
 use Rattle.profiling.proofs.text.put_line.Tie as tie
@@ -11,7 +11,7 @@ returns c =
     let e = c.before.before.before.before.before.before.before.before.before.before.put-spaced3.ensures in
     let f = c.before.before.before.before.before.before.put-spaced4.ensures in
     let g = c.before.before.put_last.ensures in
-    (line-put c.before.before.before.before.before.before.before.before.before.before.before.before.before.before.before.before.before.before.before.before.before.before.args.l a.0 d.0 e.0 f.0 g.0, omega (arith, a.1, d.1, e.1, f.1, g.1))
+    (line_put c.before.before.before.before.before.before.before.before.before.before.before.before.before.before.before.before.before.before.before.before.before.before.args.l a.0 d.0 e.0 f.0 g.0, omega (arith, a.1, d.1, e.1, f.1, g.1))
 
-pub put-line-spec : {M : Type 1} → statement M
-put-line-spec = tie.close (tie.spec (search rules) (search rules) (search rules) (search rules) (search rules) (search rules) returns)
+pub put_line_spec : {M : Type 1} → statement M
+put_line_spec = tie.close (tie.spec (search rules) (search rules) (search rules) (search rules) (search rules) (search rules) returns)

@@ -1,23 +1,23 @@
 use native.Mathlib.Omega.{arith}
-use Rattle.lines.specs.Put.{put-length}
-use Rattle.lines.specs.Answers.{word-digits}
-use Rattle.profiling.specs.Text.{spaced-put}
+use Rattle.lines.specs.Put.{put_length}
+use Rattle.lines.specs.Answers.{word_digits}
+use Rattle.profiling.specs.Text.{spaced_put}
 use borrow.Author.Rules.{rules}
 use Rattle.profiling.proofs.text.put_spaced.Statement.{statement}
 use Rattle.profiling.proofs.text.put_spaced.Tie as tie
 
 put-decimal-requires : tie.Need-put-decimal-requires
-put-decimal-requires c κs = omega (arith, word-digits c.before.before.args.n (omega arith))
+put-decimal-requires c κs = omega (arith, word_digits c.before.before.args.n (omega arith))
 
 put-text-requires : tie.Need-put-text-requires
 put-text-requires c κs =
-    let p = c.before.before.before.before.put-decimal.ensures in omega (arith, word-digits c.before.before.before.before.before.before.before.args.n (omega arith), put-length p, p.behind)
+    let p = c.before.before.before.before.put-decimal.ensures in omega (arith, word_digits c.before.before.before.before.before.before.before.args.n (omega arith), put_length p, p.behind)
 
 returns : tie.Need-returns
 returns c =
     let p = c.before.before.before.before.before.before.before.put-decimal.ensures in
     let q = c.before.before.put-text.ensures in
-    (spaced-put c.before.before.before.before.before.before.before.before.before.before.args.n p q, omega (arith, word-digits c.before.before.before.before.before.before.before.before.before.before.args.n (omega arith), p.behind, q.behind))
+    (spaced_put c.before.before.before.before.before.before.before.before.before.before.args.n p q, omega (arith, word_digits c.before.before.before.before.before.before.before.before.before.before.args.n (omega arith), p.behind, q.behind))
 
-pub put-spaced-spec : {M : Type 1} → statement M
-put-spaced-spec = tie.close (tie.spec put-decimal-requires (search rules) put-text-requires (search rules) returns)
+pub put_spaced_spec : {M : Type 1} → statement M
+put_spaced_spec = tie.close (tie.spec put-decimal-requires (search rules) put-text-requires (search rules) returns)

@@ -2,7 +2,7 @@
 use Prim.Native.Nat.{◌-◌}
 use native.Mathlib.Omega.{arith}
 use borrow.Author.Rules.{rules}
-use Rattle.records.proofs.Loops.{Once, once-first, once-next, once_last}
+use Rattle.records.proofs.Loops.{Once, once_first, once_next, once_last}
 use Rattle.records.proofs.form.all_once.Statement.{statement}
 use Rattle.records.proofs.form.all_once.Tie as tie
 
@@ -12,8 +12,8 @@ invariant-loop seen n once₀ j₀ once j = Once seen n once j
 abbrev decreases-loop : tie.decreases-loop
 decreases-loop seen n once₀ j₀ once j = n - j
 
-pub all-once-spec : {M : Type 1} → statement M
-all-once-spec =
+pub all_once_spec : {M : Type 1} → statement M
+all_once_spec =
     tie.close
-    (tie.spec invariant-loop decreases-loop (λ c. once-first _ _) (search rules) (search rules) (search rules)
-    (λ c. once-next _ _ c.before.before.loop.invariant (omega arith)) (λ c. once_last _ _ c.before.loop.invariant (omega arith)))
+    (tie.spec invariant-loop decreases-loop (λ c. once_first _ _) (search rules) (search rules) (search rules)
+    (λ c. once_next _ _ c.before.before.loop.invariant (omega arith)) (λ c. once_last _ _ c.before.loop.invariant (omega arith)))

@@ -9,5 +9,5 @@ returns : tie.Need-returns
 unfolding table_of kinds packed pack uses digit code row row_in padded
 returns c = refl
 
-pub rows-spec : {M : Type 1} → statement M
-rows-spec = tie.close (tie.spec returns)
+pub rows_spec : {M : Type 1} → statement M
+rows_spec = tie.close (tie.spec returns)

@@ -9,5 +9,5 @@ use Rattle.records.proofs.words.byte.Tie as tie
 returns-2 : tie.Need-returns-2
 returns-2 c = (sym (get_or-eq_default c.before.before.args.file.now 0 c.if1.false), omega arith)
 
-pub byte-spec : {M : Type 1} → statement M
-byte-spec = tie.close (tie.spec (search rules) (search rules) (search rules) returns-2)
+pub byte_spec : {M : Type 1} → statement M
+byte_spec = tie.close (tie.spec (search rules) (search rules) (search rules) returns-2)

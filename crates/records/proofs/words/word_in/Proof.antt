@@ -8,8 +8,8 @@ returns : tie.Need-returns
 unfolding word
 returns c = search rules
 
-pub word-in-spec : {M : Type 1} → statement M
-word-in-spec =
+pub word_in_spec : {M : Type 1} → statement M
+word_in_spec =
     tie.close
     (tie.spec (search rules) (search rules) (search rules) (search rules) (search rules) (search rules) (search rules) (search rules) (search rules)
     (search rules) returns)

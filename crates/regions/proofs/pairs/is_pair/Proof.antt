@@ -14,5 +14,5 @@ returns-3 : tie.Need-returns-3
 returns-3 c =
     ((λ e. (c.before.if1.false, c.if2.false, ltb-true _ _ e)), λ e. inr (inr (ltb-false _ _ e)))
 
-pub is-pair-spec : {M : Type 1} → statement M
-is-pair-spec = tie.close (tie.spec returns returns-2 returns-3)
+pub is_pair_spec : {M : Type 1} → statement M
+is_pair_spec = tie.close (tie.spec returns returns-2 returns-3)

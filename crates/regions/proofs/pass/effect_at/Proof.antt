@@ -1,11 +1,11 @@
-use Rattle.tables.specs.Rows.{effectIn}
+use Rattle.tables.specs.Rows.{effect_in}
 use borrow.Author.Rules.{rules}
 use Rattle.regions.proofs.pass.effect_at.Statement.{statement}
 use Rattle.regions.proofs.pass.effect_at.Tie as tie
 
 returns : tie.Need-returns
-unfolding effectIn
+unfolding effect_in
 returns c = cc
 
-pub effect-at-spec : {M : Type 1} → statement M
-effect-at-spec = tie.close (tie.spec (search rules) (search rules) (search rules) (search rules) returns)
+pub effect_at_spec : {M : Type 1} → statement M
+effect_at_spec = tie.close (tie.spec (search rules) (search rules) (search rules) (search rules) returns)

@@ -4,10 +4,10 @@ use Prim.Native.Nat.{◌-◌, ◌<◌}
 use native.Mathlib.Omega.{arith}
 use mathlib.Core.Logic.{⊎_elim}
 use borrow.Author.Tests.{not-true, not-false}
-use Rattle.language.specs.File.{recordCount}
-use Rattle.regions.proofs.RowedLaws.{RowsGoing, going-first, going-stop, going_next, going-last, going-passed, going-stopped, going_before}
+use Rattle.language.specs.File.{record_count}
+use Rattle.regions.proofs.RowedLaws.{RowsGoing, going_first, going_stop, going_next, going_last, going_passed, going_stopped, going_before}
 use Rattle.regions.specs.Firsts.{Firsts}
-use Rattle.regions.proofs.TermsLaws.{firsts-none}
+use Rattle.regions.proofs.TermsLaws.{firsts_none}
 use Rattle.regions.proofs.pass.regions_agree.Statement.{statement}
 use Rattle.regions.proofs.pass.regions_agree.Tie as tie
 
@@ -18,10 +18,10 @@ abbrev decreases-loop : tie.decreases-loop
 decreases-loop file table owners rows₀ n firsts₀ last₀ i₀ rows firsts last i = n - i
 
 loop-holds : tie.Need-loop-init invariant-loop decreases-loop
-unfolding recordCount
+unfolding record_count
 loop-holds c =
     let F = c.before.before.before.before.before.requires.0.formed in
-    (going-first _ F c.before.record-count.ensures, omega arith, firsts-none F c.blank-places.ensures)
+    (going_first _ F c.before.record-count.ensures, omega arith, firsts_none F c.blank-places.ensures)
 
 next-ok-requires : tie.Need-next-ok-requires invariant-loop decreases-loop
 next-ok-requires c κs =
@@ -38,7 +38,7 @@ returns c =
     let k = t.before.loop.invariant.0 in
     let e = r.next-ok.ensures in
     let z = not-true _ c.if1.true in
-    (going-stop k t.loop-test.true e.0 z, going-stopped k t.loop-test.true e.1.0 z)
+    (going_stop k t.loop-test.true e.0 z, going_stopped k t.loop-test.true e.1.0 z)
 
 loop-less : tie.Need-loop-smaller invariant-loop decreases-loop
 loop-less c = omega arith
@@ -56,10 +56,10 @@ returns-2 : tie.Need-returns-2 invariant-loop decreases-loop
 returns-2 c =
     let k = c.before.loop.invariant.0 in
     let l = c.loop-test.false in
-    (going-last k l, going-passed k l)
+    (going_last k l, going_passed k l)
 
-pub regions-agree-spec : {M : Type 1} → statement M
-regions-agree-spec =
+pub regions_agree_spec : {M : Type 1} → statement M
+regions_agree_spec =
     tie.close
     (tie.spec invariant-loop decreases-loop (λ c κs. search rules) (λ c κs. search rules) loop-holds next-ok-requires returns (λ c κs. search rules)
     (λ c. search rules) loop-less loop-again returns-2)

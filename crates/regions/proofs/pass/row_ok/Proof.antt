@@ -1,8 +1,8 @@
 use Prim.Native.Nat.{◌<◌}
 use native.Mathlib.Omega.{arith}
-use Rattle.language.specs.Format.{maxRecords}
+use Rattle.language.specs.Format.{max_records}
 use Rattle.chains.specs.Formed.{counted}
-use Rattle.regions.proofs.RowedLaws.{rowed-put}
+use Rattle.regions.proofs.RowedLaws.{rowed_put}
 use Rattle.regions.proofs.pass.row_ok.Statement.{statement}
 use Rattle.regions.proofs.pass.row_ok.Tie as tie
 
@@ -23,9 +23,9 @@ returns c =
     let a = c.before.before.before.before.before.before.before in
     let H = a.requires.0 in
     let b = H.below in
-    let few : a.args.i < maxRecords = omega (arith, (counted H.formed).most, b) in
-    (c.record-ok.ensures.0, (rowed-put a.args.file.now a.args.i a.args.rows.now few a.requires.1.1.0 c.before.before.put-effect.ensures c.before.before.before.step-effect.ensures, c.record-ok.ensures.1))
+    let few : a.args.i < max_records = omega (arith, (counted H.formed).most, b) in
+    (c.record_ok_law.ensures.0, (rowed_put a.args.file.now a.args.i a.args.rows.now few a.requires.1.1.0 c.before.before.put-effect.ensures c.before.before.before.step-effect.ensures, c.record_ok_law.ensures.1))
 
-pub row-ok-spec : {M : Type 1} → statement M
-row-ok-spec =
+pub row_ok_spec : {M : Type 1} → statement M
+row_ok_spec =
     tie.close (tie.spec step-effect-requires put-effect-requires record-ok-requires returns)

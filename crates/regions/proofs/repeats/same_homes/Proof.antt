@@ -5,10 +5,10 @@ use mathlib.Core.Path.{◌≡◌, sym, ◌∙◌}
 use Prim.Native.Nat.{ℕ}
 use borrow.Author.Tests.{eqb-true}
 use Rattle.language.specs.File
-use Rattle.chains.specs.Formed.{Stands, ahead, argumentsAt, arguments-none}
+use Rattle.chains.specs.Formed.{Stands, ahead, arguments_at, arguments_none}
 use Rattle.chains.specs.Is.{chain_next}
-use Rattle.regions.specs.CallMap.{homesIn}
-use Rattle.regions.proofs.CallMapLaws.{homes_none, argument-here}
+use Rattle.regions.specs.CallMap.{homes_in}
+use Rattle.regions.proofs.CallMapLaws.{homes_none, argument_here}
 use Rattle.regions.proofs.RepeatsLaws.{same_next}
 use borrow.Author.Rules.{rules}
 use Rattle.regions.proofs.repeats.same_homes.Statement.{statement}
@@ -17,7 +17,7 @@ use Rattle.regions.proofs.repeats.same_homes.Tie as tie
 abbrev invariant-loop : tie.invariant-loop
 invariant-loop file own a b x₀ y₀ x y =
     Stands file File.arguments x × Stands file File.arguments y
-    × (homesIn own (argumentsAt file x) ≡ homesIn own (argumentsAt file y) → homesIn own (argumentsAt file a) ≡ homesIn own (argumentsAt file b))
+    × (homes_in own (arguments_at file x) ≡ homes_in own (arguments_at file y) → homes_in own (arguments_at file a) ≡ homes_in own (arguments_at file b))
 
 abbrev decreases-loop : tie.decreases-loop
 decreases-loop file own a b x₀ y₀ x y = ahead file x
@@ -48,7 +48,7 @@ loop-again c =
     let m = c.word4.ensures.0 in (
       (chain_next F k.0 z n).stands,
       (chain_next F k.1 i.if1.false m).stands,
-      λ e. k.2 (same_next a.args.own.now _ _ _ _ (argument-here f _ _ F k.0 z w.before.before.word.ensures.0 w.before.home.ensures n) (argument-here f _ _ F k.1 i.if1.false w.word2.ensures.0 d.before.home2.ensures m) d.if2.false e),
+      λ e. k.2 (same_next a.args.own.now _ _ _ _ (argument_here f _ _ F k.0 z w.before.before.word.ensures.0 w.before.home.ensures n) (argument_here f _ _ F k.1 i.if1.false w.word2.ensures.0 d.before.home2.ensures m) d.if2.false e),
     )
 
 returns-3 : tie.Need-returns-3 invariant-loop decreases-loop
@@ -56,10 +56,10 @@ returns-3 c = λ e.
     let l = c.before in
     let a = l.before.before.before in
     let f : List ℕ = a.args.file.now in
-    l.loop.invariant.2 (homes_none a.args.own.now (arguments-none f c.loop-test.false) ∙ sym (homes_none a.args.own.now (arguments-none f (eqb-true _ _ e))))
+    l.loop.invariant.2 (homes_none a.args.own.now (arguments_none f c.loop-test.false) ∙ sym (homes_none a.args.own.now (arguments_none f (eqb-true _ _ e))))
 
-pub same-homes-spec : {M : Type 1} → statement M
-same-homes-spec =
+pub same_homes_spec : {M : Type 1} → statement M
+same_homes_spec =
     tie.close
     (tie.spec invariant-loop decreases-loop (λ c. search rules) returns (λ c κs. search rules) (search rules) (λ c κs. search rules) (search rules) returns-2
     (λ c κs. search rules) (λ c κs. search rules) loop-less loop-again returns-3)

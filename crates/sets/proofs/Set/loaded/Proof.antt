@@ -1,6 +1,6 @@
 use Rattle.sets.proofs.Set.loaded.Statement.{statement}
 use Rattle.sets.proofs.Set.loaded.Tie as tie
-use Rattle.sets.specs.Code.{loaded-made}
+use Rattle.sets.specs.Code.{loaded_made}
 
-pub loaded-spec : {M : Type 1} → statement M
-loaded-spec = tie.close (tie.spec (λ c. loaded-made _))
+pub loaded_spec : {M : Type 1} → statement M
+loaded_spec = tie.close (tie.spec (λ c. loaded_made _))

@@ -1,6 +1,6 @@
 use Rattle.sets.proofs.Set.same.Statement.{statement}
 use Rattle.sets.proofs.Set.same.Tie as tie
-use Rattle.sets.specs.Code.{same-made}
+use Rattle.sets.specs.Code.{same_made}
 
 pub same_spec : {M : Type 1} → statement M
-same_spec = tie.close (tie.spec (λ c. same-made _ _))
+same_spec = tie.close (tie.spec (λ c. same_made _ _))

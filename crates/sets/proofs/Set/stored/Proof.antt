@@ -1,6 +1,6 @@
 use Rattle.sets.proofs.Set.stored.Statement.{statement}
 use Rattle.sets.proofs.Set.stored.Tie as tie
-use Rattle.sets.specs.Code.{stored-made}
+use Rattle.sets.specs.Code.{stored_made}
 
-pub stored-spec : {M : Type 1} → statement M
-stored-spec = tie.close (tie.spec (λ c. stored-made _))
+pub stored_spec : {M : Type 1} → statement M
+stored_spec = tie.close (tie.spec (λ c. stored_made _))

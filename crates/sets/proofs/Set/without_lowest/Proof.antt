@@ -2,16 +2,16 @@ use native.Mathlib.Omega.{arith}
 use borrow.Author.Rules.{rules}
 use Rattle.sets.proofs.Set.without_lowest.Statement.{statement}
 use Rattle.sets.proofs.Set.without_lowest.Tie as tie
-use Rattle.sets.specs.Code.{some_bits, rest-made}
-use Rattle.sets.specs.Lowest.{lowest-low}
-use Rattle.sets.specs.Members.{nextMember}
-use Rattle.sets.specs.Sets.{small-of-bits}
-use Rattle.sets.specs.Walk.{next-is}
+use Rattle.sets.specs.Code.{some_bits, rest_made}
+use Rattle.sets.specs.Lowest.{lowest_low}
+use Rattle.sets.specs.Members.{next_member}
+use Rattle.sets.specs.Sets.{small_of_bits}
+use Rattle.sets.specs.Walk.{next_is}
 
 returns : tie.Need-returns
 returns c =
     let s = c.before.before.args.self in
-    rest-made s (nextMember s 0) (next-is s 0) (lowest-low s (small-of-bits s (search rules)) c.before.before.requires)
+    rest_made s (next_member s 0) (next_is s 0) (lowest_low s (small_of_bits s (search rules)) c.before.before.requires)
 
-pub without-lowest-spec : {M : Type 1} → statement M
-without-lowest-spec = tie.close (tie.spec (λ c. omega (arith, some_bits _ c.before.requires)) returns)
+pub without_lowest_spec : {M : Type 1} → statement M
+without_lowest_spec = tie.close (tie.spec (λ c. omega (arith, some_bits _ c.before.requires)) returns)

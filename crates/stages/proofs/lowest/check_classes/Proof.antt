@@ -1,7 +1,7 @@
 use mathlib.Core.Path.{sym, ◌∙◌}
 use borrow.Author.Tests.{not-true, not-false}
-use Rattle.stages.specs.Stages.{not-accepted}
-use Rattle.stages.proofs.StagesLaws.{values-refused, regions-found, middle-refused, classes-refused, tables-passed, tabled-values, tabled-middle, tabled-all}
+use Rattle.stages.specs.Stages.{not_accepted}
+use Rattle.stages.proofs.StagesLaws.{values_refused, regions_found, middle_refused, classes_refused, tables_passed, tabled_values, tabled_middle, tabled_all}
 use Rattle.stages.proofs.Owned.{prepared}
 use borrow.Author.Rules.{rules}
 use Rattle.stages.proofs.lowest.check_classes.Statement.{statement}
@@ -11,8 +11,8 @@ returns : tie.Need-returns
 returns c =
     let l = c.before.before.before.before.list-procedures.ensures.1 in
     let n = c.before.values-ok.ensures in (
-      values-refused _ n.0 (not-true _ c.if1.true),
-      ((λ e. not-accepted e), tabled-values l.0 l.1 n.1.0 n.1.1),
+      values_refused _ n.0 (not-true _ c.if1.true),
+      ((λ e. not_accepted e), tabled_values l.0 l.1 n.1.0 n.1.1),
     )
 
 check-regions-requires : tie.Need-check-regions-requires
@@ -27,8 +27,8 @@ returns-2 c =
     let n = c.before.before.before.before.before.before.values-ok.ensures in
     let r = c.before.before.check-regions.ensures in
     let t = c.enum-told2.given.1 in (
-      middle-refused _ n.0 (not-false _ c.before.before.before.before.before.if1.false) r.0 t,
-      ((λ e. not-accepted (sym t ∙ e)), tabled-middle l.0 l.1 n.1.0 n.1.1 r.0 r.1),
+      middle_refused _ n.0 (not-false _ c.before.before.before.before.before.if1.false) r.0 t,
+      ((λ e. not_accepted (sym t ∙ e)), tabled_middle l.0 l.1 n.1.0 n.1.1 r.0 r.1),
     )
 
 returns-3 : tie.Need-returns-3
@@ -37,8 +37,8 @@ returns-3 c =
     let n = c.before.before.before.before.before.before.before.values-ok.ensures in
     let r = c.before.before.before.check-regions.ensures in
     let t = c.before.enum_told.given.1 in (
-      classes-refused _ n.0 (not-false _ c.before.before.before.before.before.before.if1.false) r.0 t l.0 (not-true _ c.if2.true),
-      ((λ e. not-accepted e), tabled-all l.1.0 l.1.1 n.1.0 n.1.1 r.1 (regions-found _ r.0 t)),
+      classes_refused _ n.0 (not-false _ c.before.before.before.before.before.before.if1.false) r.0 t l.0 (not-true _ c.if2.true),
+      ((λ e. not_accepted e), tabled_all l.1.0 l.1.1 n.1.0 n.1.1 r.1 (regions_found _ r.0 t)),
     )
 
 returns-4 : tie.Need-returns-4
@@ -48,12 +48,12 @@ returns-4 c =
     let n = c.before.before.before.before.before.before.before.values-ok.ensures in
     let r = c.before.before.before.check-regions.ensures in
     let t = c.before.enum_told.given.1 in
-    let y = regions-found _ r.0 t in (
-      tables-passed _ n.0 (not-false _ c.before.before.before.before.before.before.if1.false) r.0 t l.0 (not-false _ c.if2.false),
-      ((λ e. prepared p.0 p.1.0 l.1.0 n.1.0 r.1 y), tabled-all l.1.0 l.1.1 n.1.0 n.1.1 r.1 y),
+    let y = regions_found _ r.0 t in (
+      tables_passed _ n.0 (not-false _ c.before.before.before.before.before.before.if1.false) r.0 t l.0 (not-false _ c.if2.false),
+      ((λ e. prepared p.0 p.1.0 l.1.0 n.1.0 r.1 y), tabled_all l.1.0 l.1.1 n.1.0 n.1.1 r.1 y),
     )
 
-pub check-classes-spec : {M : Type 1} → statement M
-check-classes-spec =
+pub check_classes_spec : {M : Type 1} → statement M
+check_classes_spec =
     tie.close
     (tie.spec (λ c κs. search rules) (λ c κs. search rules) returns check-regions-requires (search rules) (search rules) returns-2 returns-3 returns-4)

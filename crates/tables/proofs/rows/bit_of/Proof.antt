@@ -11,5 +11,5 @@ returns-2 : tie.Need-returns-2
 unfolding bit_of
 returns-2 c = rw c.if1.false refl
 
-pub bit-of-spec : {M : Type 1} → statement M
-bit-of-spec = tie.close (tie.spec returns returns-2)
+pub bit_of_spec : {M : Type 1} → statement M
+bit_of_spec = tie.close (tie.spec returns returns-2)

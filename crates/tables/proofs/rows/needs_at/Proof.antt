@@ -1,11 +1,11 @@
-use Rattle.tables.specs.Rows.{needsIn}
+use Rattle.tables.specs.Rows.{needs_in}
 use borrow.Author.Rules.{rules}
 use Rattle.tables.proofs.rows.needs_at.Statement.{statement}
 use Rattle.tables.proofs.rows.needs_at.Tie as tie
 
 returns : tie.Need-returns
-unfolding needsIn
+unfolding needs_in
 returns c = c.row-set.ensures
 
-pub needs-at-spec : {M : Type 1} → statement M
-needs-at-spec = tie.close (tie.spec (search rules) returns)
+pub needs_at_spec : {M : Type 1} → statement M
+needs_at_spec = tie.close (tie.spec (search rules) returns)

@@ -1,12 +1,12 @@
-use Rattle.tables.proofs.Finding.{row-some, row-past}
+use Rattle.tables.proofs.Finding.{row_some, row_past}
 use borrow.Author.Rules.{rules}
 use Rattle.tables.proofs.rows.row_set.Statement.{statement}
 use Rattle.tables.proofs.rows.row_set.Tie as tie
 
 returns : tie.Need-returns
-returns c = row-some _ _ _ c.before.before.if1.true c.loaded.ensures
+returns c = row_some _ _ _ c.before.before.if1.true c.loaded.ensures
 
-pub row-set-spec : {M : Type 1} → statement M
-row-set-spec =
+pub row_set_spec : {M : Type 1} → statement M
+row_set_spec =
     tie.close
-    (tie.spec (search rules) (search rules) (search rules) (search rules) (search rules) returns (λ c. row-past _ _ _ c.if1.false))
+    (tie.spec (search rules) (search rules) (search rules) (search rules) (search rules) returns (λ c. row_past _ _ _ c.if1.false))

@@ -5,16 +5,16 @@ use borrow.Author.Tests.{not-true, not-false}
 use Rattle.language.specs.Lists.{all}
 use Rattle.language.specs.File.{procedures}
 use Rattle.language.specs.Answers.{program}
-use Rattle.language.specs.Typing.{procedureOk}
-use Rattle.chains.specs.Formed.{Stands, proceduresAt, procedures-none, ahead}
+use Rattle.language.specs.Typing.{procedure_ok}
+use Rattle.chains.specs.Formed.{Stands, procedures_at, procedures_none, ahead}
 use Rattle.chains.specs.Is.{chain_next}
 use Rattle.laws.specs.Lists.{all_end}
-use Rattle.typing.proofs.ProceduresLaws.{procedures-no, procedures-yes}
+use Rattle.typing.proofs.ProceduresLaws.{procedures_no, procedures_yes}
 use Rattle.typing.proofs.stage.each_procedure_ok.Statement.{statement}
 use Rattle.typing.proofs.stage.each_procedure_ok.Tie as tie
 
 abbrev invariant-loop : tie.invariant-loop
-invariant-loop file table start i₀ i = Stands file procedures i × (all (procedureOk (program file)) (proceduresAt file i) ≡ all (procedureOk (program file)) (proceduresAt file start))
+invariant-loop file table start i₀ i = Stands file procedures i × (all (procedure_ok (program file)) (procedures_at file i) ≡ all (procedure_ok (program file)) (procedures_at file start))
 
 abbrev decreases-loop : tie.decreases-loop
 decreases-loop file table start i₀ i = ahead file i
@@ -23,7 +23,7 @@ procedure-ok-requires : tie.Need-procedure-ok-requires invariant-loop decreases-
 procedure-ok-requires c κs = (c.before.before.before.requires.0, (c.before.loop.invariant.0, c.loop-test.true))
 
 returns : tie.Need-returns invariant-loop decreases-loop
-returns c = procedures-no _ _ c.before.before.before.before.before.requires.0.formed c.before.before.before.loop.invariant.0 c.before.before.loop-test.true c.before.procedure-ok.ensures (not-true _ c.if1.true) ∙ c.before.before.before.loop.invariant.1
+returns c = procedures_no _ _ c.before.before.before.before.before.requires.0.formed c.before.before.before.loop.invariant.0 c.before.before.loop-test.true c.before.procedure-ok.ensures (not-true _ c.if1.true) ∙ c.before.before.before.loop.invariant.1
 
 word-requires : tie.Need-word-requires invariant-loop decreases-loop
 word-requires c κs = (c.before.before.before.before.before.requires.0.formed, (omega arith, c.before.before.before.loop.invariant.0.below))
@@ -32,12 +32,12 @@ loop-less : tie.Need-loop-smaller invariant-loop decreases-loop
 loop-less c = (chain_next c.before.before.before.before.before.before.requires.0.formed c.before.before.before.before.loop.invariant.0 c.before.before.before.loop-test.true c.word.ensures.0).falls
 
 loop-again : tie.Need-loop-preserved invariant-loop decreases-loop
-loop-again c = ((chain_next c.before.before.before.before.before.before.requires.0.formed c.before.before.before.before.loop.invariant.0 c.before.before.before.loop-test.true c.word.ensures.0).stands, procedures-yes _ _ c.before.before.before.before.before.before.requires.0.formed c.before.before.before.before.loop.invariant.0 c.before.before.before.loop-test.true c.before.before.procedure-ok.ensures (not-false _ c.before.if1.false) c.word.ensures.0 ∙ c.before.before.before.before.loop.invariant.1)
+loop-again c = ((chain_next c.before.before.before.before.before.before.requires.0.formed c.before.before.before.before.loop.invariant.0 c.before.before.before.loop-test.true c.word.ensures.0).stands, procedures_yes _ _ c.before.before.before.before.before.before.requires.0.formed c.before.before.before.before.loop.invariant.0 c.before.before.before.loop-test.true c.before.before.procedure-ok.ensures (not-false _ c.before.if1.false) c.word.ensures.0 ∙ c.before.before.before.before.loop.invariant.1)
 
 returns-2 : tie.Need-returns-2 invariant-loop decreases-loop
-returns-2 c = all_end _ (procedures-none _ c.loop-test.false) ∙ c.before.loop.invariant.1
+returns-2 c = all_end _ (procedures_none _ c.loop-test.false) ∙ c.before.loop.invariant.1
 
-pub each-procedure-ok-spec : {M : Type 1} → statement M
-each-procedure-ok-spec =
+pub each_procedure_ok_spec : {M : Type 1} → statement M
+each_procedure_ok_spec =
     tie.close
     (tie.spec invariant-loop decreases-loop (λ c. (c.before.requires.1, refl)) procedure-ok-requires returns word-requires loop-less loop-again returns-2)

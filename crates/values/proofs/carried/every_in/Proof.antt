@@ -1,11 +1,11 @@
-use Rattle.values.specs.Valuing.{everyIn}
+use Rattle.values.specs.Valuing.{every_in}
 use borrow.Author.Rules.{rules}
 use Rattle.values.proofs.carried.every_in.Statement.{statement}
 use Rattle.values.proofs.carried.every_in.Tie as tie
 
 returns : tie.Need-returns
-unfolding everyIn
+unfolding every_in
 returns c = c.loaded.ensures
 
-pub every-in-spec : {M : Type 1} → statement M
-every-in-spec = tie.close (tie.spec (search rules) (search rules) returns)
+pub every_in_spec : {M : Type 1} → statement M
+every_in_spec = tie.close (tie.spec (search rules) (search rules) returns)

@@ -1,7 +1,7 @@
 use Rattle.chains.specs.Is.{chain_next}
-use Rattle.windows.proofs.Variables.{Found, found-one, found-other}
-use Rattle.windows.specs.Modes.{find_first, find-last}
-use Rattle.chains.specs.Formed.{ahead, ahead-below, variables-none}
+use Rattle.windows.proofs.Variables.{Found, found_one, found_other}
+use Rattle.windows.specs.Modes.{find_first, find_last}
+use Rattle.chains.specs.Formed.{ahead, ahead_below, variables_none}
 use mathlib.Core.Logic.{⊎_elim}
 use native.Mathlib.Omega.{arith}
 use borrow.Author.Rules.{rules}
@@ -18,7 +18,7 @@ decreases-loop file start mode found₀ i₀ x₀ found i x = ahead file i
 loop-holds : tie.Need-loop-init invariant-loop decreases-loop
 loop-holds c =
     let a = c.before in
-    let l = ahead-below a.requires.0 a.args.start in
+    let l = ahead_below a.requires.0 a.args.start in
     record { variable = a.requires.1.0; few = omega arith; finding = find_first _ _ }
 
 loop-less : tie.Need-loop-smaller invariant-loop decreases-loop
@@ -33,14 +33,14 @@ loop-again c =
     let l = w.before.before in
     let p = l.before.before.requires in
     ⊎_elim
-    (λ t. found-one p.0 p.1.1 l.loop.invariant w.before.loop-test.true w.word.ensures.0 c.word2.ensures.0 t.0.taken t.1.ensures (t.3 ∙ t.2.ensures))
-    (λ t. found-other p.0 p.1.1 l.loop.invariant w.before.loop-test.true w.word.ensures.0 c.word2.ensures.0 t.0.left t.1) c.before.if1.branch
+    (λ t. found_one p.0 p.1.1 l.loop.invariant w.before.loop-test.true w.word.ensures.0 c.word2.ensures.0 t.0.taken t.1.ensures (t.3 ∙ t.2.ensures))
+    (λ t. found_other p.0 p.1.1 l.loop.invariant w.before.loop-test.true w.word.ensures.0 c.word2.ensures.0 t.0.left t.1) c.before.if1.branch
 
 returns : tie.Need-returns invariant-loop decreases-loop
-returns c = find-last c.before.loop.invariant.finding (variables-none _ c.loop-test.false)
+returns c = find_last c.before.loop.invariant.finding (variables_none _ c.loop-test.false)
 
-pub variables-in-spec : {M : Type 1} → statement M
-variables-in-spec =
+pub variables_in_spec : {M : Type 1} → statement M
+variables_in_spec =
     tie.close
     (tie.spec invariant-loop decreases-loop loop-holds (λ c κs. search rules) (search rules) (search rules) (λ c κs. search rules) (search rules) loop-less
     loop-again returns)

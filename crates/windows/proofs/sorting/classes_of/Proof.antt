@@ -1,5 +1,5 @@
 use borrow.Author.Rules.{rules}
-use Rattle.windows.specs.Classed.{reached-part, sorted}
+use Rattle.windows.specs.Classed.{reached_part, sorted}
 use Rattle.windows.proofs.sorting.classes_of.Statement.{statement}
 use Rattle.windows.proofs.sorting.classes_of.Tie as tie
 
@@ -7,11 +7,11 @@ returns : tie.Need-returns
 returns c =
     let a = c.before.before.before.before.before.before.before.before.before.before.before.before.args in
     λ S h w.
-    sorted S h (reached-part a.table.now a.at w) c.before.before.before.before.before.before.before.before.variables-in.ensures c.before.before.before.before.before.before.before.variables-in2.ensures c.before.before.before.before.before.before.reach-all.ensures c.before.before.before.before.before.reach-all2.ensures
-    c.before.before.before.before.of-class.ensures c.before.before.before.of-class2.ensures c.before.before.union.ensures c.before.union2.ensures c.difference.ensures
+    sorted S h (reached_part a.table.now a.at w) c.before.before.before.before.before.before.before.before.variables_in_law.ensures c.before.before.before.before.before.before.before.variables-in2.ensures c.before.before.before.before.before.before.reach_all_law.ensures c.before.before.before.before.before.reach-all2.ensures
+    c.before.before.before.before.of_class_law.ensures c.before.before.before.of-class2.ensures c.before.before.union.ensures c.before.union2.ensures c.difference.ensures
 
-pub classes-of-spec : {M : Type 1} → statement M
-classes-of-spec =
+pub classes_of_spec : {M : Type 1} → statement M
+classes_of_spec =
     tie.close
     (tie.spec (search rules) (search rules) (search rules) (search rules) (λ c κs. search rules) (λ c κs. search rules) (search rules) (search rules)
     (λ c κs. search rules) (λ c κs. search rules) (search rules) (search rules) (search rules) returns)

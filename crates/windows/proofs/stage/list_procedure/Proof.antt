@@ -3,10 +3,10 @@ use mathlib.Core.Path.{refl, sym, ◌∙◌}
 use Prim.Native.Nat.{◌+◌, ◌*◌, ◌≤◌}
 use native.Mathlib.Omega.{arith}
 use lib.ListN.{length, length-set}
-use Rattle.chains.specs.Records.{chainRecords}
-use Rattle.tables.specs.TablePlaces.{headSize}
+use Rattle.chains.specs.Records.{chain_records}
+use Rattle.tables.specs.TablePlaces.{head_size}
 use Rattle.windows.specs.Classed.{SignatureAt}
-use Rattle.windows.specs.Procedure.{entered, reached-here, procedure-listed}
+use Rattle.windows.specs.Procedure.{entered, reached_here, procedure_listed}
 use Rattle.windows.proofs.stage.list_procedure.Statement.{statement}
 use Rattle.windows.proofs.stage.list_procedure.Tie as tie
 
@@ -32,7 +32,7 @@ list-regions-requires : tie.Need-list-regions-requires
 list-regions-requires c κs =
     let s = c.before.before.before.before.before.before.before.before.before in
     let E = entered s.requires.0 s.requires.1.0.0 s.requires.1.0.1 s.requires.1.1.0 c.before.before.before.before.before.word.ensures.0 c.before.before.before.before.word2.ensures.0 in
-    let p : s.args.at + headSize + 2 * c.before.before.Chain-length.result + length (chainRecords s.args.file.now c.before.before.before.before.word2.result) ≤ length s.args.table.now =
+    let p : s.args.at + head_size + 2 * c.before.before.Chain-length.result + length (chain_records s.args.file.now c.before.before.before.before.word2.result) ≤ length s.args.table.now =
     omega (arith, E.room, c.before.before.Chain-length.ensures) in
     (s.requires.0, (E.regions, (p, omega (arith, E.few, s.requires.1.1.1))))
 
@@ -110,14 +110,14 @@ returns c =
     let R = c.before.before.before.before.before.before.before.before.before.before.before.before.before.before.before.before.before.before.before.before.list-regions in
     λ S h.
     let q : SignatureAt f c.before.before.before.before.before.before.before.before.before.before.before.before.before.before.before.before.before.before.before.before.before.before.before.before.before.before.word.result c.before.before.before.before.before.before.before.before.before.before.before.before.before.before.before.before.before.before.before.before.before.before.before.before.before.word2.result S = rw (c.before.before.before.before.before.before.before.before.before.before.before.before.before.before.before.before.before.before.before.before.before.before.before.before.before.before.word.ensures.0, c.before.before.before.before.before.before.before.before.before.before.before.before.before.before.before.before.before.before.before.before.before.before.before.before.before.word2.ensures.0) h in
-    procedure-listed s.requires.0 S q E.variables E.regions a.at a.table.now R.new.1.1.0 R.new.1.1.1.1.0 c.before.before.before.before.before.before.before.before.before.before.before.before.before.before.before.before.before.before.before.before.before.before.before.Chain-length.ensures R.ensures.0
+    procedure_listed s.requires.0 S q E.variables E.regions a.at a.table.now R.new.1.1.0 R.new.1.1.1.1.0 c.before.before.before.before.before.before.before.before.before.before.before.before.before.before.before.before.before.before.before.before.before.before.before.Chain-length.ensures R.ensures.0
     R.ensures.1 _ c.before.before.before.before.before.before.before.before.before.before.before.before.before.before.list-reaches.ensures (omega (arith, E.room, k1)) _ refl _ c.before.before.before.before.before.before.before.before.before.list-variables.ensures
-    (c.before.before.before.before.before.classes-of.ensures S q (reached-here s.requires.0 S q E.variables E.regions a.at a.table.now R.new.1.1.0 R.new.1.1.1.1.0 c.before.before.before.before.before.before.before.before.before.before.before.before.before.before.before.before.before.before.before.before.before.before.before.Chain-length.ensures R.ensures.0
+    (c.before.before.before.before.before.classes-of.ensures S q (reached_here s.requires.0 S q E.variables E.regions a.at a.table.now R.new.1.1.0 R.new.1.1.1.1.0 c.before.before.before.before.before.before.before.before.before.before.before.before.before.before.before.before.before.before.before.before.before.before.before.Chain-length.ensures R.ensures.0
     R.ensures.1 _ c.before.before.before.before.before.before.before.before.before.before.before.before.before.before.list-reaches.ensures (omega (arith, E.room, k1)) _ refl _ c.before.before.before.before.before.before.before.before.before.list-variables.ensures))
     c.before.before.before.before.before.before.before.before.before.before.before.before.before.before.before.before.before.before.before.before.before.before.before.before.word3.result _ c.before.before.before.put-header.ensures a.i c.before.before.before.before.before.before.before.before.before.before.before.before.before.before.before.before.before.before.before.before.before.before.before.before.word3.ensures.0 refl c.right.ensures
 
-pub list-procedure-spec : {M : Type 1} → statement M
-list-procedure-spec =
+pub list_procedure_spec : {M : Type 1} → statement M
+list_procedure_spec =
     tie.close
     (tie.spec (λ c κs. search rules) (λ c κs. search rules) (λ c κs. search rules) chain-length-requires (search rules) mul-list-regions
     add-list-regions-2 list-regions-requires list-reaches-requires (search rules) slice-write-table (search rules) list-variables-requires

@@ -6,7 +6,7 @@ use lib.ListN.{length, length-set, length-replicate}
 use Rattle.language.specs.Format.{places}
 use Rattle.chains.specs.Formed.{counted, ahead}
 use Rattle.chains.specs.Is.{chain_next}
-use Rattle.windows.specs.Listing.{Listing, listing-first, signature-here, place_here, place-low, room-here, fits-here, listing-next, listing-right, listing-table, listing-only}
+use Rattle.windows.specs.Listing.{Listing, listing_first, signature_here, place_here, place_low, room_here, fits_here, listing_next, listing_right, listing_table, listing_only}
 use Rattle.windows.proofs.stage.list_procedures.Statement.{statement}
 use Rattle.windows.proofs.stage.list_procedures.Tie as tie
 
@@ -20,7 +20,7 @@ word-requires : tie.Need-word-requires invariant-loop decreases-loop
 word-requires c κs = let F = c.before.before.before.requires.0 in (F, (omega arith, (counted F).some))
 
 loop-holds : tie.Need-loop-init invariant-loop decreases-loop
-loop-holds c = let s = c.before.before.before.before in (listing-first s.args.table.now s.requires.0 s.requires.1.0 s.requires.1.1 c.word.ensures.0, refl, sym (length-replicate {A = ℕ} places 0) ∙ ap length (sym c.before.blank-sets.ensures))
+loop-holds c = let s = c.before.before.before.before in (listing_first s.args.table.now s.requires.0 s.requires.1.0 s.requires.1.1 c.word.ensures.0, refl, sym (length-replicate {A = ℕ} places 0) ∙ ap length (sym c.before.blank-sets.ensures))
 
 mul-table : tie.Need-overflow-mul-table invariant-loop decreases-loop
 mul-table c =
@@ -35,14 +35,14 @@ slice-write-table c =
     let s = c.before.before.before.before.before.before in
     let g = c in
     let l = g.before.loop in
-    place-low s.requires.0 s.requires.1.0 l.invariant.0 g.loop-test.true
+    place_low s.requires.0 s.requires.1.0 l.invariant.0 g.loop-test.true
 
 list-procedure-requires : tie.Need-list-procedure-requires invariant-loop decreases-loop
 list-procedure-requires c κs =
     let s = c.before.before.before.before.before.before.before.before in
     let g = c.before.before in
     let l = g.before.loop in
-    (s.requires.0, ((l.invariant.0.along.stands, g.loop-test.true), (room-here s.requires.0 s.requires.1.0 l.invariant.0 g.loop-test.true (length-set l.table l.q l.at), l.invariant.2)))
+    (s.requires.0, ((l.invariant.0.along.stands, g.loop-test.true), (room_here s.requires.0 s.requires.1.0 l.invariant.0 g.loop-test.true (length-set l.table l.q l.at), l.invariant.2)))
 
 add_at : tie.Need-overflow-add-at invariant-loop decreases-loop
 add_at c =
@@ -50,7 +50,7 @@ add_at c =
     let g = c.before.before.before.before.before.before.before.before in
     let l = g.before.loop in
     let p = c.before.before.before.before.before.list-procedure in
-    let o = fits-here s.requires.0 s.requires.1.0 l.invariant.0 g.loop-test.true _ _ refl (p.ensures _ (signature-here s.requires.0 s.requires.1.0 l.invariant.0 g.loop-test.true)) in
+    let o = fits_here s.requires.0 s.requires.1.0 l.invariant.0 g.loop-test.true _ _ refl (p.ensures _ (signature_here s.requires.0 s.requires.1.0 l.invariant.0 g.loop-test.true)) in
     omega (arith, o)
 
 add-q : tie.Need-overflow-add-q invariant-loop decreases-loop
@@ -75,7 +75,7 @@ loop-again c =
     let l = g.before.loop in
     let p = c.before.before.before.before.before.before.list-procedure in
     let k = p.auto.1.1.0 ∙ length-set l.table l.q l.at in (
-      listing-next s.requires.0 s.requires.1.0 l.invariant.0 g.loop-test.true _ _ refl (p.ensures _ (signature-here s.requires.0 s.requires.1.0 l.invariant.0 g.loop-test.true)) k refl
+      listing_next s.requires.0 s.requires.1.0 l.invariant.0 g.loop-test.true _ _ refl (p.ensures _ (signature_here s.requires.0 s.requires.1.0 l.invariant.0 g.loop-test.true)) k refl
           c.word2.ensures.0,
       k ∙ l.invariant.1,
       l.invariant.2 ∙ sym p.auto.1.1.1.1.0,
@@ -85,10 +85,10 @@ same_length : tie.Need-same-length invariant-loop decreases-loop
 same_length c = c.before.loop.invariant.1
 
 returns : tie.Need-returns invariant-loop decreases-loop
-returns c = let l = c.before.loop.invariant.0 in (listing-right l c.loop-test.false, (listing-table l c.loop-test.false, listing-only l c.loop-test.false))
+returns c = let l = c.before.loop.invariant.0 in (listing_right l c.loop-test.false, (listing_table l c.loop-test.false, listing_only l c.loop-test.false))
 
-pub list-procedures-spec : {M : Type 1} → statement M
-list-procedures-spec =
+pub list_procedures_spec : {M : Type 1} → statement M
+list_procedures_spec =
     tie.close
     (tie.spec invariant-loop decreases-loop (search rules) word-requires loop-holds mul-table slice-write-table (search rules) list-procedure-requires add_at add-q
     (λ c κs. search rules) loop-less loop-again same_length returns)

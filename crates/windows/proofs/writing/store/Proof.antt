@@ -3,7 +3,7 @@ use Prim.Native.Nat.{◌-◌, ◌≤◌}
 use mathlib.Core.Path.{◌≡◌, refl}
 use native.Mathlib.Omega.{arith}
 use lib.ListN.{length, length-set}
-use Rattle.windows.specs.Storing.{StoredWords, stored-none, stored_more}
+use Rattle.windows.specs.Storing.{StoredWords, stored_none, stored_more}
 use Rattle.windows.proofs.writing.store.Statement.{statement}
 use Rattle.windows.proofs.writing.store.Tie as tie
 
@@ -14,7 +14,7 @@ abbrev decreases-loop : tie.decreases-loop
 decreases-loop table₀ at words k₀ table k = length words - k
 
 loop-holds : tie.Need-loop-init invariant-loop decreases-loop
-loop-holds c = let a = c.args in (stored-none a.table.now a.at a.words.now a.table.now refl refl, omega arith, refl)
+loop-holds c = let a = c.args in (stored_none a.table.now a.at a.words.now a.table.now refl refl, omega arith, refl)
 
 loop-again : tie.Need-loop-preserved invariant-loop decreases-loop
 loop-again c =

@@ -29,8 +29,8 @@ returns c =
     let on_word = on-word2.before in
     laid_next _ _ on_word.word.ensures.0 on-word2.word2.ensures.0 on-word3.word3.ensures.0 on-word4.word4.ensures.0 on-word5.word5.ensures.0 on-word6.word6.ensures.0 on-word7.word7.ensures.0 c.before.before.put_record.ensures
 
-pub copy-record-spec : {M : Type 1} → statement M
-copy-record-spec =
+pub copy_record_spec : {M : Type 1} → statement M
+copy_record_spec =
     tie.close
     (tie.spec (search rules) (search rules) (search rules) (search rules) (search rules) (search rules) (search rules) put-record-requires same_length
     returns)

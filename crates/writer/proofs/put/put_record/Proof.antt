@@ -2,7 +2,7 @@
 use native.Mathlib.Omega.{arith}
 use mathlib.Core.Path.{refl, ◌∙◌}
 use borrow.Author.Rules.{rules}
-use Rattle.writer.proofs.LaidLaws.{row-none, row_more, laid-row}
+use Rattle.writer.proofs.LaidLaws.{row_none, row_more, laid_row}
 use Rattle.writer.proofs.put.put_record.Statement.{statement}
 use Rattle.writer.proofs.put.put_record.Tie as tie
 
@@ -61,10 +61,10 @@ returns c =
     let p3 = p4.before.before.before.before in
     let p2 = p3.before.before.before.before in
     let p1 = p2.before.before.before.before in
-    laid-row refl (row_more p1.put_word.ensures (row_more p2.put-word2.ensures (row_more p3.put-word3.ensures (row_more p4.put-word4.ensures (row_more p5.put-word5.ensures (row_more p6.put-word6.ensures (row_more p7.put-word7.ensures (row_more p8.put-word8.ensures (row-none _ _ _)))))))))
+    laid_row refl (row_more p1.put_word.ensures (row_more p2.put-word2.ensures (row_more p3.put-word3.ensures (row_more p4.put-word4.ensures (row_more p5.put-word5.ensures (row_more p6.put-word6.ensures (row_more p7.put-word7.ensures (row_more p8.put-word8.ensures (row_none _ _ _)))))))))
 
-pub put-record-spec : {M : Type 1} → statement M
-put-record-spec =
+pub put_record_spec : {M : Type 1} → statement M
+put_record_spec =
     tie.close
     (tie.spec (search rules) (search rules) (search rules) (search rules) (search rules) put-word-requires-6 put-word-requires-7 put-word-requires-8
     same_length returns)

@@ -3,14 +3,14 @@
 use borrow.Author.Rules.{rules}
 use mathlib.Core.Path.{◌∙◌}
 use native.Mathlib.Omega.{arith}
-use Rattle.language.specs.File.{recordCount}
-use Rattle.records.specs.Sizes.{recordWords}
+use Rattle.language.specs.File.{record_count}
+use Rattle.records.specs.Sizes.{record_words}
 use Rattle.chains.specs.Formed.{ahead}
-use Rattle.writer.proofs.LaidLaws.{linked-small}
+use Rattle.writer.proofs.LaidLaws.{linked_small}
 use Rattle.writer.proofs.LeadsLaws.{told}
-use Rattle.writer.proofs.ReadyLaws.{Writing, writing-first, writing-record, writing-less, writing-falls, writing-next, writing-last}
-use Rattle.writer.proofs.LeafLaws.{leaf_room, leaf-wrote}
-use Rattle.writer.proofs.Spelling.{Spelling, spelling-first, spelling-room, spelling-falls, spelling-chain, spelling-leads, spelling-plain, done-room, spelling-done}
+use Rattle.writer.proofs.ReadyLaws.{Writing, writing_first, writing_record, writing_less, writing_falls, writing_next, writing_last}
+use Rattle.writer.proofs.LeafLaws.{leaf_room, leaf_wrote}
+use Rattle.writer.proofs.Spelling.{Spelling, spelling_first, spelling_room, spelling_falls, spelling_chain, spelling_leads, spelling_plain, done_room, spelling_done}
 use Prim.Native.Nat.{◌+◌, ◌-◌, ◌*◌, ℕ, ◌<◌}
 use borrow.Fn.Kinds.{In, Out}
 use borrow.Fn.PlainCycle.{Measures, is, falls, and}
@@ -35,192 +35,192 @@ abbrev μ-write-chain : Measures 2 write-chain-kinds.ps ℕ
 
 abbrev μ-write-record : Measures 2 write-record-kinds.ps ℕ
 μ-write-record κs a =
-    2 * (recordCount a.0.now - a.1.1.0)
+    2 * (record_count a.0.now - a.1.1.0)
 
-abbrev write-chain-at : ℕ → In 2 write-chain-kinds.ps
-write-chain-at t =
+abbrev write_chain_at : ℕ → In 2 write-chain-kinds.ps
+write_chain_at t =
     and 2 write-chain-kinds.ps (is 2 write-chain-kinds.ps μ-write-chain t) write-chain.Pre
 
-abbrev write-chain-below : ℕ → In 2 write-chain-kinds.ps
-write-chain-below t =
+abbrev write_chain_below : ℕ → In 2 write-chain-kinds.ps
+write_chain_below t =
     and 2 write-chain-kinds.ps (falls 2 write-chain-kinds.ps ◌<◌ μ-write-chain t) write-chain.Pre
 
-abbrev write-record-at : ℕ → In 2 write-record-kinds.ps
-write-record-at t =
+abbrev write_record_at : ℕ → In 2 write-record-kinds.ps
+write_record_at t =
     and 2 write-record-kinds.ps (is 2 write-record-kinds.ps μ-write-record t) write-record.Pre
 
-abbrev write-record-below : ℕ → In 2 write-record-kinds.ps
-write-record-below t =
+abbrev write_record_below : ℕ → In 2 write-record-kinds.ps
+write_record_below t =
     and
     2
     write-record-kinds.ps
     (falls 2 write-record-kinds.ps ◌<◌ μ-write-record t)
     write-record.Pre
 
-abbrev write-chain-Inv-loop : write-chain-lts.invariant-loop
-write-chain-Inv-loop file out₀ start first i₀ at₀ out i at =
+abbrev write_chain_inv_loop : write-chain-lts.invariant-loop
+write_chain_inv_loop file out₀ start first i₀ at₀ out i at =
     Writing file out₀ out start first i at
 
-abbrev write-chain-μ-loop : write-chain-lts.decreases-loop
-write-chain-μ-loop file out₀ start first i₀ at₀ out i at =
+abbrev write_chain_μ_loop : write-chain-lts.decreases-loop
+write_chain_μ_loop file out₀ start first i₀ at₀ out i at =
     ahead file i
 
 -- what each member's callees ask and give
-abbrev write-chain-calls : ℕ → write-chain-lts.Claims
-write-chain-calls t =
-    (word-reads.Asked, word-reads.Learnt, write-record-below t, write-record.Post)
+abbrev write_chain_calls : ℕ → write-chain-lts.Claims
+write_chain_calls t =
+    (word-reads.Asked, word-reads.Learnt, write_record_below t, write-record.Post)
 
-abbrev write-record-calls : ℕ → write-record-lts.Claims
-write-record-calls t =
-    (word-reads.Asked, word-reads.Learnt, is-leaf-reads.Asked, is-leaf-reads.Learnt, link-reads.Asked, link-reads.Learnt, copy-record-reads.Asked, copy-record-reads.Learnt, leads-reads.Asked, leads-reads.Learnt, put-word-reads.Asked, put-word-reads.Learnt, write-chain-below t, write-chain.Post)
+abbrev write_record_calls : ℕ → write-record-lts.Claims
+write_record_calls t =
+    (word-reads.Asked, word-reads.Learnt, is-leaf-reads.Asked, is-leaf-reads.Learnt, link-reads.Asked, link-reads.Learnt, copy-record-reads.Asked, copy-record-reads.Learnt, leads-reads.Asked, leads-reads.Learnt, put-word-reads.Asked, put-word-reads.Learnt, write_chain_below t, write-chain.Post)
 
 module _ (t : ℕ) where
   abbrev WriteChain : (write-chain-lts.Claims → In 2 write-chain-kinds.ps → Out 2 write-chain-kinds.ps write-chain-kinds.r → write-chain-lts.invariant-loop → write-chain-lts.decreases-loop → Type 0) → Type 0
-  WriteChain P = P (write-chain-calls t) (write-chain-at t) write-chain.Post write-chain-Inv-loop write-chain-μ-loop
+  WriteChain P = P (write_chain_calls t) (write_chain_at t) write-chain.Post write_chain_inv_loop write_chain_μ_loop
 
-  abbrev write-chain-past-in-loop : WriteChain write-chain-lts.In-loop → WriteChain write-chain-lts.At-loop × WriteChain write-chain-lts.Start
-  write-chain-past-in-loop c = (c.before, c.before.before.before.before)
+  abbrev write_chain_past_in_loop : WriteChain write-chain-lts.In-loop → WriteChain write-chain-lts.At-loop × WriteChain write-chain-lts.Start
+  write_chain_past_in_loop c = (c.before, c.before.before.before.before)
 
-  abbrev write-chain-past-after-loop : WriteChain write-chain-lts.After-loop → WriteChain write-chain-lts.At-loop
-  write-chain-past-after-loop c = c.before
+  abbrev write_chain_past_after_loop : WriteChain write-chain-lts.After-loop → WriteChain write-chain-lts.At-loop
+  write_chain_past_after_loop c = c.before
 
-  write-chain-write-record-requires : WriteChain write-chain-lts.Need-write-record-requires
-  write-chain-write-record-requires c κs = let il = c.before.before in let (al, s) = write-chain-past-in-loop il in
+  write_chain_write_record_requires : WriteChain write-chain-lts.Need-write-record-requires
+  write_chain_write_record_requires c κs = let il = c.before.before in let (al, s) = write_chain_past_in_loop il in
       let v = al.loop.inv in
       let z = il.loop-test.true in
-      (omega (arith, writing-less v z, s.pre.0), writing-record v z)
+      (omega (arith, writing_less v z, s.pre.0), writing_record v z)
 
-  write-chain-loop-less : WriteChain write-chain-lts.Need-loop-smaller
-  write-chain-loop-less c = let il = c.before.before.before.before.before in let (al, s) = write-chain-past-in-loop il in
-      writing-falls al.loop.inv il.loop-test.true c.before.before.before.before.word.ensures.0
+  write_chain_loop_less : WriteChain write-chain-lts.Need-loop-smaller
+  write_chain_loop_less c = let il = c.before.before.before.before.before in let (al, s) = write_chain_past_in_loop il in
+      writing_falls al.loop.inv il.loop-test.true c.before.before.before.before.word.ensures.0
 
-  write-chain-loop-again : WriteChain write-chain-lts.Need-loop-preserved
-  write-chain-loop-again c = let il = c.before.before.before.before.before in let (al, s) = write-chain-past-in-loop il in
-      writing-next al.loop.inv il.loop-test.true c.before.before.before.before.word.ensures.0 c.before.before.write-record.ensures
+  write_chain_loop_again : WriteChain write-chain-lts.Need-loop-preserved
+  write_chain_loop_again c = let il = c.before.before.before.before.before in let (al, s) = write_chain_past_in_loop il in
+      writing_next al.loop.inv il.loop-test.true c.before.before.before.before.word.ensures.0 c.before.before.write-record.ensures
 
-  write-chain-same-length : WriteChain write-chain-lts.Need-same-length
-  write-chain-same-length c = let al = write-chain-past-after-loop c in al.loop.inv.laid.same
+  write_chain_same_length : WriteChain write-chain-lts.Need-same-length
+  write_chain_same_length c = let al = write_chain_past_after_loop c in al.loop.inv.laid.same
 
-  write-chain-returns : WriteChain write-chain-lts.Need-returns
-  write-chain-returns c = let al = write-chain-past-after-loop c in writing-last al.loop.inv c.loop-test.false
+  write_chain_returns : WriteChain write-chain-lts.Need-returns
+  write_chain_returns c = let al = write_chain_past_after_loop c in writing_last al.loop.inv c.loop-test.false
 
-abbrev write-record-Inv-loop : write-record-lts.invariant-loop
-write-record-Inv-loop file out₀ i on at kind end₀ k₀ out end k =
+abbrev write_record_inv_loop : write-record-lts.invariant-loop
+write_record_inv_loop file out₀ i on at kind end₀ k₀ out end k =
     Spelling file i at out₀ out k end
 
-abbrev write-record-μ-loop : write-record-lts.decreases-loop
-write-record-μ-loop file out₀ i on at kind end₀ k₀ out end k =
-    recordWords - k
+abbrev write_record_μ_loop : write-record-lts.decreases-loop
+write_record_μ_loop file out₀ i on at kind end₀ k₀ out end k =
+    record_words - k
 
 module _ (t : ℕ) where
   abbrev WriteRecord : (write-record-lts.Claims → In 2 write-record-kinds.ps → Out 2 write-record-kinds.ps write-record-kinds.r → write-record-lts.invariant-loop → write-record-lts.decreases-loop → Type 0) → Type 0
-  WriteRecord P = P (write-record-calls t) (write-record-at t) write-record.Post write-record-Inv-loop write-record-μ-loop
+  WriteRecord P = P (write_record_calls t) (write_record_at t) write-record.Post write_record_inv_loop write_record_μ_loop
 
-  abbrev write-record-past-in-loop : WriteRecord write-record-lts.In-loop → WriteRecord write-record-lts.At-loop ×
+  abbrev write_record_past_in_loop : WriteRecord write-record-lts.In-loop → WriteRecord write-record-lts.At-loop ×
       WriteRecord write-record-lts.After-word × WriteRecord write-record-lts.Start
-  write-record-past-in-loop c = (c.before, c.before.before.before.before, c.before.before.before.before.before.before.before)
+  write_record_past_in_loop c = (c.before, c.before.before.before.before, c.before.before.before.before.before.before.before)
 
-  abbrev write-record-past-then2 : WriteRecord write-record-lts.Then2 → WriteRecord write-record-lts.After-leads ×
+  abbrev write_record_past_then2 : WriteRecord write-record-lts.Then2 → WriteRecord write-record-lts.After-leads ×
       WriteRecord write-record-lts.After-word2 × WriteRecord write-record-lts.In-loop × WriteRecord write-record-lts.At-loop ×
       WriteRecord write-record-lts.After-word × WriteRecord write-record-lts.Start
-  write-record-past-then2 c = let (al, w, s) = write-record-past-in-loop c.before.before.before in (c.before, c.before.before, c.before.before.before, al, w, s)
+  write_record_past_then2 c = let (al, w, s) = write_record_past_in_loop c.before.before.before in (c.before, c.before.before, c.before.before.before, al, w, s)
 
-  abbrev write-record-past-else2 : WriteRecord write-record-lts.Else2 → WriteRecord write-record-lts.After-leads ×
+  abbrev write_record_past_else2 : WriteRecord write-record-lts.Else2 → WriteRecord write-record-lts.After-leads ×
       WriteRecord write-record-lts.After-word2 × WriteRecord write-record-lts.In-loop × WriteRecord write-record-lts.At-loop ×
       WriteRecord write-record-lts.After-word × WriteRecord write-record-lts.Start
-  write-record-past-else2 c = let (al, w, s) = write-record-past-in-loop c.before.before.before in (c.before, c.before.before, c.before.before.before, al, w, s)
+  write_record_past_else2 c = let (al, w, s) = write_record_past_in_loop c.before.before.before in (c.before, c.before.before, c.before.before.before, al, w, s)
 
-  abbrev write-record-past-after-loop : WriteRecord write-record-lts.After-loop → WriteRecord write-record-lts.At-loop ×
+  abbrev write_record_past_after_loop : WriteRecord write-record-lts.After-loop → WriteRecord write-record-lts.At-loop ×
       WriteRecord write-record-lts.After-word × WriteRecord write-record-lts.Start
-  write-record-past-after-loop c = (c.before, c.before.before.before.before, c.before.before.before.before.before.before.before)
+  write_record_past_after_loop c = (c.before, c.before.before.before.before, c.before.before.before.before.before.before.before)
 
-  write-record-copy-record-requires : WriteRecord write-record-lts.Need-copy-record-requires
-  write-record-copy-record-requires c κs = let o = leaf_room c.before.before.before.before.before.before.before.requires.1 in
-      (o.0, linked-small _ _ c.link.ensures o.1)
+  write_record_copy_record_requires : WriteRecord write-record-lts.Need-copy-record-requires
+  write_record_copy_record_requires c κs = let o = leaf_room c.before.before.before.before.before.before.before.requires.1 in
+      (o.0, linked_small _ _ c.link.ensures o.1)
 
-  write-record-same-length : WriteRecord write-record-lts.Need-same-length
-  write-record-same-length c = c.before.before.copy-record.ensures.same
+  write_record_same_length : WriteRecord write-record-lts.Need-same-length
+  write_record_same_length c = c.before.before.copy-record.ensures.same
 
-  write-record-returns : WriteRecord write-record-lts.Need-returns
-  write-record-returns c =
+  write_record_returns : WriteRecord write-record-lts.Need-returns
+  write_record_returns c =
       let i1 = c.before.before.before.before.before in
       let w = i1.before.before in
       let s = w.before.before.before in
-      leaf-wrote _ s.requires.1 w.word.ensures.0 (i1.before.is_IsLeaf.ensures i1.if1.true) _ c.before.before.before.link.ensures c.before.before.copy-record.ensures
+      leaf_wrote _ s.requires.1 w.word.ensures.0 (i1.before.is_IsLeaf.ensures i1.if1.true) _ c.before.before.before.link.ensures c.before.before.copy-record.ensures
 
-  write-record-leads-requires : WriteRecord write-record-lts.Need-leads-requires
-  write-record-leads-requires c κs = let (al, w, s) = write-record-past-in-loop c.before in
+  write_record_leads_requires : WriteRecord write-record-lts.Need-leads-requires
+  write_record_leads_requires c κs = let (al, w, s) = write_record_past_in_loop c.before in
       (omega (arith, al.loop.inv.begun.many), c.before.loop-test.true)
 
-  write-record-put-word-requires : WriteRecord write-record-lts.Need-put-word-requires
-  write-record-put-word-requires c κs = let (l, w2, il, al, w, s) = write-record-past-then2 c.before.before in
+  write_record_put_word_requires : WriteRecord write-record-lts.Need-put-word-requires
+  write_record_put_word_requires c κs = let (l, w2, il, al, w, s) = write_record_past_then2 c.before.before in
       let m = il.loop-test.taken in
-      let o = spelling-room s.pre.1 al.loop.inv m in
-      (o.0, (m, linked-small _ _ c.link2.ensures o.1))
+      let o = spelling_room s.pre.1 al.loop.inv m in
+      (o.0, (m, linked_small _ _ c.link2.ensures o.1))
 
-  write-record-write-chain-requires : WriteRecord write-record-lts.Need-write-chain-requires
-  write-record-write-chain-requires c κs =
+  write_record_write_chain_requires : WriteRecord write-record-lts.Need-write-chain-requires
+  write_record_write_chain_requires c κs =
       let t1 = c.before.before.before.before.before.before in
-      let (l, w2, il, al, w, s) = write-record-past-then2 t1 in
+      let (l, w2, il, al, w, s) = write_record_past_then2 t1 in
       let R = s.pre.1 in
       let G = al.loop.inv in
       let m = il.loop-test.taken in
       let e = told _ _ _ l.leads.ensures w.word.ensures.0 t1.if2.true in
       let g = w2.word2.ensures.0 in
-      (omega (arith, spelling-falls R G m e g, s.pre.0), spelling-chain R G m e g c.before.before.before.put_word.ensures)
+      (omega (arith, spelling_falls R G m e g, s.pre.0), spelling_chain R G m e g c.before.before.before.put_word.ensures)
 
-  write-record-loop-again : WriteRecord write-record-lts.Need-loop-preserved
-  write-record-loop-again c =
+  write_record_loop_again : WriteRecord write-record-lts.Need-loop-preserved
+  write_record_loop_again c =
       let t1 = c.before.before.before.before.before.before.before.before.before in
-      let (l, w2, il, al, w, s) = write-record-past-then2 t1 in
+      let (l, w2, il, al, w, s) = write_record_past_then2 t1 in
       let R = s.pre.1 in
       let G = al.loop.inv in
       let m = il.loop-test.taken in
       let e = told _ _ _ l.leads.ensures w.word.ensures.0 t1.if2.true in
-      spelling-leads R G m e w2.word2.ensures.0 c.before.before.before.before.before.before.before.link2.ensures c.before.before.before.before.before.before.put_word.ensures c.before.before.write-chain.ensures
+      spelling_leads R G m e w2.word2.ensures.0 c.before.before.before.before.before.before.before.link2.ensures c.before.before.before.before.before.before.put_word.ensures c.before.before.write-chain.ensures
 
-  write-record-put-word-requires-2 : WriteRecord write-record-lts.Need-put-word-requires-2
-  write-record-put-word-requires-2 c κs = let (l, w2, il, al, w, s) = write-record-past-else2 c.before in
+  write_record_put_word_requires_2 : WriteRecord write-record-lts.Need-put-word-requires-2
+  write_record_put_word_requires_2 c κs = let (l, w2, il, al, w, s) = write_record_past_else2 c.before in
       let m = il.loop-test.taken in
-      ((spelling-room s.pre.1 al.loop.inv m).0, (m, w2.word2.ensures.1))
+      ((spelling_room s.pre.1 al.loop.inv m).0, (m, w2.word2.ensures.1))
 
-  write-record-loop-again-2 : WriteRecord write-record-lts.Need-loop-preserved-2
-  write-record-loop-again-2 c = let e1 = c.before.before.before.before in let (l, w2, il, al, w, s) = write-record-past-else2 e1 in
+  write_record_loop_again_2 : WriteRecord write-record-lts.Need-loop-preserved-2
+  write_record_loop_again_2 c = let e1 = c.before.before.before.before in let (l, w2, il, al, w, s) = write_record_past_else2 e1 in
       let e = told _ _ _ l.leads.ensures w.word.ensures.0 e1.if2.false in
-      spelling-plain s.pre.1 al.loop.inv il.loop-test.taken e w2.word2.ensures.0 c.before.before.put-word2.ensures
+      spelling_plain s.pre.1 al.loop.inv il.loop-test.taken e w2.word2.ensures.0 c.before.before.put-word2.ensures
 
-  write-record-put-word-requires-3 : WriteRecord write-record-lts.Need-put-word-requires-3
-  write-record-put-word-requires-3 c κs = let af = c.before.before in let (al, w, s) = write-record-past-after-loop af in
-      ((done-room s.pre.1 al.loop.inv af.loop-test.false).0, (omega arith, w.word.ensures.1))
+  write_record_put_word_requires_3 : WriteRecord write-record-lts.Need-put-word-requires-3
+  write_record_put_word_requires_3 c κs = let af = c.before.before in let (al, w, s) = write_record_past_after_loop af in
+      ((done_room s.pre.1 al.loop.inv af.loop-test.false).0, (omega arith, w.word.ensures.1))
 
-  write-record-put-word-requires-4 : WriteRecord write-record-lts.Need-put-word-requires-4
-  write-record-put-word-requires-4 c κs =
+  write_record_put_word_requires_4 : WriteRecord write-record-lts.Need-put-word-requires-4
+  write_record_put_word_requires_4 c κs =
       let af = c.before.before.before.before.before.before in
-      let (al, w, s) = write-record-past-after-loop af in
-      let o = done-room s.pre.1 al.loop.inv af.loop-test.false in
-      (omega (arith, o.0, c.before.before.before.put-word3.ensures.same), (omega arith, linked-small _ _ c.before.before.before.before.before.link3.ensures o.1))
+      let (al, w, s) = write_record_past_after_loop af in
+      let o = done_room s.pre.1 al.loop.inv af.loop-test.false in
+      (omega (arith, o.0, c.before.before.before.put-word3.ensures.same), (omega arith, linked_small _ _ c.before.before.before.before.before.link3.ensures o.1))
 
-  write-record-same-length-2 : WriteRecord write-record-lts.Need-same-length-2
-  write-record-same-length-2 c = let (al, w, s) = write-record-past-after-loop c.before.before.before.before.before.before.before.before.before in
+  write_record_same_length_2 : WriteRecord write-record-lts.Need-same-length-2
+  write_record_same_length_2 c = let (al, w, s) = write_record_past_after_loop c.before.before.before.before.before.before.before.before.before in
       c.before.before.put-word4.ensures.same ∙ c.before.before.before.before.before.before.put-word3.ensures.same ∙ al.loop.inv.begun.same
 
-  write-record-returns-2 : WriteRecord write-record-lts.Need-returns-2
-  write-record-returns-2 c =
+  write_record_returns_2 : WriteRecord write-record-lts.Need-returns-2
+  write_record_returns_2 c =
       let af = c.before.before.before.before.before.before.before.before.before in
-      let (al, w, s) = write-record-past-after-loop af in
-      spelling-done s.pre.1 al.loop.inv af.loop-test.false _ w.word.ensures.0 c.before.before.before.before.before.before.before.before.link3.ensures c.before.before.before.before.before.before.put-word3.ensures c.before.before.put-word4.ensures
+      let (al, w, s) = write_record_past_after_loop af in
+      spelling_done s.pre.1 al.loop.inv af.loop-test.false _ w.word.ensures.0 c.before.before.before.before.before.before.before.before.link3.ensures c.before.before.before.before.before.before.put-word3.ensures c.before.before.put-word4.ensures
 
 pub +write-chain-write-record-spec : {M : Type 1} → statement M
 +write-chain-write-record-spec =
     close μ-write-chain μ-write-record
-    (λ t. write-chain-lts.spec (write-chain-calls t) (write-chain-at t) write-chain.Post write-chain-Inv-loop write-chain-μ-loop
-    (λ c. writing-first _ c.before.before.requires.1) (λ c κs. search rules) (write-chain-write-record-requires t) (write-chain-loop-less t)
-    (write-chain-loop-again t) (write-chain-same-length t) (write-chain-returns t))
-    λ t. write-record-lts.spec (write-record-calls t) (write-record-at t) write-record.Post write-record-Inv-loop write-record-μ-loop
+    (λ t. write-chain-lts.spec (write_chain_calls t) (write_chain_at t) write-chain.Post write_chain_inv_loop write_chain_μ_loop
+    (λ c. writing_first _ c.before.before.requires.1) (λ c κs. search rules) (write_chain_write_record_requires t) (write_chain_loop_less t)
+    (write_chain_loop_again t) (write_chain_same_length t) (write_chain_returns t))
+    λ t. write-record-lts.spec (write_record_calls t) (write_record_at t) write-record.Post write_record_inv_loop write_record_μ_loop
     (λ c κs. search rules) (λ c. omega (arith, c.before.before.before.requires.1.few)) (λ c κs. search rules) (λ c κs. search rules)
-    (write-record-copy-record-requires t) (write-record-same-length t) (write-record-returns t)
-    (λ c. spelling-first _ c.before.before.before.before.before.requires.1) (λ c κs. search rules) (write-record-leads-requires t)
-    (λ c κs. search rules) (write-record-put-word-requires t) (write-record-write-chain-requires t) (λ c. search rules) (λ c. search rules)
-    (write-record-loop-again t) (write-record-put-word-requires-2 t) (λ c. search rules) (λ c. search rules) (write-record-loop-again-2 t)
-    (λ c κs. search rules) (write-record-put-word-requires-3 t) (write-record-put-word-requires-4 t) (write-record-same-length-2 t)
-    (write-record-returns-2 t)
+    (write_record_copy_record_requires t) (write_record_same_length t) (write_record_returns t)
+    (λ c. spelling_first _ c.before.before.before.before.before.requires.1) (λ c κs. search rules) (write_record_leads_requires t)
+    (λ c κs. search rules) (write_record_put_word_requires t) (write_record_write_chain_requires t) (λ c. search rules) (λ c. search rules)
+    (write_record_loop_again t) (write_record_put_word_requires_2 t) (λ c. search rules) (λ c. search rules) (write_record_loop_again_2 t)
+    (λ c κs. search rules) (write_record_put_word_requires_3 t) (write_record_put_word_requires_4 t) (write_record_same_length_2 t)
+    (write_record_returns_2 t)
