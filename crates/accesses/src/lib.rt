@@ -1,4 +1,6 @@
 // Fills the rows with what goals read and give.
+#![tactic(auto)]
+
 mod calls;
 mod filling;
 mod steps;

@@ -1,4 +1,6 @@
 // Demand 3 about the code: the annotator, the checker and the runner as they run, joined with the theorem about the definitions.
+#![tactic(auto)]
+
 mod runs;
 
 ghost use Rattle.std.specs.Prelude.{◌≡◌, true, length};

@@ -1,5 +1,7 @@
 // The annotator: reads a file from standard input and writes it with creates and removes, or prints "refused" and the number of document 01's table.
 // Where the file cannot be read, it says so on standard error and prints no answer.
+#![tactic(auto)]
+
 use answering::print_annotated;
 use input::{Input, read_standard};
 use records::blank::blank_input;

@@ -1,5 +1,7 @@
 // Answers on standard output. For each program one function puts its whole answer into lent memory, equal to what the definition gives, and `print` writes
 // that slice and nothing else. The programs and `vectors` write by the same functions, so that the gate sees what each writes for files of every answer.
+#![tactic(auto)]
+
 mod annotated;
 mod ran;
 

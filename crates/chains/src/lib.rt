@@ -1,4 +1,6 @@
 // Going through chains of records: their lengths, and words of records that may be missing.
+#![tactic(auto)]
+
 mod entries;
 mod lists;
 mod words;

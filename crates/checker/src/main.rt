@@ -1,5 +1,7 @@
 // The checker: reads an annotated file from standard input and prints "accepted", or "refused" and the number of document 01's table.
 // Where the file cannot be read, it says so on standard error and prints no answer.
+#![tactic(auto)]
+
 use answering::print_checked;
 use input::{Input, read_standard};
 use records::blank::blank_input;

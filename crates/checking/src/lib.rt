@@ -1,4 +1,6 @@
 // Number 8: the checker's rules along each path; and the checker's answer to any bytes.
+#![tactic(auto)]
+
 mod answer;
 mod carried;
 mod procedures;

@@ -1,5 +1,7 @@
 // Number 3 for what a file declares: its types and functors, and each procedure's variables, regions and edges, as the definitions `types_ok`
 // and `signature_ok` say; and the two tables that the goals are tested by.
+#![tactic(auto)]
+
 mod edges;
 mod listing;
 mod names;

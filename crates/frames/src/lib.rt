@@ -1,4 +1,6 @@
 // Frames of 136 lent words: values and regions of a frame's numbers, what a call and a return copy, and words of numbers.
+#![tactic(auto)]
+
 mod arms;
 mod clearing;
 mod naming;

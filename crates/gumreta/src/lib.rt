@@ -1,5 +1,7 @@
 // The annotator, the checker and the runner for C and Rust to link. Each answers a number: 0, a refusal's or a stop's. A slice comes as its pointer and its
 // length; what else there is to say goes into lent places.
+#![tactic(auto)]
+
 ghost use Rattle.std.specs.Prelude.{◌≡◌, length};
 ghost use Rattle.language.specs.Machine.{print_places};
 ghost use Rattle.language.specs.Answers.{checker_number, ending_number, annotator_number, written_bytes, annotated, annotator_memory, checked, ran};

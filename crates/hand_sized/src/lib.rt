@@ -2,6 +2,8 @@
 // contract states the answer outright. `language`'s Table has the same of the definitions. "The table keeps its cases with the answers that now follow and
 // gains the new U's" (C-14): U and A give a type of constants a region. "The last of the table cases" is a run that stops (C-15). After a refusal all lent
 // memory is as it was; after a run the words for cells, regions and frames are free.
+#![tactic(auto)]
+
 mod ends;
 mod files;
 mod tries;

@@ -1,4 +1,6 @@
 // What a program reads.
+#![tactic(auto)]
+
 ghost use Rattle.std.specs.Prelude.{◌≤◌, ◌≡◌, length, take};
 ghost use Rattle.input.specs.Input.{Taken};
 

@@ -1,4 +1,6 @@
 // The annotated file: the file's records with creates and removes between them, laid into lent memory, how many they are, and a copy of them.
+#![tactic(auto)]
+
 mod bodies;
 mod cursor;
 mod placed;

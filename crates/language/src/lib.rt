@@ -1,4 +1,6 @@
 // The answers that the programs share, document 01's table of refusals and stops, and its numbers.
+#![tactic(auto)]
+
 pub mod format;
 
 // The cause of a refusal, in the order in which they are looked at: numbers 1 to 5, 17 (C-18), 6 to 9.

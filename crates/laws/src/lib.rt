@@ -1,1 +1,3 @@
 // Laws of the small functions that the definitions share, each stated once: see specs/.
+#![tactic(auto)]
+

@@ -1,4 +1,6 @@
 // Records laid into a lent slice as far as it has room: creates and removes, records of the file as they are, and records whose words lead to what was laid behind them.
+#![tactic(auto)]
+
 mod copies;
 mod heads;
 mod marks;

@@ -3,6 +3,8 @@
 // The pack comes on standard input, as pack-runs of rust/compare writes it: jobs one behind the other, each the length of its name in one byte, the name,
 // the length of the file in three bytes, the file, how many runs in one byte, and for each run the words lent for cells, regions, frames and printed
 // numbers, and the steps, in three bytes each; low bytes first.
+#![tactic(auto)]
+
 ghost use Rattle.std.specs.Prelude.{◌≤◌, ◌≡◌, length};
 ghost use Rattle.lent_runs.specs.Lent.{cells_lent, regions_lent, frames_lent, prints_lent, file_bytes};
 

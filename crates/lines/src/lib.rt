@@ -1,4 +1,6 @@
 // The lines that the programs print, put into lent memory: each function answers the place behind what it put, and no other byte changes.
+#![tactic(auto)]
+
 mod answers;
 mod numbers;
 mod text;

@@ -1,4 +1,6 @@
 // Live variables at every point of a procedure's goals, in a table that a later walk reads in its own order; and number 7 at its steps.
+#![tactic(auto)]
+
 mod carried;
 mod classes;
 mod step;

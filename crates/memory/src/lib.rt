@@ -1,4 +1,6 @@
 // The runner's memory: cells of 8 lent words and regions of 2. Places are used again; the free ones are linked in the words themselves.
+#![tactic(auto)]
+
 mod cells;
 mod moving;
 mod places;

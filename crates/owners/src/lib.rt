@@ -1,4 +1,6 @@
 // The procedure that each record belongs to, and tests of a file's goals as loops over its records.
+#![tactic(auto)]
+
 mod pass;
 mod plain;
 mod words;

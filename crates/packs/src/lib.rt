@@ -1,4 +1,6 @@
 // Packs of job files, as tools/pack-jobs and pack-runs of rust/compare write them: names and files behind their lengths, numbers low byte first.
+#![tactic(auto)]
+
 ghost use Rattle.std.specs.Prelude.{◌≤◌, ◌<◌};
 ghost use Rattle.io.specs.Counts.{IsPrefixLen};
 ghost use Rattle.packs.specs.Bytes.{byte_end};

@@ -1,4 +1,6 @@
 // What a run reads beside the file, worked out once before the first step.
+#![tactic(auto)]
+
 mod arguments;
 mod blank;
 mod callees;

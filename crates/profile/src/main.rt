@@ -1,5 +1,7 @@
 // The profiler: reads an annotated file from standard input, runs it, and prints a line "STEP CELLS REGIONS FRAMES RECORD" for the entry's frame and for each
 // step that changes how many cells, regions or frames are held, then how the run ended; or "refused" and the number of document 01's table.
+#![tactic(auto)]
+
 mod accepted;
 mod parts;
 

@@ -1,4 +1,6 @@
 // What a job held: the accepted file's run, step by step, with the cells, regions and frames held after each.
+#![tactic(auto)]
+
 mod advancing;
 mod beginning;
 mod counting;

@@ -1,4 +1,6 @@
 // Record reading: words, the decoded record, and numbers 1 and 2.
+#![tactic(auto)]
+
 pub mod blank;
 mod decode;
 mod form;

@@ -1,4 +1,6 @@
 // The call's mapping, what a step does to regions, and number 5, in one pass over the records.
+#![tactic(auto)]
+
 mod calls;
 mod effects;
 mod images;

@@ -1,5 +1,7 @@
 // The runner: reads an annotated file from standard input, runs it, and prints a number a line, then how the run ended; or "refused" and the number of document
 // 01's table. Where the file cannot be read, it says so on standard error and prints no answer.
+#![tactic(auto)]
+
 use answering::print_run;
 use input::{Input, read_standard};
 use records::blank::blank_input;

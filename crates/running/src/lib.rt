@@ -1,4 +1,6 @@
 // The runner's answer to any bytes: what it refuses, or a run in lent memory.
+#![tactic(auto)]
+
 mod accepted;
 mod answer;
 pub mod lent;

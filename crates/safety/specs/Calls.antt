@@ -3,7 +3,7 @@
 -- caller waits with the rest.
 use Rattle.std.specs.Prelude.{◌≡◌, Bool, true, false, List, ◌∷◌, map, ◌⊎◌, ℕ, pos}
 use Rattle.std.proofs.Math.Path.{sym}
-use Rattle.std.proofs.Common.{ap, ◌∙◌, inl, inr, ⊎_elim}
+use Rattle.std.proofs.Common.{subst, ap, ◌∙◌, inl, inr, ⊎_elim}
 use Rattle.sets.specs.Tests.{truth, clash, false_of}
 use Rattle.sets.specs.Sets.{member, ◌∪◌, ◌∖◌, union_left, union_right, difference_mk, difference_in, subset_in}
 use Rattle.sets.specs.SetLaws.{apart_in}
@@ -119,7 +119,9 @@ module _ {P : Program} (A : Accepted P) (e : RegionFrame) (q : ℕ) (ys : List �
 
     module _ {os : List Owner} {made : ℕ} {live : ℕ → Bool} (O : Ownership C h e.stands os made live) where
       away_callee : (a : ℕ) → member (start_held Q) a ≡ true → member (kept Q) a ≡ false → Away (ρ' a) (owner e.stands rest ∷ os)
-      away_callee a i k = rw (callee_stands_law a i) (λ r w d. same r (rest_in_law r w) (sym d), O.owns.away (m a) (start_held_law a i) own)
+      away_callee a i k =
+          subst (λ (x : ℕ). Away x (owner e.stands rest ∷ os)) (sym (callee_stands_law a i))
+          (λ r w d. same r (rest_in_law r w) (sym d), O.owns.away (m a) (start_held_law a i) own)
         where
           gone : member (image m (dead Q)) (m a) ≡ true
           gone = dead_image a (unkept_dead a i k)

@@ -1,4 +1,6 @@
 // A set of numbers from 1 to 64, by value: the number n is the bit at the place n - 1.
+#![tactic(auto)]
+
 ghost use Rattle.std.specs.Prelude.{◌≡◌, false};
 ghost use Rattle.sets.specs.Sets.{member, empty_set, single, ◌∪◌, ◌∩◌, ◌∖◌, same_set, subset, stored, loaded};
 ghost use Rattle.sets.specs.Members.{next_member};

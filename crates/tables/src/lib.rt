@@ -1,5 +1,7 @@
 // The tables that the stages share. The file's table has a window for each procedure, behind the places where the windows start; the rows say of
 // each record what its goal does.
+#![tactic(auto)]
+
 mod blank;
 mod reaches;
 mod rows;

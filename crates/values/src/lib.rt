@@ -1,4 +1,6 @@
 // Number 4: which variables have a value, on every path and on some path.
+#![tactic(auto)]
+
 mod carried;
 mod declared;
 mod stage;

@@ -3,6 +3,8 @@
 //
 // A pack is jobs one behind the other, as tools/pack-jobs writes them: the length of the name in one byte, the name, the length of the file in three
 // bytes, low byte first, and the file.
+#![tactic(auto)]
+
 ghost use Rattle.std.specs.Prelude.{◌≡◌, length};
 ghost use Rattle.language.specs.Answers.{annotator_bytes};
 

@@ -1,4 +1,6 @@
 // The one walk over goals, whatever it carries: its laws (specs/Walk, specs/Along), which goals are steps, and the words that it carries.
+#![tactic(auto)]
+
 mod carried;
 mod steps;
 

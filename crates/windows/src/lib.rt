@@ -1,4 +1,6 @@
 // Fills the file's table: the window of every procedure, once for the file. Number 7 for every program comes with it.
+#![tactic(auto)]
+
 mod reaching;
 mod sets_of;
 mod sorting;

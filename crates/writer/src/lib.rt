@@ -1,4 +1,6 @@
 // The writer of records into a lent slice, and the walk in written order that copies a file.
+#![tactic(auto)]
+
 mod put;
 mod skip;
 mod stage;
