@@ -1,0 +1,5 @@
+use Rattle.std.proofs.Common.{rules}
+use Rattle.memory.proofs.cells.hang_cell.Goals as goal
+
+pub returns : goal.returns
+returns c = (cc, cc)
