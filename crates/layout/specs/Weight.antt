@@ -1,6 +1,6 @@
 -- Words that pass number 2: the whole tree has as many records as the file, since each is referred to once.
 use Prim.Native.Nat.{ℕ, zero, suc, ◌+◌, ◌-◌, ◌*◌, ◌≤◌, ◌<◌}
-use Rattle.std.proofs.Common.{arith, zero-mul, one-mul, add-mul, mul-zero, ap₂, ◌∙◌, inl, inr}
+use Rattle.std.proofs.Common.{subst, arith, zero-mul, one-mul, add-mul, mul-zero, ap₂, ◌∙◌, inl, inr}
 use Rattle.std.proofs.Math.Decide.{dec_le}
 use mathlib.Core.List.{List, [], ◌∷◌, ◌++◌}
 use Rattle.std.specs.Prelude.{◌≡◌, true}
@@ -47,7 +47,9 @@ unfolding weigh up_from
 weigh_hit zero b r f p q = absurd (omega arith)
 weigh_hit (suc m) b r f p q =
     elim (dec_le r b) [
-      | yes le ↦ (let z : r ≡ b = omega arith in rw z (rw (hit_same b, one-mul) (omega (arith, weigh_past m (suc b) b f (omega arith)))))
+      | yes le ↦ (let z : b ≡ r = omega arith in
+          subst (λ (x : ℕ). weigh (λ j. hit x j * f j) (up_from b (suc m)) ≡ f x) z
+          (rw (hit_same b, one-mul) (omega (arith, weigh_past m (suc b) b f (omega arith)))))
       | no gt ↦ rw (hit_other r b (omega arith), zero-mul) (omega (arith, weigh_hit m (suc b) r f (omega arith) (omega arith)))
     ]
 
