@@ -1,3 +1,2 @@
 // The runner's memory stands for the definition's: see specs/.
 #![tactic(auto)]
-

@@ -1,3 +1,2 @@
 // Laws of a procedure's regions: reach along edges, and a call's mapping. The theorems are in specs/.
 #![tactic(auto)]
-

@@ -1,3 +1,2 @@
 // Safety of the accepted file's run. The theorems are in specs/.
 #![tactic(auto)]
-

@@ -1,3 +1,2 @@
 // Demand 3, proved about the definitions. The theorems are in specs/.
 #![tactic(auto)]
-
