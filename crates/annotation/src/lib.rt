@@ -10,7 +10,7 @@ pub use front::annotated_front;
 use language::Refusal;
 
 // The cause of a refusal, or how many bytes of the lent memory are the annotated file.
-#[derive(Drop)]
+#[derive(Clone, Copy)]
 pub enum Annotated {
     Refused(Refusal),
     Written(usize),

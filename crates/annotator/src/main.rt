@@ -6,10 +6,10 @@ use answering::print_annotated;
 use input::{Input, read_standard};
 use records::blank::blank_input;
 
-fn main() {
+fn main(rt: HostRuntime) {
     let mut file = blank_input();
-    let Input::Bytes(n) = read_standard(&mut file) else {
+    let Input::Bytes(n) = read_standard(&rt, &mut file) else {
         return;
     };
-    print_annotated(&file[..n]);
+    print_annotated(&rt, &file[..n]);
 }

@@ -27,8 +27,8 @@ fn annotator_answer(file: &[u8], out: &mut [u8]) -> usize
     }
 }
 
-pub fn print_annotated(file: &[u8]) {
+pub fn print_annotated(rt: &HostRuntime, file: &[u8]) {
     let mut out = lent();
     let n = annotator_answer(file, &mut out);
-    print(&out[..n]);
+    print(rt, &out[..n]);
 }

@@ -11,9 +11,9 @@ ghost use Rattle.lines.specs.Put.{Front};
 
 pub use annotated::print_annotated;
 use checking::check;
-use libc::{STDERR_FILENO, STDOUT_FILENO};
 use lines::{REFUSAL_BYTES, checker_output};
 pub use ran::print_run;
+use std::io::Print;
 
 // What the checker prints, at the front of `out`. Answers how many bytes that are.
 fn checker_answer(file: &[u8], out: &mut [u8; REFUSAL_BYTES]) -> usize
@@ -23,14 +23,16 @@ fn checker_answer(file: &[u8], out: &mut [u8; REFUSAL_BYTES]) -> usize
 }
 
 // Writes bytes, all of them and nothing else; where they cannot be written, a message to standard error.
-pub fn print(bytes: &[u8]) {
-    if !io::write_all(STDOUT_FILENO, bytes) {
-        io::write_all(STDERR_FILENO, b"the answer could not be written\n");
+pub fn print(rt: &HostRuntime, bytes: &[u8]) {
+    if rt.write_all(bytes).is_err() {
+        let _ = rt
+            .stderr()
+            .write_all(b"the answer could not be written\n");
     }
 }
 
-pub fn print_checked(file: &[u8]) {
+pub fn print_checked(rt: &HostRuntime, file: &[u8]) {
     let mut line = [0; REFUSAL_BYTES];
     let n = checker_answer(file, &mut line);
-    print(&line[..n]);
+    print(rt, &line[..n]);
 }

@@ -63,8 +63,8 @@ fn runner_answer(file: &[u8], out: &mut [u8]) -> usize
     accepted_answer(file, out)
 }
 
-pub fn print_run(file: &[u8]) {
+pub fn print_run(rt: &HostRuntime, file: &[u8]) {
     let mut out = output();
     let n = runner_answer(file, &mut out);
-    print(&out[..n]);
+    print(rt, &out[..n]);
 }

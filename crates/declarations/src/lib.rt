@@ -16,7 +16,7 @@ pub use signatures::{counts_ok, signature_ok};
 pub use types::types_ok;
 
 // What is left of a chain after its front was matched: the record where it goes on, or that the front did not match.
-#[derive(Drop)]
+#[derive(Clone, Copy)]
 pub enum Rest {
     At(usize),
     Wrong,

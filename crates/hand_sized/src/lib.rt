@@ -33,7 +33,7 @@ pub use tries::{
 };
 
 // What the annotator, the checker and the runner answer to one file.
-#[derive(Drop)]
+#[derive(Clone, Copy)]
 pub struct Answers {
     pub annotated: Annotated,
     pub checked: Verdict,

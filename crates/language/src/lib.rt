@@ -4,7 +4,7 @@
 pub mod format;
 
 // The cause of a refusal, in the order in which they are looked at: numbers 1 to 5, 17 (C-18), 6 to 9.
-#[derive(Drop)]
+#[derive(Clone, Copy)]
 pub enum Refusal {
     Header,
     Form,
@@ -19,14 +19,14 @@ pub enum Refusal {
 }
 
 // What a test of a file says: the lowest refusal that applies, or that none does.
-#[derive(Drop)]
+#[derive(Clone, Copy)]
 pub enum Verdict {
     Refused(Refusal),
     Accepted,
 }
 
 // Why a run stops before a step that can't be done: numbers 10 to 15.
-#[derive(Drop)]
+#[derive(Clone, Copy)]
 pub enum Stop {
     Steps,
     Cells,
@@ -37,7 +37,7 @@ pub enum Stop {
 }
 
 // How a run ends.
-#[derive(Drop)]
+#[derive(Clone, Copy)]
 pub enum Ending {
     Refused(Refusal),
     Finished,

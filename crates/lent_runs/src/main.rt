@@ -9,11 +9,11 @@ ghost use Rattle.std.specs.Prelude.{◌≤◌, ◌≡◌, length};
 ghost use Rattle.lent_runs.specs.Lent.{cells_lent, regions_lent, frames_lent, prints_lent, file_bytes};
 
 use language::format::RECORD_BYTES;
-use libc::{STDIN_FILENO, STDOUT_FILENO};
 use lines::{ENDING_BYTES, NUMBER_BYTES, runner_output};
 use machine::Outcome;
 use packs::{JOBS, PACK_END, next_byte, next_bytes, next_number, print_name};
 use running::run;
+use std::io::{Print, Stdin};
 
 // As many words as a run of the pack is lent at most.
 const CELLS: usize = 160;
@@ -64,14 +64,14 @@ fn file_memory() -> [u8; FILE_BYTES]
 }
 
 // How many words to lend; a line that no run has where there are not so many.
-fn next_lent(most: usize) -> usize
+fn next_lent(rt: &HostRuntime, pack: &mut Stdin, most: usize) -> usize
     ensures { result ≤ most }
 {
-    let n = next_number(STDIN_FILENO);
+    let n = next_number(pack);
     if n <= most {
         return n;
     }
-    io::write_all(STDOUT_FILENO, b"more than there is to lend\n");
+    let _ = rt.write_all(b"more than there is to lend\n");
     most
 }
 
@@ -112,24 +112,22 @@ fn marked(words: &[u32], at: usize) -> bool {
     true
 }
 
-fn print_lines(prints: &[u32], r: Outcome)
+fn print_lines(rt: &HostRuntime, prints: &[u32], r: Outcome)
     requires { (r.printed ≤ length prints.now) × (length prints.now ≤ prints_lent) }
 {
     let n = r.printed;
     let ending = r.ending;
     let mut out = [0; OUTPUT_BYTES];
     let k = runner_output(&prints[..n], ending, r.steps as u64, &mut out);
-    io::write_all(STDOUT_FILENO, &out[..k]);
+    let _ = rt.write_all(&out[..k]);
     if !marked(prints, n) {
-        io::write_all(
-            STDOUT_FILENO,
-            b"a place behind the last number has changed\n",
-        );
+        let _ = rt.write_all(b"a place behind the last number has changed\n");
     }
 }
 
 // A run and its lines.
 fn try_in(
+    rt: &HostRuntime,
     file: &[u8],
     cells: usize,
     regions: usize,
@@ -141,48 +139,49 @@ fn try_in(
     requires prints_len_bound { length prints.old ≤ prints_lent }
 {
     let r = run_in(file, cells, regions, frames, &mut *prints, steps);
-    print_lines(&*prints, r);
+    print_lines(rt, &*prints, r);
 }
 
-fn try_run(file: &[u8]) {
-    let cells = next_lent(CELLS);
-    let regions = next_lent(REGIONS);
-    let frames = next_lent(FRAMES);
-    let n = next_lent(PRINTS);
-    let steps = next_number(STDIN_FILENO);
+fn try_run(rt: &HostRuntime, pack: &mut Stdin, file: &[u8]) {
+    let cells = next_lent(rt, pack, CELLS);
+    let regions = next_lent(rt, pack, REGIONS);
+    let frames = next_lent(rt, pack, FRAMES);
+    let n = next_lent(rt, pack, PRINTS);
+    let steps = next_number(pack);
     let mut prints = print_words();
-    try_in(file, cells, regions, frames, &mut prints[..n], steps);
+    try_in(rt, file, cells, regions, frames, &mut prints[..n], steps);
 }
 
-fn try_runs(file: &[u8], n: usize) {
+fn try_runs(rt: &HostRuntime, pack: &mut Stdin, file: &[u8], n: usize) {
     let mut left = n;
     while left > 0 {
-        try_run(file);
+        try_run(rt, pack, file);
         left -= 1;
     }
 }
 
 // Whether there was a job.
-fn try_job() -> bool {
-    let n = next_byte(STDIN_FILENO);
+fn try_job(rt: &HostRuntime, pack: &mut Stdin) -> bool {
+    let n = next_byte(pack);
     if n == PACK_END {
         return false;
     }
-    print_name(STDIN_FILENO, n);
-    io::write_all(STDOUT_FILENO, b"\n");
+    print_name(rt, pack, n);
+    let _ = rt.write_all(b"\n");
     let mut file = file_memory();
-    let bytes = next_number(STDIN_FILENO);
-    let k = next_bytes(STDIN_FILENO, &mut file, bytes);
-    let runs = next_byte(STDIN_FILENO);
-    try_runs(&file[..k], runs);
+    let bytes = next_number(pack);
+    let k = next_bytes(pack, &mut file, bytes);
+    let runs = next_byte(pack);
+    try_runs(rt, pack, &file[..k], runs);
     true
 }
 
-fn main() {
+fn main(rt: HostRuntime) {
+    let mut pack = rt.stdin();
     let mut left = JOBS;
     while left > 0 {
         left -= 1;
-        if !try_job() {
+        if !try_job(&rt, &mut pack) {
             left = 0;
         }
     }

@@ -33,7 +33,7 @@ pub const WANTS_KEPT: usize = REACHES + PLACES;
 pub const CARRIED: usize = WANTS_KEPT + 1;
 
 // What is live before the goals whose points were written, the place of the first of them in the table, and whether their steps keep number 7.
-#[derive(Drop)]
+#[derive(Clone, Copy)]
 pub struct Filled {
     pub live: Set,
     pub start: usize,

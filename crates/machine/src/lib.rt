@@ -26,7 +26,7 @@ pub use steps::{go, onward};
 
 // What a run keeps beside the lent words and the heap: the newest frame's number and the place of its first word, its next goal's record, and how
 // many numbers are printed.
-#[derive(Drop)]
+#[derive(Clone, Copy)]
 pub struct State {
     pub top: u32,
     pub at: usize,
@@ -35,7 +35,7 @@ pub struct State {
 }
 
 // What a step comes to. A try's is told, not done: the condition runs by itself.
-#[derive(Drop)]
+#[derive(Clone, Copy)]
 pub enum Step {
     Went(State),
     Stops(Stop),
@@ -43,14 +43,14 @@ pub enum Step {
 }
 
 // What a construct, a create or a remove comes to.
-#[derive(Drop)]
+#[derive(Clone, Copy)]
 pub enum HeapStep {
     Left(Heap),
     Lacks(Stop),
 }
 
 // What a step in an open condition comes to: the heap, the next goal's record and how many entries are logged; or a test that fails.
-#[derive(Drop)]
+#[derive(Clone, Copy)]
 pub enum ConditionStep {
     On(Heap, usize, usize),
     Fails,
@@ -58,14 +58,14 @@ pub enum ConditionStep {
 }
 
 // What a try comes to: the heap, the goal after its condition and how many steps are left; or a stop in the condition.
-#[derive(Drop)]
+#[derive(Clone, Copy)]
 pub enum ConditionEnd {
     Left(Heap, usize, usize),
     Lacks(Stop, usize),
 }
 
 // "It returns the number and steps done"; the printed numbers stand at the front of the words lent for them.
-#[derive(Drop)]
+#[derive(Clone, Copy)]
 pub struct Outcome {
     pub ending: Ending,
     pub steps: usize,

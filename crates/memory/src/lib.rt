@@ -42,7 +42,7 @@ pub const ENTRY_MADE: u32 = 1;
 pub const ENTRY_REMOVED: u32 = 2;
 
 // The free places of a sort: a chain from `head` that ends at `top`, and the places from `top` on, never used yet. There are `limit` places.
-#[derive(Drop)]
+#[derive(Clone, Copy)]
 pub struct Pool {
     pub head: u32,
     pub top: u32,
@@ -50,27 +50,27 @@ pub struct Pool {
 }
 
 // What a pool gives: a place, and the pool without it.
-#[derive(Drop)]
+#[derive(Clone, Copy)]
 pub enum Taken {
     Place(u32, Pool),
     Full,
 }
 
-#[derive(Drop)]
+#[derive(Clone, Copy)]
 pub struct Heap {
     pub cells: Pool,
     pub regions: Pool,
 }
 
 // What a create or a construct makes: its place, and the heap after it.
-#[derive(Drop)]
+#[derive(Clone, Copy)]
 pub enum Made {
     At(u32, Heap),
     NoRoom,
 }
 
 // What a cell holds: its functor's number and its arguments' words. Words past the arity mean nothing.
-#[derive(Drop)]
+#[derive(Clone, Copy)]
 pub struct Contents {
     pub functor: u32,
     pub a: u32,

@@ -24,6 +24,7 @@ fn output() -> [u8; OUTPUT_BYTES]
 
 // By tables that are filled. A part of the profile has up to `room` bytes.
 fn print_tabled(
+    rt: &HostRuntime,
     file: &[u8],
     plan: &[usize; PLAN],
     images: &[u8; IMAGES],
@@ -42,8 +43,9 @@ fn print_tabled(
     let mut out = output();
     let first = begin(callees, &cells, &regions, &mut frames);
     let n = put_entry(&mut out, first);
-    print(&out[..n]);
+    print(rt, &out[..n]);
     print_parts(
+        rt,
         file,
         plan,
         images,
@@ -59,7 +61,7 @@ fn print_tabled(
     );
 }
 
-pub fn print_accepted(file: &[u8], room: usize)
+pub fn print_accepted(rt: &HostRuntime, file: &[u8], room: usize)
     requires file_value { checked file.now ≡ Accepted }
     requires line_bytes_le_room { (line_bytes ≤ room) × (room ≤ output_bytes) }
 {
@@ -67,5 +69,5 @@ pub fn print_accepted(file: &[u8], room: usize)
     let mut images = blank_images();
     let mut callees = blank_callees();
     fill_tables(file, &mut plan, &mut images, &mut callees);
-    print_tabled(file, &plan, &images, &callees, room);
+    print_tabled(rt, file, &plan, &images, &callees, room);
 }

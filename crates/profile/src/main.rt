@@ -17,25 +17,25 @@ use records::blank::blank_input;
 
 // A refused file has its number alone. The run is called in two places, for the longest file with a line less of room, which changes no byte that is printed:
 // what has one caller the compiler puts into it, two like calls it makes one, and the run's tables would lie on the stack below the checker's walks.
-fn print_profile(file: &[u8]) {
+fn print_profile(rt: &HostRuntime, file: &[u8]) {
     let answer = check(file);
     if let Verdict::Refused(r) = answer {
         let mut line = [0; REFUSAL_BYTES];
         let n = checker_output(answer, &mut line);
-        print(&line[..n]);
+        print(rt, &line[..n]);
         return;
     }
     if file.len() < MAX_BYTES {
-        print_accepted(file, OUTPUT_BYTES);
+        print_accepted(rt, file, OUTPUT_BYTES);
         return;
     }
-    print_accepted(file, OUTPUT_BYTES - LINE_BYTES);
+    print_accepted(rt, file, OUTPUT_BYTES - LINE_BYTES);
 }
 
-fn main() {
+fn main(rt: HostRuntime) {
     let mut file = blank_input();
-    let Input::Bytes(n) = read_standard(&mut file) else {
+    let Input::Bytes(n) = read_standard(&rt, &mut file) else {
         return;
     };
-    print_profile(&file[..n]);
+    print_profile(&rt, &file[..n]);
 }

@@ -14,15 +14,16 @@ use profiling::{Part, Point, advance};
 use running::lent::STEPS;
 
 // The last line.
-fn print_ending(out: &mut [u8], ending: Ending, steps: usize)
+fn print_ending(rt: &HostRuntime, out: &mut [u8], ending: Ending, steps: usize)
     requires { line_bytes ≤ length out.old }
 {
     let n = put_ending(&mut out[..], 0, ending, steps as u64);
-    print(&out[..n]);
+    print(rt, &out[..n]);
 }
 
 // From where the run stands to its end.
 pub fn print_parts(
+    rt: &HostRuntime,
     file: &[u8],
     plan: &[usize; PLAN],
     images: &[u8],
@@ -49,12 +50,12 @@ pub fn print_parts(
         );
         match part {
             Part::More(n, next) => {
-                print(&out[..n]);
+                print(rt, &out[..n]);
                 point = next;
             }
             Part::Last(n, ending, steps) => {
-                print(&out[..n]);
-                print_ending(out, ending, steps);
+                print(rt, &out[..n]);
+                print_ending(rt, out, ending, steps);
                 return;
             }
         }

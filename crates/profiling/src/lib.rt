@@ -19,14 +19,14 @@ use memory::Heap;
 pub use text::LINE_BYTES;
 
 // How many cells and regions are held.
-#[derive(Drop)]
+#[derive(Clone, Copy)]
 pub struct Counts {
     pub cells: u32,
     pub regions: u32,
 }
 
 // How many cells, regions and frames are held.
-#[derive(Drop)]
+#[derive(Clone, Copy)]
 pub struct Held {
     pub cells: u64,
     pub regions: u64,
@@ -34,7 +34,7 @@ pub struct Held {
 }
 
 // A line of the profile: what is held after a step, and the record of the goal that the step carried out.
-#[derive(Drop)]
+#[derive(Clone, Copy)]
 pub struct Line {
     pub step: u64,
     pub held: Held,
@@ -42,7 +42,7 @@ pub struct Line {
 }
 
 // What a step outside conditions comes to. A try's is told, not done.
-#[derive(Drop)]
+#[derive(Clone, Copy)]
 pub enum Turn {
     On(State, Heap),
     Lacks(Stop),
@@ -51,7 +51,7 @@ pub enum Turn {
 
 // An open condition (C-20): the record of its try, 0 outside conditions; how many entries are logged; the counts without what the condition removed, and
 // those at the try.
-#[derive(Drop)]
+#[derive(Clone, Copy)]
 pub struct Open {
     pub at: usize,
     pub logged: usize,
@@ -60,7 +60,7 @@ pub struct Open {
 }
 
 // Where a run stands after `done` steps, beside the lent words.
-#[derive(Drop)]
+#[derive(Clone, Copy)]
 pub struct Point {
     pub state: State,
     pub heap: Heap,
@@ -70,14 +70,14 @@ pub struct Point {
 }
 
 // Where the run stands one step later, or how it ended.
-#[derive(Drop)]
+#[derive(Clone, Copy)]
 pub enum Moved {
     On(Point),
     Ended(Ending),
 }
 
 // The bytes of a part, and where the run stands behind it; or the last part, how the run ended, and after how many steps.
-#[derive(Drop)]
+#[derive(Clone, Copy)]
 pub enum Part {
     More(usize, Point),
     Last(usize, Ending, usize),

@@ -15,7 +15,7 @@ pub use widths::{narrow, wide};
 pub use words::{header_ok, word, word_in};
 
 // A record, its words named as document 01's table names them. `Other` stands for every number that is no kind.
-#[derive(Drop)]
+#[derive(Clone, Copy)]
 pub enum Record {
     Header {
         procedures: usize,

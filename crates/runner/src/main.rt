@@ -6,10 +6,10 @@ use answering::print_run;
 use input::{Input, read_standard};
 use records::blank::blank_input;
 
-fn main() {
+fn main(rt: HostRuntime) {
     let mut file = blank_input();
-    let Input::Bytes(n) = read_standard(&mut file) else {
+    let Input::Bytes(n) = read_standard(&rt, &mut file) else {
         return;
     };
-    print_run(&file[..n]);
+    print_run(&rt, &file[..n]);
 }

@@ -10,7 +10,7 @@ const GREATEST: usize = 64;
 
 const NONE: usize = GREATEST + 1;
 
-#[derive(Drop)]
+#[derive(Clone, Copy)]
 pub struct Set {
     bits: u64,
 }

@@ -72,7 +72,7 @@ pub const EDGES: usize = 9;
 pub const TABLE: usize = (1 + HEAD) * MAX_PROCEDURES + 2 * MAX_RECORDS;
 
 // What a goal reads, what it gives a value, and whether it gives no variable twice.
-#[derive(Drop)]
+#[derive(Clone, Copy)]
 pub struct Access {
     pub reads: Set,
     pub gives: Set,
@@ -81,7 +81,7 @@ pub struct Access {
 
 // What a step does to regions: those that it needs held, those that it bears, those that it ends, and whether "an image of a dead or born one is
 // no other region's image".
-#[derive(Drop)]
+#[derive(Clone, Copy)]
 pub struct Effect {
     pub needs: Set,
     pub bears: Set,

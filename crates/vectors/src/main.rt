@@ -11,9 +11,14 @@ ghost use Rattle.language.specs.Answers.{annotator_bytes};
 use annotation::annotated_front;
 use answering::{print_annotated, print_checked, print_run};
 use language::format::MAX_BYTES;
-use libc::STDOUT_FILENO;
 use packs::{JOBS, PACK_END, next_byte, next_bytes, next_number, print_name};
 use records::blank::blank_input;
+use std::env::{Env, FillError};
+use std::fs::File;
+use std::io::Print;
+
+// More bytes than a path has.
+const PATH_BYTES: usize = 4096;
 
 // What stands in lent memory before.
 const MARK: u8 = 251;
@@ -44,60 +49,69 @@ fn keeps_the_rest(file: &[u8]) -> bool {
     marked(&out, n)
 }
 
-fn try_file(fd: i32, n: usize) {
+fn try_file(rt: &HostRuntime, pack: &mut File, n: usize) {
     let mut file = blank_input();
-    let k = next_bytes(fd, &mut file, n);
-    print_checked(&file[..k]);
-    print_annotated(&file[..k]);
-    print_run(&file[..k]);
+    let k = next_bytes(pack, &mut file, n);
+    print_checked(rt, &file[..k]);
+    print_annotated(rt, &file[..k]);
+    print_run(rt, &file[..k]);
     if !keeps_the_rest(&file[..k]) {
-        io::write_all(
-            STDOUT_FILENO,
-            b"a byte behind the annotated file has changed\n",
-        );
+        let _ = rt.write_all(b"a byte behind the annotated file has changed\n");
     }
 }
 
 // Whether there was a job.
-fn try_job(fd: i32) -> bool {
-    let n = next_byte(fd);
+fn try_job(rt: &HostRuntime, pack: &mut File) -> bool {
+    let n = next_byte(pack);
     if n == PACK_END {
         return false;
     }
-    print_name(fd, n);
-    io::write_all(STDOUT_FILENO, b" ");
-    let length = next_number(fd);
-    try_file(fd, length);
+    print_name(rt, pack, n);
+    let _ = rt.write_all(b" ");
+    let length = next_number(pack);
+    try_file(rt, pack, length);
     true
 }
 
-fn try_pack(path: &[u8]) {
-    let fd = os::open_read(path);
-    if fd < 0 {
-        os::fail(path);
-        return;
-    }
+fn try_pack(rt: &HostRuntime, path: &str) {
+    let mut pack = match File::open(rt, path) {
+        Ok(pack) => pack,
+        Err(e) => {
+            let _ = eprintln!(rt; "{path}: {e}");
+            return;
+        }
+    };
     let mut left = JOBS;
     while left > 0 {
         left -= 1;
-        if !try_job(fd) {
+        if !try_job(rt, &mut pack) {
             left = 0;
         }
     }
-    libc::close(fd);
 }
 
-fn try_argument(i: usize) {
-    let mut path = io::buffer();
-    let n = os::arg(i, &mut path);
-    try_pack(&path[..n]);
+// Whether there was such an argument.
+fn try_argument(rt: &HostRuntime, i: usize) -> bool {
+    let mut path = [0u8; PATH_BYTES];
+    match rt.arg(i, &mut path) {
+        Ok(n) => match str::from_utf8(&path[..n]) {
+            Ok(name) => try_pack(rt, name),
+            Err(_) => {
+                let _ = eprintln!(rt; "argument {i} is no text");
+            }
+        },
+        Err(FillError::TooLong) => {
+            let _ = eprintln!(rt; "argument {i} is too long");
+        }
+        Err(FillError::NotPresent) => return false,
+    }
+    true
 }
 
-fn main() {
-    let n = os::arg_count();
-    let mut i = 1;
-    while i < n {
-        try_argument(i);
-        i += 1;
+fn main(rt: HostRuntime) {
+    for i in 1..usize::MAX {
+        if !try_argument(&rt, i) {
+            return;
+        }
     }
 }

@@ -11,7 +11,7 @@ use sets::Set;
 pub use stage::list_procedures;
 
 // A procedure's in and out variables, its input and output regions, its regions by class, and its input and output regions together.
-#[derive(Drop)]
+#[derive(Clone, Copy)]
 pub struct Classes {
     pub ins: Set,
     pub outs: Set,
@@ -24,7 +24,7 @@ pub struct Classes {
 }
 
 // How many variables and regions a procedure has, its first goal and its first variable.
-#[derive(Drop)]
+#[derive(Clone, Copy)]
 pub struct Counts {
     pub variables: usize,
     pub regions: usize,
@@ -33,7 +33,7 @@ pub struct Counts {
 }
 
 // How many words a procedure's window has, and whether its classes are right.
-#[derive(Drop)]
+#[derive(Clone, Copy)]
 pub struct Listed {
     pub size: usize,
     pub right: bool,
