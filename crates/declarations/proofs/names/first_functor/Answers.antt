@@ -1,0 +1,7 @@
+use mathlib.Core.Path.{refl, ◌∙◌}
+use Rattle.declarations.proofs.LookupLaws.{functor_first}
+use Rattle.std.proofs.Common.{rules}
+use Rattle.declarations.proofs.names.first_functor.Goals as goal
+
+pub returns : goal.returns
+returns c = c.wide.ensures ∙ functor_first _ _ _ c.requires refl

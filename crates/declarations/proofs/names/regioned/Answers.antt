@@ -1,0 +1,5 @@
+use Rattle.std.proofs.Common.{rules}
+use Rattle.declarations.proofs.names.regioned.Goals as goal
+
+pub returns : goal.returns
+returns c = rw c.functor.ensures at c.wide.ensures
