@@ -1,6 +1,8 @@
-"""The annotator, the checker, the runner and the profile, asked as proved programs or as a library, with answers that cannot be misread.
+"""The annotator, the checker, the runner and the profile, asked as proved programs, as a proved library, or as sources that are not proved, with answers
+that cannot be misread.
 
 0 alone is success. A number that is none of a function's answers is an error of its own."""
+import bisect
 import collections
 import ctypes
 import re
@@ -42,7 +44,7 @@ def annotated_known(who, number, data):
 
 
 class Programs:
-    """The proved programs of target/bin, in the memory that they have."""
+    """The proved programs, crates/NAME/out/NAME, in the memory that they have."""
 
     proved = True
 
@@ -111,10 +113,11 @@ def lent(sizes):
 
 
 class Library:
-    """The functions of the library, loaded; in memory of any size."""
+    """The functions of the proved library, loaded; in memory of any size."""
 
-    def __init__(self, path, proved):
-        self.proved = proved
+    proved = True
+
+    def __init__(self, path):
         self.loaded = self.load(path)
 
     def load(self, path):
@@ -146,69 +149,102 @@ class Library:
             raise Fault(f'gumreta_run printed {printed.value} numbers where there is place for {sizes.prints}')
         return Ran(number, done.value, [ctypes.c_int32(n).value for n in memory[6][:printed.value]])
 
+    def printed_at(self, data, sizes, step):
+        """How many numbers are printed after so many steps: a shorter run says it."""
+        return len(self.run(data, sizes._replace(steps=step)).log)
 
-class Profile(Library):
-    """The profile's parts as a library, not proved, in memory of any size."""
 
-    LARGEST = 1 << 28
+class Unproved:
+    """The sources, run without a proof, in memory of any size. A run of them takes some ten seconds, and says all that will be asked of a job."""
+
+    proved = False
+
+    def __init__(self, sizes=STANDARD, runs=False, holds=False):
+        self.sizes, self.runs, self.holds, self.tried = sizes, runs, holds, []
+
+    def told(self, data, sizes=None, runs=False, holds=False):
+        """What the sources say of a file, or of the one that it is annotated to."""
+        wanted = (sizes or self.sizes, runs, holds)
+        for files, (given, ran, held), told in self.tried:
+            if data == files[0 if sizes is None else 1] and sizes in (None, given) and ran >= runs and held >= holds:
+                return told
+        given, ran, held = wanted[0], runs or self.runs, holds or self.holds
+        words = [count * each for count, each in zip(given[:4], WORDS)] + [given.steps]
+        told = building.tried(data, words, ran, held)
+        self.tried.append(((data, data if told.number else told.annotation), (given, ran, held), told))
+        return told
+
+    def annotate(self, data):
+        told = self.told(data)
+        return annotated_known('the annotator', told.number, told.annotation)
+
+    def check(self, data):
+        for (_, annotation), _, told in self.tried:
+            if data == annotation and told.accepted is not None:
+                return known('the checker', told.accepted, *REFUSALS)
+        return known('the checker', self.told(data).checked, *REFUSALS)
+
+    def run(self, data, sizes=STANDARD):
+        told = self.told(data, sizes, True)
+        if not told.number and told.annotation != data:
+            return Ran(known('the runner', told.checked, *REFUSALS), 0, [])
+        if not told.ran:
+            return Ran(known('the runner', told.accepted or told.number, *REFUSALS), 0, [])
+        return Ran(known('the runner', told.ran[0], *STOPS), told.ran[1], [ctypes.c_int32(n).value for n in told.numbers])
 
     def profile(self, data, sizes, ending):
-        if not sizes.frames:
-            return [NOTHING, ending]
-        room = 1 << 20
-        while room <= self.LARGEST:
-            out, last = (ctypes.c_uint8 * room)(), (ctypes.c_uint8 * 128)()
-            written, ending = ctypes.c_size_t(), ctypes.c_size_t()
-            number = self.call('gumreta_profile', data, ctypes.c_size_t(len(data)), *lent(sizes), ctypes.c_size_t(sizes.steps), out, ctypes.c_size_t(room),
-                               last, ctypes.c_size_t(len(last)), ctypes.byref(written), ctypes.byref(ending))
-            if number == 0:
-                return (bytes(memoryview(out)[:written.value]) + bytes(last[:ending.value])).decode().splitlines()
-            if number != 1:
-                raise Fault(f'gumreta_profile answered {number} to an accepted job')
-            room *= 8
-        raise Fault('the run is too long to be drawn: fewer --steps can be')
+        return (self.told(data, sizes, True, True).rows if sizes.frames else [NOTHING]) + [ending]
+
+    def printed_at(self, data, sizes, step):
+        """How many numbers are printed after so many steps: where the sources did not say it, a shorter run does."""
+        told = self.told(data, sizes, True, True)
+        if len(told.printed) == told.ran[2]:
+            return bisect.bisect_right(told.printed, step)
+        return len(self.run(data, sizes._replace(steps=step)).log)
 
 
 # ---- which of them
 def unproved_note():
-    """What is said of every answer that comes of a build without a proof."""
+    """What is said of every answer that comes of sources without a proof."""
     crates, left = proving.to_prove([*PROGRAMS, LIBRARY])
-    return f'built from these sources and not proved on this machine: ./job prove proves it ({len(left)} of {len(crates)} crates are left; {proving.MINUTES})'
+    return f'these sources are not proved on this machine: ./job prove proves them ({len(left)} of {len(crates)} crates are left; {proving.MINUTES})'
 
 
-def library():
-    """The library: from a proved archive, else not proved, else proved now."""
+def library(sizes=STANDARD, runs=False, holds=False):
+    """The library: from a proved archive, else the sources without a proof, else proved now."""
     if archive_proved():
-        return Library(building.loadable_archive(), True)
-    if building.compiles_unproved():
-        return Library(building.unproved(LIBRARY), False)
+        return Library(building.loadable_archive())
+    if building.tries_unproved():
+        return Unproved(sizes, runs, holds)
     proving.prove((), True)
-    return Library(building.loadable_archive(), True)
+    return Library(building.loadable_archive())
 
 
-def answers(names, sizes=STANDARD):
+def answers(names, sizes=STANDARD, holds=False):
     """What answers for these programs: they themselves, proved, or the library where one is missing, is of other sources, or memory is of another size."""
     if sizes == STANDARD and all(proved(name) for name in names):
         return Programs()
     old = [name for name in names if stale(name)]
     if old:
-        say(f'the sources are not those that {", ".join(old)} under target/bin was proved from: not used')
+        say(f'nothing says that {", ".join(old)} under crates/*/out was proved from these sources: not used')
     if not kit() and not archive_proved():
         raise Fault('the Rattle kit is missing: rt is not on the path')
-    if sizes == STANDARD and not archive_proved() and not building.compiles_unproved():
+    if sizes == STANDARD and not archive_proved() and not building.tries_unproved():
         proving.prove(names, False)
         return Programs()
-    return library()
+    return library(sizes, 'runner' in names, holds)
 
 
-def profiler(sizes=STANDARD):
-    """What says what a run held: the proved program, in whose memory a run in no more of it goes the same way until it stops; else its parts, not proved."""
+def profiler(sizes, ask):
+    """What says what a run held: the proved program, in whose memory a run in no more of it goes the same way until it stops; else the sources."""
     fits = all(size <= most for size, most in zip(sizes, STANDARD))
     if fits and proved('profile'):
         return Programs()
-    if building.compiles_unproved():
-        return Profile(building.unproved('profile'), False)
+    if isinstance(ask, Unproved):
+        return ask
+    if building.tries_unproved():
+        return Unproved(sizes, True, True)
     if not fits:
-        raise Fault('what a run holds in more memory than the program profile has needs a kit that compiles without a proof')
+        raise Fault('what a run holds in more memory than the program profile has needs a kit that runs a program without a proof')
     proving.prove(('profile',), False)
     return Programs()

@@ -67,9 +67,9 @@ def places_of(number, job):
     return []
 
 
-def answering(names, sizes=STANDARD):
-    """What answers for these programs, with a note where it is not proved."""
-    ask = asking.answers(names, sizes)
+def answering(names, sizes=STANDARD, holds=False):
+    """What answers for these programs, with a note where it is not proved. `holds`: it will be asked what a run held too."""
+    ask = asking.answers(names, sizes, holds)
     if not ask.proved:
         say(asking.unproved_note())
     return ask
@@ -166,7 +166,8 @@ def sizes_of(options):
 def run(path, options):
     sizes, wants_json = sizes_of(options), options.get('--json')
     job = job_files.open_job(path)
-    ask = answering(['annotator', 'checker', 'runner'], sizes)
+    holds = bool(options.get('--memory') or wants_json)
+    ask = answering(['annotator', 'checker', 'runner'], sizes, holds)
     tell = (lambda text: None) if wants_json else say
     made, before = annotated(ask, job)
     tell('the job is annotated already' if before else f'annotated: {len(made.data) // 16} records')
@@ -179,7 +180,7 @@ def run(path, options):
         for number in ran.log:
             print(number)
         sys.stdout.flush()
-    held = Held(ask, made, ran, sizes) if options.get('--memory') or wants_json else None
+    held = Held(ask, made, ran, sizes) if holds else None
     if options.get('--memory'):
         tell('\n'.join(held.said() + [f'drawn in {held.draw()}']))
     cause = CAUSES[ran.number].format(sizes) if ran.number else ''
@@ -199,15 +200,15 @@ class Held:
     """What a run held: the most of each sort, the worst step, and the drawing."""
 
     def __init__(self, ask, job, ran, sizes):
-        profile = asking.profiler(sizes)
+        profile = asking.profiler(sizes, ask)
         ending = f'stopped {ran.number} {ran.steps}' if ran.number else f'finished {ran.steps}'
         lines = profile.profile(job.data, sizes, ending)
         if lines[-1:] != [ending]:
             raise Fault(f'the profile ended with "{lines[-1] if lines else ""}" and the run with "{ending}": the two were not built from the same sources')
-        library = ask if isinstance(ask, asking.Library) else asking.library() if ran.log else ask
+        library = asking.library(sizes, True, True) if ran.log and isinstance(ask, asking.Programs) else ask
         self.proved = profile.proved and library.proved
         if ask.proved and not self.proved:
-            say('what the run held: ' + (asking.unproved_note() if sizes == STANDARD else 'by a build that is not proved: the proved profile has one size'))
+            say('what the run held: ' + (asking.unproved_note() if sizes == STANDARD else 'by sources that are not proved, since the proved profile has one size'))
         owners = job_listing.procedures(job.data, job.source, job.names)
         self.rows = figures.placed(figures.read('profile', lines), owners, job.places())
         self.job, self.ran, self.sizes = job, ran, sizes
@@ -215,9 +216,9 @@ class Held:
         self.worst = figures.worst(self.rows, len(ran.log), lambda step: self.printed_at(library, step))
 
     def printed_at(self, library, step):
-        """How many numbers are printed after so many steps: a shorter run says it."""
+        """How many numbers are printed after so many steps."""
         if step not in self.counts:
-            self.counts[step] = len(library.run(self.job.data, self.sizes._replace(steps=step)).log) if self.ran.log else 0
+            self.counts[step] = library.printed_at(self.job.data, self.sizes, step) if self.ran.log else 0
         return self.counts[step]
 
     def said(self):
@@ -259,11 +260,11 @@ def version():
         lines.append(f'{name}: ' + state(sources.program_path(name), sources.proved(name)))
     lines.append('library: ' + state(sources.ARCHIVE, sources.archive_proved()))
     if not all(sources.proved(name) for name in PROGRAMS) or not sources.archive_proved():
-        lines.append('what is not proved here is ' + asking.unproved_note())
+        lines.append(asking.unproved_note())
     return '\n'.join(lines)
 
 
 def state(path, current):
     if current:
         return f'proved on this machine from these sources, SHA-256 {sources.sha256(path)}'
-    return 'of other sources, not used' if os.path.exists(path) else 'not proved on this machine'
+    return 'not known to be of these sources, not used' if os.path.exists(path) else 'not proved on this machine'

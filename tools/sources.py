@@ -1,26 +1,35 @@
-"""The kit, the crates, and whether what stands under target/ was built from the sources as they are.
+"""The kit, the crates, and whether what stands under crates/NAME/out/ was built from the sources as they are.
 
-A build is called by a hash over the kit, the machine and all files of the crates that it reaches, worked out as rt does it for its own stamps under
-target/stamp. Beside what rt keeps no stamp of (the archive, what is loaded, unproved builds) a file NAME.built has that hash and the build's own SHA-256.
+A build is called by a hash over the kit and all files of the crates that it reaches, worked out as rt does it for its own stamps (out/rlib/stamp of a
+library, out/NAME.stamp of a program that rt run built). Beside what rt keeps no stamp of (the archive, what is loaded) a file NAME.built has that hash and
+the build's own SHA-256. What the tools themselves make stands under out/ at the top.
 """
 import functools
 import hashlib
 import os
-import platform
+import re
 import shutil
 
 from job_records import Fault
 
 ROOT = os.path.dirname(os.path.dirname(os.path.abspath(__file__)))
-TARGET = os.path.join(ROOT, 'target')
+OUT = os.path.join(ROOT, 'out')
 PROGRAMS = ('annotator', 'checker', 'runner', 'profile')
 LIBRARY = 'gumreta'
-ARCHIVE = os.path.join(TARGET, 'staticlib', f'lib{LIBRARY}.a')
-HASHED = ('src', 'specs', 'proofs', 'stdin', 'stdout', 'args', 'data')
+PARTS = ('src', 'specs', 'proofs')
+# a line of crates.txt: the name, whether it is a static library, counts, what the crate depends on
+LINE = re.compile(r'([\w-]+)( +staticlib)?((?: +\w+=[\w+]+)*) *:([\w\s,/-]*)')
+
+
+def crate_path(name, *words):
+    return os.path.join(ROOT, 'crates', name, *words)
 
 
 def program_path(name):
-    return os.path.join(TARGET, 'bin', name)
+    return crate_path(name, 'out', name)
+
+
+ARCHIVE = crate_path(LIBRARY, 'out', f'lib{LIBRARY}.a')
 
 
 def read(path):
@@ -41,70 +50,93 @@ def sha256(path):
 def kit():
     """The kit's folder, from the path of rt; '' where there is none."""
     rt = shutil.which('rt')
-    return os.environ.get('RATTLE_HOME') or (os.path.dirname(os.path.dirname(os.path.realpath(rt))) if rt else '')
+    return os.path.dirname(os.path.dirname(os.path.realpath(rt))) if rt else ''
 
 
 def kit_path(*words):
-    """A file of the kit that was compiled for this machine."""
-    return os.path.join(kit(), 'on', platform.machine(), *words)
+    return os.path.join(kit(), *words)
 
 
 @functools.cache
+def of_kit(name):
+    """A file that says which kit it is, remembered under out/ for where the kit itself is not at hand."""
+    kept = os.path.join(OUT, name)
+    text = read(kit_path(name)) if kit() else b''
+    if text and os.access(OUT if os.path.isdir(OUT) else ROOT, os.W_OK) and text != read(kept):
+        put(kept, text)
+    return text or read(kept)
+
+
 def kit_identity():
-    """The kit's one line, remembered under target/ for where the kit itself is not at hand."""
-    kept = os.path.join(TARGET, 'KIT-ID')
-    line = read(os.path.join(kit(), 'KIT-ID')) if kit() else b''
-    if line and os.access(TARGET, os.W_OK) and line != read(kept):
-        put(kept, line)
-    return line or read(kept)
+    """The kit's one line."""
+    return of_kit('KIT-ID')
 
 
 @functools.cache
-def crates():
-    """What each crate and each library of the kit depends on, as its line has it."""
-    lines = {}
-    for path in (os.path.join(kit(), 'libs', 'libs.txt'), os.path.join(ROOT, 'crates.txt')):
-        for line in read(path).decode().splitlines():
-            name, colon, rest = line.split('#')[0].partition(':')
-            if colon:
-                lines[name.strip()] = rest
-    return lines
+def lines():
+    """The lines of crates.txt, each as the pattern has it, by crate."""
+    found = [LINE.fullmatch(line.split('#')[0].strip()) for line in read(os.path.join(ROOT, 'crates.txt')).decode().splitlines()]
+    return {line[1]: line for line in found if line}
 
 
-def in_repository(name):
-    return os.path.isdir(os.path.join(ROOT, 'crates', name, 'src'))
+def needed(name):
+    """What a crate's line says that it depends on."""
+    return re.split(r'[\s,]+', lines()[name][4].strip()) if lines()[name][4].strip() else []
 
 
 def reached(*names):
-    """The crates and libraries that these reach, themselves among them, each once."""
+    """The crates of the repository that these reach, themselves among them, each once."""
     found = list(names)
     for name in found:
-        found += [d for d in crates().get(name, '').split() if d not in found]
+        if name not in lines():
+            raise Fault(f'crates.txt lists no crate {name}')
+        found += [d for d in needed(name) if d in lines() and d not in found]
     return list(dict.fromkeys(found))
 
 
 # ---- what a build is called
+def said(name):
+    """What crates.txt and the files beside src/ say of a crate, as rt has it."""
+    counts = lines()[name][3]
+    words = {'name': name.replace('-', '_'), 'deps': [f'//crates/{d}' if d in lines() else f'@rattle//{d}' for d in needed(name)],
+             **({'crate_type': 'staticlib'} if lines()[name][2] else {}), **{k: int(v) for k, v in re.findall(r'(\w+)=(\d+)', counts)},
+             **dict(re.findall(r'(tests_may|backend)=(\S+)', counts))}
+    if os.path.isfile(crate_path(name, 'src', 'main.rt')):
+        status = read(crate_path(name, 'status')).decode(errors='replace').strip()
+        if os.path.isfile(crate_path(name, 'args')):
+            words['args'] = read(crate_path(name, 'args')).decode(errors='surrogateescape').splitlines()
+        if re.fullmatch('[0-9]{1,3}', status):
+            words['status'] = int(status)
+    return words
+
+
 def files_of(name):
-    for part in HASHED:
-        path = os.path.join(ROOT, 'crates', name, part)
-        if os.path.isfile(path):
-            yield part, path
-        for folder, _, files in os.walk(path):
-            for file in files:
-                full = os.path.join(folder, file)
-                yield os.path.relpath(full, os.path.join(ROOT, 'crates', name)), full
+    """A crate's files, each with what it is called in the crate, in the order in which rt goes through them."""
+    for part in PARTS:
+        for folder, folders, files in os.walk(crate_path(name, part)):
+            folders.sort()
+            for file in sorted(files):
+                path = os.path.join(folder, file)
+                yield path[len(crate_path(name)):], path
 
 
 @functools.cache
 def stamp(name):
-    """The hash of a crate: the kit's, the machine's, its files', and those of what it depends on, as rt makes it."""
-    if name not in crates():
+    """The hash of a crate: its line's, the kit's, its files', and those of the crates that it depends on, as rt makes it."""
+    if name not in lines():
         raise Fault(f'crates.txt lists no crate {name}')
-    rows = sorted(f'{sha256(path)}  {short}\n' for short, path in files_of(name))
-    text = kit_identity().decode() + f'machine {platform.machine()}\n' + ''.join(rows) + f'deps: {crates()[name]}\n'
-    for d in crates()[name].split():
-        text += stamp(d) + '\n' if in_repository(d) else f'kit {d}\n'
-    return hashlib.sha256(text.encode()).hexdigest()
+    made = hashlib.sha256(repr((said(name), False)).encode())
+    made.update(of_kit('WHAT'))
+    for short, path in files_of(name):
+        made.update(repr((short, read(path))).encode())
+    made.update(repr([stamp(d) for d in needed(name) if d in lines()]).encode())
+    return made.hexdigest()
+
+
+def forget():
+    """The sources may have changed."""
+    for made in (stamp, lines):
+        made.cache_clear()
 
 
 def put(path, data):
@@ -128,20 +160,27 @@ def is_kept(path, called):
     return os.path.isfile(path) and read(path + '.built').decode(errors='replace').split() == [called, sha256(path)]
 
 
-def crate_proved(name):
-    return read(os.path.join(TARGET, 'stamp', name)).decode(errors='replace').strip() == stamp(name)
+def has_stamp(path, text):
+    return read(path).decode(errors='replace') == text
 
 
 def proved(name):
     """Whether a program is built, by a proof of these sources."""
     path = program_path(name)
-    return os.access(path, os.X_OK) and (crate_proved(name) or is_kept(path, stamp(name)))
+    return os.access(path, os.X_OK) and (has_stamp(path + '.stamp', stamp(name) + sha256(path)) or is_kept(path, stamp(name)))
 
 
 def archive_proved():
     return is_kept(ARCHIVE, stamp(LIBRARY))
 
 
+def crate_proved(name):
+    """Whether a crate is proved as it is, and what is made of it stands there."""
+    if name == LIBRARY:
+        return archive_proved()
+    return proved(name) if name in PROGRAMS else has_stamp(crate_path(name, 'out', 'rlib', 'stamp'), stamp(name))
+
+
 def stale(name):
-    """Whether a program is there that was built from other sources."""
+    """Whether a program is there of which nothing says that it was built from these sources."""
     return os.path.exists(program_path(name)) and not proved(name)
