@@ -1,0 +1,39 @@
+-- The walk in written order: the invariants are `Writing` along a chain and `Spelling` along the words of a record.
+use Rattle.std.proofs.Common.{rules}
+use mathlib.Core.Path.{◌∙◌}
+use Rattle.std.proofs.Common.{arith}
+use Rattle.language.specs.File.{record_count}
+use Rattle.records.specs.Sizes.{record_words}
+use Rattle.chains.specs.Formed.{ahead}
+use Rattle.writer.proofs.LaidLaws.{linked_small}
+use Rattle.writer.proofs.LeadsLaws.{told}
+use Rattle.writer.proofs.ReadyLaws.{Writing, writing_first, writing_record, writing_less, writing_falls, writing_next, writing_last}
+use Rattle.writer.proofs.LeafLaws.{leaf_room, leaf_wrote}
+use Rattle.writer.proofs.Spelling.{Spelling, spelling_first, spelling_room, spelling_falls, spelling_chain, spelling_leads, spelling_plain, done_room, spelling_done}
+use Prim.Native.Nat.{◌+◌, ◌-◌, ◌*◌, ℕ, ◌<◌}
+use Rattle.writer.proofs.walk.+write_chain_write_record.Given as goal
+
+-- The functions `past` lead from a point that several needs pass to the earlier points that these look at, so that a path stands once.
+abbrev pub decreases-write_chain : goal.decreases-write_chain
+decreases-write_chain l =
+    2 * ahead l.file.now l.start + 1
+
+abbrev pub invariant-write_chain-loop-i : goal.invariant-write_chain-loop-i
+invariant-write_chain-loop-i l =
+    Writing l.file l.initial.out l.out l.start l.first l.i l.at
+
+abbrev pub decreases-write_chain-loop-i : goal.decreases-write_chain-loop-i
+decreases-write_chain-loop-i l =
+    ahead l.file l.i
+
+abbrev pub decreases-write_record : goal.decreases-write_record
+decreases-write_record l =
+    2 * (record_count l.file.now - l.i)
+
+abbrev pub invariant-write_record-loop-k : goal.invariant-write_record-loop-k
+invariant-write_record-loop-k l =
+    Spelling l.file l.i l.at l.initial.out l.out l.k l.end
+
+abbrev pub decreases-write_record-loop-k : goal.decreases-write_record-loop-k
+decreases-write_record-loop-k l =
+    record_words - l.k
