@@ -1,4 +1,4 @@
-/* Annotates a job file, checks and runs it, and prints its log and how it ended. `make` builds it, as target/c-example. */
+/* Annotates a job file, checks and runs it, and prints its log and how it ended. `make` builds it, as out/c/example. */
 #include <stdio.h>
 #include "gumreta.h"
 

@@ -5,6 +5,7 @@ import random
 import re
 
 import asking
+import building
 import explaining
 import job_files
 import job_listing
@@ -46,7 +47,7 @@ def try_mistakes(trial, folder):
         with open(path, 'w', encoding='utf-8') as out:
             out.write(text)
         trial.run(['job', 'run', path], 1, '', '')
-        said = trial.said.replace(asking.unproved_note() + '\n', '').replace(path, 'FILE')
+        said = trial.said.replace(asking.unproved_note() + '\n', '').replace(building.RUNNING + '\n', '').replace(path, 'FILE')
         named += bool(re.search(r'FILE:\d+: ', said))
         trial.judge(f'FILE:{line}: ' in said if line else not re.search(r'FILE:\d+', said), f'{what}: line {line} is to be named: {said!r}')
         rows.append(f'| {what} | {changed(what)} | {cell(said)} |')

@@ -1,6 +1,6 @@
 //! Puts generated and damaged job files to the proved programs and to the reference, and compares the answers.
 //!
-//!     cargo run --release -p compare -- FOLDER FILES [SEED]     FOLDER has the programs annotator, checker and runner, as target/bin
+//!     cargo run --release -p compare -- FOLDER FILES [SEED]     FOLDER is crates/, which has the programs as annotator/out/annotator and so on
 use compare::generate;
 use compare::random::Random;
 use reference::Lent;
@@ -51,7 +51,7 @@ struct Tally {
 
 impl Tally {
     fn compare(&mut self, program: &str, file: &[u8], right: Vec<u8>) {
-        let path = format!("{}/{program}", self.folder);
+        let path = format!("{}/{program}/out/{program}", self.folder);
         *self.answers.entry(format!("{program}: {}", sort(&right))).or_default() += 1;
         if answer(&path, file) != right {
             self.differences += 1;
