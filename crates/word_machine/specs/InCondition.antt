@@ -44,7 +44,7 @@ module _ {f : List ℕ} {T : Tables} (B : Tabled f T) where
     pub follows : Todo B u.frame.procedure v.then' a
     pub room : v.count + goals_size u.frame.goals ≤ max_records
     pub long : length v.log ≡ max_records
-    pub cell_room_law : K.cells ≤ most
+    pub cell_room : K.cells ≤ most
     pub printed : Printed qs v.words.prints v.words.printed m.printed
     pub frame_room : frame_words * K.frames ≤ length v.words.frames
     pub print_room : K.prints ≤ length v.words.prints

@@ -129,7 +129,7 @@ module _ {f : List ℕ} {T : Tables} (B : Tabled f T) where
 -- the lent words stand for the memory M; qs are the words lent for printed numbers. The places of cells are below all constants
 pub record MemoryStored (k : Room) (qs : List ℕ) (w : MachineWords) (M : Memory) (ρ χ : ℕ → ℕ) : Type 0 where
   pub represents : Represents k w.heap w.cells w.regions M ρ χ
-  pub cell_room_law : k.cells ≤ most
+  pub cell_room : k.cells ≤ most
   pub printed : Printed qs w.prints w.printed M.printed
   pub frame_room : frame_words * k.frames ≤ length w.frames
   pub print_room : k.prints ≤ length w.prints
