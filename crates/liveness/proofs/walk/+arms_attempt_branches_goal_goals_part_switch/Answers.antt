@@ -1,0 +1,152 @@
+-- The walk over goals: one law of Walking for each way through it. The records ahead fall.
+use mathlib.Core.Path.{sym, ap, ◌∙◌}
+use Rattle.std.proofs.Common.{arith}
+use Rattle.chains.specs.Formed.{ahead}
+use Rattle.chains.specs.Is.{chain_next}
+use Rattle.chains.specs.Shapes.{arm_here}
+use Rattle.liveness.proofs.Walking.{goals_last, to_next, goals_more, step_done, to_arms, switch_done, to_then, to_else, if_done, to_condition, to_try_then, to_try_else, try_done, arms_last, arms_more, part_stands, part_done, switch_there, if_there, try_there}
+use Rattle.std.proofs.Common.{rules}
+use Rattle.liveness.proofs.walk.+arms_attempt_branches_goal_goals_part_switch.Goals as goal
+
+pub arms-returns-then-i-eq0 : goal.arms-returns-then-i-eq0
+arms-returns-then-i-eq0 t c = search (arms_last, rules)
+
+pub arms-arms-requires : goal.arms-arms-requires
+arms-arms-requires t c =
+    let o = chain_next c.requires.formed c.requires.stands c.if-i-eq0.false c.word-next.ensures.0 in
+    (omega (arith, o.falls, c.decreases), (c.requires.formed, (c.requires.accessed, o.stands)))
+
+pub arms-part-requires : goal.arms-part-requires
+arms-part-requires t c =
+    let o = (arm_here c.requires.formed c.if-i-eq0.false c.requires.stands).to_goals in
+    (omega (arith, o.falls, c.decreases), (c.requires.formed, (c.requires.accessed, (omega arith, (c.requires.stands.below, o.stands)))))
+
+pub arms-returns : goal.arms-returns
+arms-returns t c =
+    arms_more _ _ _ c.requires.formed c.requires.stands c.if-i-eq0.false c.live_in-after.ensures c.word-next.ensures.0 c.arms.ensures
+    c.live_in-other.ensures c.put_live-2.ensures c.part.ensures c.live_in-live.ensures
+    (c.gives_at-bound.ensures ∙ c.requires.accessed.arm_gives _ c.requires.stands c.if-i-eq0.false) c.difference.ensures
+    c.union.ensures c.put_live-3.ensures
+
+pub attempt-part-requires : goal.attempt-part-requires
+attempt-part-requires t c =
+    let o = to_try_else _ _ c.requires.formed c.requires.kind_word_value in
+    (omega (arith, o.falls, c.decreases), (c.requires.formed, (c.requires.accessed, (omega arith, (try_there _ _ c.requires.formed c.requires.kind_word_value, o.stands)))))
+
+pub attempt-part-requires-2 : goal.attempt-part-requires-2
+attempt-part-requires-2 t c =
+    let o = to_try_then _ _ c.requires.formed c.requires.kind_word_value in
+    (omega (arith, o.falls, c.decreases), (c.requires.formed, (c.requires.accessed, (omega arith, (try_there _ _ c.requires.formed c.requires.kind_word_value, o.stands)))))
+
+pub attempt-part-requires-3 : goal.attempt-part-requires-3
+attempt-part-requires-3 t c =
+    let o = to_condition _ _ c.requires.formed c.requires.kind_word_value in
+    (omega (arith, o.falls, c.decreases), (c.requires.formed, (c.requires.accessed, (omega arith, (try_there _ _ c.requires.formed c.requires.kind_word_value, o.stands)))))
+
+pub attempt-returns : goal.attempt-returns
+attempt-returns t c =
+    try_done _ _ _ c.requires.formed c.requires.kind_word_value c.live_in-after.ensures c.part.ensures c.live_in-other.ensures
+    c.put_live.ensures c.part-2.ensures c.part-3.ensures c.live_in-one.ensures
+    c.union.ensures c.put_point.ensures
+
+pub branches-part-requires : goal.branches-part-requires
+branches-part-requires t c =
+    let o = to_else _ _ c.requires.formed c.requires.kind_word_value in
+    (omega (arith, o.falls, c.decreases), (c.requires.formed, (c.requires.accessed, (omega arith, (if_there _ _ c.requires.formed c.requires.kind_word_value, o.stands)))))
+
+pub branches-part-requires-2 : goal.branches-part-requires-2
+branches-part-requires-2 t c =
+    let o = to_then _ _ c.requires.formed c.requires.kind_word_value in
+    (omega (arith, o.falls, c.decreases), (c.requires.formed, (c.requires.accessed, (omega arith, (if_there _ _ c.requires.formed c.requires.kind_word_value, o.stands)))))
+
+pub branches-word-requires : goal.branches-word-requires
+branches-word-requires t c = search (if_there, rules)
+
+pub branches-word-requires-2 : goal.branches-word-requires-2
+branches-word-requires-2 t c = record {
+  formed = c.requires.formed;
+  k_lt_record_words = (omega arith, if_there _ _ c.requires.formed c.requires.kind_word_value);
+}
+
+pub branches-returns : goal.branches-returns
+branches-returns t c =
+    if_done _ _ _ c.requires.formed c.requires.kind_word_value c.live_in-after.ensures c.part.ensures c.live_in-other.ensures
+    c.put_live.ensures c.part-2.ensures c.live_in-one.ensures c.word.ensures.0 c.of-y.ensures
+    c.word-2.ensures.0 c.of-z.ensures c.union.ensures c.union-2.ensures c.union-3.ensures
+    c.put_point.ensures
+
+pub goal-word-requires : goal.goal-word-requires
+goal-word-requires t c = record {
+  formed = c.requires.formed;
+  k_lt_record_words = (omega arith, c.requires.stands.0.below);
+}
+
+pub goal-switch-requires : goal.goal-switch-requires
+goal-switch-requires t c =
+    (omega (arith, c.decreases), (c.requires.formed, (c.requires.accessed, sym c.word.ensures.0 ∙ c.in-12.is)))
+
+pub goal-branches-requires : goal.goal-branches-requires
+goal-branches-requires t c =
+    (omega (arith, c.decreases), (c.requires.formed, (c.requires.accessed, sym c.word.ensures.0 ∙ c.in-14.is)))
+
+pub goal-attempt-requires : goal.goal-attempt-requires
+goal-attempt-requires t c =
+    (omega (arith, c.decreases), (c.requires.formed, (c.requires.accessed, sym c.word.ensures.0 ∙ c.in-20.is)))
+
+pub goal-returns-in-12 : goal.goal-returns-in-12
+goal-returns-in-12 t c = c.switch.ensures
+
+pub goal-returns-in-14 : goal.goal-returns-in-14
+goal-returns-in-14 t c = c.branches.ensures
+
+pub goal-returns-in-20 : goal.goal-returns-in-20
+goal-returns-in-20 t c = c.attempt.ensures
+
+pub goal-returns-in_default : goal.goal-returns-in_default
+goal-returns-in_default t c =
+    step_done _ _ _ c.requires.formed c.requires.stands.0 c.requires.stands.1 (λ e. c.in_default.in_default-own.rest.0.0.1 (c.word.ensures.0 ∙ e))
+    (λ e. c.in_default.in_default-own.rest.0.1 (c.word.ensures.0 ∙ e)) (λ e. c.in_default.in_default-own.rest.1 (c.word.ensures.0 ∙ e)) _ c.requires.accessed c.step.ensures
+
+pub goals-returns-then-i-eq0 : goal.goals-returns-then-i-eq0
+goals-returns-then-i-eq0 t c = goals_last _ _ _ _ _ c.if-i-eq0.true
+
+pub goals-part-requires : goal.goals-part-requires
+goals-part-requires t c =
+    let o = to_next _ _ c.requires.formed c.requires.stands c.if-i-eq0.false in
+    (omega (arith, o.falls, c.decreases), (c.requires.formed, (c.requires.accessed, (omega arith, (c.requires.stands.below, o.stands)))))
+
+pub goals-returns : goal.goals-returns
+goals-returns t c = search (goals_more, rules)
+
+pub part-word-start-requires : goal.part-word-start-requires
+part-word-start-requires t c = record {
+  formed = c.requires.formed;
+  k_lt_record_words = (c.requires.k_lt_record_words.0, c.requires.k_lt_record_words.1.0);
+}
+
+pub part-returns-then-start-eq0 : goal.part-returns-then-start-eq0
+part-returns-then-start-eq0 t c = goals_last _ _ _ _ _ (sym c.word-start.ensures.0 ∙ c.if-start-eq0.true)
+
+pub part-goals-requires : goal.part-goals-requires
+part-goals-requires t c =
+    let e = c.word-start.ensures.0 in
+    (omega (arith, ap (ahead c.args.file.now.now) e, c.decreases), (c.requires.formed, (c.requires.accessed, part_stands _ _ _ e c.requires.k_lt_record_words.1.1)))
+
+pub part-returns : goal.part-returns
+part-returns t c = search (part_done, rules)
+
+pub switch-word-first-requires : goal.switch-word-first-requires
+switch-word-first-requires t c = search (switch_there, rules)
+
+pub switch-arms-requires : goal.switch-arms-requires
+switch-arms-requires t c =
+    let o = to_arms _ _ c.requires.formed c.requires.kind_word_value c.word-first.ensures.0 in
+    (omega (arith, o.falls, c.decreases), (c.requires.formed, (c.requires.accessed, o.stands)))
+
+pub switch-word-requires : goal.switch-word-requires
+switch-word-requires t c = search (switch_there, rules)
+
+pub switch-returns : goal.switch-returns
+switch-returns t c =
+    switch_done _ _ _ c.requires.formed c.requires.kind_word_value c.live_in-after.ensures c.word-first.ensures.0 c.arms.ensures
+    c.word.ensures.0 c.of-x.ensures c.live_in-needed.ensures c.union.ensures c.put_point.ensures
