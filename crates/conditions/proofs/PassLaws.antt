@@ -1,22 +1,21 @@
 -- What the functions of the pass come to on each way through them, and the invariants of its loops.
-use Prim.Native.Nat.{ℕ, zero, suc, ◌+◌, ◌-◌, ◌≤◌, ◌<◌}
+use Prim.Native.Nat.{ℕ, ◌+◌, ◌-◌, ◌≤◌, ◌<◌}
 use native.Mathlib.Omega.{arith}
 use native.Mathlib.Numerals.{add-one}
-use mathlib.Core.Bool.{Bool, true, false, not}
-use mathlib.Core.List.{List, [], ◌∷◌}
+use mathlib.Core.Bool.{Bool, true, false}
+use mathlib.Core.List.{List, ◌∷◌}
 use mathlib.Core.Path.{◌≡◌, refl, sym, ap, ◌∙◌}
 use borrow.Author.Tests.{eq-eqb, ne_eqb, lt-ltb, le-ltb}
 use lib.Dec.{eqb, ltb}
 use lib.ListN.{length, get_or, set, replicate, length-replicate, get_or-replicate}
 use Rattle.sets.specs.Tests.{◌&◌, ◌or◌, neg}
-use Rattle.sets.specs.Members.{in_list}
 use Rattle.language.specs.Lists.{choose, all, up_from}
-use Rattle.language.specs.File.{k_goal, k_try, k_header, word, record_count, kind_of, row}
+use Rattle.language.specs.File.{k_header, word, record_count}
 use Rattle.language.specs.Format.{kind_word, next_word, try_condition, try_then, try_else, if_kind, call_kind, print_kind, try_kind, test_kind, max_records}
 use Rattle.language.specs.Conditions.{conditions_ok}
 use Rattle.language.specs.Answers.{program}
 use Rattle.records.specs.Lists.{from_here, from_end}
-use Rattle.chains.specs.Layout.{all_rows, number_is, header_kind_law}
+use Rattle.chains.specs.Layout.{all_rows, header_kind_law}
 use Rattle.chains.specs.Formed.{Formed, counted}
 use Rattle.chains.specs.Shapes.{IsTry, kind_number}
 use Rattle.owners.specs.Handed.{next_and, hand_to, words_of, given, hand_down, handed_up_to}

@@ -1,6 +1,6 @@
 -- Number 2's rule on conditions over the records: a program's conditions are in order if and only if every record stands where its kind may.
-use Rattle.std.specs.Prelude.{ℕ, zero, suc, ◌-◌, ◌<◌, Bool, true, List, [], ◌∷◌, ◌≡◌, length, replicate}
-use Rattle.std.proofs.Common.{arith, sym, ◌∙◌, ne_eqb}
+use Rattle.std.specs.Prelude.{ℕ, ◌-◌, ◌<◌, Bool, true, List, ◌≡◌, replicate}
+use Rattle.std.proofs.Common.{arith, sym, ◌∙◌}
 use Rattle.std.proofs.Math.Decide.{ℕ_discrete}
 use Rattle.std.proofs.Math.Bool.{false}
 use Rattle.std.proofs.lemmas.Bool.{false≢true}
@@ -13,20 +13,19 @@ use Rattle.sets.specs.Members.{in_list}
 use Rattle.language.specs.Lists.{all, choose, up_from}
 use Rattle.language.specs.Format.{header_procedures, kind_word, next_word, arm_goals, if_else, if_then, procedure_goals, switch_arms, try_condition, try_else, try_then, if_kind, call_kind, print_kind, try_kind, test_kind, max_records}
 use Rattle.language.specs.File.{GoalKind, k_literal, k_sum, k_assign, k_construct, k_switch, k_if, k_call, k_print, k_create, k_remove, k_try, k_test, Kind, k_none, k_header, k_type, k_functor, k_procedure, k_variable, k_region, k_edge, k_arm, k_argument, k_goal, Chain, nowhere, types, functors, procedures, variables, regions, edges, goals, arms, arguments, row, kind_of, word, record_count}
-use Rattle.language.specs.Program.{Step, ◌then◌, Goals, Goal, step, switch, if_less, try}
-use Rattle.language.specs.Conditions.{step_stands, goals_stand, goal_stands, arms_stand, conditions_ok}
+use Rattle.language.specs.Program.{Step, ◌then◌, step}
+use Rattle.language.specs.Conditions.{step_stands, goals_stand, arms_stand, conditions_ok}
 use Rattle.language.specs.Answers.{program}
 use Rattle.records.specs.Table.{uses}
-use Rattle.records.specs.Lists.{all_same}
-use Rattle.chains.specs.Layout.{all_rows, number_is, real, known_chain, header_kind_law}
-use Rattle.chains.specs.Formed.{Formed, counted, goals_at, goal_at, arms_at, procedures_at, goals_none, arms_none, procedures_none, program_procedures}
+use Rattle.chains.specs.Layout.{all_rows, real, known_chain, header_kind_law}
+use Rattle.chains.specs.Formed.{Formed, counted, goals_at, arms_at, procedures_at, goals_none, arms_none, procedures_none, program_procedures}
 use Rattle.chains.specs.Kinds.{same_read}
 use Rattle.chains.specs.Shapes.{kind_number}
 use Rattle.chains.specs.Goals.{literal_at, sum_at_law, assign_at, construct_at, print_at, create_at, remove_at, test_at}
 use Rattle.chains.specs.Parts.{switch_at, arm_at, if_at, try_at, call_at}
 use Rattle.chains.specs.Declared.{procedure_at_law}
 use Rattle.owners.specs.Referred.{sort_of, uses_of}
-use Rattle.owners.specs.ChainTests.{one_swap, two_swap, three_swap, four_swap, five_swap, words_test, chain_all}
+use Rattle.owners.specs.ChainTests.{one_swap, two_swap, four_swap, five_swap, words_test, chain_all}
 use Rattle.owners.specs.Handed.{reference_words, words_open}
 use Rattle.owners.specs.Handing.{handed_none, handed_by, known}
 use Rattle.conditions.specs.Inside.{inside_by, insides, inside_at}

@@ -1,12 +1,12 @@
 -- A file without tries and tests: no record stands in a condition, and each may stand where it does.
-use Rattle.std.specs.Prelude.{ℕ, ◌+◌, ◌-◌, ◌<◌, Bool, List, ◌≡◌, eqb, get_or, replicate}
-use Rattle.std.proofs.Common.{arith, ap, sym, ◌∙◌}
+use Rattle.std.specs.Prelude.{ℕ, ◌-◌, ◌<◌, Bool, List, ◌≡◌, get_or, replicate}
+use Rattle.std.proofs.Common.{arith, sym, ◌∙◌}
 use Rattle.std.proofs.Math.Bool.{true, false}
 use Rattle.std.proofs.lemmas.Bool.{false≢true}
 use Rattle.std.proofs.Math.Path.{refl}
 use borrow.Author.Tests.{ne_eqb, ltb-true}
 use Rattle.std.proofs.Math.Dec.{ltb}
-use Rattle.sets.specs.Tests.{◌&◌, neg, neg_true}
+use Rattle.sets.specs.Tests.{◌&◌, neg}
 use Rattle.sets.specs.Members.{in_list}
 use Rattle.laws.specs.Numbers.{all_at, at_all}
 use Rattle.language.specs.Lists.{all, choose, up_from}

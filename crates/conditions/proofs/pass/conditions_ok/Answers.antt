@@ -1,0 +1,61 @@
+-- The first i records have handed down, and stand where they may.
+use mathlib.Core.Path.{refl, sym, ◌∙◌}
+use Rattle.std.proofs.Common.{arith}
+use Rattle.chains.specs.Formed.{counted}
+use Rattle.owners.specs.Digits.{record_room}
+use Rattle.conditions.specs.Without.{without_conditions}
+use Rattle.conditions.proofs.PassLaws.{passed_first, passed_stop, passed_next, passed_length, passed_last}
+use Rattle.std.proofs.Common.{rules}
+use Rattle.conditions.proofs.pass.conditions_ok.Goals as goal
+
+pub any_condition-requires : goal.any_condition-requires
+any_condition-requires c = search rules
+
+pub returns-then-not-any_condition : goal.returns-then-not-any_condition
+returns-then-not-any_condition c = without_conditions c.requires (sym c.any_condition.ensures ∙ c.if-not-any_condition.true)
+
+pub record_count-n-requires : goal.record_count-n-requires
+record_count-n-requires c = search rules
+
+pub part_words-parts-requires : goal.part_words-parts-requires
+part_words-parts-requires c = search rules
+
+pub blank_owners-inside-requires : goal.blank_owners-inside-requires
+blank_owners-inside-requires c = search rules
+
+pub loop-i-init : goal.loop-i-init
+loop-i-init c = passed_first c.requires c.record_count-n.ensures c.blank_owners-inside.ensures
+
+pub offset_bounds-inside-i : goal.offset_bounds-inside-i
+offset_bounds-inside-i c = omega (arith, c.loop-i.invariant.count, (counted c.requires).most)
+
+pub bounds-inside-i : goal.bounds-inside-i
+bounds-inside-i c = omega (arith, c.loop-i.invariant.count, (counted c.requires).most)
+
+pub word_in-requires : goal.word_in-requires
+word_in-requires c = (omega arith, record_room c.requires _ (omega (arith, c.loop-i.invariant.count)))
+
+pub may_stand-requires : goal.may_stand-requires
+may_stand-requires c = search rules
+
+pub returns-then-not-may_stand : goal.returns-then-not-may_stand
+returns-then-not-may_stand c =
+    passed_stop c.requires c.loop-i.invariant c.loop-i-test.true refl c.word_in.ensures.0 c.may_stand.ensures c.if-not-may_stand.true
+
+pub slice_bounds-hand_down-end : goal.slice_bounds-hand_down-end
+slice_bounds-hand_down-end c = sym (passed_length c.requires c.loop-i.invariant)
+
+pub hand_down-requires : goal.hand_down-requires
+hand_down-requires c = let F = c.requires in record {
+  formed = F;
+  parts_value = c.part_words-parts.ensures;
+  i_bound = (omega (arith, c.loop-i.invariant.count, c.loop-i-test.true), omega (arith, passed_length F c.loop-i.invariant, (counted F).most));
+}
+
+pub loop-i-preserved : goal.loop-i-preserved
+loop-i-preserved c =
+    passed_next c.requires c.loop-i.invariant c.loop-i-test.true refl c.word_in.ensures.0 c.may_stand.ensures c.if-not-may_stand.false
+    c.hand_down.ensures
+
+pub returns : goal.returns
+returns c = passed_last c.requires c.loop-i.invariant c.loop-i-test.false
