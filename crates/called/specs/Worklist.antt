@@ -1,6 +1,5 @@
 -- The worklist: what each procedure found calls is looked at, in the order in which they were found.
 use Rattle.std.specs.Prelude.{ℕ, List}
-use Rattle.language.specs.CallChains.{callees}
 use Rattle.called.specs.Found.{Found, More, CalleesMarked}
 
 -- once all that procedure p calls has been looked at: what was found before, and what p calls
