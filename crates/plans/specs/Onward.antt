@@ -1,18 +1,15 @@
 -- What the functions of the pass come to on each way through them.
-use Rattle.std.specs.Prelude.{ℕ, zero, suc, ◌+◌, ◌≤◌, ◌<◌, true, false, ◌≡◌, get_or}
+use Rattle.std.specs.Prelude.{ℕ, zero, suc, ◌+◌, ◌≤◌, ◌≡◌, get_or}
 use native.Mathlib.Omega.{arith}
-use Rattle.std.proofs.Common.{add-one, sym, ◌∙◌}
+use Rattle.std.proofs.Common.{add-one, ◌∙◌}
 use Rattle.std.proofs.Math.Path.{refl, ap}
-use mathlib.Core.List.{List, [], ◌∷◌}
-use borrow.Author.Tests.{eq-eqb, ne_eqb}
+use mathlib.Core.List.{List}
+use borrow.Author.Tests.{ne_eqb}
 use Rattle.std.proofs.Math.ListN.{set}
 use Rattle.sets.specs.Tests.{◌&◌, ◌or◌}
-use Rattle.sets.specs.Members.{in_list}
 use Rattle.language.specs.Lists.{choose}
-use Rattle.language.specs.File.{k_goal, k_try, kind_of, word, record_count}
+use Rattle.language.specs.File.{word, record_count}
 use Rattle.language.specs.Format.{kind_word, next_word, procedure_kind, switch_kind, if_kind, try_kind, try_condition, try_then, try_else}
-use Rattle.chains.specs.Layout.{all_rows, number_is}
-use Rattle.chains.specs.Formed.{Formed}
 use Rattle.chains.specs.Shapes.{IsTry}
 use Rattle.owners.specs.Handed.{next_and, hand_to, words_of, given, hand_down, handed_up_to, handed}
 use Rattle.owners.specs.Handing.{to_same}

@@ -1,6 +1,6 @@
 -- What the arguments of calls match: stores in the second and third sort of the plan.
-use Prim.Native.Nat.{ℕ, zero, suc, ◌+◌, ◌≤◌, ◌<◌}
-use Rattle.std.proofs.Common.{arith, sym, ◌∙◌, eqb-true, length-set}
+use Prim.Native.Nat.{ℕ, zero, suc, ◌+◌, ◌<◌}
+use Rattle.std.proofs.Common.{arith, ◌∙◌, eqb-true, length-set}
 use Rattle.std.specs.Prelude.{Bool, List, [], ◌∷◌, ◌≡◌, length, get_or, set}
 use Rattle.std.proofs.Math.Bool.{true, false}
 use Rattle.std.proofs.Math.Path.{refl, ap}
