@@ -24,7 +24,7 @@ use Rattle.liveness.specs.Counts.{goals_count, goal_count, arms_count}
 use Rattle.liveness.specs.Table.{before_at, after_at}
 use Rattle.writer.specs.Laid.{linked}
 use Rattle.writer.specs.Skips.{Behind}
-use Rattle.laying.specs.Lays.{Lays, GoesOn, lays_end}
+use Rattle.laying.specs.Lays.{GoesOn, lays_end}
 use Rattle.insertion.specs.Chains.{Fronts}
 use Rattle.insertion.proofs.ChainsLaws.{fronts_head, chain_goes, lays_part}
 use Rattle.insertion.specs.Wants.{WantedFrom}
