@@ -9,7 +9,7 @@ use mathlib.Core.Path.{◌≡◌, refl, sym, ap, ◌∙◌}
 use lib.ListN.{length}
 use Rattle.sets.specs.Tests.{clash}
 use Rattle.language.specs.Format.{max_records, arm_kind, kind_word, next_word}
-use Rattle.language.specs.File.{k_arm, word, record_count, row}
+use Rattle.language.specs.File.{k_arm, word, record_count}
 use Rattle.language.specs.Program.{Step, ◌then◌, step}
 use Rattle.chains.specs.Layout.{all_rows}
 use Rattle.chains.specs.Formed.{Formed, counted, goals_at}

@@ -2,8 +2,8 @@
 use Rattle.std.specs.Prelude.{ℕ, ◌≤◌, ◌<◌, false, List, [], ◌⊎◌, ◌≡◌, length}
 use Rattle.sets.specs.Members.{set_of}
 use Rattle.language.specs.Format.{arm_kind, kind_word}
-use Rattle.language.specs.File.{arms, word, row}
-use Rattle.language.specs.Program.{Step, step}
+use Rattle.language.specs.File.{arms, word}
+use Rattle.language.specs.Program.{Step}
 use Rattle.language.specs.Values.{access, reads, gives}
 use Rattle.language.specs.Answers.{program}
 use Rattle.chains.specs.Formed.{Stands}

@@ -1,0 +1,4 @@
+use Rattle.accesses.proofs.steps.test_access.Goals as goal
+
+pub returns : goal.returns
+returns c = cc
