@@ -1,8 +1,6 @@
 use mathlib.Core.Path.{sym, ap₂, ◌∙◌}
-use borrow.Author.Tests.{not-true, not-false}
 use Rattle.sets.specs.Sets.{◌∪◌, ◌∩◌, subset}
 use Rattle.values.proofs.ValuingLaws.{giving_unread, giving_twice, giving_again, giving_goes}
-use Rattle.std.proofs.Common.{rules}
 use Rattle.values.proofs.carried.apply.Goals as goal
 
 pub returns-then-not-is_subset : goal.returns-then-not-is_subset

@@ -1,5 +1,4 @@
 use Rattle.values.specs.Valuing.{every_in}
-use Rattle.std.proofs.Common.{rules}
 use Rattle.values.proofs.carried.every_in.Goals as goal
 
 pub returns : goal.returns

@@ -1,7 +1,6 @@
 use mathlib.Core.Path.{ap, ap₂, ◌∙◌}
 use Rattle.sets.specs.Sets.{◌∪◌, ◌∩◌}
 use Rattle.values.specs.Valuing.{both}
-use Rattle.std.proofs.Common.{rules}
 use Rattle.values.proofs.carried.join.Goals as goal
 
 pub returns : goal.returns

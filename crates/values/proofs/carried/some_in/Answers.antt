@@ -1,5 +1,4 @@
 use Rattle.values.specs.Valuing.{some_in}
-use Rattle.std.proofs.Common.{rules}
 use Rattle.values.proofs.carried.some_in.Goals as goal
 
 pub returns : goal.returns

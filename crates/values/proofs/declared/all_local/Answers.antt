@@ -1,8 +1,7 @@
-use Rattle.values.proofs.Entry.{Local, local_first, local_next, local_stop, local_last}
+use Rattle.values.proofs.Entry.{local_first, local_next, local_stop, local_last}
 use Rattle.chains.specs.Is.{chain_next}
 use Rattle.chains.specs.Shapes.{variable_here}
-use Rattle.chains.specs.Formed.{Stands, ahead, variables_at, variables_none}
-use Rattle.language.specs.File.{variables}
+use Rattle.chains.specs.Formed.{variables_none}
 use Rattle.std.proofs.Common.{rules}
 use mathlib.Core.Path.{sym, ◌∙◌}
 use Rattle.values.proofs.declared.all_local.Goals as goal

@@ -1,10 +1,6 @@
-use Rattle.values.proofs.Entry.{Local, local_first, local_next, local_stop, local_last}
-use Rattle.chains.specs.Is.{chain_next}
-use Rattle.chains.specs.Shapes.{variable_here}
-use Rattle.chains.specs.Formed.{Stands, ahead, variables_at, variables_none}
+use Rattle.values.proofs.Entry.{Local}
+use Rattle.chains.specs.Formed.{Stands, ahead, variables_at}
 use Rattle.language.specs.File.{variables}
-use Rattle.std.proofs.Common.{rules}
-use mathlib.Core.Path.{sym, ◌∙◌}
 use Rattle.values.proofs.declared.all_local.Given as goal
 
 abbrev pub invariant-loop-i : goal.invariant-loop-i

@@ -1,8 +1,6 @@
 use Rattle.std.proofs.Common.{arith}
-use borrow.Author.Tests.{not-true, not-false}
 use Rattle.accesses.specs.Fitting.{window_fits}
 use Rattle.values.proofs.Windows.{body_stands, valued_stop, valued_end}
-use Rattle.std.proofs.Common.{rules}
 use Rattle.values.proofs.stage.procedure_ok.Goals as goal
 
 pub overflow_add-window : goal.overflow_add-window

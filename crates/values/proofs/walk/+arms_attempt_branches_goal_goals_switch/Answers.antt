@@ -1,15 +1,10 @@
 -- The walk over goals: one law of Along for each way through it. The records ahead fall.
-use Prim.Native.Nat.{ℕ, ◌<◌, ◌+◌, ◌*◌}
 use Rattle.std.proofs.Common.{arith}
 use mathlib.Core.Path.{refl, sym, ap₂, ◌∙◌}
-use Rattle.std.proofs.Common.{rules}
-use borrow.Author.Tests.{not-true, not-false}
-use Rattle.language.specs.Answers.{program}
-use Rattle.chains.specs.Formed.{ahead}
 use Rattle.chains.specs.Is.{chain_next}
 use Rattle.chains.specs.Shapes.{switch_here, if_here, try_here, to_arms, to_then, to_else, to_condition, to_try_then, to_try_else, arm_goals_law, arm_next}
-use Rattle.walks.specs.Along.{WalkedAlong, along_first, none_walked, along_last, along_stop, along_next, switch_stops, switch_walked, if_unread, if_unread_2, if_then_stops, if_else_stops, if_walked, condition_stops, try_then_stops, try_else_stops, try_walked, arms_none_walked, arm_refused, arm_stops, arm_last, arm_rest_stops, arms_walked}
-use Rattle.values.specs.Valuing.{both, valuation, valuer}
+use Rattle.walks.specs.Along.{along_first, none_walked, along_last, along_stop, along_next, switch_stops, switch_walked, if_unread, if_unread_2, if_then_stops, if_else_stops, if_walked, condition_stops, try_then_stops, try_else_stops, try_walked, arms_none_walked, arm_refused, arm_stops, arm_last, arm_rest_stops, arms_walked}
+use Rattle.values.specs.Valuing.{both}
 use Rattle.walks.specs.Closed.{arm_closed}
 use Rattle.values.proofs.CarryingLaws.{goal_step, row_arm, readable_is, joined, joined_back}
 use Rattle.values.proofs.walk.+arms_attempt_branches_goal_goals_switch.Goals as goal
