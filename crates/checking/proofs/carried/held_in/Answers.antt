@@ -1,0 +1,7 @@
+use Rattle.checking.specs.Carried.{held_in}
+use Rattle.std.proofs.Common.{rules}
+use Rattle.checking.proofs.carried.held_in.Goals as goal
+
+pub returns : goal.returns
+unfolding held_in
+returns c = cc

@@ -1,0 +1,7 @@
+use Rattle.checking.specs.Carried.{sound_in}
+use Rattle.std.proofs.Common.{rules}
+use Rattle.checking.proofs.carried.sound_in.Goals as goal
+
+pub returns : goal.returns
+unfolding sound_in
+returns c = cc

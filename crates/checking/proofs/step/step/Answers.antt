@@ -1,0 +1,10 @@
+use borrow.Author.Tests.{not-true, not-false}
+use Rattle.checking.proofs.RulesLaws.{step_stops, step_goes}
+use Rattle.std.proofs.Common.{rules}
+use Rattle.checking.proofs.step.step.Goals as goal
+
+pub returns-then-not-allowed : goal.returns-then-not-allowed
+returns-then-not-allowed c = search (not-true, step_stops, rules)
+
+pub returns : goal.returns
+returns c = step_goes _ _ _ _ c.held_in-held.ensures c.sound_in-sound.ensures c.allowed.ensures _ c.if-not-allowed.false c.ends_at-ends.ensures c.difference.ensures c.bears_at.ensures c.union-after.ensures c.sound_without-still.ensures c.gives_at.ensures c.sound_given-now_sound.ensures c.carry.ensures.0 c.carry.ensures.1
