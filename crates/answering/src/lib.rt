@@ -25,9 +25,7 @@ fn checker_answer(file: &[u8], out: &mut [u8; REFUSAL_BYTES]) -> usize
 // Writes bytes, all of them and nothing else; where they cannot be written, a message to standard error.
 pub fn print(rt: &HostRuntime, bytes: &[u8]) {
     if rt.write_all(bytes).is_err() {
-        let _ = rt
-            .stderr()
-            .write_all(b"the answer could not be written\n");
+        let _ = rt.stderr().write_all(b"the answer could not be written\n");
     }
 }
 
