@@ -1,7 +1,6 @@
 use Rattle.std.proofs.Common.{arith}
 use lib.ListN.{length-set}
 use Rattle.checking.proofs.CarriedLaws.{carried_put}
-use Rattle.std.proofs.Common.{rules}
 use Rattle.checking.proofs.carried.carry.Goals as goal
 
 pub bounds-carried-1 : goal.bounds-carried-1

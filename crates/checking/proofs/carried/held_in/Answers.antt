@@ -1,5 +1,4 @@
 use Rattle.checking.specs.Carried.{held_in}
-use Rattle.std.proofs.Common.{rules}
 use Rattle.checking.proofs.carried.held_in.Goals as goal
 
 pub returns : goal.returns

@@ -1,6 +1,4 @@
-use borrow.Author.Tests.{not-true, not-false}
 use Rattle.checking.proofs.CarriedLaws.{join_differs, join_same}
-use Rattle.std.proofs.Common.{rules}
 use Rattle.checking.proofs.carried.join.Goals as goal
 
 pub returns-then-not-same : goal.returns-then-not-same

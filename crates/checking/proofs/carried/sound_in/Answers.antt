@@ -1,5 +1,4 @@
 use Rattle.checking.specs.Carried.{sound_in}
-use Rattle.std.proofs.Common.{rules}
 use Rattle.checking.proofs.carried.sound_in.Goals as goal
 
 pub returns : goal.returns

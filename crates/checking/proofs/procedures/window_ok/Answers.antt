@@ -1,4 +1,4 @@
-use borrow.Author.Tests.{not-true, not-false}
+use borrow.Author.Tests.{not-true}
 use Rattle.checking.proofs.ProceduresLaws.{window_broken, window_differs, window_ends}
 use Rattle.std.proofs.Common.{rules}
 use Rattle.checking.proofs.procedures.window_ok.Goals as goal

@@ -1,10 +1,6 @@
 -- The sound variables are taken off one by one.
-use mathlib.Core.Logic.{⊎_elim}
-use mathlib.Core.Path.{sym, ◌∙◌}
-use Rattle.sets.specs.Sets.{small_of_bits}
 use Rattle.sets.specs.Size.{size}
-use Rattle.checking.proofs.SoundLaws.{Keeping, keep_first, some_left, keep_falls, keep_one, keep_none, keep_last, reach_apart, apart_here, without_is}
-use Rattle.std.proofs.Common.{rules}
+use Rattle.checking.proofs.SoundLaws.{Keeping, reach_apart}
 use Rattle.checking.proofs.sound.without_some.Given as goal
 
 abbrev pub invariant-loop-gone : goal.invariant-loop-gone

@@ -1,6 +1,5 @@
 use mathlib.Core.Path.{◌∙◌}
 use Rattle.checking.proofs.RulesLaws.{entered}
-use Rattle.std.proofs.Common.{rules}
 use Rattle.checking.proofs.step.enter.Goals as goal
 
 pub returns : goal.returns

@@ -1,4 +1,4 @@
-use borrow.Author.Tests.{not-true, not-false}
+use borrow.Author.Tests.{not-true}
 use Rattle.checking.proofs.RulesLaws.{step_stops, step_goes}
 use Rattle.std.proofs.Common.{rules}
 use Rattle.checking.proofs.step.step.Goals as goal
