@@ -1,16 +1,13 @@
 -- The number of places for cells and regions stays as it was, whatever is made and undone.
-use Prim.Native.Nat.{ℕ, zero, suc, ◌%◌, ◌/◌}
-use mathlib.Core.Path.{◌≡◌, refl, sym, ap, ◌∙◌}
+use Prim.Native.Nat.{ℕ, zero, suc, ◌/◌}
+use mathlib.Core.Path.{◌≡◌, refl, sym, ◌∙◌}
 use mathlib.Core.Bool.{Bool, true, false}
 use mathlib.Core.List.{List}
-use lib.Dec.{eqb}
 use lib.ListN.{get_or}
 use Rattle.language.specs.Lists.{choose}
 use Rattle.memory.specs.declared.Heap.{Heap}
-use Rattle.memory.specs.declared.Pool.{Pool}
 use Rattle.memory.specs.declared.Made.{Made}
-use Rattle.memory.specs.declared.Made.TheVariants.{At, NoRoom}
-use Rattle.memory.specs.declared.Taken.{Taken}
+use Rattle.memory.specs.declared.Made.TheVariants.{At}
 use Rattle.memory.specs.declared.Taken.TheVariants.{Place, Full}
 use Rattle.memory.specs.Building.{not_made}
 use Rattle.memory.specs.Memory.{headed, raised, taken, created, created_of, built, built_of, removed}

@@ -6,7 +6,7 @@ use mathlib.Core.List.{List, []}
 use lib.ListN.{length, get_or, replicate, length-replicate}
 use Rattle.language.specs.Lists.{nth}
 use Rattle.language.specs.File.{k_goal, k_try, kinds, kind_of, word, record_count}
-use Rattle.language.specs.Format.{kind_word, next_word, try_kind, try_condition, try_then, try_else, max_records}
+use Rattle.language.specs.Format.{kind_word, next_word, try_kind, try_condition, try_then, try_else}
 use Rattle.language.specs.Machine.{Room}
 use Rattle.language.specs.declared.Stop.{Stop}
 use Rattle.language.specs.declared.Stop.TheVariants.{Steps}
@@ -15,7 +15,7 @@ use Rattle.records.specs.Records.{record_at, record_as_law}
 use Rattle.records.specs.declared.Record.TheVariants.{Try}
 use Rattle.chains.specs.Formed.{Formed}
 use Rattle.memory.specs.declared.Heap.{Heap}
-use Rattle.memory.specs.Log.{Stored, stored, Is, undone, freed}
+use Rattle.memory.specs.Log.{stored, Is, undone, freed}
 use Rattle.memory.specs.Moved.{moved, moved_here}
 use Rattle.frames.specs.Strays.{past_word}
 use Rattle.plans.specs.Plan.{tables_in}
@@ -29,7 +29,7 @@ use Rattle.machine.specs.declared.ConditionEnd.TheVariants.{Left, Lacks as EndLa
 use Rattle.machine.specs.Words.{FramePlaced, words_of, onward_to, onward_placed}
 use Rattle.machine.specs.Steps.{of_kind}
 use Rattle.machine.specs.Entries.{log_words, Logs, logs_none}
-use Rattle.machine.specs.Trying.{frame_numbers, saved_words, count_end, Inside, SameLimits, Onward, GoesIn, Tried}
+use Rattle.machine.specs.Trying.{frame_numbers, saved_words, count_end, Inside, SameLimits, GoesIn, Tried}
 use Rattle.machine.proofs.LimitsLaws.{undone_limits, freed_limits}
 
 -- ---- words moved from lists that agree

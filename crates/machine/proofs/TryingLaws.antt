@@ -1,42 +1,40 @@
 -- What each kind of goal comes to in an open condition, from what its function promises.
-use Prim.Native.Nat.{ℕ, zero, suc, ◌+◌, ◌-◌, ◌*◌, ◌≤◌, ◌<◌}
+use Prim.Native.Nat.{ℕ, zero, suc, ◌+◌, ◌*◌, ◌≤◌}
 use native.Mathlib.Omega.{arith}
 use mathlib.Core.Path.{◌≡◌, refl, sym, ap, ◌∙◌}
 use mathlib.Core.Bool.{Bool, true, false}
 use mathlib.Core.List.{List}
-use lib.Dec.{eqb}
-use lib.IntN.{ℤ}
-use lib.ListN.{length, get_or, set}
+use lib.ListN.{length, get_or}
 use mir.Syntax.{w32}
 use mir.Val.{to_z}
 use Rattle.sets.specs.Tests.{neg}
-use Rattle.language.specs.Lists.{nth, choose}
-use Rattle.language.specs.File.{Kind, k_none, k_header, k_type, k_functor, k_procedure, k_variable, k_region, k_edge, k_arm, k_argument, k_goal, k_literal, k_sum, k_assign, k_construct, k_switch, k_if, k_call, k_print, k_create, k_remove, k_try, k_test, kinds, kind_of, row, row_in, word}
-use Rattle.language.specs.Format.{kind_word, next_word, goal_x, literal_kind, sum_kind, assign_kind, construct_kind, switch_kind, create_kind, remove_kind, test_kind, test_y, test_z, lifetime_region, term_arguments}
-use Rattle.language.specs.Numbers.{in_range, less}
+use Rattle.language.specs.Lists.{choose}
+use Rattle.language.specs.File.{Kind, k_none, k_header, k_type, k_functor, k_procedure, k_variable, k_region, k_edge, k_arm, k_argument, k_goal, k_literal, k_sum, k_assign, k_construct, k_switch, k_if, k_call, k_print, k_create, k_remove, k_try, k_test, kind_of, row, row_in, word}
+use Rattle.language.specs.Format.{kind_word, literal_kind, sum_kind, assign_kind, construct_kind, switch_kind, create_kind, remove_kind, test_kind, test_y, test_z, lifetime_region, term_arguments}
+use Rattle.language.specs.Numbers.{less}
 use Rattle.language.specs.Machine.{Room, holds}
 use Rattle.language.specs.declared.Stop.{Stop}
 use Rattle.language.specs.declared.Stop.TheVariants.{Sums}
 use Rattle.records.specs.Records.{record_at, record_as_law}
 use Rattle.chains.specs.Shapes.{goal_number}
 use Rattle.records.specs.declared.Record.{Record}
-use Rattle.records.specs.declared.Record.TheVariants.{Literal, Sum, Assign, Construct, Switch, Create, Remove, Test}
+use Rattle.records.specs.declared.Record.TheVariants.{Literal, Sum, Assign, Switch}
 use Rattle.memory.specs.declared.Heap.{Heap}
 use Rattle.memory.specs.declared.Made.{Made}
 use Rattle.memory.specs.declared.Made.TheVariants.{At, NoRoom}
 use Rattle.memory.specs.Memory.{created}
-use Rattle.memory.specs.Log.{built_in, made_at, removed_at, entry, stored}
+use Rattle.memory.specs.Log.{built_in, made_at, removed_at, entry}
 use Rattle.plans.specs.Plan.{sides_from, tables_in}
 use Rattle.word_machine.specs.Tables.{Tables}
-use Rattle.word_machine.specs.Machine.{print_words, frame_words, regions_from, MachineWords, ConditionWords, Went, went, opens, stops, in_words, logged, with_stored, with_frames, fails, enters, enters_at, if_room, if_room_in, given, sums, value_of, region_for, constructs, constructed, constructed_by, constructs_in, constructed_in, makes_region, created_by, makes_region_in, created_in, drops_region_in, steps, steps_in}
+use Rattle.word_machine.specs.Machine.{print_words, frame_words, regions_from, MachineWords, ConditionWords, Went, went, opens, stops, in_words, logged, with_stored, with_frames, fails, enters, enters_at, if_room, if_room_in, sums, value_of, region_for, constructs, constructed, constructed_by, constructs_in, constructed_in, makes_region, created_by, makes_region_in, created_in, drops_region_in, steps, steps_in}
 use Rattle.machine.specs.declared.State.{State}
 use Rattle.machine.specs.declared.Step.TheVariants.{Went as WentTo, Stops}
 use Rattle.machine.specs.declared.HeapStep.TheVariants.{Left, Lacks as HeapLacks}
 use Rattle.machine.specs.declared.ConditionStep.{ConditionStep}
 use Rattle.machine.specs.declared.ConditionStep.TheVariants.{On, Fails, Lacks}
-use Rattle.machine.specs.Words.{FramePlaced, words_of, onward_to, came_to, heap_came_to, Goes, HeapGoes}
-use Rattle.machine.specs.Steps.{of_kind, construct_record, create_record, remove_record}
-use Rattle.machine.specs.Entries.{Logs, noted, logs_next}
+use Rattle.machine.specs.Words.{words_of, onward_to, came_to, heap_came_to, Goes, HeapGoes}
+use Rattle.machine.specs.Steps.{construct_record, create_record, remove_record}
+use Rattle.machine.specs.Entries.{noted, logs_next}
 use Rattle.machine.specs.Trying.{Inside, SameLimits, Onward, GoesIn, fails_in}
 use Rattle.machine.proofs.StepsLaws.{literal_record, sum_record, assign_record, switch_record, test_record}
 

@@ -5,7 +5,7 @@ use Rattle.language.specs.declared.Ending.{Ending}
 use Rattle.memory.specs.declared.Heap.{Heap}
 use Rattle.plans.specs.Plan.{callee_word, callee_body}
 use Rattle.word_machine.specs.Tables.{Tables}
-use Rattle.word_machine.specs.Machine.{Outcome, steps, run_on, lent_words}
+use Rattle.word_machine.specs.Machine.{Outcome, run_on, lent_words}
 use Rattle.machine.specs.declared.State.{State}
 use Rattle.machine.specs.declared.Outcome.{Outcome as Answer}
 use Rattle.machine.specs.Words.{words_of}

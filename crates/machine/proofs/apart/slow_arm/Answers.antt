@@ -1,0 +1,38 @@
+use Rattle.std.proofs.Common.{arith}
+use Rattle.chains.specs.Shapes.{to_arms}
+use Rattle.frames.specs.Strays.{whole}
+use Rattle.machine.proofs.CellsLaws.{arm_as, values_cell, values_constant}
+use Rattle.machine.proofs.Numbers.{arm_stands}
+use Rattle.machine.proofs.apart.slow_arm.Goals as goal
+
+pub word_in-requires : goal.word_in-requires
+word_in-requires c = (omega arith, (whole c.requires.formed _ c.requires.i_bound.0).1)
+
+pub word_in-first-requires : goal.word_in-first-requires
+word_in-first-requires c = (omega arith, (whole c.requires.formed _ c.requires.i_bound.0).1)
+
+pub arm_of-j-requires : goal.arm_of-j-requires
+arm_of-j-requires c = record {
+  formed = c.requires.formed;
+  start_bound = (to_arms c.requires.formed c.requires.i_bound.1 c.word_in-first.ensures.0).stands.below;
+}
+
+pub returns-then-term-ge-CONSTANTS : goal.returns-then-term-ge-CONSTANTS
+returns-then-term-ge-CONSTANTS c = record {
+  value = arm_as _ _ _ _ _ _ _ c.value-term.ensures c.word_in.ensures.0 _ _ _ c.word_in-first.ensures.0 c.functor_of.ensures c.arm_of-j.ensures.value;
+  upper_bound = c.arm_of-j.ensures.upper_bound;
+  frames_after = values_constant _ _ _ _ _ _ _ c.value-term.ensures c.word_in.ensures.0 _ c.if-term-ge-CONSTANTS.true;
+}
+
+pub arm_part-requires : goal.arm_part-requires
+arm_part-requires c = record {
+  record_bytes_in_bounds = ((whole c.requires.formed _ c.arm_of-j.ensures.upper_bound).1, c.requires.i_bound.2);
+  low_if_any = c.requires.goal_x_bound.1 _ (rw c.arm_of-j.ensures.value (arm_stands c.requires.formed _ _ (to_arms c.requires.formed c.requires.i_bound.1 c.word_in-first.ensures.0).stands));
+}
+
+pub returns : goal.returns
+returns c = record {
+  value = arm_as _ _ _ _ _ _ _ c.value-term.ensures c.word_in.ensures.0 _ _ _ c.word_in-first.ensures.0 c.functor_of.ensures c.arm_of-j.ensures.value;
+  upper_bound = c.arm_of-j.ensures.upper_bound;
+  frames_after = values_cell _ _ _ _ _ _ _ c.value-term.ensures c.word_in.ensures.0 _ _ c.if-term-ge-CONSTANTS.false c.arm_part.ensures;
+}

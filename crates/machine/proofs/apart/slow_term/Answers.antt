@@ -1,0 +1,17 @@
+use mathlib.Core.Path.{refl}
+use Rattle.machine.specs.Cells.{make_none, make_cell}
+use Rattle.machine.proofs.CellsLaws.{home_as, make_constant}
+use Rattle.std.proofs.Common.{rules}
+use Rattle.machine.proofs.apart.slow_term.Goals as goal
+
+pub returns-then-word_in-eq0 : goal.returns-then-word_in-eq0
+returns-then-word_in-eq0 c = make_constant _ _ _ _ _ _ _ _ _ _ c.word_in.ensures.0 c.if-word_in-eq0.true c.word_in-then-word_in-eq0.ensures.0
+
+pub returns-in_default : goal.returns-in_default
+returns-in_default c = make_none _ _ _ _ _ _ _ _ _ c.word_in.ensures.0 c.if-word_in-eq0.false _ c.take_cell.ensures c.in_default.is
+
+pub fill_part-requires : goal.fill_part-requires
+fill_part-requires c = search rules
+
+pub returns : goal.returns
+returns c = make_cell _ _ _ _ _ _ _ _ _ c.word_in.ensures.0 c.if-word_in-eq0.false _ _ _ c.take_cell.ensures c.in-At.is _ _ _ _ _ c.fill_part.ensures (home_as _ _ _ _ _ _ c.region-home.ensures refl) refl c.hang_cell.ensures.0 c.hang_cell.ensures.1
