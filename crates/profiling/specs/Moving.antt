@@ -12,7 +12,7 @@ use Rattle.language.specs.Machine as D
 use Rattle.language.specs.Answers.{program}
 use Rattle.chains.specs.Formed.{Formed}
 use Rattle.word_machine.specs.Tables.{Tables, onto}
-use Rattle.word_machine.specs.Machine.{regions_end, MachineWords, ConditionWords, Went, went, opens, stops, steps, settled, settled_if, lent_words}
+use Rattle.word_machine.specs.Machine.{regions_end, MachineWords, ConditionWords, Went, went, opens, stops, settled, settled_if, lent_words}
 use Rattle.word_machine.specs.Returns.{some_goal}
 use Rattle.machine.specs.Words.{FramePlaced, words_of}
 use Rattle.machine.specs.Entries.{log_words}
