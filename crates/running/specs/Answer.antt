@@ -8,7 +8,7 @@ use Rattle.language.specs.declared.Ending.TheVariants.{Refused as RunRefused}
 use Rattle.language.specs.Typing.{typing_ok}
 use Rattle.language.specs.Lists.{front_written}
 use Rattle.language.specs.Machine.{Lent, Run, print_places}
-use Rattle.language.specs.Answers.{ending_number, program, checked, run_for, ran}
+use Rattle.language.specs.Answers.{program, checked, run_for, ran}
 use Rattle.chains.specs.Formed.{Formed}
 use Rattle.word_machine.specs.Machine.{lent_words}
 use Rattle.word_machine.specs.Theorem.{accepted_program, accepted_formed}

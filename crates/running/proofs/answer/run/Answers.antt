@@ -1,0 +1,19 @@
+use mathlib.Core.Path.{sym, ◌∙◌}
+use Rattle.std.proofs.Common.{rules}
+use Rattle.running.specs.Answer.{refused_ran_as, refused_leaves, accepted_leaves}
+use Rattle.running.proofs.answer.run.Goals as goal
+
+pub returns-in-Refused : goal.returns-in-Refused
+returns-in-Refused c = record {
+  ran_as = refused_ran_as _ _ _ _ _ (sym c.check.ensures.value ∙ c.in-Refused.is);
+  lent_after = refused_leaves _ _ _ _;
+}
+
+pub run_accepted-requires : goal.run_accepted-requires
+run_accepted-requires c = sym c.check.ensures.value ∙ c.in_default.is
+
+pub returns : goal.returns
+returns c = record {
+  ran_as = c.run_accepted.ensures;
+  lent_after = accepted_leaves (sym c.check.ensures.value ∙ c.in_default.is) _ _ _ _ _ _ _ _ (search rules, search rules, search rules);
+}
