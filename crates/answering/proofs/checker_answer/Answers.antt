@@ -2,18 +2,13 @@
 use Prim.Native.Nat.{ℕ}
 use mathlib.Core.List.{List}
 use mathlib.Core.Path.{◌≡◌, subst}
-use borrow.Author.Rules.{rules}
 use Rattle.language.specs.declared.Verdict.{Verdict}
 use Rattle.language.specs.Output.{checker_output}
 use Rattle.lines.specs.Put.{Front}
-use Rattle.answering.proofs.checker_answer.Statement.{statement}
-use Rattle.answering.proofs.checker_answer.Tie as tie
+use Rattle.answering.proofs.checker_answer.Goals as goal
 
 of_answer : {b m : List ℕ} {n : ℕ} (v w : Verdict) → v ≡ w → Front (checker_output v) b m n → Front (checker_output w) b m n
 of_answer {b} {m} {n} v w e p = subst (λ (a : Verdict). Front (checker_output a) b m n) e p
 
-returns : tie.Need-returns
-returns c = of_answer _ _ c.before.before.check.ensures.0 c.checker-output.ensures
-
-pub checker_answer_spec : {M : Type 1} → statement M
-checker_answer_spec = tie.close (tie.spec (search rules) (search rules) returns)
+pub returns : goal.returns
+returns c = of_answer _ _ c.check.ensures.value c.checker_output.ensures
