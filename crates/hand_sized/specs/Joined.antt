@@ -1,6 +1,6 @@
 -- From what `annotate`, `check` and `run` promise, and what the definitions give for a file, to what the code answers.
 use Rattle.std.specs.Prelude.{ℕ, ◌≡◌, refl}
-use Rattle.std.proofs.Common.{arith, sym, ◌∙◌, drop_of_length-le}
+use Rattle.std.proofs.Common.{arith, ◌∙◌, drop_of_length-le}
 use mathlib.Core.List.{List, ◌++◌, append-nil}
 use Rattle.std.proofs.Math.Path.{ap}
 use Rattle.std.proofs.Math.ListN.{length}

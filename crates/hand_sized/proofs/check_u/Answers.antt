@@ -1,0 +1,7 @@
+use mathlib.Core.Path.{ap, ◌∙◌}
+use Rattle.language.specs.Answers.{checked}
+use Rattle.language.specs.Table.{table}
+use Rattle.hand_sized.proofs.check_u.Goals as goal
+
+pub returns : goal.returns
+returns c = c.check.ensures.value ∙ ap checked c.u.ensures ∙ table.U-checked

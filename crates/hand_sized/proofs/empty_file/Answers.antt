@@ -1,0 +1,11 @@
+use mathlib.Core.Path.{refl}
+use Rattle.language.specs.Answers.{refusal_number}
+use Rattle.language.specs.Table.{table}
+use Rattle.language.specs.declared.Refusal.TheVariants.{Header}
+use Rattle.hand_sized.proofs.empty_file.Goals as goal
+
+pub returns : goal.returns
+unfolding refusal_number
+returns c =
+    let p = c.put_to_all.ensures Header table.empty_file in
+    record { value = p.0; refusal_number_value = refl; out_unchanged = p.1.0; untouched = p.1.1 }

@@ -1,0 +1,11 @@
+use Rattle.std.proofs.Common.{rules}
+use Rattle.language.specs.Machine.{runner_lent}
+use Rattle.language.specs.Table.{table, lending, in_steps}
+use Rattle.hand_sized.specs.Joined.{not_run, lent_by}
+use Rattle.hand_sized.proofs.run_a_two_steps.Goals as goal
+
+pub returns : goal.returns
+unfolding runner_lent lending in_steps
+returns c =
+    let p = not_run c.run.ensures.ran_as c.run.ensures.lent_after c.a.ensures (in_steps 2) table.steps_spent table.A-checked (lent_by _ _ _ _ _ (search rules) (search rules) (search rules) (search rules)) in
+    record { value = p.0; untouched = p.1 }

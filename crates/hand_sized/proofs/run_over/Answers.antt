@@ -1,0 +1,15 @@
+use mathlib.Core.Path.{refl}
+use Rattle.std.proofs.Common.{rules}
+use Rattle.language.specs.Answers.{stop_number}
+use Rattle.language.specs.Numbers.{residue}
+use Rattle.language.specs.Lists.{front_written}
+use Rattle.language.specs.Machine.{runner_lent, print_places}
+use Rattle.language.specs.Table.{table, stopped_there}
+use Rattle.hand_sized.specs.Joined.{printing, lent_by}
+use Rattle.hand_sized.proofs.run_over.Goals as goal
+
+pub returns : goal.returns
+unfolding stop_number runner_lent stopped_there print_places front_written residue
+returns c =
+    let p = printing c.run.ensures.ran_as c.run.ensures.lent_after c.over.ensures runner_lent table.sum_over (lent_by _ _ _ _ _ (search rules) (search rules) (search rules) (search rules)) in
+    record { value = p.0; stop_number_value = refl; prints_after = p.1.0; free = p.1.1 }

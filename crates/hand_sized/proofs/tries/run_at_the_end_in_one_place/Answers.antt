@@ -1,0 +1,13 @@
+use Rattle.std.proofs.Common.{rules}
+use Rattle.language.specs.Lists.{front_written}
+use Rattle.language.specs.Machine.{runner_lent, print_places}
+use Rattle.language.specs.Table.{silent}
+use Rattle.language.specs.Conditional.{tried_table, in_places}
+use Rattle.hand_sized.specs.Joined.{printing, lent_by}
+use Rattle.hand_sized.proofs.tries.run_at_the_end_in_one_place.Goals as goal
+
+pub returns : goal.returns
+unfolding in_places runner_lent silent print_places front_written
+returns c =
+    let p = printing c.run.ensures.ran_as c.run.ensures.lent_after c.at_the_end.ensures (in_places 1) tried_table.at_the_end (lent_by _ _ _ _ _ (search rules) (search rules) (search rules) (search rules)) in
+    record { value = p.0; prints_unchanged = p.1.0; free = p.1.1 }
