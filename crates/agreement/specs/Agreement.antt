@@ -7,7 +7,7 @@ use Rattle.language.specs.declared.Verdict.{Verdict}
 use Rattle.language.specs.declared.Verdict.TheVariants.{Accepted}
 use Rattle.language.specs.Answers.{AnnotatorAnswer, refuses, writes, annotated, annotator_memory, checked}
 use Rattle.soundness.specs.Statement.{Sound}
-use Rattle.soundness.specs.Demand3.{demand_3, written_accepted}
+use Rattle.soundness.proofs.Demand3.{demand_3, written_accepted}
 use Rattle.annotation.specs.declared.Annotated.{Annotated}
 use Rattle.annotation.specs.declared.Annotated.TheVariants.{Written}
 use Rattle.annotation.specs.Answer.{told, Annotates}

@@ -11,7 +11,7 @@ use Rattle.language.specs.PlainRun.{stripped, plain_steps}
 use Rattle.language.specs.AcceptedRun.{frame_of, steps}
 use Rattle.language.specs.Answers.{program, checked}
 use Rattle.lockstep.specs.Counted.{spent}
-use Rattle.soundness.specs.Lent.{lent_run}
+use Rattle.soundness.proofs.Lent.{lent_run}
 use Rattle.word_machine.specs.Machine.{lent_words}
 use Rattle.machine.specs.declared.Outcome.{Outcome}
 use Rattle.word_machine.specs.Printing.{front_numbers}

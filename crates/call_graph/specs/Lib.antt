@@ -1,4 +1,2 @@
 pub mod Chains
 pub mod Reached
-pub mod Stripped
-pub mod Before

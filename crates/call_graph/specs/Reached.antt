@@ -54,7 +54,7 @@ module _ (P : Program) where
     on_old : (q : ℕ) → q < length P.procedures → in_list q ps ≡ true → in_list q (one_call_on P ps) ≡ true
     on_old q l h = on_mk q l (append_left q ps (called_from P ps) h)
 
-    on_new : (p q : ℕ) → q < length P.procedures → in_list p ps ≡ true → in_list q (callees P p) ≡ true → in_list q (one_call_on P ps) ≡ true
+    pub on_new : (p q : ℕ) → q < length P.procedures → in_list p ps ≡ true → in_list q (callees P p) ≡ true → in_list q (one_call_on P ps) ≡ true
     on_new p q l h e = on_mk q l (append_right q ps (called_from P ps) (called_mk ps p q h e))
 
   -- ---- what is found in n rounds, a chain reaches
@@ -69,7 +69,7 @@ module _ (P : Program) where
   some_length n [] e = absurd (nil_in n e)
   some_length n (x ∷ xs) e = omega arith
 
-  entry_found : (n : ℕ) → 0 < length P.procedures → in_list entry_procedure (reached_within P n) ≡ true
+  pub entry_found : (n : ℕ) → 0 < length P.procedures → in_list entry_procedure (reached_within P n) ≡ true
   unfolding reached_within
   entry_found zero l = cons_here entry_procedure entry_procedure [] refl
   entry_found (suc n) l = on_old (reached_within P n) entry_procedure l (entry_found n l)
@@ -103,62 +103,14 @@ module _ (P : Program) where
       (some_length entry_procedure (reached_within P 1) (entry_found 1 l)) n
 
   -- so no round adds then
-  settled : (n : ℕ) → length P.procedures ≡ suc n → one_call_on P (reached_within P (suc n)) ≡ reached_within P (suc n)
+  pub settled : (n : ℕ) → length P.procedures ≡ suc n → one_call_on P (reached_within P (suc n)) ≡ reached_within P (suc n)
   unfolding reached_within
   settled n e =
       ⊎_elim (λ s. s)
       (λ m. ⊎_elim (λ s. s) (λ l. absurd (omega (arith, on_most (one_call_on P (reached_within P n))))) (on_grows (reached_within P n)))
       (found_rounds n (omega arith))
 
-  reached_settled : (n : ℕ) → length P.procedures ≡ n → 0 < n → one_call_on P (reached P) ≡ reached P
-  unfolding reached
-  reached_settled zero e l = absurd (omega arith)
-  reached_settled (suc n) e l = rw e (settled n e)
-
-  -- ---- THE THEOREM
-  pub chain_reached : {q : ℕ} → CallChain P q → q < length P.procedures → in_list q (reached P) ≡ true
-  unfolding reached
-  chain_reached = chain_holds P (λ q. q < length P.procedures → in_list q (reached P) ≡ true) onward (entry_found (length P.procedures))
-    where
-      onward : (p q : ℕ) → (p < length P.procedures → in_list p (reached P) ≡ true) → in_list q (callees P p) ≡ true
-          → q < length P.procedures → in_list q (reached P) ≡ true
-      onward p q h e l =
-          ap (in_list q) (sym (reached_settled (length P.procedures) refl (omega arith)))
-          ∙ on_new (reached P) p q l (h (caller_below P p q e)) e
-
-  pub reached_chain : {q : ℕ} → in_list q (reached P) ≡ true → CallChain P q
-  unfolding reached
-  reached_chain {q} e = found_chain (length P.procedures) q e
-
   -- ---- number 17
   -- every procedure "other than the entry" is reached by a chain
   abbrev pub AllReached : Type 0
   AllReached = (q : ℕ) → q < length P.procedures → (q ≡ entry_procedure → ⊥) → CallChain P q
-
-  pub ok_reached : reached_ok P ≡ true → AllReached
-  unfolding reached_ok
-  ok_reached e q l z = reached_chain (all_at (length P.procedures) 0 (λ q. in_list q (reached P)) e q (omega arith) (omega arith))
-
-  pub reached_ok_law : AllReached → reached_ok P ≡ true
-  unfolding reached_ok
-  reached_ok_law h =
-      at_all (length P.procedures) 0 (λ q. in_list q (reached P))
-      (λ q b l. chain_reached (elim (ℕ_discrete q entry_procedure) [ yes e ↦ rw e (chain_start P) | no z ↦ h q (omega arith) z ]) (omega arith))
-
-  -- a file is refused for a procedure that there is
-  pub unreached_one : reached_ok P ≡ false → (q : ℕ) × (q < length P.procedures) × (q ≡ entry_procedure → ⊥) × (CallChain P q → ⊥)
-  unfolding reached_ok
-  unreached_one e =
-      let r = at_fails (length P.procedures) 0 (λ q. in_list q (reached P)) e in
-      let l : r.0 < length P.procedures = omega arith in (
-        r.0,
-        l,
-        (λ z. clash (chain_reached (rw z (chain_start P)) l) r.3),
-        λ c. clash (chain_reached c l) r.3,
-      )
-
--- the same calls, the same answer
-pub same_reached : (P Q : Program) → length P.procedures ≡ length Q.procedures → ((p : ℕ) → callees P p ≡ callees Q p) → reached_ok P ≡ reached_ok Q
-same_reached P Q n same =
-    same_truth (λ e. reached_ok_law Q (λ q l z. chain_same P Q same (ok_reached P e q (omega arith) z)))
-    (λ e. reached_ok_law P (λ q l z. chain_same Q P (λ p. sym (same p)) (ok_reached Q e q (omega arith) z)))

@@ -16,7 +16,7 @@ use Rattle.language.specs.CallChains.{callees, CallChain, reached_ok}
 use Rattle.language.specs.Typing.{typing_ok}
 use Rattle.language.specs.Answers.{program}
 use Rattle.call_graph.specs.Chains.{chain_on, chain_holds}
-use Rattle.call_graph.specs.Reached.{ok_reached, reached_ok_law}
+use Rattle.call_graph.proofs.AllReached.{ok_reached, reached_ok_law}
 use Rattle.chains.specs.Formed.{Formed, procedures_stand, program_procedures}
 use Rattle.chains.specs.Records.{chain_records}
 use Rattle.chains.specs.Elements as Elements

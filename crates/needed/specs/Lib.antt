@@ -1,15 +1,1 @@
 pub mod Without
-pub mod Carrying
-pub mod NoneLeftOut
-pub mod SoundReach
-pub mod Passing
-pub mod AtTheEnd
-pub mod Images
-pub mod DeadImages
-pub mod Faults
-pub mod Computing
-pub mod Steps
-pub mod Calls
-pub mod Paths
-pub mod Implied
-pub mod EveryRule

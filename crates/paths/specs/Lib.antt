@@ -1,13 +1,1 @@
 pub mod Paths
-pub mod Alls
-pub mod Events
-pub mod Named
-pub mod Steps
-pub mod Carrying
-pub mod Along
-pub mod Joining
-pub mod Meeting
-pub mod Typed
-pub mod Accepting
-pub mod Files
-pub mod Examples

@@ -22,7 +22,7 @@ use Rattle.records.specs.Records.{record_at}
 use Rattle.chains.specs.Formed.{Formed}
 use Rattle.safety.specs.Premises.{Accepted}
 use Rattle.safety.specs.Invariant.{Inv}
-use Rattle.safety.specs.Safety.{steps_fine, busy}
+use Rattle.safety.proofs.Safety.{steps_fine, busy}
 use Rattle.safety.specs.Standing.{is_open, next_goal_stands}
 use Rattle.safety.specs.Since.{alive_counted}
 use Rattle.heap.specs.Undoing.{closed_by}

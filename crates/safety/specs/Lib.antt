@@ -3,17 +3,8 @@ pub mod Doing
 pub mod Signatures
 pub mod Premises
 pub mod PlacedValues
-pub mod Across
 pub mod Variables
 pub mod Owners
 pub mod Invariant
-pub mod Quiet
-pub mod Arguments
-pub mod Calls
-pub mod Returns
-pub mod Settling
-pub mod Allowed
-pub mod Steps
-pub mod Safety
 pub mod Standing
 pub mod Since

@@ -1,4 +1,1 @@
 pub mod Statement
-pub mod Demand3
-pub mod Example
-pub mod Lent

@@ -8,7 +8,7 @@ use Rattle.language.specs.PlainRun.{stripped, plain_steps}
 use Rattle.language.specs.AcceptedRun.{RegionFrame, frame_of, with_frame, allowed, take, steps}
 use Rattle.language.specs.Answers.{program, checked, annotated, writes}
 use Rattle.lockstep.specs.Counted.{spent}
-use Rattle.lockstep.specs.Erase.{erase_frame}
+use Rattle.lockstep.proofs.Erase.{erase_frame}
 use Rattle.safety.specs.Since.{GoneBack}
 
 -- "For demand 3 a create or removal that a failing test undoes has not happened, though its step stays spent on it" (C-20): a failing test goes on

@@ -24,8 +24,8 @@ use Rattle.safety.specs.PlacedValues.{PlacedValue, is_number, is_constant, is_ce
 use Rattle.safety.specs.Variables.{AllVariables, type_in, types_variables, types_length, read_sound_law}
 use Rattle.safety.specs.Owners.{Owner}
 use Rattle.safety.specs.Invariant.{Now, Inv, inv}
-use Rattle.safety.specs.Quiet.{obeyed}
-use Rattle.safety.specs.Allowed.{allowed_ok, cell_of_law}
+use Rattle.safety.proofs.Quiet.{obeyed}
+use Rattle.safety.proofs.Allowed.{allowed_ok, cell_of_law}
 
 abbrev pub Number : Value → Type 0
 Number v = (z : ℤ) × (v ≡ numeral z)

@@ -26,7 +26,7 @@ use Rattle.records.specs.Records.{record_at}
 use Rattle.chains.specs.Formed.{Formed}
 use Rattle.safety.specs.Premises.{Accepted, laws}
 use Rattle.safety.specs.Invariant.{Inv, Fine, running, over}
-use Rattle.safety.specs.Safety.{steps_fine, taken, busy}
+use Rattle.safety.proofs.Safety.{steps_fine, taken, busy}
 use Rattle.safety.specs.Standing.{is_open, next_goal_stands}
 use Rattle.layout.specs.Sizes.{goals_size}
 use Rattle.memory.specs.Memory.{most}

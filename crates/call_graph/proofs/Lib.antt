@@ -1,0 +1,3 @@
+pub mod AllReached
+pub mod Before
+pub mod Stripped

@@ -1,0 +1,14 @@
+pub mod AtTheEnd
+pub mod Calls
+pub mod Carrying
+pub mod Computing
+pub mod DeadImages
+pub mod EveryRule
+pub mod Faults
+pub mod Images
+pub mod Implied
+pub mod NoneLeftOut
+pub mod Passing
+pub mod Paths
+pub mod SoundReach
+pub mod Steps

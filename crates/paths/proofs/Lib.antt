@@ -1,0 +1,12 @@
+pub mod Accepting
+pub mod Alls
+pub mod Along
+pub mod Carrying
+pub mod Events
+pub mod Examples
+pub mod Files
+pub mod Joining
+pub mod Meeting
+pub mod Named
+pub mod Steps
+pub mod Typed

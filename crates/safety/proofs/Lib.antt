@@ -1,0 +1,10 @@
+pub mod OwnersKept
+pub mod Across
+pub mod Allowed
+pub mod Arguments
+pub mod Calls
+pub mod Quiet
+pub mod Returns
+pub mod Safety
+pub mod Settling
+pub mod Steps
