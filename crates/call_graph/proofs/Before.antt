@@ -149,5 +149,3 @@ changed f = record {
   checker_17 = checker_refuses f;
   runner_17 = runner_refuses f;
 }
-
--- (an edit of must-fail/ may leave out what stands from a theorem on up to here)

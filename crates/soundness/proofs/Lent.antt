@@ -241,5 +241,3 @@ lent_run f e l =
       at_sum = h.at_sum;
       plain_at_sum = λ z. (S.same_sum (ran f l).steps (h.at_sum z)).0;
     }
-
--- (an edit of must-fail/ may leave out what stands from a theorem on up to here)
