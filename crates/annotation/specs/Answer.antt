@@ -1,25 +1,16 @@
 -- The annotator's answer as code gives it, and its stages in turn.
-use Rattle.std.specs.Prelude.{ℕ, ◌*◌, ◌≤◌, ◌<◌, true, ◌≡◌, leb, length}
-use native.Mathlib.Omega.{arith}
-use Rattle.std.proofs.Math.Decide.{dec_lt}
+use Rattle.std.specs.Prelude.{ℕ, ◌≤◌, ◌<◌, ◌≡◌, length}
 use mathlib.Core.List.{List, [], ◌∷◌, ◌++◌}
 use Rattle.std.proofs.Math.Path.{refl, ap}
 use Rattle.std.proofs.Common.{sym, ◌∙◌}
-use borrow.Author.Tests.{le-leb, lt-leb}
-use Rattle.sets.specs.Tests.{◌&◌}
 use Rattle.language.specs.declared.Refusal.{Refusal}
 use Rattle.language.specs.declared.Refusal.TheVariants.{Room}
 use Rattle.language.specs.declared.Verdict.{Verdict}
 use Rattle.language.specs.declared.Verdict.TheVariants.{Refused, Accepted}
-use Rattle.language.specs.Lists.{front_written}
-use Rattle.language.specs.Format.{max_records, max_bytes, record_bytes}
-use Rattle.language.specs.Layout.{size}
-use Rattle.language.specs.Program.{Program}
-use Rattle.language.specs.Records.{program_tree}
+use Rattle.language.specs.Format.{max_bytes}
 use Rattle.language.specs.Annotation.{annotate}
 use Rattle.language.specs.Answers.{refusal_number, Stage, stage, lowest, program, file_of, room_ok, file_stages, reached_stages, annotator_stages, AnnotatorAnswer, refuses, writes, annotator_number, writes_unless, annotated, annotator_memory}
 use Rattle.records.specs.Verdicts.{form_stages, after, lowest_append}
-use Rattle.chains.specs.Layout.{length_of_program}
 use Rattle.stages.specs.Stages.{typing_stages}
 use Rattle.annotation.specs.declared.Annotated.{Annotated}
 use Rattle.annotation.specs.declared.Annotated.TheVariants.{Refused as NotAnnotated, Written}
@@ -79,48 +70,3 @@ refusal_told m e = rw e (refl, refl, refl)
 
 pub answer_moved : {a b : AnnotatorAnswer} (before : List ℕ) {after : List ℕ} {r : Annotated} → a ≡ b → Annotates b before after r → Annotates a before after r
 answer_moved before e h = rw e h
-
--- ---- number 9: n is the annotated file's size in records, or more than 4,096 where that is
-module _ (f : List ℕ) (lent : ℕ) (n : ℕ) (small : size (program_tree (annotate (program f))) ≤ max_records → n ≡ size (program_tree (annotate (program f))))
-    (large : max_records < size (program_tree (annotate (program f))) → max_records < n) where
-  abbrev P : Program
-  P = annotate (program f)
-
-  bytes : length (file_of P) ≡ record_bytes * size (program_tree P)
-  unfolding file_of
-  bytes = length_of_program P
-
-  pub too_large : max_records < n → room_answer f lent ≡ refuses Room
-  unfolding room_ok lowest writes_unless ◌&◌
-  too_large l =
-      elim (dec_lt max_records (size (program_tree P))) [
-        | yes h ↦ rw (lt-leb (size (program_tree P)) max_records h) refl
-        | no h ↦ (let e = small (omega arith) in absurd (omega arith))
-      ]
-
-  module _ (l : n ≤ max_records) where
-    pub sized : n ≡ size (program_tree P)
-    sized =
-        elim (dec_lt max_records (size (program_tree P))) [
-          | yes h ↦ (let e = large h in absurd (omega arith))
-          | no h ↦ small (omega arith)
-        ]
-
-    fits : leb (size (program_tree P)) max_records ≡ true
-    fits = le-leb (size (program_tree P)) max_records (let e = sized in omega arith)
-
-    pub too_long : {room : ℕ} → RoomIn room lent → room < record_bytes * n → room_answer f lent ≡ refuses Room
-    unfolding room_ok lowest writes_unless ◌&◌
-    too_long R k =
-        let e = R.1 (omega arith) in
-        let h : lent < record_bytes * n = omega arith in
-        rw (fits, lt-leb (length (file_of P)) lent (let e = sized in omega (arith, bytes))) refl
-
-    pub room_there : record_bytes * n ≤ lent → room_answer f lent ≡ writes (file_of P)
-    unfolding room_ok lowest writes_unless ◌&◌
-    room_there h = rw (fits, le-leb (length (file_of P)) lent (let e = sized in omega (arith, bytes))) refl
-
-    pub file_told : (before : List ℕ) {front after : List ℕ} → record_bytes * n ≤ lent → front ≡ file_of P → after ≡ front_written front before
-        → Annotates (room_answer f lent) before after (Written (record_bytes * n))
-    unfolding told annotator_memory answer_number annotator_number
-    file_told before h p e = rw (room_there h) (ap (λ (k : ℕ). Written k) (let q = sized in omega (arith, bytes)), e ∙ ap (λ (g : List ℕ). front_written g before) p, refl)

@@ -1,13 +1,13 @@
 -- A region loses its first cell again (C-20): the cell becomes the first of the free ones.
 use Prim.Native.Nat.{ℕ, zero, suc, ◌+◌, ◌*◌, ◌≤◌, ◌<◌}
-use Rattle.std.specs.Prelude.{◌≡◌, refl, true, false, List, ◌≢◌, length, set}
+use Rattle.std.specs.Prelude.{◌≡◌, refl, List, ◌≢◌, length, set}
 use Rattle.std.proofs.Common.{sym, ap, ◌∙◌, inl, inr, zero-add, arith, eq-eqb, ne_eqb}
 use Rattle.std.proofs.Math.Decide.{ℕ_discrete}
 use Rattle.std.proofs.Math.ListN.{length-set}
 use Rattle.language.specs.Lists.{put, choose}
 use Rattle.laws.specs.Choices.{put_same, put_other}
 use Rattle.memory.specs.declared.Heap.{Heap}
-use Rattle.memory.specs.Memory.{cell_words, region_words, region_last, cell_next, cell_word, link, with_link, first, last, headed}
+use Rattle.memory.specs.Memory.{region_words, region_last, cell_next, cell_word, link, with_link, first, last, headed}
 use Rattle.memory.specs.Log.{unbuilt, unbuilt_cells, unhung, unbuilt_regions}
 use Rattle.heap.specs.Labels.{Label, free, busy, having, Labels, Vacant, was_fresh, was_free, free_busy, vacant_busy, free_height, busy_region, busy_height}
 use Rattle.heap.specs.Pools.{PoolOk, NowBusy, stays_ok}

@@ -11,10 +11,6 @@ pub mod LabelledBack
 pub mod Standing
 pub mod Represents
 pub mod Reading
-pub mod Creating
-pub mod Building
-pub mod Removing
 pub mod Undoing
 pub mod Logged
-pub mod Conditions
 pub mod UndoExample

@@ -2,7 +2,6 @@
 -- the first region. Undone, the first region has its one cell at its two ends, and the places taken are free again, the newest of them last.
 use Rattle.std.specs.Prelude.{ℕ, ◌≡◌, refl, List, [], ◌∷◌}
 use Rattle.language.specs.Lists.{choose}
-use Rattle.memory.specs.declared.Contents.{Contents}
 use Rattle.memory.specs.declared.Heap.{Heap}
 use Rattle.memory.specs.Memory.{link, first, last, taken, unused, empty_heap, created, created_of, created_regions, created_regions_of, filled, hung, built_of, built, built_cells, built_cells_of, built_regions, built_regions_of, removed, removed_cells, removed_regions}
 use Rattle.memory.specs.declared.Made.{Made}

@@ -13,7 +13,7 @@ use Rattle.language.specs.Answers.{ending_number, checked, run_for, ran}
 use Rattle.word_machine.specs.Tables.{Tables, Tabled}
 use Rattle.word_machine.specs.Machine.{lent_words, word_run}
 use Rattle.word_machine.specs.Printing.{Printed}
-use Rattle.word_machine.specs.Theorem.{joined, joined_filled}
+use Rattle.word_machine.proofs.Theorem.{joined, joined_filled}
 use Rattle.machine.specs.declared.Outcome.{Outcome}
 use Rattle.machine.specs.Runs.{Ran}
 

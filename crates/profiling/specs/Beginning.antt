@@ -17,13 +17,13 @@ use Rattle.memory.specs.Memory.{most}
 use Rattle.memory.specs.Log.{Stored}
 use Rattle.word_machine.specs.Tables.{Tables, Tabled}
 use Rattle.word_machine.specs.Machine.{frame_words, start_words, lent_words}
-use Rattle.word_machine.specs.Theorem.{accepted_program, accepted_formed, accepted_conditions}
+use Rattle.word_machine.proofs.Theorem.{accepted_program, accepted_formed, accepted_conditions}
 use Rattle.heap.specs.Represents.{Represents}
-use Rattle.heap.specs.Undoing.{closed_by}
-use Rattle.heap.specs.Conditions.{Opened, held_alive, same_made, same_cells}
-use Rattle.heap.specs.Logged.{cells_counted, regions_counted}
+use Rattle.heap.proofs.UndoingLaws.{closed_by}
+use Rattle.heap.proofs.Conditions.{Opened, held_alive, same_made, same_cells}
+use Rattle.heap.proofs.LoggedLaws.{cells_counted, regions_counted}
 use Rattle.word_machine.specs.InCondition.{open_state}
-use Rattle.word_machine.specs.WholeRun.{agrees, agrees_in, start_agrees}
+use Rattle.word_machine.proofs.WholeRun.{agrees, agrees_in, start_agrees}
 use Rattle.profiling.specs.declared.Counts.{Counts}
 use Rattle.profiling.specs.Counting.{counts_in, same_counts}
 use Rattle.profiling.specs.Taking.{saved_in}

@@ -25,9 +25,9 @@ use Rattle.safety.specs.Invariant.{Inv}
 use Rattle.safety.proofs.Safety.{steps_fine, busy}
 use Rattle.safety.specs.Standing.{is_open, next_goal_stands}
 use Rattle.safety.specs.Since.{alive_counted}
-use Rattle.heap.specs.Undoing.{closed_by}
-use Rattle.heap.specs.Logged.{made_more}
-use Rattle.heap.specs.Conditions.{held_alive, same_made, same_cells}
+use Rattle.heap.proofs.UndoingLaws.{closed_by}
+use Rattle.heap.proofs.LoggedLaws.{made_more}
+use Rattle.heap.proofs.Conditions.{held_alive, same_made, same_cells}
 use Rattle.word_machine.specs.Tables.{Tables, Tabled}
 use Rattle.word_machine.specs.Machine.{MachineWords, ConditionWords, Went, went, opens, stops, settled, steps, steps_in, stored_in}
 use Rattle.word_machine.specs.Relation.{where_in, Running, MemoryStored, waiting_depth}
@@ -35,8 +35,8 @@ use Rattle.word_machine.specs.Successors.{todo_next}
 use Rattle.word_machine.specs.InCondition.{open_state, Opening}
 use Rattle.word_machine.specs.Returns as R
 use Rattle.word_machine.specs.Steps.{After, onward, inward, halts}
-use Rattle.word_machine.specs.WholeRun.{Agrees, agrees, AgreesIn, agrees_in, settled_agrees, next_goal_law, goes_taken, fine_inv, outlook_over}
-use Rattle.word_machine.specs.WholeRun as W
+use Rattle.word_machine.proofs.WholeRun.{Agrees, agrees, AgreesIn, agrees_in, settled_agrees, next_goal_law, goes_taken, fine_inv, outlook_over}
+use Rattle.word_machine.proofs.WholeRun as W
 use Rattle.machine.specs.Trying.{fails_in}
 use Rattle.profiling.specs.declared.Counts.{Counts}
 use Rattle.profiling.specs.declared.Held.{Held}

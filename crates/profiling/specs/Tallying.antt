@@ -27,7 +27,8 @@ use Rattle.safety.specs.Invariant.{Inv}
 use Rattle.heap.specs.Counts.{cells_in, within, alive_more}
 use Rattle.heap.specs.Represents.{Represents}
 use Rattle.heap.specs.Undoing.{Closed}
-use Rattle.heap.specs.Logged.{none, cells_counted, regions_counted}
+use Rattle.heap.specs.Logged.{none}
+use Rattle.heap.proofs.LoggedLaws.{cells_counted, regions_counted}
 use Rattle.word_machine.specs.Tables.{Tables, Tabled}
 use Rattle.word_machine.specs.Machine.{MachineWords}
 use Rattle.word_machine.specs.Machine as M

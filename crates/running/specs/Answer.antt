@@ -11,7 +11,7 @@ use Rattle.language.specs.Machine.{Lent, Run, print_places}
 use Rattle.language.specs.Answers.{program, checked, run_for, ran}
 use Rattle.chains.specs.Formed.{Formed}
 use Rattle.word_machine.specs.Machine.{lent_words}
-use Rattle.word_machine.specs.Theorem.{accepted_program, accepted_formed}
+use Rattle.word_machine.proofs.Theorem.{accepted_program, accepted_formed}
 use Rattle.machine.specs.Joining.{RanAs}
 
 -- the words lent for cells, regions and frames: as many as before, and "free unless the file is refused"

@@ -1,10 +1,10 @@
 -- What a failing test goes back to: the frame's words as they were at the try, in an array of the runner's own.
-use Prim.Native.Nat.{ℕ, zero, suc, ◌+◌, ◌-◌, ◌*◌, ◌≤◌, ◌<◌}
+use Prim.Native.Nat.{ℕ, zero, suc, ◌+◌, ◌*◌, ◌≤◌, ◌<◌}
 use native.Mathlib.Omega.{arith}
-use Rattle.std.specs.Prelude.{◌≡◌, refl, List, ◌≢◌, length, get_or, set}
-use Rattle.std.proofs.Common.{sym, ap, subst, ◌∙◌, length-set, get_or-set_other}
+use Rattle.std.specs.Prelude.{◌≡◌, refl, List, length, get_or, set}
+use Rattle.std.proofs.Common.{◌∙◌, length-set, get_or-set_other}
 use Rattle.language.specs.AcceptedRun.{RegionFrame}
-use Rattle.memory.specs.Moved.{moved, moved_length, moved_other, moved_here}
+use Rattle.memory.specs.Moved.{moved_length, moved_other, moved_here}
 use Rattle.word_machine.specs.Machine.{frame_words, regions_end, call_place, saved_frame, put_back}
 use Rattle.word_machine.specs.Relation.{Where, Later, not_later, later_still, later_back}
 

@@ -1,5 +1,5 @@
 -- The goals of a procedure take no more records than a file may have.
-use Rattle.std.specs.Prelude.{ℕ, zero, suc, ◌+◌, ◌≤◌, List, [], ◌∷◌}
+use Rattle.std.specs.Prelude.{ℕ, zero, suc, ◌≤◌, List, [], ◌∷◌}
 use Rattle.std.proofs.Common.{arith}
 use Rattle.language.specs.Lists.{nth}
 use Rattle.language.specs.Format.{max_records}

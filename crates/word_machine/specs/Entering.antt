@@ -12,7 +12,7 @@ use Rattle.language.specs.Answers.{program}
 use Rattle.chains.specs.Formed.{Formed}
 use Rattle.safety.specs.Premises.{Accepted}
 use Rattle.word_machine.specs.Tables.{Tables, Tabled}
-use Rattle.word_machine.specs.Machine.{ConditionWords, stored_in, with_stored, leaves, enters_at, enters}
+use Rattle.word_machine.specs.Machine.{ConditionWords, with_stored, leaves, enters_at, enters}
 use Rattle.word_machine.specs.Successors.{todo_end, todo_next}
 use Rattle.word_machine.specs.Relation.{where_in, FrameOk, Waiting, Running, MemoryStored}
 use Rattle.word_machine.specs.Stepping.{frame_goals}

@@ -1,28 +1,28 @@
 -- The goals of an open condition, as the words do them and as the definition does: both stop, for the same cause, or both go on, in the condition or behind it.
-use Rattle.std.specs.Prelude.{ℕ, zero, suc, ◌+◌, ◌*◌, ◌≤◌, ◌<◌, ◌≡◌, Bool, ltb, length, get_or, set}
+use Rattle.std.specs.Prelude.{ℕ, suc, ◌+◌, ◌*◌, ◌≤◌, ◌<◌, ◌≡◌, Bool, ltb, length, set}
 use native.Mathlib.Omega.{arith}
 use Rattle.std.proofs.Math.Path.{refl, sym}
-use Rattle.std.proofs.Common.{ap, ◌∙◌, inl, inr, to_z}
+use Rattle.std.proofs.Common.{◌∙◌, inl, inr, to_z}
 use Rattle.std.proofs.Math.Bool.{true, false}
 use Rattle.std.proofs.lemmas.Bool.{false≢true}
-use mathlib.Core.List.{List, [], ◌∷◌, map}
+use mathlib.Core.List.{List, [], map}
 use Rattle.std.proofs.Math.ListN.{length-set}
 use Rattle.std.specs.Int.{w32}
 use Rattle.sets.specs.Tests.{◌or◌}
 use Rattle.sets.specs.Members.{in_list}
 use Rattle.language.specs.declared.Stop.TheVariants.{Cells, Places, Sums}
 use Rattle.language.specs.Lists.{choose, put, is_none}
-use Rattle.language.specs.Format.{max_records, max_variables}
+use Rattle.language.specs.Format.{max_records}
 use Rattle.language.specs.Numbers.{residue, in_range, less}
-use Rattle.language.specs.Program.{four, four_words, trim_onto, trimmed, arguments_of, literal, sum, assign, construct, create, remove, test, Goals, done, ◌then◌, Goal, Step, step, switch, Arms, region_of, ◌before◌}
+use Rattle.language.specs.Program.{four, four_words, trim_onto, trimmed, arguments_of, literal, sum, assign, construct, create, remove, test, Goals, ◌then◌, Goal, Step, step, switch, region_of}
 use Rattle.language.specs.Typing.{is_variable, is_region}
-use Rattle.language.specs.Frames.{Value, numeral, cell_at, constant, Cell, Condition, opened, number_in, less_in, giving, with_goals, literal_in, sum_of, sum_in, assign_in, cell_for, built_value, build_in, cell_in, open_cell}
+use Rattle.language.specs.Frames.{Value, numeral, cell_at, constant, Cell, Condition, opened, less_in, giving, with_goals, literal_in, sum_of, sum_in, assign_in, cell_for, built_value, build_in, cell_in, open_cell}
 use Rattle.language.specs.AcceptedRun.{RegionFrame, RegionCell, Memory, lies_in, readable, cell_of, with_cell, with_built, with_region, without_region, restored, with_frame, region_for, going, state, within, state_in, failed}
 use Rattle.language.specs.AcceptedRun as Run
-use Rattle.language.specs.Machine.{Room, Outlook, goes, lacks, room_or, cells_held, regions_held, counted_in}
+use Rattle.language.specs.Machine.{Room, goes, room_or, cells_held, regions_held, counted_in}
 use Rattle.language.specs.Answers.{program}
 use Rattle.laws.specs.Choices.{put_same}
-use Rattle.layout.specs.Sizes.{step_size, goals_size, goal_size, arms_size}
+use Rattle.layout.specs.Sizes.{goals_size}
 use Rattle.chains.specs.Formed.{Formed, arms_at}
 use Rattle.records.specs.Records.{record_at}
 use Rattle.records.specs.declared.Record.TheVariants.{Switch}
@@ -37,9 +37,9 @@ use Rattle.memory.specs.Log.{built_in, made_at, entry, stored}
 use Rattle.heap.specs.Words.{words_of}
 use Rattle.heap.specs.Standing as Standing
 use Rattle.heap.specs.Standing.{StandsFor, StandEach, stands_new}
-use Rattle.heap.specs.Logged.{alike}
-use Rattle.heap.specs.Conditions.{Opened, CreatesIn, creates_in, BuildsIn, builds_in, held_alive, same_made, same_cells}
-use Rattle.heap.specs.Conditions as C
+use Rattle.heap.proofs.LoggedLaws.{alike}
+use Rattle.heap.proofs.Conditions.{Opened, CreatesIn, creates_in, BuildsIn, builds_in, held_alive, same_made, same_cells}
+use Rattle.heap.proofs.Conditions as C
 use Rattle.word_machine.specs.Tables.{Tables, Tabled}
 use Rattle.word_machine.specs.Machine.{frame_words, regions_end, regions_from, MachineWords, ConditionWords, value_place, region_place, literal_word, sum_of_words, with_frames, given, value_of, stored_in, with_stored, in_words, logged, fails, enters, if_room_in, contents_of, constructed_in, constructs_in, created_in, makes_region_in, drops_region_in, switches, went}
 use Rattle.word_machine.specs.Machine as W
@@ -47,13 +47,13 @@ use Rattle.word_machine.specs.Trimmed.{first_argument}
 use Rattle.word_machine.specs.Numbers.{range_word, literal_word_law}
 use Rattle.word_machine.specs.Premises.{Number, ArmFits}
 use Rattle.word_machine.specs.Successors.{Todo, GoalOnward, todo_next}
-use Rattle.word_machine.specs.Relation.{Where, where_in, Later, Means, Names, sig, FrameOk, Waiting, Running, MemoryStored}
+use Rattle.word_machine.specs.Relation.{Where, where_in, Means, Names, sig, FrameOk, Waiting, Running, MemoryStored}
 use Rattle.word_machine.specs.Stepping.{frame_goals, frame_more, waiting_more, set_frame, set_waiting, name_frame, name_waiting}
 use Rattle.word_machine.specs.Back.{still_words}
 use Rattle.word_machine.specs.Inside.{Outside, gives_to, logs_to, fails_to, put_fits, gives_inside, words_inside, goes_inside, remove_inside, later_region, later_cell, create_inside, construct_inside, test_fails}
 use Rattle.word_machine.specs.Sized.{log_room, arm_size}
 use Rattle.word_machine.specs.InCondition.{keeping, kept, Opening}
-use Rattle.word_machine.specs.Steps.{After, onward, halts, value_means, value_number, value_word}
+use Rattle.word_machine.specs.Steps.{After, onward, halts, value_means, value_number}
 use Rattle.word_machine.specs.MemorySteps.{region_word, argument_words_law, functor_word}
 use Rattle.word_machine.specs.ControlSteps.{Switched, switched}
 use Rattle.word_machine.specs.Entering.{entering}

@@ -1,26 +1,19 @@
 -- The runner's words outside conditions and in an open one, and the steps that lead from one to the other.
-use Rattle.std.specs.Prelude.{ℕ, zero, suc, ◌+◌, ◌*◌, ◌≤◌, ◌<◌, ◌≡◌, refl, true, false, List, ltb, length, set}
-use Rattle.std.proofs.Common.{arith, sym, ap, ◌∙◌}
+use Rattle.std.specs.Prelude.{ℕ, suc, ◌+◌, ◌*◌, ◌≤◌, ◌<◌, ◌≡◌, refl, true, List, length, set}
+use Rattle.std.proofs.Common.{arith}
 use Rattle.language.specs.Lists.{put}
-use Rattle.language.specs.Program.{Goals}
-use Rattle.language.specs.Frames.{Value, Cell, opened}
+use Rattle.language.specs.Frames.{Cell}
 use Rattle.language.specs.AcceptedRun.{RegionFrame, RegionCell, Memory, with_cell, with_region, without_region, restored}
-use Rattle.language.specs.Machine.{Room, cells_held, regions_held, counted_in}
-use Rattle.laws.specs.Choices.{put_same, put_other}
-use Rattle.memory.specs.declared.Contents.{Contents}
+use Rattle.language.specs.Machine.{Room}
+use Rattle.laws.specs.Choices.{put_other}
 use Rattle.memory.specs.declared.Heap.{Heap}
-use Rattle.memory.specs.declared.Made.{Made}
-use Rattle.memory.specs.declared.Made.TheVariants.{At, NoRoom}
-use Rattle.memory.specs.Memory.{created, created_regions, built, built_cells, built_regions}
 use Rattle.memory.specs.Log.{built_in, made_at, removed_at, entry, Stored, stored, undone, freed}
-use Rattle.heap.specs.Words.{words_of}
-use Rattle.heap.specs.Standing.{StandEach, built_length}
+use Rattle.heap.specs.Standing.{built_length}
 use Rattle.heap.specs.Logged.{Stands}
-use Rattle.heap.specs.Conditions.{Opened, opens, fails, ends, removes_later, CreatesIn, creates_in, BuildsIn, builds_in}
-use Rattle.heap.specs.Conditions as C
+use Rattle.heap.proofs.Conditions.{Opened, opens, fails, ends, removes_later}
 use Rattle.memory.specs.Moved.{moved_length}
 use Rattle.word_machine.specs.Machine.{frame_words, regions_end, saved_frame, put_back}
-use Rattle.word_machine.specs.Relation.{Where, where_in, Later, not_later}
+use Rattle.word_machine.specs.Relation.{Where, where_in, Later}
 use Rattle.word_machine.specs.Back.{Keeping, Back, saves, still_back, later_on, back_frame, back_waiting}
 
 -- the lent words, and what a run keeps beside them: the log and how long it is, the saved frame, the newest frame's number, its next goal's record

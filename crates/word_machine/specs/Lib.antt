@@ -31,10 +31,8 @@ pub mod InSteps
 pub mod NextGoal
 pub mod NextIn
 pub mod Bodies
-pub mod WholeRun
 pub mod Filling
 pub mod Matching
 pub mod Tabling
-pub mod Theorem
 pub mod WordLaws
 pub mod Example

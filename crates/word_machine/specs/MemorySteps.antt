@@ -1,13 +1,11 @@
 -- Prints, creates, removes and constructs: the goals that change the memory.
-use Rattle.std.specs.Prelude.{ℕ, suc, ◌+◌, ◌<◌, ◌≡◌, Bool, ltb, ℤ, length, set, take, drop}
+use Rattle.std.specs.Prelude.{ℕ, suc, ◌+◌, ◌≡◌, Bool, ltb, length}
 use native.Mathlib.Omega.{arith}
-use Rattle.std.proofs.Common.{add-one, ap, ◌∙◌, take-suc-set, drop-set-lt, drop-drop, to_z}
 use Rattle.std.proofs.Math.Path.{refl, sym}
 use Rattle.std.proofs.Math.Bool.{true, false}
-use mathlib.Core.List.{List, [], ◌∷◌, ◌++◌, map}
+use mathlib.Core.List.{List, [], ◌∷◌, map}
 use borrow.Author.Tests.{ltb-true}
 use Rattle.std.proofs.Math.ListN.{length-set, length-append}
-use Rattle.std.specs.Int.{w32}
 use Rattle.sets.specs.Tests.{◌or◌}
 use Rattle.sets.specs.Members.{in_list}
 use Rattle.language.specs.declared.Stop.TheVariants.{Cells, Places, Prints}
@@ -31,9 +29,9 @@ use Rattle.heap.specs.Words.{words_of}
 use Rattle.heap.specs.Standing.{StandsFor, StandEach, stands_new, each_argument}
 use Rattle.heap.specs.Represents.{Creates, stops_12, creates, Builds, stops_11, builds}
 use Rattle.heap.specs.Reading.{alive_made, prints}
-use Rattle.heap.specs.Creating.{create_ok}
-use Rattle.heap.specs.Building.{build_ok}
-use Rattle.heap.specs.Removing.{remove_ok}
+use Rattle.heap.proofs.Creating.{create_ok}
+use Rattle.heap.proofs.Building.{build_ok}
+use Rattle.heap.proofs.Removing.{remove_ok}
 use Rattle.word_machine.specs.Tables.{Tables, Tabled}
 use Rattle.word_machine.specs.Machine.{MachineWords, value_place, region_place, value_of, went, if_room, contents_of, constructed_by, constructed, constructs, created_by, makes_region, drops_region, prints_word}
 use Rattle.word_machine.specs.Machine as M

@@ -19,7 +19,7 @@ use Rattle.region_graph.specs.Typed.{arguments_regioned}
 use Rattle.region_graph.specs.Procedure.{cell_region}
 use Rattle.region_graph.specs.Shared.{variable_top}
 use Rattle.records.specs.Records.{record_as, record_at}
-use Rattle.records.specs.declared.Record.TheVariants.{Literal, Sum, Assign, Construct, Switch, If, Call, Print, Create, Remove, Try, Test}
+use Rattle.records.specs.declared.Record.TheVariants.{Literal, Sum, Assign, Construct, Switch, Create, Remove, Test}
 use Rattle.chains.specs.Formed.{Formed, goal_at, arms_at}
 use Rattle.chains.specs.Goals.{literal_at, sum_at_law, assign_at, construct_at, print_at, create_at, remove_at, test_at}
 use Rattle.chains.specs.Parts.{switch_at, if_at, try_at, call_at}

@@ -3,14 +3,12 @@
 use Prim.Native.Nat.{ℕ, zero, suc, ◌+◌, ◌≤◌, ◌<◌}
 use native.Mathlib.Omega.{arith}
 use Rattle.std.proofs.Math.Path.{◌≡◌, refl}
-use Rattle.std.proofs.Common.{sym, ap, ◌∙◌}
-use Rattle.std.specs.Prelude.{Bool, eqb, length}
+use Rattle.std.specs.Prelude.{Bool, eqb}
 use Rattle.std.proofs.Math.Bool.{true, false}
 use mathlib.Core.List.{List, [], ◌∷◌}
-use Rattle.sets.specs.Tests.{◌&◌}
 use Rattle.language.specs.Lists.{choose}
 use Rattle.language.specs.Program.{arguments_of, literal, sum, assign, construct, call, print, create, remove, test, Goals, done, ◌then◌, Goal, Step, step, switch, if_less, try, Arms, no_arms, arm, ◌before◌, Program, procedure_at}
-use Rattle.language.specs.Frames.{Value, Frame, Cell, Condition, closed, opened, ahead, with_goals, giving, literal_in, sum_in, assign_in, build_in, branch_in, Picked, no_arm, picked, pick, enter_arm, open_cell, callee_frame, returning, entry_frame, settle}
+use Rattle.language.specs.Frames.{Value, Frame, Condition, closed, opened, ahead, with_goals, giving, literal_in, sum_in, assign_in, build_in, branch_in, Picked, picked, pick, enter_arm, open_cell, callee_frame, returning, entry_frame, settle}
 use Rattle.language.specs.AcceptedRun.{RegionFrame, Memory, State, with_frame, going, whole, callee_regions, returning_regions, state, within, state_in, start, failed, take, next, step_from, step_of, steps}
 use Rattle.layout.specs.Sizes.{step_size, goals_size, goal_size, arms_size, before_size}
 

@@ -1,11 +1,11 @@
 -- A try: its condition begins, with the words as they are, and what a failing test goes back to is saved.
-use Rattle.std.specs.Prelude.{ℕ, zero, suc, ◌+◌, ◌≤◌, ◌≡◌, List, length, replicate}
+use Rattle.std.specs.Prelude.{ℕ, zero, suc, ◌≤◌, ◌≡◌, List, replicate}
 use Rattle.std.proofs.Common.{arith, ◌∙◌}
 use Rattle.std.proofs.Math.Path.{refl}
 use Rattle.std.proofs.Math.ListN.{length-replicate}
 use Rattle.language.specs.Format.{max_records}
-use Rattle.language.specs.Program.{Goals, done, Goal, try, ◌before◌}
-use Rattle.language.specs.Frames.{closed, opened, ahead, with_goals}
+use Rattle.language.specs.Program.{done, try, ◌before◌}
+use Rattle.language.specs.Frames.{closed, ahead, with_goals}
 use Rattle.language.specs.AcceptedRun.{RegionFrame, Memory, with_frame, going}
 use Rattle.language.specs.AcceptedRun as Run
 use Rattle.language.specs.Machine.{Room, goes}
@@ -23,7 +23,7 @@ use Rattle.word_machine.specs.Successors.{Todo, todo_none, todo_before}
 use Rattle.word_machine.specs.Relation.{where_in, FrameOk, Waiting, MemoryStored}
 use Rattle.word_machine.specs.Stepping.{frame_goals}
 use Rattle.word_machine.specs.Inside.{Kept, tries_at, try_opens}
-use Rattle.word_machine.specs.InCondition.{keeping, kept, Opening}
+use Rattle.word_machine.specs.InCondition.{keeping, Opening}
 use Rattle.word_machine.specs.Steps.{After}
 use Rattle.word_machine.specs.Entering.{entering}
 

@@ -1,5 +1,6 @@
 use Rattle.std.proofs.Common.{arith}
-use Rattle.annotation.specs.Answer.{refusal_told, too_large, too_long, file_told}
+use Rattle.annotation.specs.Answer.{refusal_told}
+use Rattle.annotation.proofs.RoomLaws.{too_large, too_long, file_told}
 use Rattle.annotation.proofs.answer.write_annotated.Goals as goal
 
 pub lay_annotated-records-requires : goal.lay_annotated-records-requires

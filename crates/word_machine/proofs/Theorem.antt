@@ -16,7 +16,7 @@ use Rattle.word_machine.specs.Tables.{Tables, Tabled}
 use Rattle.word_machine.specs.Machine.{ended_with, no_frame, run_from, lent_words, word_run}
 use Rattle.word_machine.specs.Printing.{none_printed}
 use Rattle.word_machine.specs.Statement.{Gives, JoinedRuns}
-use Rattle.word_machine.specs.WholeRun.{start_gives}
+use Rattle.word_machine.proofs.WholeRun.{start_gives}
 use Rattle.word_machine.specs.Filling.{tables_of}
 use Rattle.word_machine.specs.Tabling.{tabled}
 

@@ -1,5 +1,5 @@
 -- A remove: the words stand for the memory in which the region is alive no more.
-use Rattle.std.specs.Prelude.{ℕ, suc, ◌+◌, ◌≡◌, refl, Bool, true, false, List, ◌≢◌, length}
+use Rattle.std.specs.Prelude.{ℕ, suc, ◌+◌, ◌≡◌, refl, Bool, true, false, List, ◌≢◌}
 use Rattle.std.proofs.Common.{sym, ap, ◌∙◌, arith}
 use Rattle.language.specs.Lists.{put, choose}
 use Rattle.language.specs.Frames.{Cell}

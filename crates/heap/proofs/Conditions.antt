@@ -1,10 +1,10 @@
 -- The words of an open condition (C-20) and what each of its steps does to them, in the definition's own terms.
-use Rattle.std.specs.Prelude.{ℕ, zero, suc, ◌≤◌, ◌<◌, ◌≡◌, true, false, List, ltb, length, set}
+use Rattle.std.specs.Prelude.{ℕ, suc, ◌≤◌, ◌<◌, ◌≡◌, true, false, List, ltb, length, set}
 use Rattle.std.proofs.Math.Path.{refl}
-use Rattle.std.proofs.Common.{sym, subst, ◌∙◌, arith}
+use Rattle.std.proofs.Common.{sym, subst, ◌∙◌}
 use Rattle.language.specs.Lists.{put}
 use Rattle.language.specs.Program.{Goals}
-use Rattle.language.specs.Frames.{Value, Cell, Condition, closed, opened}
+use Rattle.language.specs.Frames.{Value, Cell, opened}
 use Rattle.language.specs.AcceptedRun.{RegionFrame, RegionCell, Memory, with_cell, with_region, without_region, restored}
 use Rattle.language.specs.Machine.{Room, cells_held, regions_held, counted_in}
 use Rattle.memory.specs.declared.Contents.{Contents}
@@ -15,11 +15,12 @@ use Rattle.memory.specs.Memory.{created, created_regions, built, built_cells, bu
 use Rattle.memory.specs.Log.{built_in, made_at, removed_at, entry, Stored, stored, undone, freed}
 use Rattle.heap.specs.Words.{words_of}
 use Rattle.heap.specs.Standing.{StandEach}
-use Rattle.heap.specs.Represents.{Represents, Creates, stops_12, creates, Builds, stops_11, builds}
-use Rattle.heap.specs.Creating.{create_ok}
-use Rattle.heap.specs.Building.{build_ok}
-use Rattle.heap.specs.Undoing.{closed_by}
-use Rattle.heap.specs.Logged.{Stands, Logged, none, undo_ok, free_ok, alike, without_logged, living, living_was, Without, cells_counted, regions_counted, logs_cell, logs_region, logs_removal}
+use Rattle.heap.specs.Represents.{Creates, stops_12, creates, Builds, stops_11, builds}
+use Rattle.heap.proofs.Creating.{create_ok}
+use Rattle.heap.proofs.Building.{build_ok}
+use Rattle.heap.proofs.UndoingLaws.{closed_by}
+use Rattle.heap.specs.Logged.{Stands, Logged, none}
+use Rattle.heap.proofs.LoggedLaws.{undo_ok, free_ok, alike, without_logged, living_was, cells_counted, regions_counted, logs_cell, logs_region, logs_removal}
 
 -- with i entries in the log, what is kept stands for memory m in an open condition, to go back to n
 pub record Opened (k : Room) (s : Stored) (log : List ℕ) (i : ℕ) (n m : Memory) (ρ χ : ℕ → ℕ) : Type 0 where
