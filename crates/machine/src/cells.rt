@@ -14,6 +14,9 @@ use memory::{CELL_ARGUMENTS, CELL_WORDS, CONSTANTS, Heap, Made, hang_cell, put, 
 use plans::{PLAN, SIDES};
 use records::word_in;
 
+// The first argument's word of a construct that has none.
+const NO_ARGUMENT: usize = 0;
+
 // A cell that is there whole gets the functor of the construct at record i and the values of its arguments, up to the first that is numbered 0.
 fn fill(file: &[u8], i: usize, at: usize, cell: u32, cells: &mut [u32], frames: &[u32])
     requires record_bytes_in_bounds { (record_bytes * i + record_bytes ≤ length file.now) × (at + frame_words ≤ length frames.now) }
@@ -82,7 +85,7 @@ fn make_term(
     ensures { Makes file.now plan.now i at heap cells.old regions.old frames.now
         result cells.new regions.new }
 {
-    if word_in(file, i, TERM_ARGUMENTS) == 0 {
+    if word_in(file, i, TERM_ARGUMENTS) == NO_ARGUMENT {
         let constant = CONSTANTS + (word_in(file, i, TERM_FUNCTOR) as u32);
         return Made::At(constant, heap);
     }
