@@ -26,6 +26,7 @@ fn output() -> [u8; OUTPUT_BYTES]
 
 // What the runner prints for an accepted file, at the front of `out`. Answers how many bytes that are. The memory is lent here, where the stack of
 // the checker's walks is given back.
+#[inline(never)]
 fn accepted_answer(file: &[u8], out: &mut [u8]) -> usize
     requires file_value { checked file.now ≡ Accepted }
     requires output_bytes_value { output_bytes ≡ length out.old }
@@ -48,8 +49,8 @@ fn accepted_answer(file: &[u8], out: &mut [u8]) -> usize
     runner_output(&prints[..n], ending, r.steps as u64, out)
 }
 
-// What the runner prints for any bytes. The run is called in two places, by the file's length: what has one caller the compiler puts into it, and the
-// run's tables would lie on the stack beside the checker's, below its walks.
+// What the runner prints for any bytes. The run stays apart (`inline(never)`): what has one caller the compiler puts into it, two like calls it may make
+// one, and the run's tables would lie on the stack beside the checker's, below its walks.
 fn runner_answer(file: &[u8], out: &mut [u8]) -> usize
     requires { output_bytes ≡ length out.old }
     ensures { Front (runner_output (ran file.now runner_lent)) out.old out.new result }
