@@ -1,6 +1,6 @@
 -- Records of declarations that the code has read: what the fields are, what stands there, and where each reference leads.
--- In a turn of a loop: `variable_at_law F (c .. .record-at .ensures) (c .. .next .given .1)` has all of it, where `next` is the first name that the
--- pattern binds: `.view` for the invariant, `.to_next .stands` for the next turn, `.to_next .falls` for the measure.
+-- In a turn of a loop: `variable_at_law F c.record_at.ensures c.in-Variable.is` has all of it:
+-- `.view` for the invariant, `.to_next .stands` for the next turn, `.to_next .falls` for the measure.
 use Rattle.std.specs.Prelude.{ℕ, ◌<◌, ◌+◌, ◌≡◌, refl, List, ◌∷◌}
 use Rattle.std.proofs.Common.{ap}
 use Rattle.language.specs.File.{k_type, k_functor, k_procedure, k_variable, k_region, k_edge, types, functors, procedures, variables, regions, edges, goals, word, record_count}

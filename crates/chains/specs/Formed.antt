@@ -2,13 +2,13 @@
 -- start a chain, and the measure that falls along every reference.
 --
 -- How to use it:
---   `requires` Formed (now file) and Stands (now file) variables start;
+--   `requires` Formed file.now and Stands file.now variables start;
 --   a loop's invariant: Stands file variables i, and "what is done so far and the rest from i make the whole" over `variables_at file i`; where a
---   count must fit, also n + ahead file i < maxRecords (`ahead_below`); in a cycle of calls also ahead file i ≤ ahead file start;
+--   count must fit, also n + ahead file i < max_records (`ahead_below`); in a cycle of calls also ahead file i ≤ ahead file start;
 --   the measure: `ahead file i`; of a cycle 3 * ahead + 2 for goals and arms, 3 * ahead + 1 for the goal at record i, 3 * ahead for a switch or an if;
---   a turn over words: `goal_here`, `switch_here`, `to_arms`, `arm_here` and their like (module Shapes), `Chain-next` for word 1 (module Is);
+--   a turn over words: `goal_here`, `switch_here`, `to_arms`, `arm_here` and their like (module Shapes), `chain_next` for word 1 (module Is);
 --   over a decoded record: `variable_at_law` and its like (modules Declared, Goals, Parts) give the view, the Stands of each reference and that the
---   measure falls, and `variable-else` and its like (module Is) say that the `else` is never met;
+--   measure falls, and `variable_is` and its like (module Is) say that the `else` is never met;
 --   the end, i ≡ 0: `variables_none` and its like, below; along the procedures: module Turns.
 use Rattle.std.specs.Prelude.{ℕ, zero, suc, ◌-◌, ◌*◌, ◌≤◌, ◌<◌, ◌≡◌, refl, List, [], true, ◌⊎◌, length}
 use Rattle.std.proofs.Common.{arith, sym, ◌∙◌, inl, inr}

@@ -1,6 +1,6 @@
 -- Records of goals without parts that the code has read: what the fields are, what stands there, and where the chain goes on.
--- In a turn: `assign_at F (c .. .record-at .ensures) (c .. .next .given .1)` has all of it, where `next` is the first name that the pattern
--- binds: `.view` for the claim, `.to_next .stands` and `.to_next .falls` for the rest of the chain.
+-- In a turn: `assign_at F c.record_at.ensures c.in-Assign.is` has all of it:
+-- `.view` for the claim, `.to_next .stands` and `.to_next .falls` for the rest of the chain.
 use Rattle.std.specs.Prelude.{ℕ, ◌<◌, ◌+◌, ◌≡◌, refl, List}
 use Rattle.std.proofs.Common.{ap}
 use Rattle.language.specs.File.{k_literal, k_sum, k_assign, k_construct, k_print, k_create, k_remove, k_test, k_goal, goals, word, record_count}

@@ -1,6 +1,6 @@
 -- A record of a chain is one of that chain's constructors, so the `else` of a `let .. else`, or the `_` of a `match`, is never met.
--- There: `absurd (variable-else S z (c .. .record-at .ensures) c.match.keys2)`, with S the invariant's `Stands` and z : i ≡ 0 → ⊥, the loop's
--- test; of a `match` with an arm for each goal `goal-else`; of any other `never`, the keys written out.
+-- There: `absurd (c.in_default.not-Functor _ _ _ _ _ _ (c.record_at.ensures ∙ functor_is S z))`, with S the invariant's `Stands` and
+-- z : i ≡ 0 → ⊥, the loop's test; where an arm's keys are known instead, `never`, the keys written out.
 -- Where a loop reads w1 itself and another function the record: `chain_next`, and for goals `goals_step`.
 use Rattle.std.specs.Prelude.{ℕ, zero, suc, ◌<◌, ◌+◌, ◌≡◌, refl, List, [], ◌∷◌, Bool, true, not, ◌&&◌, false, eqb}
 use Rattle.std.proofs.Common.{arith, ap, sym, subst, ◌∙◌, inl, inr, eqb→eq}

@@ -1,6 +1,6 @@
 -- Records of goals with parts, of arms and of arguments that the code has read: what the fields are, what stands there, and where each
--- reference leads. In a turn: `switch_at F (c .. .record-at .ensures) (c .. .next .given .1)` has all of it, where `next` is the first name that
--- the pattern binds: `.view` for the claim, `.to_arms .stands` for what is called and `.to_arms .falls` for its measure.
+-- reference leads. In a turn: `switch_at F c.record_at.ensures c.in-Switch.is` has all of it:
+-- `.view` for the claim, `.to_arms .stands` for what is called and `.to_arms .falls` for its measure.
 use Rattle.std.specs.Prelude.{ℕ, ◌<◌, ◌+◌, ◌≡◌, refl, List, ◌∷◌}
 use Rattle.std.proofs.Common.{ap}
 use Rattle.language.specs.File.{k_switch, k_if, k_try, k_call, k_arm, k_argument, k_goal, goals, arms, arguments, word, record_count}

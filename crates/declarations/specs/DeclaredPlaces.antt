@@ -4,7 +4,7 @@ use Rattle.std.specs.Prelude.{ℕ, ◌+◌, ◌*◌, List, ltb, get_or}
 use Rattle.language.specs.Format.{max_records, max_procedures, max_functors, places}
 use Rattle.language.specs.Lists.{choose}
 
--- the file's: by their records, links between variables and marks at the first functors of types with regions; then the procedures, then maxFunctors
+-- the file's: by their records, links between variables and marks at the first functors of types with regions; then the procedures, then max_functors
 -- places for each type
 abbrev pub procedure_places : ℕ
 procedure_places = max_records

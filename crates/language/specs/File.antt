@@ -45,7 +45,7 @@ padded (suc n) (u ∷ us) = u ∷ padded n us
 unfoldable pub row_in : ℕ → Chain → List Use → Row
 row_in k c us = record { kind = k; chain = c; next = c; words = padded 6 us }
 
--- The table. A kind that it does not list is kNone, which stands in no chain: such a record is refused because nothing can lead to it, and every record
+-- The table. A kind that it does not list is k_none, which stands in no chain: such a record is refused because nothing can lead to it, and every record
 -- but 0 must be led to.
 unfoldable pub row : Kind → Row
 row k_none = row_in 0 nowhere []
@@ -71,7 +71,7 @@ row (k_goal k_remove) = row_in remove_kind goals (number ∷ [])
 row (k_goal k_try) = row_in try_kind goals (first goals ∷ first goals ∷ first goals ∷ [])
 row (k_goal k_test) = row_in test_kind goals (number ∷ number ∷ [])
 
--- the kinds in the order of their numbers; kNone stands for every other number
+-- the kinds in the order of their numbers; k_none stands for every other number
 unfoldable pub kinds : List Kind
 kinds = k_none ∷ k_header ∷ k_type ∷ k_functor ∷ k_procedure ∷ k_variable ∷ k_region ∷ k_edge ∷ k_goal k_literal ∷ k_goal k_sum ∷ k_goal k_assign ∷ k_goal k_construct ∷ k_goal k_switch ∷ k_arm ∷ k_goal k_if ∷ k_goal k_call ∷ k_argument ∷ k_goal k_print ∷ k_goal k_create ∷ k_goal k_remove ∷ k_goal k_try ∷ k_goal k_test ∷ []
 

@@ -1,7 +1,7 @@
 -- What the passes put into the plan, the images and the callees. On the way the plan has other words, which the links replace:
 --   i               where the chain of record i goes on after its end
---   slotsFrom + i   of a call's argument: the callee's variable that it matches
---   modesFrom + i   .. and that variable's mode
+--   slots_from + i   of a call's argument: the callee's variable that it matches
+--   modes_from + i   .. and that variable's mode
 use Rattle.std.specs.Prelude.{ℕ, zero, suc, ◌+◌, ◌-◌, ◌*◌, ◌/◌, ◌<◌, Bool, true, List, [], ◌∷◌, ◌≡◌, eqb, length, get_or, set}
 use Rattle.sets.specs.Sets.{◌∪◌, stored}
 use Rattle.language.specs.Lists.{choose}

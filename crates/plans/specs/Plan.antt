@@ -1,9 +1,9 @@
 -- The tables of a run as the code keeps them. The plan has four words for each of 4,096 records, sort by sort:
 --   i               of a goal: the goal that comes next; of an arm: where it is entered
---   insFrom + i     a link from a call to its arguments of mode in, from each to the next; of an argument, what it passes too
---   outsFrom + i    .. and of mode out
---   sidesFrom + i   of a construct: the region number of X; of a call: the place before its images
--- A link is linkUnit times the record that it leads to, which is a later one, and what an argument passes. The images have a byte for each call and region of its
+--   ins_from + i     a link from a call to its arguments of mode in, from each to the next; of an argument, what it passes too
+--   outs_from + i    .. and of mode out
+--   sides_from + i   of a construct: the region number of X; of a call: the place before its images
+-- A link is link_unit times the record that it leads to, which is a later one, and what an argument passes. The images have a byte for each call and region of its
 -- callee, from place 1 on: the caller's region. Of each procedure a call reads four words: its first goal, how many variables it has, its dead and kept regions,
 -- and its born ones.
 use Rattle.std.specs.Prelude.{ℕ, zero, suc, ◌+◌, ◌-◌, ◌*◌, ◌/◌, ◌%◌, ◌<◌, ◌≤◌, ◌≡◌, List, [], ◌∷◌, eqb, ltb, length, get_or}

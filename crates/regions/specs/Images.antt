@@ -9,7 +9,7 @@ use Rattle.language.specs.Format.{max_regions}
 use Rattle.tables.specs.Window.{set_in, born_place, dead_place, kept_place, passed_place}
 use Rattle.tables.specs.declared.Effect.{Effect}
 
--- each member of rs is from 1 to maxRegions, and so is its image; no other number has one
+-- each member of rs is from 1 to max_regions, and so is its image; no other number has one
 pub record Imaged (m : ℕ → ℕ) (rs : Set) : Type 0 where
   pub only : (r : ℕ) → 1 ≤ m r → member rs r ≡ true
   pub top : (r : ℕ) → member rs r ≡ true → r ≤ max_regions

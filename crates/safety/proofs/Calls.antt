@@ -1,6 +1,5 @@
 -- A call: the callee's dead and kept numbers stand for what their images do. What the caller's dead images stand for is the callee's now;
--- the
--- caller waits with the rest.
+-- the caller waits with the rest.
 use Rattle.std.specs.Prelude.{◌≡◌, Bool, true, false, List, ◌∷◌, map, ◌⊎◌, ℕ, pos}
 use Rattle.std.proofs.Math.Path.{sym}
 use Rattle.std.proofs.Common.{subst, ap, ◌∙◌, inl, inr, ⊎_elim}

@@ -1,6 +1,6 @@
 -- Who owns the living regions. Each frame, the newest and the waiting ones, holds some of its region numbers; every living region is held
--- by a
--- frame. What a frame holds and does not keep for its caller stands for a region of its own, which no other number of any frame stands for.
+-- by a frame. What a frame holds and does not keep for its caller stands for a region of its own, which no other number of any frame stands
+-- for.
 use Rattle.std.specs.Prelude.{◌≡◌, Bool, true, false, List, [], ◌∷◌, ◌≢◌, ◌⊎◌, ℕ, suc, ◌<◌}
 use Rattle.std.proofs.Common.{sym, ap, ◌∙◌, inl, inr, ⊎_elim, arith}
 use Rattle.std.proofs.Math.Decide.{ℕ_discrete}

@@ -1,5 +1,5 @@
 -- Laws of the sets and tests that go through lists and members: `set_of`, `keep`, `union_over`, `image`, `every`.
--- Names: `X-mk` makes a member of X, `X-in` says what a member of X is.
+-- Names: `X_mk` makes a member of X, `X_in` says what a member of X is.
 -- Assumes nothing.
 use Rattle.std.specs.Prelude.{◌≡◌, refl, Bool, true, false, List, [], ◌∷◌, ◌⊎◌, ℕ, ◌≤◌}
 use Rattle.std.proofs.Common.{sym, ap, ◌∙◌, inl, inr, ⊎_elim}

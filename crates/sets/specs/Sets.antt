@@ -1,6 +1,6 @@
 -- Sets of numbers from 1 to 64: what the contracts of `Set` cite, and the laws by which a caller goes.
 -- Above this crate a set is known by its members alone; only a computation from closed values opens the definitions.
--- Names: `X-mk` makes a member of X, `X-in` says what a member of X is.
+-- Names: `X_mk` makes a member of X, `X_in` says what a member of X is.
 -- Assumes nothing.
 use Rattle.std.specs.Prelude.{◌≡◌, refl, Bool, true, false, ◌&&◌, ◌||◌, ◌⊎◌, ℕ, zero, suc, ◌^◌, ◌≤◌, ◌<◌, eqb, ltb}
 use Rattle.std.proofs.Common.{sym, ap, ◌∙◌, inl, inr, arith, eqb-true, eq-eqb, lt-ltb, le-ltb}

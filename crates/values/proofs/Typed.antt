@@ -1,4 +1,4 @@
--- Number 3 says that every variable that a goal names is from 1 to maxVariables, so that a set can hold it.
+-- Number 3 says that every variable that a goal names is from 1 to max_variables, so that a set can hold it.
 use Prim.Native.Nat.{ℕ, suc, ◌≤◌}
 use native.Mathlib.Omega.{arith}
 use mathlib.Core.Path.{◌≡◌, refl}
@@ -29,7 +29,7 @@ pub record ArmsTyped (P : Program) (cs : Arms) : Type 0 where
   pub number : ℕ
   pub ok : arms_ok P signature cs functors number ≡ true
 
--- ---- variables are from 1 to maxVariables
+-- ---- variables are from 1 to max_variables
 module _ (S : Signature) (few : length S.variables ≤ max_variables) where
   variable_range : (x : ℕ) → is_variable S x ≡ true → InRange x
   unfolding is_variable among
