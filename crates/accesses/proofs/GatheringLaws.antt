@@ -2,7 +2,7 @@
 use Prim.Native.Nat.{ℕ}
 use mathlib.Core.Path.{◌≡◌, refl, sym, ap, ◌∙◌}
 use mathlib.Core.Bool.{Bool, true, false, ◌&&◌, not}
-use mathlib.Core.List.{List, [], ◌∷◌, ◌++◌, append-nil, append_assoc}
+use mathlib.Core.List.{List, ◌∷◌, ◌++◌, append-nil, append_assoc, []}
 use borrow.Author.Tests.{ne_eqb}
 use Rattle.sets.specs.Tests.{◌&◌, neg}
 use Rattle.sets.specs.Sets.{member, single, ◌∪◌, single_zero}

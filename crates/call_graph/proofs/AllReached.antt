@@ -1,25 +1,19 @@
 -- What `reached` computes, as many rounds as there are procedures, is what chains of calls reach, in both directions; and number 17.
-use Prim.Native.Nat.{ℕ, zero, suc, ◌≤◌, ◌<◌}
+use Prim.Native.Nat.{ℕ, zero, suc, ◌<◌}
 use Rattle.std.proofs.Math.Decide.{ℕ_discrete}
 use native.Mathlib.Omega.{arith}
 use Rattle.std.proofs.Math.Bool.{true}
-use Rattle.std.specs.Prelude.{false, ◌⊎◌, ◌≡◌}
-use mathlib.Core.List.{List, [], ◌∷◌, ◌++◌}
-use Rattle.std.proofs.Math.Logic.{inl, inr, ⊎_elim}
+use Rattle.std.specs.Prelude.{false, ◌≡◌}
 use Rattle.std.proofs.Math.Path.{refl, ap}
 use Rattle.std.proofs.Common.{sym, ◌∙◌}
 use Rattle.std.proofs.Math.ListN.{length}
 use Rattle.sets.specs.Tests.{clash, same_truth}
-use Rattle.sets.specs.Members.{in_list, nil_in, cons_here, cons_later, cons_in}
-use Rattle.sets.specs.MemberLaws.{filtered_in, filtered_mk}
-use Rattle.language.specs.Lists.{up_from}
+use Rattle.sets.specs.Members.{in_list}
 use Rattle.language.specs.Format.{entry_procedure}
 use Rattle.language.specs.Program.{Program}
-use Rattle.language.specs.CallChains.{callees, CallChain, called_from, one_call_on, reached_within, reached, reached_ok}
-use Rattle.laws.specs.Numbers.{up_from_in, up_from_mk, up_from_length, all_at, at_all, at_fails}
-use Rattle.laws.specs.Lists.{append_in, append_left, append_right}
-use Rattle.laws.specs.Rounds.{rounds, filtered_most, same_or_more}
-use Rattle.call_graph.specs.Chains.{caller_below, chain_start, chain_on, chain_holds, chain_same}
+use Rattle.language.specs.CallChains.{callees, CallChain, one_call_on, reached, reached_ok}
+use Rattle.laws.specs.Numbers.{all_at, at_all, at_fails}
+use Rattle.call_graph.specs.Chains.{caller_below, chain_start, chain_holds, chain_same}
 use Rattle.call_graph.specs.Reached.{AllReached, settled, on_new, entry_found, found_chain}
 
 module _ (P : Program) where

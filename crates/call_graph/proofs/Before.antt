@@ -1,6 +1,6 @@
 -- What C-18 changes, to be checked against document 02's words: "Files accepted from then on are exactly the old ones without such procedures", a file
 -- without such procedures is answered as before, and one with such procedures gets 17, "looked at after 5 and before 6".
-use Rattle.std.specs.Prelude.{ℕ, List, [], ◌∷◌, ◌++◌, Bool, true, false, ◌↔◌, ◌⊎◌, ◌≡◌}
+use Rattle.std.specs.Prelude.{ℕ, List, ◌∷◌, ◌++◌, Bool, true, false, ◌↔◌, ◌⊎◌, ◌≡◌, []}
 use Rattle.std.proofs.Common.{inl, inr, sym, ◌∙◌}
 use Rattle.std.proofs.Math.Path.{refl, ap}
 use Rattle.sets.specs.Tests.{◌&◌, truth}

@@ -1,7 +1,7 @@
 -- Laws of `specs/Chains` that only proofs cite.
 use Prim.Native.Nat.{ℕ, zero, suc}
 use native.Mathlib.Omega.{arith}
-use mathlib.Core.List.{List, [], ◌∷◌}
+use mathlib.Core.List.{List, ◌∷◌, []}
 use mathlib.Core.Path.{◌≡◌, refl, ap, sym, ◌∙◌}
 use Rattle.sets.specs.Sets.{◌∖◌}
 use Rattle.sets.specs.Members.{members}

@@ -1,7 +1,7 @@
 -- Laws of `specs/Lays` and `specs/Heads` that only proofs cite.
 use Prim.Native.Nat.{ℕ, suc, ◌≤◌, ◌+◌}
 use native.Mathlib.Omega.{arith}
-use mathlib.Core.List.{List, [], ◌∷◌}
+use mathlib.Core.List.{List, ◌∷◌, []}
 use mathlib.Core.Path.{◌≡◌, sym}
 use Rattle.language.specs.Format.{max_records, switch_kind, if_kind, arm_kind, next_word, goal_x, if_y, if_z, term_functor, term_arguments}
 use Rattle.writer.specs.Skips.{Behind}

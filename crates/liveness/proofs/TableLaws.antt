@@ -2,7 +2,7 @@
 use Prim.Native.Nat.{ℕ, suc, ◌+◌, ◌-◌, ◌≤◌}
 use native.Mathlib.Omega.{arith}
 use mathlib.Core.Path.{◌≡◌, refl, sym, ap, ◌∙◌}
-use mathlib.Core.List.{List, [], ◌∷◌, ◌++◌, append_assoc}
+use mathlib.Core.List.{List, ◌∷◌, ◌++◌, append_assoc, []}
 use lib.ListN.{length, get_or, take, drop, set, length-append, length-set, get_or-eq_default}
 use lib.Seq.{take-take, drop-cons, get_or-set_same, get_or-set_other, take-set-le, drop-set-lt}
 use Rattle.sets.specs.Sets.{empty_set, stored, loaded, loaded_zero}

@@ -4,14 +4,14 @@ use Rattle.std.specs.Prelude.{◌≡◌, Bool, ℕ, ℤ, length}
 use Rattle.std.proofs.Math.Path.{refl, ap}
 use Rattle.std.proofs.Common.{◌∙◌}
 use Rattle.std.proofs.Math.Bool.{true, false}
-use mathlib.Core.List.{List, [], ◌∷◌, map, map-append}
+use mathlib.Core.List.{List, ◌∷◌, map, map-append, []}
 use Rattle.std.proofs.lemmas.List.{length-map}
 use Rattle.language.specs.Lists.{choose}
 use Rattle.language.specs.Program.{arguments_of, Step, literal, sum, assign, construct, call, print, create, remove, test, Goals, done, ◌then◌, Goal, step, switch, if_less, try, Arms, ◌before◌, Program}
 use Rattle.language.specs.Annotation.{plain_step}
 use Rattle.language.specs.Frames.{Value, Frame, Condition, closed, opened, ahead, Cell, less_in, with_goals, giving, literal_in, sum_of, sum_in, assign_in, cell_for, built_value, build_in, branch_in, Picked, no_arm, picked, pick, enter_arm, open_cell, callee_frame, returning, entry_frame, settle}
 use Rattle.language.specs.PlainRun.{strip_goals, strip_arms, stripped, PlainState, whole_frame, plain_state, plain_within, plain_state_in, plain_start, plain_failed, plain_take, built_cells}
-use Rattle.language.specs.AcceptedRun.{RegionFrame, Memory, State, cell_of, with_cell, with_built, with_printed, with_region, without_region, restored, with_frame, going, whole, callee_regions, returning_regions, state, within, state_in, start, failed, take}
+use Rattle.language.specs.AcceptedRun.{RegionFrame, Memory, State, cell_of, with_cell, with_built, with_printed, with_region, without_region, restored, with_frame, whole, callee_regions, returning_regions, state, within, state_in, start, failed, take}
 use Rattle.laws.specs.Choices.{choose_map}
 use Rattle.lockstep.specs.Counted.{is_plain}
 use Rattle.laws.specs.Goals.{strip_before, strip_signature, strip_body}

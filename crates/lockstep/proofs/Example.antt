@@ -1,6 +1,6 @@
 -- The definitions computed on a small program: create, construct, print, remove. After 4 steps 2 were spent, the plain run has done 2,
 -- and both have ended with the same number printed.
-use Rattle.std.specs.Prelude.{◌≡◌, refl, true, false, [], ◌∷◌, map, ℕ, zero, suc, pos}
+use Rattle.std.specs.Prelude.{◌≡◌, refl, true, false, ◌∷◌, map, ℕ, zero, suc, pos, []}
 use Rattle.language.specs.Program.{four, literal, sum, construct, print, create, remove, Goals, done, ◌then◌, step, Program}
 use Rattle.language.specs.Frames.{stays_at_sum}
 use Rattle.language.specs.PlainRun.{stripped, plain_steps}

@@ -3,7 +3,7 @@ use Rattle.std.specs.Prelude.{◌≡◌, Bool, ◌⊎◌, suc, ℤ}
 use Rattle.std.proofs.Math.Path.{refl, ap, sym}
 use Rattle.std.proofs.Common.{◌∙◌, inl, inr, arith}
 use Rattle.std.proofs.Math.Bool.{true, false}
-use mathlib.Core.List.{List, [], ◌∷◌, map}
+use mathlib.Core.List.{List, ◌∷◌, map, []}
 use Rattle.sets.specs.Tests.{neg, neg_true, true_neg, truth, clash}
 use Rattle.language.specs.Program.{Goals, ◌then◌, Goal, Program}
 use Rattle.language.specs.Frames.{Frame, Condition, closed, opened, Cell, with_goals, fits, over_ahead, stays_at_sum, settle}

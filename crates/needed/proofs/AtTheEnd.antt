@@ -1,5 +1,5 @@
 -- Two parts of "At the end: born and kept regions held" follow from the other rules: a file that passes without one of them passes with it.
-use Rattle.std.specs.Prelude.{ℕ, false, List, [], ◌∷◌, ◌≡◌, refl, eqb, ltb}
+use Rattle.std.specs.Prelude.{ℕ, false, List, ◌∷◌, ◌≡◌, refl, eqb, ltb, []}
 use Rattle.std.proofs.Math.Bool.{true}
 use Rattle.std.proofs.Common.{⊎_elim, sym, ap, ◌∙◌, eqb-true}
 use Rattle.sets.specs.Tests.{◌or◌, and_true, truth, clash}

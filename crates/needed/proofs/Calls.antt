@@ -1,5 +1,5 @@
 -- Each rule about a call is needed, but for "images of dead regions are held", which stands in `Implied`.
-use Rattle.std.specs.Prelude.{ℕ, List, [], ◌∷◌, ◌≡◌, refl}
+use Rattle.std.specs.Prelude.{ℕ, List, ◌∷◌, ◌≡◌, refl, []}
 use Rattle.language.specs.declared.Verdict.TheVariants.{Accepted}
 use Rattle.language.specs.Answers.{checked}
 use Rattle.language.specs.Table.{file}

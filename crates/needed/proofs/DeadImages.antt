@@ -1,5 +1,5 @@
 -- "Call: images of dead .. regions are held" follows from the other rules: such an image is in the reach of an in argument, which is sound.
-use Rattle.std.specs.Prelude.{ℕ, ◌≤◌, Bool, true, false, List, [], ◌∷◌, ◌≡◌}
+use Rattle.std.specs.Prelude.{ℕ, ◌≤◌, Bool, true, false, List, ◌∷◌, ◌≡◌, []}
 use Rattle.std.proofs.Common.{⊎_elim, sym, ap, ◌∙◌, arith}
 use Rattle.std.proofs.Math.Path.{refl}
 use Rattle.sets.specs.Tests.{◌&◌, ◌or◌, and_true, true_and, clash, same_truth}

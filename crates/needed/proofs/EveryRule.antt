@@ -1,7 +1,7 @@
 -- Of the checker's 25 rules, three of them of a try (C-20), 21 are needed one by one: a file that only this rule refuses and whose run would go wrong. The other four are needed in
 -- pairs: such a file that only two rules refuse, each of them alone too (`Implied`). Three of the four follow from other rules (`AtTheEnd`,
 -- `DeadImages`), and no run needs the fourth, on a given variable's reach, while those are kept.
-use Rattle.std.specs.Prelude.{List, [], ◌∷◌}
+use Rattle.std.specs.Prelude.{List, ◌∷◌, []}
 use Rattle.needed.specs.Without.{Rule, create_not_held, remove_held, remove_not_kept, remove_unsound, read_sound, construct_held, dead_held, kept_held, dead_not_kept, born_not_held, dead_unshared, born_unshared, dead_gone, dead_unsound, born_then_held, reach_held, arms_equal, every_arm, else_from_before, then_from_end, parts_alike, end_born, end_kept, end_other, outs_sound}
 use Rattle.needed.proofs.Faults.{Needed}
 use Rattle.needed.proofs.Steps.{created_twice_needs, removed_twice_needs, kept_removed_needs, created_again_needs, read_removed_needs, built_nowhere_needs}

@@ -1,7 +1,7 @@
 -- What goes wrong in the run of a file that breaks a rule, were it allowed: a goal that is not allowed, at which the run stays for good, or an end
 -- with a region still alive. And what is shown of each file.
 use Rattle.std.specs.Prelude.{ℕ, ◌+◌, Bool, true, false, ◌≡◌}
-use mathlib.Core.List.{List, [], ◌∷◌}
+use mathlib.Core.List.{List, ◌∷◌, []}
 use Rattle.std.proofs.Math.Path.{refl, sym, ap}
 use Rattle.std.proofs.Common.{◌∙◌}
 use native.Mathlib.Omega.{arith}

@@ -1,5 +1,5 @@
 -- The rules that no run needs by itself, each with the rule that must be left out with it before a run goes wrong.
-use Rattle.std.specs.Prelude.{ℕ, List, [], ◌∷◌, ◌≡◌, refl}
+use Rattle.std.specs.Prelude.{ℕ, List, ◌∷◌, ◌≡◌, refl, []}
 use Rattle.language.specs.declared.Refusal.TheVariants.{Rules}
 use Rattle.language.specs.declared.Verdict.TheVariants.{Refused, Accepted}
 use Rattle.language.specs.Answers.{checked}

@@ -1,6 +1,6 @@
 -- With no rule left out, the checker of `Without` is document 01's: what is shown there is about the rules themselves. And where only rules about
 -- the end are left out, it carries what the checker carries.
-use Rattle.std.specs.Prelude.{ℕ, Bool, false, List, [], ◌≡◌, ltb}
+use Rattle.std.specs.Prelude.{ℕ, Bool, false, List, ◌≡◌, ltb, []}
 use Rattle.std.proofs.Math.Bool.{true}
 use Rattle.std.proofs.Math.Path.{refl}
 use Rattle.std.proofs.Common.{ap, ◌∙◌}

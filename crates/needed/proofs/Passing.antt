@@ -1,5 +1,5 @@
 -- From procedures to files: where a rule follows from the others for each procedure, a file that passes without it passes.
-use Rattle.std.specs.Prelude.{Bool, true, false, List, [], ◌∷◌, ◌++◌, ◌≡◌, refl, ℕ}
+use Rattle.std.specs.Prelude.{Bool, true, false, List, ◌∷◌, ◌++◌, ◌≡◌, refl, ℕ, []}
 use Rattle.sets.specs.Tests.{and_true, true_and}
 use Rattle.language.specs.declared.Refusal.TheVariants.{Classes, Rules}
 use Rattle.language.specs.declared.Verdict.TheVariants.{Accepted}

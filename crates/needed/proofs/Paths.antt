@@ -1,5 +1,5 @@
 -- Each rule about arms, about the parts of a try and about the end of a procedure is needed, but for two parts of the last, which stand in `Implied`.
-use Rattle.std.specs.Prelude.{ℕ, List, [], ◌∷◌, refl}
+use Rattle.std.specs.Prelude.{ℕ, List, ◌∷◌, refl, []}
 use Rattle.language.specs.Table.{file}
 use Rattle.needed.specs.Without.{arms_equal, every_arm, else_from_before, then_from_end, parts_alike, end_other, outs_sound}
 use Rattle.needed.proofs.Faults.{stays, leaks, Needed}

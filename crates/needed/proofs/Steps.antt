@@ -1,6 +1,6 @@
 -- Each rule about a create, a remove, a read or a construct is needed: a file that breaks it alone, and what its run would do.
 -- The files here and in `Calls` and `Paths` have one type with one functor, box, whose argument is a number: a term that takes a cell.
-use Rattle.std.specs.Prelude.{ℕ, List, [], ◌∷◌, refl}
+use Rattle.std.specs.Prelude.{ℕ, List, ◌∷◌, refl, []}
 use Rattle.language.specs.Table.{file}
 use Rattle.needed.specs.Without.{create_not_held, remove_held, remove_not_kept, remove_unsound, read_sound, construct_held}
 use Rattle.needed.proofs.Faults.{stays, leaks, Needed}

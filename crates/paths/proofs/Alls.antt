@@ -1,5 +1,5 @@
 -- Tests of all paths, and that there is one, where paths are made of others.
-use Rattle.std.specs.Prelude.{Bool, false, List, [], ◌∷◌, ◌++◌, ◌≡◌, refl}
+use Rattle.std.specs.Prelude.{Bool, false, List, ◌∷◌, ◌++◌, ◌≡◌, refl, []}
 use Rattle.std.proofs.lemmas.Bool.{false≢true}
 use Rattle.std.proofs.Common.{sym, ap, ap₂, ◌∙◌}
 use Rattle.sets.specs.Tests.{◌&◌}

@@ -1,6 +1,6 @@
 -- A procedure whose first switch has one arm that removes a region and creates it again. Its four paths are listed; on the two through that
 -- arm a variable from before is read that is no longer sound. All of it is computed.
-use Rattle.std.specs.Prelude.{true, false, List, [], ◌∷◌, ◌++◌, map, ◌≡◌, refl}
+use Rattle.std.specs.Prelude.{true, false, List, ◌∷◌, ◌++◌, map, ◌≡◌, refl, []}
 use Rattle.sets.specs.Sets.{empty_set, single}
 use Rattle.sets.specs.declared.Set.{Set}
 use Rattle.language.specs.Lists.{all}

@@ -1,6 +1,6 @@
 -- The same of files: the checker accepts one if and only if it passes the numbers before 8 and the rules hold on every path of every
 -- procedure; it refuses one with 8 if and only if it passes those and some path of some procedure breaks a rule.
-use Rattle.std.specs.Prelude.{ℕ, ◌<◌, true, false, List, [], ◌∷◌, ◌++◌, ◌↔◌, ◌≡◌, length}
+use Rattle.std.specs.Prelude.{ℕ, ◌<◌, true, false, List, ◌∷◌, ◌++◌, ◌↔◌, ◌≡◌, length, []}
 use Rattle.std.proofs.Common.{sym, ap, ◌∙◌, arith}
 use Rattle.sets.specs.Tests.{clash, and_true, false_of}
 use Rattle.language.specs.declared.Refusal.{Refusal}

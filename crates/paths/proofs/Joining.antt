@@ -2,7 +2,7 @@
 -- carries at the end is the test at the end of every path, with each path's own held regions and sound variables.
 use Rattle.std.specs.Prelude.{ℕ, Bool, true, false, ◌≡◌, refl}
 use Rattle.std.proofs.lemmas.Bool.{false≢true}
-use mathlib.Core.List.{[], ◌∷◌}
+use mathlib.Core.List.{◌∷◌, []}
 use Rattle.std.proofs.Math.Path.{sym, ap, ap₂}
 use Rattle.std.proofs.Common.{◌∙◌}
 use Rattle.sets.specs.Tests.{◌&◌, and_true}

@@ -1,7 +1,7 @@
 -- "Arms end with equal held regions" follows from the other rules: where they hold on every path, any two ways through a goal end with equal
 -- held regions. For both go on alike from there to one end, and each event leaves different what was different.
 use Rattle.std.specs.Prelude.{ℕ, Bool, true, false, ◌≡◌}
-use mathlib.Core.List.{List, [], ◌∷◌, ◌++◌, append_assoc}
+use mathlib.Core.List.{List, ◌∷◌, ◌++◌, append_assoc, []}
 use Rattle.std.proofs.Math.Path.{refl, ap₂}
 use Rattle.std.proofs.Common.{sym, ap, ◌∙◌}
 use Rattle.sets.specs.Tests.{◌&◌, and_true, true_and}

@@ -1,7 +1,7 @@
 -- What number 3 sees to and the theorems need: the numbers that a step's rules look up are from 1 to 64, or 0 for the region of a type that has
 -- none, and each switch has an arm.
 -- `Typed` proves that a file past number 3 is so.
-use Rattle.std.specs.Prelude.{ℕ, Bool, true, false, [], ◌∷◌, ◌≡◌, refl, leb}
+use Rattle.std.specs.Prelude.{ℕ, Bool, true, false, ◌∷◌, ◌≡◌, refl, leb, []}
 use Rattle.std.proofs.lemmas.Bool.{false≢true}
 use Rattle.sets.specs.Tests.{◌&◌, and_true}
 use Rattle.language.specs.Lists.{all, among, is_none}

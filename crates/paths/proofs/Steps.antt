@@ -1,6 +1,6 @@
 -- Each event does what the checker does with it: the conjunction of the rules that speak of a step is `step_rules`, and the held regions and
 -- sound variables after it are the checker's.
-use Rattle.std.specs.Prelude.{ℕ, zero, suc, Bool, true, List, [], ◌∷◌, ◌≡◌, leb, eqb}
+use Rattle.std.specs.Prelude.{ℕ, zero, suc, Bool, true, List, ◌∷◌, ◌≡◌, leb, eqb, []}
 use Rattle.std.proofs.Math.Path.{refl, ap, ap₂}
 use Rattle.std.proofs.Common.{sym, ◌∙◌, suc-ne-zero, arith, leb-true, ne_eqb}
 use Rattle.sets.specs.Tests.{◌&◌, ◌or◌, neg, same_truth, and_true, true_and, neg_true, true_neg}

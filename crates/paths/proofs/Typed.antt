@@ -2,7 +2,7 @@
 use Rattle.std.specs.Prelude.{ℕ, suc, Bool, ◌≡◌, leb, eqb, length}
 use Rattle.std.proofs.Math.Bool.{true, false}
 use Rattle.std.proofs.lemmas.Bool.{false≢true}
-use mathlib.Core.List.{List, [], ◌∷◌}
+use mathlib.Core.List.{List, ◌∷◌, []}
 use Rattle.std.proofs.Common.{⊎_elim, arith, le-leb}
 use Rattle.std.proofs.Math.Path.{refl}
 use Rattle.sets.specs.Tests.{and_true, true_and}

@@ -1,6 +1,6 @@
 -- Values pass into a callee and back: a value placed at a region's image in the caller is placed at the region in the callee, and the
 -- other way round.
-use Rattle.std.specs.Prelude.{◌≡◌, true, List, [], ◌∷◌, map, length}
+use Rattle.std.specs.Prelude.{◌≡◌, true, List, ◌∷◌, map, length, []}
 use Rattle.std.proofs.Math.Path.{refl}
 use Rattle.std.proofs.Common.{sym, ap, ◌∙◌, subst, inl, inr}
 use Rattle.std.proofs.lemmas.Bool.{false≢true}

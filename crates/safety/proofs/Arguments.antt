@@ -4,7 +4,7 @@ use Rattle.std.proofs.Math.Path.{refl, ap₂}
 use Rattle.std.proofs.Common.{sym, ap, ◌∙◌, inl, inr}
 use Rattle.std.proofs.Math.Bool.{true, false}
 use Rattle.std.proofs.lemmas.Bool.{false≢true}
-use mathlib.Core.List.{List, [], ◌∷◌, map, map-map, head-eq_of_cons-eq, tail-eq_of_cons-eq}
+use mathlib.Core.List.{List, ◌∷◌, map, map-map, head-eq_of_cons-eq, tail-eq_of_cons-eq, []}
 use Rattle.std.proofs.Math.Logic.{⊎_elim}
 use Rattle.sets.specs.Tests.{truth, clash}
 use Rattle.sets.specs.Sets.{member}

@@ -6,8 +6,7 @@ use Rattle.std.proofs.Common.{subst, ap, ◌∙◌, inl, inr, ⊎_elim}
 use Rattle.sets.specs.Tests.{truth, clash, false_of}
 use Rattle.sets.specs.Sets.{member, ◌∪◌, ◌∖◌, union_left, union_right, difference_mk, difference_in, subset_in}
 use Rattle.sets.specs.SetLaws.{apart_in}
-use Rattle.sets.specs.Members.{set_of, members, image}
-use Rattle.sets.specs.Members.{members_mk}
+use Rattle.sets.specs.Members.{set_of, members, image, members_mk}
 use Rattle.sets.specs.MemberLaws.{set_of_in, image_in_law, image_mk}
 use Rattle.sets.specs.declared.Set.{Set}
 use Rattle.language.specs.Program.{call, Signature, Program, signature_of, parameters_of, in_mode, variables_in}

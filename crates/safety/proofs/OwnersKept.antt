@@ -1,5 +1,5 @@
 -- Who owns the living regions, after a create and after a remove.
-use Rattle.std.specs.Prelude.{◌≡◌, Bool, true, false, List, [], ◌∷◌, ◌≢◌, ◌⊎◌, ℕ, suc, ◌<◌}
+use Rattle.std.specs.Prelude.{◌≡◌, Bool, true, false, List, ◌∷◌, ◌≢◌, ◌⊎◌, ℕ, suc, ◌<◌, []}
 use Rattle.std.proofs.Common.{sym, ap, ◌∙◌, inl, inr, ⊎_elim, arith}
 use Rattle.std.proofs.Math.Decide.{ℕ_discrete}
 use Rattle.sets.specs.Tests.{clash}
@@ -9,7 +9,7 @@ use Rattle.language.specs.Lists.{put}
 use Rattle.language.specs.Program.{Signature}
 use Rattle.language.specs.Lifetimes.{kept}
 use Rattle.laws.specs.Choices.{put_same, put_other, put_false, put_true}
-use Rattle.safety.specs.Owners.{Owner, owner, Away, Alive, Covered, Owns, Ownership}
+use Rattle.safety.specs.Owners.{Owner, owner, Away, Alive, Covered, Ownership}
 
 alive_created : (live : ℕ → Bool) (n : ℕ) (os : List Owner) → Alive live os → Alive (put live n true) os
 alive_created live n [] a = tt

@@ -3,8 +3,7 @@ use Rattle.std.specs.Prelude.{◌≡◌, refl, Bool, true, false, List, ◌∷�
 use Rattle.std.proofs.Common.{sym, ap, ◌∙◌, inl, inr}
 use Rattle.sets.specs.Tests.{clash, false_of}
 use Rattle.sets.specs.Sets.{member, ◌∪◌, union_left, union_right, union_in, subset_in}
-use Rattle.sets.specs.Members.{set_of, members, image}
-use Rattle.sets.specs.Members.{members_mk, members_in}
+use Rattle.sets.specs.Members.{set_of, members, image, members_mk, members_in}
 use Rattle.sets.specs.MemberLaws.{image_in_law}
 use Rattle.sets.specs.declared.Set.{Set}
 use Rattle.language.specs.Program.{Signature, Program, signature_of, parameters_of, out_mode, variables_in}

@@ -2,7 +2,7 @@
 -- alive.
 use Rattle.std.specs.Prelude.{◌≡◌, true, false, ℕ}
 use Rattle.std.proofs.Math.Path.{refl}
-use mathlib.Core.List.{List, [], ◌∷◌}
+use mathlib.Core.List.{List, ◌∷◌, []}
 use Rattle.std.proofs.Common.{⊎_elim}
 use Rattle.sets.specs.Tests.{false_of}
 use Rattle.sets.specs.Sets.{member, ◌∪◌, union_in}
@@ -16,7 +16,7 @@ use Rattle.region_graph.specs.Classes.{kept_in}
 use Rattle.safety.specs.Signatures.{born_shared_law}
 use Rattle.safety.specs.Premises.{Accepted, fit}
 use Rattle.safety.specs.Owners.{Owner}
-use Rattle.safety.specs.Invariant.{Stack, bottom, hang, Now, Inv, inv, Saved, none_open, saved, Fine, running, over}
+use Rattle.safety.specs.Invariant.{Stack, bottom, hang, Now, Inv, inv, Saved, none_open, Fine, running, over}
 use Rattle.safety.proofs.Returns.{now_returned}
 
 module _ {P : Program} (A : Accepted P) where

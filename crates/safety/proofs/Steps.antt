@@ -3,7 +3,7 @@ use Rattle.std.specs.Prelude.{◌≡◌, Bool, ℕ, suc, length, ℤ}
 use Rattle.std.proofs.Math.Path.{refl, ap}
 use Rattle.std.proofs.Common.{sym, ◌∙◌, ⊎_elim, arith}
 use Rattle.std.proofs.Math.Bool.{true, false}
-use mathlib.Core.List.{List, [], ◌∷◌, ◌++◌, map}
+use mathlib.Core.List.{List, ◌∷◌, ◌++◌, map, []}
 use borrow.Author.Tests.{eqb-true, leb-true}
 use Rattle.sets.specs.Tests.{and_true}
 use Rattle.sets.specs.Sets.{empty_set, subset, subset_in}
@@ -30,7 +30,7 @@ use Rattle.safety.specs.Premises.{Accepted, calling, fit, start_doing}
 use Rattle.safety.specs.PlacedValues.{cell_on, grows_more, PlacedValue, is_constant, PlacedAll, placed_none, placed_more, Lies, cell_found}
 use Rattle.safety.specs.Variables.{AllVariables, type_in, types_variables, read_sound_law, placed_each, placed_new}
 use Rattle.safety.specs.Owners.{Owner}
-use Rattle.safety.specs.Invariant.{Now, Inv, inv, Saved, none_open, saved, Fine}
+use Rattle.safety.specs.Invariant.{Now, Inv, inv, Saved, saved, Fine}
 use Rattle.safety.proofs.Quiet.{Obeyed, obeyed, quiet, now_fewer, now_given, now_grown, now_quiet, now_created, now_removed}
 use Rattle.safety.proofs.Calls.{now_called}
 use Rattle.safety.proofs.Settling.{settled, settled_in}

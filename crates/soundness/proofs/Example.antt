@@ -1,6 +1,6 @@
 -- The claims applied to a program with recursion and a born, a kept and a dead region: `make` bears a list, `show` prints it and keeps it, `drop` prints it again and ends its
 -- region; the entry calls them in turn.
-use Rattle.std.specs.Prelude.{ℕ, List, [], ◌∷◌, ◌≡◌, refl, pos}
+use Rattle.std.specs.Prelude.{ℕ, List, ◌∷◌, ◌≡◌, refl, pos, []}
 use Rattle.language.specs.declared.Verdict.TheVariants.{Accepted}
 use Rattle.language.specs.declared.Ending.TheVariants.{Finished}
 use Rattle.language.specs.Machine.{runner_lent}

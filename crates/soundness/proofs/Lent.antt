@@ -3,12 +3,12 @@ use Prim.Native.Nat.{ℕ, zero, suc, ◌+◌, ◌-◌, ◌≤◌}
 use Rattle.std.proofs.Common.{arith, ◌∙◌}
 use Rattle.std.specs.Prelude.{Bool, ◌≡◌, eqb}
 use Rattle.std.proofs.Math.Bool.{true, false, false≢true}
-use mathlib.Core.List.{List, [], ◌∷◌, map}
+use mathlib.Core.List.{List, ◌∷◌, map, []}
 use Rattle.std.proofs.Math.Path.{refl, sym, ap}
 use Rattle.sets.specs.Tests.{clash, true_neg}
 use Rattle.language.specs.declared.Verdict.TheVariants.{Accepted}
 use Rattle.language.specs.declared.Stop.{Stop}
-use Rattle.language.specs.declared.Stop.TheVariants.{Steps, Cells, Places, Frames, Prints, Sums}
+use Rattle.language.specs.declared.Stop.TheVariants.{Steps, Frames, Sums}
 use Rattle.language.specs.declared.Ending.{Ending}
 use Rattle.language.specs.declared.Ending.TheVariants.{Refused, Finished, Stopped}
 use Rattle.language.specs.Program.{literal, sum, assign, construct, call, print, create, remove, test, Goals, done, ◌then◌, Goal, step, switch, if_less, try, Program}

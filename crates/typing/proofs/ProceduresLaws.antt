@@ -13,7 +13,7 @@ use Rattle.language.specs.File.{procedures, word}
 use Rattle.language.specs.Program.{Signature}
 use Rattle.language.specs.Answers.{program}
 use Rattle.language.specs.Typing.{types_ok, goals_ok, procedure_ok, typing_ok}
-use Rattle.chains.specs.Formed.{Formed, Stands, procedures_stand, program_procedures, goals_at, procedures_at}
+use Rattle.chains.specs.Formed.{Formed, Stands, program_procedures, goals_at, procedures_at}
 use Rattle.chains.specs.Is.{procedure_is}
 use Rattle.chains.specs.Declared.{procedure_at_law}
 use Rattle.chains.specs.Elements.{procedure_count}

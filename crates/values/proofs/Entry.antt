@@ -2,7 +2,7 @@
 use Prim.Native.Nat.{ℕ, zero, suc, ◌<◌}
 use native.Mathlib.Omega.{arith}
 use mathlib.Core.Path.{◌≡◌, refl, sym, ap, ◌∙◌}
-use mathlib.Core.List.{List, [], ◌∷◌}
+use mathlib.Core.List.{List, ◌∷◌, []}
 use Rattle.language.specs.File.{variables, word, record_count}
 use Rattle.language.specs.Lists.{nth, is_none}
 use Rattle.language.specs.Program.{signature_of, Variable, Parameter, parameter_in, parameters_from}

@@ -4,7 +4,7 @@ use Rattle.std.proofs.Common.{arith, ap, ap₂, ◌∙◌}
 use Rattle.std.specs.Prelude.{◌≡◌, Bool, true, false, get_or}
 use Rattle.std.proofs.Math.Path.{refl, sym}
 use Rattle.std.proofs.lemmas.Bool.{false≢true}
-use mathlib.Core.List.{List, [], ◌∷◌}
+use mathlib.Core.List.{List, ◌∷◌, []}
 use Rattle.std.proofs.Math.ListN.{length}
 use Rattle.sets.specs.Tests.{and_true}
 use Rattle.language.specs.declared.Stop.{Stop}

@@ -1,7 +1,6 @@
-use Rattle.std.proofs.Common.{arith}
+use Rattle.std.proofs.Common.{arith, rules}
 use mathlib.Core.Path.{sym}
 use lib.Seq.{length-take-le}
-use Rattle.std.proofs.Common.{rules}
 use Rattle.lent_runs.proofs.print_lines.Goals as goal
 
 pub slice_bounds-runner_output-end : goal.slice_bounds-runner_output-end

@@ -1,9 +1,8 @@
 use Prim.Native.Nat.{◌≤◌}
-use Rattle.std.proofs.Common.{arith}
+use Rattle.std.proofs.Common.{arith, rules}
 use lib.ListN.{length}
 use mathlib.Core.Path.{sym}
 use lib.Seq.{length-take-le}
-use Rattle.std.proofs.Common.{rules}
 use Rattle.lent_runs.proofs.try_run.Goals as goal
 
 pub slice_bounds-try_in-end : goal.slice_bounds-try_in-end

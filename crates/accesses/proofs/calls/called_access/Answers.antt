@@ -1,8 +1,7 @@
 -- The callee's window has the sets of its in and out variables.
-use Rattle.std.proofs.Common.{arith}
+use Rattle.std.proofs.Common.{arith, rules}
 use Rattle.accesses.specs.Fitting.{window_fits}
 use Rattle.accesses.proofs.FittingLaws.{call_none, callee_declares, callee_accesses}
-use Rattle.std.proofs.Common.{rules}
 use Rattle.accesses.proofs.calls.called_access.Goals as goal
 
 pub returns-then-q-procedures : goal.returns-then-q-procedures

@@ -1,6 +1,5 @@
 -- What is gathered so far and what the parameters left would take make the whole.
-use Rattle.std.proofs.Common.{arith}
-use Rattle.std.proofs.Common.{rules}
+use Rattle.std.proofs.Common.{arith, rules}
 use Rattle.accesses.proofs.Turning.{going_first, going_short, going_last, going_next, going_rises}
 use Rattle.accesses.proofs.calls.match_arguments.Goals as goal
 

@@ -1,6 +1,5 @@
 -- The rows of the records passed are filled.
-use Rattle.std.proofs.Common.{arith}
-use Rattle.std.proofs.Common.{rules}
+use Rattle.std.proofs.Common.{arith, rules}
 use Rattle.language.specs.File.{record_count}
 use Rattle.chains.specs.Formed.{procedures_stand}
 use Rattle.chains.specs.Elements.{procedure_count}

@@ -1,5 +1,4 @@
-use Rattle.std.proofs.Common.{arith}
-use Rattle.std.proofs.Common.{rules}
+use Rattle.std.proofs.Common.{arith, rules}
 use Rattle.running.specs.Lent.{lent_is}
 use Rattle.answering.specs.Ran.{prints_run, printed_within, printed_fit, few_printed}
 use Rattle.answering.proofs.ran.accepted_answer.Goals as goal

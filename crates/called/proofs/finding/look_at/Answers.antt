@@ -1,9 +1,8 @@
-use Rattle.std.proofs.Common.{arith}
+use Rattle.std.proofs.Common.{arith, rules}
 use Rattle.laws.specs.Typed.{procedures_count}
 use Rattle.chains.specs.Formed.{counted}
 use Rattle.called.proofs.FoundLaws.{room}
 use Rattle.called.proofs.WorklistLaws.{looking_first, call_fits, link_falls, looking_old, looking_new, looking_last}
-use Rattle.std.proofs.Common.{rules}
 use Rattle.called.proofs.finding.look_at.Goals as goal
 use Rattle.called.proofs.finding.look_at.Goals.{then-marks-q-eq0, else-marks-q-eq0}
 

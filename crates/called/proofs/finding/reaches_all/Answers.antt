@@ -1,9 +1,8 @@
-use Rattle.std.proofs.Common.{arith}
+use Rattle.std.proofs.Common.{arith, rules}
 use Rattle.laws.specs.Typed.{procedures_count}
 use Rattle.chains.specs.Formed.{counted}
 use Rattle.called.proofs.FoundLaws.{found_entry}
 use Rattle.called.proofs.WorklistLaws.{worklist_first, worklist_next, worklist_last, chain_there, chain_total}
-use Rattle.std.proofs.Common.{rules}
 use Rattle.called.proofs.finding.reaches_all.Goals as goal
 
 pub loop-k-init : goal.loop-k-init

@@ -1,8 +1,7 @@
-use Rattle.std.proofs.Common.{arith}
+use Rattle.std.proofs.Common.{arith, rules}
 use mathlib.Core.Path.{sym, ◌∙◌}
 use Rattle.chains.specs.Formed.{counted}
 use Rattle.called.proofs.LinkedLaws.{linked_first, linked_skip, linked_call, call_asks_law, linked_last}
-use Rattle.std.proofs.Common.{rules}
 use Rattle.called.proofs.linking.link_calls.Goals as goal
 use Rattle.called.proofs.linking.link_calls.Goals.{then-word-eq-CALL, else-word-eq-CALL}
 

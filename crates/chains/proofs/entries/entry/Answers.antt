@@ -1,6 +1,5 @@
 use mathlib.Core.Path.{sym}
 use lib.ListN.{get_or-eq_default}
-use Rattle.std.proofs.Common.{rules}
 use Rattle.chains.proofs.entries.entry.Goals as goal
 
 pub returns-else-n-table : goal.returns-else-n-table

@@ -1,5 +1,4 @@
 use mathlib.Core.Path.{◌∙◌}
-use Rattle.std.proofs.Common.{rules}
 use Rattle.chains.specs.Fields.{field_none, field_some}
 use Rattle.chains.proofs.entries.field.Goals as goal
 

@@ -1,13 +1,9 @@
 -- The count so far and the rest of the chain make the whole.
-use Prim.Native.Nat.{◌+◌, ◌<◌}
-use mathlib.Core.Path.{◌≡◌, ap}
-use Rattle.std.proofs.Common.{arith}
+use mathlib.Core.Path.{ap}
+use Rattle.std.proofs.Common.{arith, rules}
 use lib.ListN.{length}
-use Rattle.language.specs.File.{record_count}
-use Rattle.chains.specs.Formed.{ahead, ahead_below}
-use Rattle.chains.specs.Records.{chain_records, records_none, records_step, next_onward}
-use Rattle.std.proofs.Common.{rules}
-use Rattle.language.specs.Format.{max_records}
+use Rattle.chains.specs.Formed.{ahead_below}
+use Rattle.chains.specs.Records.{records_none, records_step, next_onward}
 use Rattle.chains.proofs.lists.chain_length.Goals as goal
 
 pub loop-at-init : goal.loop-at-init

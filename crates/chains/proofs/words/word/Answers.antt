@@ -1,6 +1,5 @@
 -- The file has its records whole.
 use Rattle.std.proofs.Common.{arith}
-use Rattle.std.proofs.Common.{rules}
 use Rattle.chains.specs.Formed.{counted}
 use Rattle.chains.proofs.words.word.Goals as goal
 

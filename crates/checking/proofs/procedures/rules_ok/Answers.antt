@@ -1,11 +1,10 @@
 use mathlib.Core.Path.{refl, ◌∙◌}
-use Rattle.std.proofs.Common.{arith}
+use Rattle.std.proofs.Common.{arith, rules}
 use Rattle.chains.specs.Formed.{counted}
 use Rattle.chains.specs.Declared.{procedure_at_law}
 use Rattle.chains.specs.Is.{procedure_is}
 use Rattle.chains.specs.Turns.{tests_first, tests_last, tests_stop, tests_next, turn_below}
 use Rattle.checking.proofs.ProceduresLaws.{rules_all}
-use Rattle.std.proofs.Common.{rules}
 use Rattle.checking.proofs.procedures.rules_ok.Goals as goal
 
 pub word-i-requires : goal.word-i-requires

@@ -1,11 +1,10 @@
 -- The walk over goals: one law of Walking for each way through it. The records ahead fall.
 use borrow.Author.Tests.{not-true, not-false}
-use Rattle.std.proofs.Common.{arith}
+use Rattle.std.proofs.Common.{arith, rules}
 use mathlib.Core.Path.{refl, ◌∙◌}
 use Rattle.chains.specs.Shapes.{switch_here, if_here, try_here, to_arms, to_then, to_else, to_condition, to_try_then, to_try_else, arm_goals_law, arm_next}
 use Rattle.walks.specs.Closed.{goal_closed, arm_closed}
 use Rattle.checking.proofs.Walking.{none_checked, walk_last, walk_onward, walk_stop, walk_next, step_checked, switch_broken, switch_done, if_broken, if_broken_2, then_broken, else_broken, if_done, condition_broken, try_then_broken, try_else_broken, try_done, arms_none_checked, arm_broken, arm_ended, rest_broken, arm_more}
-use Rattle.std.proofs.Common.{rules}
 use Rattle.checking.proofs.walk.+arms_attempt_branches_goal_goals_switch.Goals as goal
 
 pub arms-returns-then-i-eq0 : goal.arms-returns-then-i-eq0

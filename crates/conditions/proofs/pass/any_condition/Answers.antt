@@ -1,7 +1,6 @@
-use Rattle.std.proofs.Common.{arith}
+use Rattle.std.proofs.Common.{arith, rules}
 use Rattle.owners.specs.Digits.{record_room}
 use Rattle.conditions.proofs.PassLaws.{looked_first, looked_found, looked_next, looked_last}
-use Rattle.std.proofs.Common.{rules}
 use Rattle.conditions.proofs.pass.any_condition.Goals as goal
 use Rattle.conditions.proofs.pass.any_condition.Goals.{else-word_in-ge-TRY, then-word_in-ge-TRY}
 

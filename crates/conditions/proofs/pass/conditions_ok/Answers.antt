@@ -1,11 +1,10 @@
 -- The first i records have handed down, and stand where they may.
 use mathlib.Core.Path.{refl, sym, ◌∙◌}
-use Rattle.std.proofs.Common.{arith}
+use Rattle.std.proofs.Common.{arith, rules}
 use Rattle.chains.specs.Formed.{counted}
 use Rattle.owners.specs.Digits.{record_room}
 use Rattle.conditions.specs.Without.{without_conditions}
 use Rattle.conditions.proofs.PassLaws.{passed_first, passed_stop, passed_next, passed_length, passed_last}
-use Rattle.std.proofs.Common.{rules}
 use Rattle.conditions.proofs.pass.conditions_ok.Goals as goal
 
 pub any_condition-requires : goal.any_condition-requires

@@ -1,7 +1,6 @@
-use Rattle.std.proofs.Common.{arith}
+use Rattle.std.proofs.Common.{arith, rules}
 use Rattle.owners.specs.Digits.{record_room, kind_low, hander}
 use Rattle.conditions.proofs.PassLaws.{down_other}
-use Rattle.std.proofs.Common.{rules}
 use Rattle.conditions.proofs.pass.hand_down.Goals as goal
 
 pub word_in-kind-requires : goal.word_in-kind-requires

@@ -1,19 +1,14 @@
 -- What is left of the two chains decides as the whole does.
 use mathlib.Core.Bool.{true}
-use mathlib.Core.Path.{◌≡◌, refl, ◌∙◌}
-use Rattle.std.proofs.Common.{arith}
+use mathlib.Core.Path.{◌≡◌}
 use Prim.Native.Nat.{◌+◌, ◌<◌}
-use native.Mathlib.Numerals.{add-one}
 use Rattle.language.specs.Format.{max_records}
 use Rattle.language.specs.Lists.{all}
 use Rattle.language.specs.File.{functors, edges}
 use Rattle.declarations.specs.Own.{declared}
 use Rattle.language.specs.Answers.{program}
 use Rattle.language.specs.Typing.{functor_ok, places_from, edges_ok}
-use Rattle.chains.specs.Formed.{Stands, functors_at, edges_at, ahead, ahead_below}
-use Rattle.chains.specs.Is.{chain_next}
-use Rattle.declarations.proofs.EdgeLaws.{fit_here, fit_next, edges_wrong, edges_next, edges_end}
-use Rattle.std.proofs.Common.{rules}
+use Rattle.chains.specs.Formed.{Stands, functors_at, edges_at, ahead}
 use Rattle.declarations.proofs.edges.edges_ok.Given as goal
 
 abbrev pub invariant-loop-i : goal.invariant-loop-i

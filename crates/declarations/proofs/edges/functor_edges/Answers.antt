@@ -2,8 +2,7 @@
 use Rattle.chains.specs.Is.{functor_is}
 use Rattle.chains.specs.Declared.{functor_at_law}
 use Rattle.declarations.proofs.EdgeLaws.{functor_none, types_below, functor_first, functor_second, functor_third, functor_all}
-use Rattle.std.proofs.Common.{rules}
-use Rattle.std.proofs.Common.{◌∙◌}
+use Rattle.std.proofs.Common.{rules, ◌∙◌}
 use Rattle.declarations.proofs.edges.functor_edges.Goals as goal
 
 pub word-requires : goal.word-requires

@@ -1,9 +1,7 @@
-use borrow.Author.Tests.{not-true, not-false}
 use Rattle.chains.specs.Is.{edge_is}
 use Rattle.chains.specs.Declared.{edge_at}
 use Rattle.declarations.proofs.EdgeLaws.{place_none, place_functor, place_position, place_target, place_all}
-use Rattle.std.proofs.Common.{rules}
-use Rattle.std.proofs.Common.{◌∙◌}
+use Rattle.std.proofs.Common.{rules, ◌∙◌}
 use Rattle.declarations.proofs.edges.place_ok.Goals as goal
 
 pub returns-then-e-eq0 : goal.returns-then-e-eq0

@@ -1,9 +1,8 @@
-use Rattle.std.proofs.Common.{arith}
+use Rattle.std.proofs.Common.{arith, rules}
 use mathlib.Core.Path.{sym, ◌∙◌}
 use Rattle.chains.specs.Formed.{counted}
 use Rattle.chains.specs.Records.{next_onward}
 use Rattle.declarations.specs.Parameters.{link_local, link_parameter}
-use Rattle.std.proofs.Common.{rules}
 use Rattle.declarations.proofs.listing.link.Goals as goal
 
 pub word-requires : goal.word-requires

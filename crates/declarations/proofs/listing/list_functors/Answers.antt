@@ -1,17 +1,13 @@
 -- After t turns the functors of the first t types are listed.
-use Rattle.std.proofs.Common.{arith}
+use Rattle.std.proofs.Common.{arith, rules}
 use native.Mathlib.Numerals.{add-one}
 use mathlib.Core.Path.{refl}
-use Rattle.language.specs.Format.{header_types}
-use Rattle.language.specs.File.{types, word}
-use Rattle.chains.specs.Formed.{Stands, types_stand, ahead, counted}
+use Rattle.chains.specs.Formed.{types_stand, counted}
 use Rattle.chains.specs.Is.{chain_next, type_is}
 use Rattle.chains.specs.Declared.{type_at}
 use Rattle.declarations.specs.Functors.{stands_same}
-use Rattle.declarations.proofs.ListingLaws.{ChainLeft, left_all, left_here, left_next, left_end}
-use Rattle.declarations.proofs.FillingLaws.{type_room, functors_few, FunctorsSo, functors_none, functors_next, functors_all}
-use Rattle.std.proofs.Common.{rules}
-use Rattle.std.proofs.Common.{◌∙◌}
+use Rattle.declarations.proofs.ListingLaws.{left_all, left_here, left_next, left_end}
+use Rattle.declarations.proofs.FillingLaws.{type_room, functors_few, functors_none, functors_next, functors_all}
 use Rattle.declarations.proofs.listing.list_functors.Goals as goal
 
 pub word-i-requires : goal.word-i-requires

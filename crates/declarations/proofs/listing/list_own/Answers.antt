@@ -6,7 +6,6 @@ use Rattle.declarations.specs.DeclaredPlaces.{own_places}
 use Rattle.declarations.specs.Functors.{stands_same}
 use Rattle.declarations.proofs.ListingLaws.{blank_length}
 use Rattle.declarations.proofs.FillingLaws.{variables_few, regions_few, own_listed}
-use Rattle.std.proofs.Common.{rules}
 use Rattle.declarations.proofs.listing.list_own.Goals as goal
 
 pub word-requires : goal.word-requires

@@ -1,12 +1,9 @@
 -- After a turn the links of the records from i on are right.
-use Rattle.std.proofs.Common.{arith}
+use Rattle.std.proofs.Common.{arith, rules}
 use mathlib.Core.Path.{sym, ◌∙◌}
-use Prim.Native.Nat.{◌≤◌}
-use Rattle.language.specs.File.{record_count}
 use Rattle.chains.specs.Formed.{counted}
-use Rattle.declarations.specs.Parameters.{Linked, linked_variable}
+use Rattle.declarations.specs.Parameters.{linked_variable}
 use Rattle.declarations.proofs.ParametersLaws.{linked_none, linked_other, linked_all}
-use Rattle.std.proofs.Common.{rules}
 use Rattle.declarations.proofs.listing.list_parameters.Goals as goal
 
 pub record_count-i-requires : goal.record_count-i-requires

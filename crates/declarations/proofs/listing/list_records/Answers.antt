@@ -1,12 +1,9 @@
 -- After n turns the first n records are listed, and the chain at record i is what is left.
-use Rattle.std.proofs.Common.{arith}
+use Rattle.std.proofs.Common.{arith, rules}
 use native.Mathlib.Numerals.{add-one}
-use Prim.Native.Nat.{◌<◌}
-use Rattle.language.specs.File.{record_count}
-use Rattle.chains.specs.Formed.{ahead, counted}
+use Rattle.chains.specs.Formed.{counted}
 use Rattle.chains.specs.Records.{next_onward}
-use Rattle.declarations.proofs.ListingLaws.{ListsSo, ChainLeft, left_all, left_here, left_next, left_end, left_room, lists_none, lists_next, lists_all}
-use Rattle.std.proofs.Common.{rules}
+use Rattle.declarations.proofs.ListingLaws.{left_all, left_here, left_next, left_end, left_room, lists_none, lists_next, lists_all}
 use Rattle.declarations.proofs.listing.list_records.Goals as goal
 
 pub loop-i-init : goal.loop-i-init

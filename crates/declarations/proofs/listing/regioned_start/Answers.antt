@@ -1,10 +1,8 @@
 -- The rest of the chain decides as the whole does.
 use Rattle.std.proofs.Common.{arith}
-use mathlib.Core.Path.{◌≡◌, refl, ◌∙◌}
-use Rattle.language.specs.File.{functors}
-use Rattle.chains.specs.Formed.{Stands, ahead, counted}
+use mathlib.Core.Path.{refl, ◌∙◌}
+use Rattle.chains.specs.Formed.{counted}
 use Rattle.chains.specs.Is.{chain_next}
-use Rattle.declarations.specs.Regioned.{constants_at}
 use Rattle.declarations.proofs.DeclaresLaws.{constants_end, constants_stop, constants_next}
 use Rattle.declarations.proofs.listing.regioned_start.Goals as goal
 

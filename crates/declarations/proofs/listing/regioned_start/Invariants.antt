@@ -1,11 +1,8 @@
 -- The rest of the chain decides as the whole does.
-use Rattle.std.proofs.Common.{arith}
-use mathlib.Core.Path.{◌≡◌, refl, ◌∙◌}
+use mathlib.Core.Path.{◌≡◌}
 use Rattle.language.specs.File.{functors}
-use Rattle.chains.specs.Formed.{Stands, ahead, counted}
-use Rattle.chains.specs.Is.{chain_next}
+use Rattle.chains.specs.Formed.{Stands, ahead}
 use Rattle.declarations.specs.Regioned.{constants_at}
-use Rattle.declarations.proofs.DeclaresLaws.{constants_end, constants_stop, constants_next}
 use Rattle.declarations.proofs.listing.regioned_start.Given as goal
 
 abbrev pub invariant-loop-i : goal.invariant-loop-i

@@ -1,6 +1,5 @@
 use mathlib.Core.Path.{refl, ◌∙◌}
 use Rattle.declarations.proofs.LookupLaws.{functor_first}
-use Rattle.std.proofs.Common.{rules}
 use Rattle.declarations.proofs.names.first_functor.Goals as goal
 
 pub returns : goal.returns

@@ -1,5 +1,4 @@
 use Rattle.declarations.proofs.LookupLaws.{functor_past, functor_there}
-use Rattle.std.proofs.Common.{rules}
 use Rattle.declarations.proofs.names.functor.Goals as goal
 
 pub returns-then-t-ge-PLACES : goal.returns-then-t-ge-PLACES

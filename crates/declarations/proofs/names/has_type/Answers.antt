@@ -2,7 +2,6 @@ use Rattle.std.proofs.Common.{arith}
 use Rattle.declarations.specs.Functors.{stands_same}
 use Rattle.declarations.specs.Own.{variable_stands}
 use Rattle.declarations.proofs.LookupLaws.{typed_none, typed_some}
-use Rattle.std.proofs.Common.{rules}
 use Rattle.declarations.proofs.names.has_type.Goals as goal
 
 pub returns-then-v-eq0 : goal.returns-then-v-eq0

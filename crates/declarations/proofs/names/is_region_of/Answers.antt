@@ -1,7 +1,6 @@
 use Rattle.std.proofs.Common.{arith}
 use Rattle.declarations.specs.Functors.{stands_same}
 use Rattle.declarations.proofs.LookupLaws.{region_stands, region_none, region_some}
-use Rattle.std.proofs.Common.{rules}
 use Rattle.declarations.proofs.names.is_region_of.Goals as goal
 
 pub returns-then-i-eq0 : goal.returns-then-i-eq0

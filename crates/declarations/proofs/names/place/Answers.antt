@@ -1,6 +1,5 @@
 use Rattle.declarations.proofs.LookupLaws.{place_past, place_there}
 use mathlib.Core.Path.{◌∙◌}
-use Rattle.std.proofs.Common.{rules}
 use Rattle.declarations.proofs.names.place.Goals as goal
 
 pub returns-then-most-n : goal.returns-then-most-n

@@ -1,4 +1,3 @@
-use Rattle.std.proofs.Common.{rules}
 use Rattle.declarations.proofs.names.regioned.Goals as goal
 
 pub returns : goal.returns

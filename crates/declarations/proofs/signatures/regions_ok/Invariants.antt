@@ -1,16 +1,11 @@
 -- The rest of the chain decides as the whole does.
-use Rattle.std.proofs.Common.{arith}
-use mathlib.Core.Path.{◌≡◌, refl, ◌∙◌}
-use borrow.Author.Tests.{not-true, not-false}
+use mathlib.Core.Path.{◌≡◌}
 use Rattle.language.specs.Lists.{all}
 use Rattle.language.specs.File.{regions}
 use Rattle.language.specs.Answers.{program}
 use Rattle.language.specs.Typing.{region_ok}
-use Rattle.chains.specs.Formed.{Stands, regions_at, regions_none, ahead}
-use Rattle.chains.specs.Is.{chain_next}
-use Rattle.laws.specs.Lists.{all_end, all_no, all_yes}
+use Rattle.chains.specs.Formed.{Stands, regions_at, ahead}
 use Rattle.declarations.specs.Own.{declared}
-use Rattle.declarations.proofs.SignaturesLaws.{regions_step}
 use Rattle.declarations.proofs.signatures.regions_ok.Given as goal
 
 abbrev pub invariant-loop-i : goal.invariant-loop-i

@@ -1,7 +1,5 @@
-use borrow.Author.Tests.{not-true, not-false}
 use Rattle.declarations.specs.Functors.{stands_same}
 use Rattle.declarations.proofs.SignaturesLaws.{variables_tested, regions_tested, wrong_variable, each_all}
-use Rattle.std.proofs.Common.{rules}
 use Rattle.declarations.proofs.signatures.signature_ok.Goals as goal
 
 pub variables_ok-requires : goal.variables_ok-requires

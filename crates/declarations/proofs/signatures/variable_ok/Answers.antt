@@ -1,7 +1,6 @@
 use Rattle.std.proofs.Common.{arith}
 use Rattle.declarations.proofs.DeclaresLaws.{functor_low}
 use Rattle.declarations.proofs.SignaturesLaws.{variable_mode_law, variable_number, variable_regioned, variable_type_law, variable_bare}
-use Rattle.std.proofs.Common.{rules}
 use Rattle.declarations.proofs.signatures.variable_ok.Goals as goal
 
 pub word-requires : goal.word-requires

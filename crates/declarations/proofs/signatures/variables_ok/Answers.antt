@@ -1,15 +1,10 @@
 -- The rest of the chain decides as the whole does.
 use Rattle.std.proofs.Common.{arith}
-use mathlib.Core.Path.{◌≡◌, refl, ◌∙◌}
-use borrow.Author.Tests.{not-true, not-false}
-use Rattle.language.specs.Lists.{all}
-use Rattle.language.specs.File.{variables}
-use Rattle.language.specs.Answers.{program}
+use mathlib.Core.Path.{refl, ◌∙◌}
 use Rattle.language.specs.Typing.{variable_ok}
-use Rattle.chains.specs.Formed.{Stands, variables_at, variables_none, ahead}
+use Rattle.chains.specs.Formed.{variables_none}
 use Rattle.chains.specs.Is.{chain_next}
 use Rattle.laws.specs.Lists.{all_end, all_no, all_yes}
-use Rattle.declarations.specs.Own.{declared}
 use Rattle.declarations.proofs.SignaturesLaws.{variables_step}
 use Rattle.declarations.proofs.signatures.variables_ok.Goals as goal
 

@@ -1,16 +1,11 @@
 -- The rest of the chain decides as the whole does.
-use Rattle.std.proofs.Common.{arith}
-use mathlib.Core.Path.{◌≡◌, refl, ◌∙◌}
-use borrow.Author.Tests.{not-true, not-false}
+use mathlib.Core.Path.{◌≡◌}
 use Rattle.language.specs.Lists.{all}
 use Rattle.language.specs.File.{variables}
 use Rattle.language.specs.Answers.{program}
 use Rattle.language.specs.Typing.{variable_ok}
-use Rattle.chains.specs.Formed.{Stands, variables_at, variables_none, ahead}
-use Rattle.chains.specs.Is.{chain_next}
-use Rattle.laws.specs.Lists.{all_end, all_no, all_yes}
+use Rattle.chains.specs.Formed.{Stands, variables_at, ahead}
 use Rattle.declarations.specs.Own.{declared}
-use Rattle.declarations.proofs.SignaturesLaws.{variables_step}
 use Rattle.declarations.proofs.signatures.variables_ok.Given as goal
 
 abbrev pub invariant-loop-i : goal.invariant-loop-i

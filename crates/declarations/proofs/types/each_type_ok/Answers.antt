@@ -1,14 +1,9 @@
 -- The rest of the chain decides as the whole does.
-use mathlib.Core.Path.{◌≡◌, refl, ◌∙◌}
-use borrow.Author.Tests.{not-true, not-false}
-use Rattle.std.proofs.Common.{rules}
-use Rattle.language.specs.Lists.{all}
-use Rattle.language.specs.File.{types}
-use Rattle.chains.specs.Formed.{Stands, types_at, types_none, ahead}
+use mathlib.Core.Path.{refl, ◌∙◌}
+use Rattle.chains.specs.Formed.{types_none}
 use Rattle.chains.specs.Is.{type_is}
 use Rattle.chains.specs.Declared.{type_at}
 use Rattle.laws.specs.Lists.{all_end, all_no, all_yes}
-use Rattle.declarations.specs.Types.{type_fits}
 use Rattle.declarations.proofs.types.each_type_ok.Goals as goal
 
 pub loop-i-init : goal.loop-i-init

@@ -1,13 +1,8 @@
 -- The rest of the chain decides as the whole does.
-use mathlib.Core.Path.{◌≡◌, refl, ◌∙◌}
-use borrow.Author.Tests.{not-true, not-false}
-use Rattle.std.proofs.Common.{rules}
+use mathlib.Core.Path.{◌≡◌}
 use Rattle.language.specs.Lists.{all}
 use Rattle.language.specs.File.{types}
-use Rattle.chains.specs.Formed.{Stands, types_at, types_none, ahead}
-use Rattle.chains.specs.Is.{type_is}
-use Rattle.chains.specs.Declared.{type_at}
-use Rattle.laws.specs.Lists.{all_end, all_no, all_yes}
+use Rattle.chains.specs.Formed.{Stands, types_at, ahead}
 use Rattle.declarations.specs.Types.{type_fits}
 use Rattle.declarations.proofs.types.each_type_ok.Given as goal
 

@@ -1,5 +1,3 @@
-use borrow.Author.Tests.{not-true, not-false}
-use Rattle.std.proofs.Common.{rules}
 use Rattle.declarations.proofs.TypeLaws.{functor_many, functor_first, functor_second, functor_third, functor_all}
 use Rattle.declarations.proofs.types.functor_ok.Goals as goal
 

@@ -1,14 +1,9 @@
 -- The rest of the chain decides as the whole does.
-use mathlib.Core.Path.{◌≡◌, refl, ◌∙◌}
-use borrow.Author.Tests.{not-true, not-false}
-use Rattle.std.proofs.Common.{rules}
-use Rattle.language.specs.Lists.{all}
-use Rattle.language.specs.File.{functors}
-use Rattle.chains.specs.Formed.{Stands, functors_at, functors_none, ahead}
+use mathlib.Core.Path.{refl, ◌∙◌}
+use Rattle.chains.specs.Formed.{functors_none}
 use Rattle.chains.specs.Is.{functor_is}
 use Rattle.chains.specs.Declared.{functor_at_law}
 use Rattle.laws.specs.Lists.{all_end, all_no, all_yes}
-use Rattle.declarations.specs.Types.{functor_fits}
 use Rattle.declarations.proofs.types.functors_ok.Goals as goal
 
 pub loop-i-init : goal.loop-i-init

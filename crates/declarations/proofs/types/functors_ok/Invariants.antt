@@ -1,13 +1,8 @@
 -- The rest of the chain decides as the whole does.
-use mathlib.Core.Path.{◌≡◌, refl, ◌∙◌}
-use borrow.Author.Tests.{not-true, not-false}
-use Rattle.std.proofs.Common.{rules}
+use mathlib.Core.Path.{◌≡◌}
 use Rattle.language.specs.Lists.{all}
 use Rattle.language.specs.File.{functors}
-use Rattle.chains.specs.Formed.{Stands, functors_at, functors_none, ahead}
-use Rattle.chains.specs.Is.{functor_is}
-use Rattle.chains.specs.Declared.{functor_at_law}
-use Rattle.laws.specs.Lists.{all_end, all_no, all_yes}
+use Rattle.chains.specs.Formed.{Stands, functors_at, ahead}
 use Rattle.declarations.specs.Types.{functor_fits}
 use Rattle.declarations.proofs.types.functors_ok.Given as goal
 

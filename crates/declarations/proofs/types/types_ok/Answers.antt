@@ -1,7 +1,6 @@
 use Rattle.chains.specs.Formed.{types_stand}
 use Rattle.declarations.specs.Functors.{stands_same}
 use Rattle.declarations.proofs.TypeLaws.{type_count, many_types, types_all}
-use Rattle.std.proofs.Common.{rules}
 use Rattle.declarations.proofs.types.types_ok.Goals as goal
 
 pub chain_length-n-requires : goal.chain_length-n-requires

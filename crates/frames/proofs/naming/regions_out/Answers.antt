@@ -1,12 +1,11 @@
 -- What is still to be copied is what the members left say.
 use mathlib.Core.Path.{refl, sym, ap, subst, ◌∙◌}
-use Rattle.std.proofs.Common.{arith}
+use Rattle.std.proofs.Common.{arith, rules}
 use mathlib.Core.Bool.{not}
 use lib.ListN.{length, length-set}
 use Rattle.sets.specs.Sets.{Small, small_of_bits}
 use Rattle.sets.specs.SetLaws.{small_difference}
 use Rattle.frames.specs.Naming.{some_member, member_low, members_fall, out_next, out_last}
-use Rattle.std.proofs.Common.{rules}
 use Rattle.frames.proofs.naming.regions_out.Goals as goal
 
 pub loop-left-init : goal.loop-left-init

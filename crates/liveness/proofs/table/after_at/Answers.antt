@@ -1,7 +1,6 @@
-use Rattle.std.proofs.Common.{arith}
+use Rattle.std.proofs.Common.{arith, rules}
 use Rattle.liveness.specs.Table.{after_at}
 use Rattle.liveness.proofs.TableLaws.{before_past}
-use Rattle.std.proofs.Common.{rules}
 use Rattle.liveness.proofs.table.after_at.Goals as goal
 
 pub returns-then-at-table : goal.returns-then-at-table

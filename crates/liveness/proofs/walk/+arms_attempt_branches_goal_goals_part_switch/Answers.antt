@@ -1,11 +1,10 @@
 -- The walk over goals: one law of Walking for each way through it. The records ahead fall.
 use mathlib.Core.Path.{sym, ap, ◌∙◌}
-use Rattle.std.proofs.Common.{arith}
+use Rattle.std.proofs.Common.{arith, rules}
 use Rattle.chains.specs.Formed.{ahead}
 use Rattle.chains.specs.Is.{chain_next}
 use Rattle.chains.specs.Shapes.{arm_here}
 use Rattle.liveness.proofs.Walking.{goals_last, to_next, goals_more, step_done, to_arms, switch_done, to_then, to_else, if_done, to_condition, to_try_then, to_try_else, try_done, arms_last, arms_more, part_stands, part_done, switch_there, if_there, try_there}
-use Rattle.std.proofs.Common.{rules}
 use Rattle.liveness.proofs.walk.+arms_attempt_branches_goal_goals_part_switch.Goals as goal
 
 pub arms-returns-then-i-eq0 : goal.arms-returns-then-i-eq0

@@ -1,7 +1,6 @@
 -- There is room for all points.
 use Rattle.liveness.proofs.Walking.{list_done, list_classes}
-use Rattle.std.proofs.Common.{rules}
-use Rattle.std.proofs.Common.{arith}
+use Rattle.std.proofs.Common.{rules, arith}
 use mathlib.Core.Path.{◌∙◌}
 use Rattle.liveness.proofs.whole.list_live.Goals as goal
 

@@ -1,7 +1,6 @@
-use Rattle.std.proofs.Common.{arith}
+use Rattle.std.proofs.Common.{arith, rules}
 use mathlib.Core.Path.{refl}
 use Rattle.machine.proofs.CallsLaws.{call_as, pictured}
-use Rattle.std.proofs.Common.{rules}
 use Rattle.machine.proofs.calls.call.Goals as goal
 
 pub overflow_cast-successor : goal.overflow_cast-successor

@@ -1,8 +1,7 @@
-use Rattle.std.proofs.Common.{arith}
+use Rattle.std.proofs.Common.{arith, rules}
 use mathlib.Core.Path.{refl}
 use Rattle.frames.specs.Strays.{whole, in_length, past_length}
 use Rattle.machine.proofs.CallsLaws.{return_none, return_as, pictured}
-use Rattle.std.proofs.Common.{rules}
 use Rattle.machine.proofs.calls.give_back.Goals as goal
 
 pub returns-then-file-i : goal.returns-then-file-i

@@ -1,10 +1,9 @@
 -- What is returned from so far and the returns still to come make the whole.
 use Prim.Native.Nat.{◌-◌}
-use Rattle.std.proofs.Common.{arith}
+use Rattle.std.proofs.Common.{arith, rules}
 use mathlib.Core.Path.{refl, ap, ◌∙◌}
 use lib.ListN.{length}
 use Rattle.machine.proofs.CallsLaws.{settle_first, settle_entry, settle_goal, settle_return}
-use Rattle.std.proofs.Common.{rules}
 use Rattle.word_machine.specs.Copies.{return_length}
 use Rattle.machine.proofs.calls.settle.Goals as goal
 

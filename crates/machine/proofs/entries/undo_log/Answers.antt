@@ -1,5 +1,4 @@
-use Rattle.std.proofs.Common.{rules}
-use Rattle.std.proofs.Common.{arith}
+use Rattle.std.proofs.Common.{rules, arith}
 use mathlib.Core.Path.{refl}
 use Rattle.memory.specs.Log.{undo_none, is_same}
 use Rattle.machine.specs.Entries.{log_undo_next}

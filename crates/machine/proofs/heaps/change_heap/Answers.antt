@@ -1,6 +1,5 @@
-use mathlib.Core.Path.{refl}
+use mathlib.Core.Path.{refl, ◌∙◌, sym}
 use Rattle.machine.proofs.Numbers.{remove_low}
-use mathlib.Core.Path.{◌∙◌, sym}
 use Rattle.frames.specs.Strays.{whole}
 use Rattle.machine.proofs.HeapsLaws.{remaining, remove_changes}
 use Rattle.std.proofs.Common.{rules}

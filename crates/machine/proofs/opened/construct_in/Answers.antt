@@ -1,4 +1,4 @@
-use Rattle.std.proofs.Common.{arith}
+use Rattle.std.proofs.Common.{arith, rules}
 use mathlib.Core.Path.{refl, sym, ◌∙◌}
 use Rattle.frames.specs.Strays.{whole}
 use Rattle.machine.specs.Calls.{successor_as}
@@ -6,7 +6,6 @@ use Rattle.machine.proofs.Numbers.{construct_low}
 use Rattle.machine.proofs.HeapsLaws.{construct_changes, construct_lacks}
 use Rattle.machine.proofs.LimitsLaws.{term_limits}
 use Rattle.machine.proofs.TryingLaws.{constant_in, cell_in_law, construct_lacks_in}
-use Rattle.std.proofs.Common.{rules}
 use Rattle.machine.proofs.opened.construct_in.Goals as goal
 
 pub overflow_add-i : goal.overflow_add-i

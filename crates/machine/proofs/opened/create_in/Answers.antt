@@ -1,4 +1,4 @@
-use Rattle.std.proofs.Common.{arith}
+use Rattle.std.proofs.Common.{arith, rules}
 use mathlib.Core.Path.{refl}
 use Rattle.frames.specs.Strays.{whole}
 use Rattle.machine.specs.Calls.{successor_as}
@@ -6,7 +6,6 @@ use Rattle.machine.proofs.Numbers.{create_low}
 use Rattle.machine.proofs.HeapsLaws.{create_changes, create_lacks}
 use Rattle.machine.proofs.LimitsLaws.{created_limits}
 use Rattle.machine.proofs.TryingLaws.{create_in, create_lacks_in}
-use Rattle.std.proofs.Common.{rules}
 use Rattle.machine.proofs.opened.create_in.Goals as goal
 
 pub make_region-made-requires : goal.make_region-made-requires

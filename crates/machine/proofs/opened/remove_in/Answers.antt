@@ -1,5 +1,5 @@
 use Prim.Native.Nat.{◌+◌}
-use Rattle.std.proofs.Common.{arith}
+use Rattle.std.proofs.Common.{arith, rules}
 use mathlib.Core.Path.{refl}
 use Rattle.frames.specs.Strays.{whole}
 use Rattle.machine.specs.Calls.{successor_as}
@@ -7,7 +7,6 @@ use Rattle.word_machine.specs.Machine.{regions_from}
 use Rattle.machine.proofs.GoalsLaws.{value_as}
 use Rattle.machine.proofs.Numbers.{remove_low}
 use Rattle.machine.proofs.TryingLaws.{remove_in}
-use Rattle.std.proofs.Common.{rules}
 use Rattle.machine.proofs.opened.remove_in.Goals as goal
 
 pub word_in-requires : goal.word_in-requires

@@ -1,4 +1,4 @@
-use Rattle.std.proofs.Common.{arith}
+use Rattle.std.proofs.Common.{arith, rules}
 use mathlib.Core.Path.{refl, sym, ap, ◌∙◌}
 use mir.Syntax.{w64}
 use mir.Facts.{to_z-of_z}
@@ -9,7 +9,6 @@ use Rattle.machine.proofs.GoalsLaws.{gives, range_as}
 use Rattle.machine.proofs.Numbers.{sum_low}
 use Rattle.machine.proofs.StepsLaws.{sum_goes, sum_stops}
 use Rattle.machine.proofs.TryingLaws.{sum_in_law, sum_lacks_in}
-use Rattle.std.proofs.Common.{rules}
 use Rattle.machine.proofs.opened.sum_in.Goals as goal
 
 pub sum-v-requires : goal.sum-v-requires

@@ -1,8 +1,7 @@
 -- What is done so far and the steps still to come make the whole.
-use Rattle.std.proofs.Common.{rules}
-use Rattle.std.proofs.Common.{arith}
-use mathlib.Core.Path.{refl, sym, ◌∙◌}
 use mathlib.Core.List.{[]}
+use Rattle.std.proofs.Common.{rules, arith}
+use mathlib.Core.Path.{refl, sym, ◌∙◌}
 use Rattle.frames.specs.Strays.{whole, in_length, past_length}
 use Rattle.machine.specs.Calls.{successor_as}
 use Rattle.machine.proofs.RunsLaws.{placed_as, first, first_as, arrives, past_on, changed_on, went_on_law, run_finished, run_spent, change_stopped, went_stopped, told, tried_on, tried_stopped}
@@ -10,7 +9,6 @@ use Rattle.machine.proofs.StepsLaws.{went_tries, stops_tries}
 use Rattle.machine.proofs.TriesLaws.{tried_apart}
 use Rattle.machine.specs.Words.{onward_placed}
 use Rattle.machine.specs.Heaps.{changed, unchanged}
-use Rattle.std.proofs.Common.{arith}
 use Rattle.machine.proofs.runs.run_on.Goals as goal
 use Rattle.machine.proofs.runs.run_on.Goals.{then-file-lt-MAX_BYTES, else-file-lt-MAX_BYTES}
 

@@ -1,10 +1,8 @@
 use Rattle.frames.specs.Strays.{whole}
-use Rattle.std.proofs.Common.{arith}
+use Rattle.std.proofs.Common.{arith, rules}
 use mathlib.Core.Path.{refl}
 use Rattle.machine.proofs.CallsLaws.{body_as}
 use Rattle.machine.proofs.StepsLaws.{call_goes, call_stops, step_fits}
-use Rattle.std.proofs.Common.{arith}
-use Rattle.std.proofs.Common.{rules}
 use Rattle.machine.proofs.steps.call_step.Goals as goal
 
 pub returns-then-limit-above : goal.returns-then-limit-above

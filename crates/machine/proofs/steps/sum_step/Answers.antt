@@ -1,4 +1,4 @@
-use Rattle.std.proofs.Common.{arith}
+use Rattle.std.proofs.Common.{arith, rules}
 use mathlib.Core.Path.{refl, sym, ap, ◌∙◌}
 use mir.Syntax.{w64}
 use mir.Facts.{to_z-of_z}
@@ -8,7 +8,6 @@ use Rattle.machine.specs.Calls.{successor_as}
 use Rattle.machine.proofs.GoalsLaws.{gives, range_as}
 use Rattle.machine.proofs.Numbers.{sum_low}
 use Rattle.machine.proofs.StepsLaws.{goes_same, sum_goes, sum_stops}
-use Rattle.std.proofs.Common.{rules}
 use Rattle.machine.proofs.steps.sum_step.Goals as goal
 
 pub sum-v-requires : goal.sum-v-requires

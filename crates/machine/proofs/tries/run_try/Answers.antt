@@ -1,10 +1,9 @@
 -- The condition has come so far, and what is left of it makes the whole.
-use Rattle.std.proofs.Common.{arith}
-use mathlib.Core.Path.{◌∙◌}
 use mathlib.Core.List.{[]}
+use Rattle.std.proofs.Common.{arith, rules}
+use mathlib.Core.Path.{◌∙◌}
 use Rattle.frames.specs.Strays.{whole, in_length, past_length}
 use Rattle.machine.proofs.TriesLaws.{along_start, along_leaves, along_spent, along_past, along_on, along_lacks, along_fails, count_low, tried_as, goal_as}
-use Rattle.std.proofs.Common.{rules}
 use Rattle.machine.proofs.tries.run_try.Goals as goal
 
 pub log_length-requires : goal.log_length-requires

@@ -1,4 +1,3 @@
-use Rattle.std.proofs.Common.{rules}
 use Rattle.memory.proofs.cells.hang_cell.Goals as goal
 
 pub returns : goal.returns

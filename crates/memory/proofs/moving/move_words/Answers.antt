@@ -1,10 +1,8 @@
 -- `move_words` meets its contract: the words below i are still to move.
-use Prim.Native.Nat.{◌≤◌}
 use Rattle.std.proofs.Common.{arith}
-use mathlib.Core.Path.{◌≡◌, refl}
-use lib.ListN.{length, length-set}
-use Rattle.memory.specs.Moved.{moved, moved_next, moved_none}
-use Rattle.std.proofs.Common.{rules}
+use mathlib.Core.Path.{refl}
+use lib.ListN.{length-set}
+use Rattle.memory.specs.Moved.{moved_next, moved_none}
 use Rattle.memory.proofs.moving.move_words.Goals as goal
 
 pub loop-i-init : goal.loop-i-init

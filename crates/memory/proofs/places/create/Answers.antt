@@ -1,5 +1,4 @@
 use Rattle.memory.proofs.Ways.{create_full, create_made}
-use Rattle.std.proofs.Common.{rules}
 use Rattle.memory.proofs.places.create.Goals as goal
 
 pub returns-in_default : goal.returns-in_default

@@ -1,5 +1,4 @@
 use Rattle.memory.specs.Memory.{empty_heap}
-use Rattle.std.proofs.Common.{rules}
 use Rattle.memory.proofs.places.empty.Goals as goal
 
 pub returns : goal.returns

@@ -1,5 +1,4 @@
 use Rattle.memory.specs.Laws.{remove_empty, remove_some}
-use Rattle.std.proofs.Common.{rules}
 use Rattle.memory.proofs.places.remove.Goals as goal
 
 pub returns-then-free-last : goal.returns-then-free-last

@@ -1,5 +1,4 @@
 use Rattle.memory.proofs.Ways.{room_none, room_all, room_most}
-use Rattle.std.proofs.Common.{rules}
 use Rattle.memory.proofs.pools.room.Goals as goal
 
 pub returns-then-each-eq0 : goal.returns-then-each-eq0

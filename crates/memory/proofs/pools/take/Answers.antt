@@ -1,6 +1,5 @@
 use mathlib.Core.Path.{sym}
 use Rattle.memory.specs.Laws.{take_full, take_top, take_link}
-use Rattle.std.proofs.Common.{rules}
 use Rattle.memory.proofs.pools.take.Goals as goal
 
 pub returns-then-limit-head : goal.returns-then-limit-head

@@ -1,5 +1,4 @@
 use Rattle.memory.specs.Log.{unbuild_only, unbuild_more}
-use Rattle.std.proofs.Common.{rules}
 use Rattle.memory.proofs.undoing.take_back.Goals as goal
 
 pub returns-then-first-last : goal.returns-then-first-last

@@ -1,6 +1,5 @@
 use mathlib.Core.Path.{sym}
 use lib.Seq.{set_out}
-use Rattle.std.proofs.Common.{rules}
 use Rattle.memory.proofs.words.put.Goals as goal
 
 pub returns-else-at-mem : goal.returns-else-at-mem

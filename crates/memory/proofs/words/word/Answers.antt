@@ -1,6 +1,5 @@
 use mathlib.Core.Path.{sym}
 use lib.ListN.{get_or-eq_default}
-use Rattle.std.proofs.Common.{rules}
 use Rattle.memory.proofs.words.word.Goals as goal
 
 pub returns-else-at-mem : goal.returns-else-at-mem

@@ -1,11 +1,9 @@
 -- After k turns the first k places are 0, and the others as they were.
-use Prim.Native.Nat.{◌≤◌, ◌-◌}
+use Prim.Native.Nat.{◌-◌}
 use mathlib.Core.Path.{◌≡◌, ap, ◌∙◌}
-use mathlib.Core.List.{◌++◌}
 use Rattle.std.proofs.Common.{arith}
-use lib.ListN.{length, set, drop, replicate, length-set}
+use lib.ListN.{set, length-set}
 use borrow.Author.Fill.{fill_more}
-use Rattle.std.proofs.Common.{rules}
 use Rattle.owners.proofs.pass.clear.Goals as goal
 
 pub loop-k-preserved : goal.loop-k-preserved

@@ -1,11 +1,8 @@
 -- After k turns the first k places are 0, and the others as they were.
 use Prim.Native.Nat.{◌≤◌, ◌-◌}
-use mathlib.Core.Path.{◌≡◌, ap, ◌∙◌}
+use mathlib.Core.Path.{◌≡◌}
 use mathlib.Core.List.{◌++◌}
-use Rattle.std.proofs.Common.{arith}
-use lib.ListN.{length, set, drop, replicate, length-set}
-use borrow.Author.Fill.{fill_more}
-use Rattle.std.proofs.Common.{rules}
+use lib.ListN.{length, drop, replicate}
 use Rattle.owners.proofs.pass.clear.Given as goal
 
 abbrev pub invariant-loop-k : goal.invariant-loop-k

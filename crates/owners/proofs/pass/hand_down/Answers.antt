@@ -2,7 +2,6 @@
 use Rattle.std.proofs.Common.{arith}
 use Rattle.owners.specs.Digits.{record_room, kind_low, hander}
 use Rattle.owners.proofs.Filling.{down_procedure, down_other}
-use Rattle.std.proofs.Common.{rules}
 use Rattle.owners.proofs.pass.hand_down.Goals as goal
 
 pub word_in-kind-requires : goal.word_in-kind-requires

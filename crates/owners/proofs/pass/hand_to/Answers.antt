@@ -1,12 +1,8 @@
 -- The words still to come are in the digits that are left: the invariant and its laws are in Digits.
-use mathlib.Core.Path.{◌≡◌, refl, ◌∙◌}
+use mathlib.Core.Path.{refl, ◌∙◌}
 use Rattle.std.proofs.Common.{arith}
-use lib.ListN.{length, length-set}
-use Rattle.language.specs.Format.{kind_word}
-use Rattle.language.specs.File.{kind_of, word}
-use Rattle.owners.specs.Handed.{part_words, next_and, hand_to}
-use Rattle.owners.specs.Digits.{PartsLeft, record_room, next_place, parts_first, parts_next, parts_last, next_done}
-use Rattle.std.proofs.Common.{rules}
+use lib.ListN.{length-set}
+use Rattle.owners.specs.Digits.{record_room, next_place, parts_first, parts_next, parts_last, next_done}
 use Rattle.owners.proofs.pass.hand_to.Goals as goal
 
 pub word_in-next-requires : goal.word_in-next-requires

@@ -1,12 +1,10 @@
 -- The words still to come are in the digits that are left: the invariant and its laws are in Digits.
-use mathlib.Core.Path.{◌≡◌, refl, ◌∙◌}
-use Rattle.std.proofs.Common.{arith}
-use lib.ListN.{length, length-set}
+use mathlib.Core.Path.{◌≡◌}
+use lib.ListN.{length}
 use Rattle.language.specs.Format.{kind_word}
 use Rattle.language.specs.File.{kind_of, word}
 use Rattle.owners.specs.Handed.{part_words, next_and, hand_to}
-use Rattle.owners.specs.Digits.{PartsLeft, record_room, next_place, parts_first, parts_next, parts_last, next_done}
-use Rattle.std.proofs.Common.{rules}
+use Rattle.owners.specs.Digits.{PartsLeft}
 use Rattle.owners.proofs.pass.hand_to.Given as goal
 
 abbrev pub invariant-loop-left : goal.invariant-loop-left

@@ -1,13 +1,9 @@
 -- After i turns the first i records have handed down.
 use Prim.Native.Nat.{◌-◌, ◌≤◌}
-use mathlib.Core.Path.{◌≡◌, refl, ◌∙◌}
-use Rattle.std.proofs.Common.{arith}
-use lib.ListN.{length, length-set}
-use Rattle.chains.specs.Formed.{counted}
+use mathlib.Core.Path.{◌≡◌}
+use lib.ListN.{length}
 use Rattle.owners.specs.Handed.{handed_up_to}
 use Rattle.owners.specs.Owner.{owner_by}
-use Rattle.owners.proofs.Filling.{fits_more, next, last}
-use Rattle.std.proofs.Common.{rules}
 use Rattle.owners.proofs.pass.list_owners.Given as goal
 
 abbrev pub invariant-loop-i : goal.invariant-loop-i

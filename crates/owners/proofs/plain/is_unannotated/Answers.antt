@@ -1,8 +1,7 @@
 -- The invariant and its laws are in Testing.
 use Prim.Native.Nat.{◌-◌}
-use Rattle.std.proofs.Common.{arith}
-use Rattle.owners.proofs.Testing.{Left, first, stop_create, stop_remove, next, last}
-use Rattle.std.proofs.Common.{rules}
+use Rattle.std.proofs.Common.{arith, rules}
+use Rattle.owners.proofs.Testing.{first, stop_create, stop_remove, next, last}
 use Rattle.owners.proofs.plain.is_unannotated.Goals as goal
 
 pub record_count-n-requires : goal.record_count-n-requires

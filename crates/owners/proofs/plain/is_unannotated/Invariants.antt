@@ -1,8 +1,6 @@
 -- The invariant and its laws are in Testing.
 use Prim.Native.Nat.{◌-◌}
-use Rattle.std.proofs.Common.{arith}
-use Rattle.owners.proofs.Testing.{Left, first, stop_create, stop_remove, next, last}
-use Rattle.std.proofs.Common.{rules}
+use Rattle.owners.proofs.Testing.{Left}
 use Rattle.owners.proofs.plain.is_unannotated.Given as goal
 
 abbrev pub invariant-loop-i : goal.invariant-loop-i

@@ -1,8 +1,7 @@
 -- What the passes leave is what the definitions say, and those are tables of the file.
 use Prim.Native.Nat.{ℕ, ◌<◌, ◌≤◌}
-use Rattle.std.proofs.Common.{arith}
+use Rattle.std.proofs.Common.{arith, rules}
 use mathlib.Core.Path.{ap, ◌∙◌}
-use Rattle.std.proofs.Common.{rules}
 use lib.ListN.{length, length-replicate}
 use Rattle.language.specs.Format.{places}
 use Rattle.plans.specs.Plan.{image_bytes}

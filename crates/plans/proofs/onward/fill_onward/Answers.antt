@@ -1,11 +1,10 @@
 -- After i turns the first i records have handed down.
 use mathlib.Core.Path.{refl, ◌∙◌}
-use Rattle.std.proofs.Common.{arith}
+use Rattle.std.proofs.Common.{arith, rules}
 use lib.ListN.{length-set}
 use Rattle.chains.specs.Formed.{counted}
 use Rattle.owners.specs.Handed.{handed_up_to}
 use Rattle.plans.specs.Onward.{onward_next, onward_last}
-use Rattle.std.proofs.Common.{rules}
 use Rattle.plans.proofs.onward.fill_onward.Goals as goal
 
 pub record_count-n-requires : goal.record_count-n-requires

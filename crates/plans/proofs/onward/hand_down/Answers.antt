@@ -1,9 +1,8 @@
 -- A try by itself; every other record hands on by its words.
 use mathlib.Core.Path.{refl, sym, ◌∙◌}
-use Rattle.std.proofs.Common.{arith}
+use Rattle.std.proofs.Common.{arith, rules}
 use Rattle.owners.specs.Digits.{record_room, kind_low, hander}
 use Rattle.plans.specs.Onward.{onward_down}
-use Rattle.std.proofs.Common.{rules}
 use Rattle.plans.proofs.onward.hand_down.Goals as goal
 
 pub word_in-kind-requires : goal.word_in-kind-requires

@@ -1,6 +1,6 @@
 -- The four words of a try.
 use mathlib.Core.Path.{refl}
-use Rattle.std.proofs.Common.{arith}
+use Rattle.std.proofs.Common.{arith, rules}
 use lib.ListN.{length-set}
 use Rattle.sets.specs.Tests.{◌or◌}
 use Rattle.sets.specs.Members.{in_list}
@@ -8,7 +8,6 @@ use Rattle.language.specs.Format.{next_word, try_condition, try_then, try_else}
 use Rattle.owners.specs.Digits.{record_room}
 use Rattle.owners.specs.TryWords.{try_words}
 use Rattle.plans.specs.Onward.{tries_down}
-use Rattle.std.proofs.Common.{rules}
 use Rattle.plans.proofs.onward.hand_try.Goals as goal
 
 pub word_in-next-requires : goal.word_in-next-requires

@@ -1,9 +1,8 @@
 -- `print_tabled`: the run stands at its start.
-use Rattle.std.proofs.Common.{arith}
+use Rattle.std.proofs.Common.{arith, rules}
 use mathlib.Core.Path.{sym}
 use lib.Seq.{length-take-le}
 use Rattle.profile.specs.Parts.{frame_room, line_fits}
-use Rattle.std.proofs.Common.{rules}
 use Rattle.profile.proofs.accepted.print_tabled.Goals as goal
 
 pub slice_bounds-print-end : goal.slice_bounds-print-end

@@ -1,9 +1,8 @@
-use Rattle.std.proofs.Common.{arith}
+use Rattle.std.proofs.Common.{arith, rules}
 use mathlib.Core.Path.{refl, sym, ◌∙◌}
 use Rattle.frames.specs.Strays.{whole}
 use Rattle.profiling.specs.Behind.{then_as, behind_as}
 use Rattle.profiling.specs.Inward.{enter_opens, enter_ends}
-use Rattle.std.proofs.Common.{rules}
 use Rattle.profiling.proofs.trying.enter.Goals as goal
 
 pub word_in-first-requires : goal.word_in-first-requires

@@ -2,7 +2,6 @@
 use Rattle.language.specs.Lists.{nth}
 use Rattle.language.specs.File.{kinds, kind_of}
 use Rattle.records.proofs.Decoding.{decoded, decoded_none}
-use Rattle.std.proofs.Common.{rules}
 use Rattle.language.specs.Format.{argument_kind, arm_kind, assign_kind, call_kind, construct_kind, create_kind, edge_kind, functor_kind, header_kind, if_kind, literal_kind, print_kind, procedure_kind, region_kind, remove_kind, sum_kind, switch_kind, test_kind, try_kind, type_kind, variable_kind}
 use Rattle.records.proofs.decode.record_at.Goals as goal
 

@@ -1,8 +1,6 @@
 -- Invariant: the counts looked at and those still ahead decide. Assumes nothing.
 use Prim.Native.Nat.{◌-◌}
-use Rattle.std.proofs.Common.{arith}
-use Rattle.std.proofs.Common.{rules}
-use Rattle.records.proofs.Loops.{Once, once_first, once_next, once_last}
+use Rattle.records.proofs.Loops.{Once}
 use Rattle.records.proofs.form.all_once.Given as goal
 
 abbrev pub invariant-loop-j : goal.invariant-loop-j

@@ -1,7 +1,6 @@
 use mathlib.Core.Path.{sym, ap, ◌∙◌}
 use lib.ListN.{set}
 use Rattle.records.proofs.ListsLaws.{counted_none, counted_some}
-use Rattle.std.proofs.Common.{rules}
 use Rattle.records.proofs.form.count.Goals as goal
 
 pub returns-then-r-eq0 : goal.returns-then-r-eq0

@@ -1,9 +1,7 @@
 -- Every record in order, and each counted once from nothing. Assumes nothing.
 use Rattle.std.proofs.Common.{arith}
 use mathlib.Core.Path.{◌∙◌}
-use borrow.Author.Tests.{not-true, not-false}
 use Rattle.records.proofs.Loops.{form_refused, form_counted}
-use Rattle.std.proofs.Common.{rules}
 use Rattle.records.proofs.form.form_ok.Goals as goal
 
 pub returns-then-not-records_ok : goal.returns-then-not-records_ok

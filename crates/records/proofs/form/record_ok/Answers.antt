@@ -1,6 +1,5 @@
 -- The unused words, then the references. Assumes nothing.
 use Rattle.std.proofs.Common.{rules}
-use borrow.Author.Tests.{not-true, not-false}
 use Rattle.records.proofs.Loops.{record_spare, record_refers}
 use Rattle.records.proofs.form.record_ok.Goals as goal
 

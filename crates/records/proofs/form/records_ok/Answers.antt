@@ -1,11 +1,8 @@
 -- Invariant: the records still ahead decide. Assumes nothing.
 use Prim.Native.Nat.{◌-◌}
-use Rattle.std.proofs.Common.{arith}
+use Rattle.std.proofs.Common.{arith, rules}
 use mathlib.Core.Path.{◌∙◌}
-use Rattle.std.proofs.Common.{rules}
-use borrow.Author.Tests.{not-true, not-false}
-use Rattle.language.specs.File.{word}
-use Rattle.records.proofs.Loops.{Records, records_first, records_next, records_refused, records_last}
+use Rattle.records.proofs.Loops.{records_first, records_next, records_refused, records_last}
 use Rattle.records.proofs.form.records_ok.Goals as goal
 
 pub loop-i-init : goal.loop-i-init

@@ -1,11 +1,7 @@
 -- Invariant: the records still ahead decide. Assumes nothing.
 use Prim.Native.Nat.{◌-◌}
-use Rattle.std.proofs.Common.{arith}
-use mathlib.Core.Path.{◌∙◌}
-use Rattle.std.proofs.Common.{rules}
-use borrow.Author.Tests.{not-true, not-false}
 use Rattle.language.specs.File.{word}
-use Rattle.records.proofs.Loops.{Records, records_first, records_next, records_refused, records_last}
+use Rattle.records.proofs.Loops.{Records}
 use Rattle.records.proofs.form.records_ok.Given as goal
 
 abbrev pub invariant-loop-i : goal.invariant-loop-i

@@ -1,9 +1,8 @@
 -- One law for each test of a reference. Assumes nothing.
-use Rattle.std.proofs.Common.{arith}
+use Rattle.std.proofs.Common.{arith, rules}
 use mathlib.Core.Bool.{false≢true}
 use Rattle.records.proofs.Steps.{reference_end, reference_low, reference_past, reference_chain}
 use Rattle.records.specs.Table.{packed}
-use Rattle.std.proofs.Common.{rules}
 use Rattle.records.proofs.form.reference_ok.Goals as goal
 
 pub returns-then-r-eq0 : goal.returns-then-r-eq0

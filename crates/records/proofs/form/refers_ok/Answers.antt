@@ -1,10 +1,8 @@
 -- Invariant: the words still ahead decide; the digits fall. Assumes nothing.
 use mathlib.Core.Path.{◌∙◌}
 use Rattle.std.proofs.Common.{rules}
-use borrow.Author.Tests.{not-true, not-false}
-use Rattle.language.specs.File.{word}
 use Rattle.records.specs.Table.{packed}
-use Rattle.records.proofs.Loops.{Words, words_some, words_first, words_next, words_refused, words_last}
+use Rattle.records.proofs.Loops.{words_some, words_first, words_next, words_refused, words_last}
 use Rattle.records.proofs.form.refers_ok.Goals as goal
 
 pub loop-row-init : goal.loop-row-init

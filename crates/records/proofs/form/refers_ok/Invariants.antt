@@ -1,10 +1,6 @@
 -- Invariant: the words still ahead decide; the digits fall. Assumes nothing.
-use mathlib.Core.Path.{◌∙◌}
-use Rattle.std.proofs.Common.{rules}
-use borrow.Author.Tests.{not-true, not-false}
 use Rattle.language.specs.File.{word}
-use Rattle.records.specs.Table.{packed}
-use Rattle.records.proofs.Loops.{Words, words_some, words_first, words_next, words_refused, words_last}
+use Rattle.records.proofs.Loops.{Words}
 use Rattle.records.proofs.form.refers_ok.Given as goal
 
 abbrev pub invariant-loop-row : goal.invariant-loop-row

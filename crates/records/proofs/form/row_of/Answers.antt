@@ -3,7 +3,6 @@ use Rattle.std.proofs.Common.{arith}
 use mathlib.Core.Path.{ap, ◌∙◌}
 use lib.ListN.{get_or}
 use Rattle.records.proofs.TableLaws.{table_at, table_past}
-use Rattle.std.proofs.Common.{rules}
 use Rattle.records.proofs.form.row_of.Goals as goal
 
 pub returns-then-kind-lt-KINDS_END : goal.returns-then-kind-lt-KINDS_END

@@ -1,8 +1,6 @@
 -- No reference, or one. Assumes nothing.
-use Rattle.std.proofs.Common.{arith}
-use borrow.Author.Tests.{not-true, not-false}
+use Rattle.std.proofs.Common.{arith, rules}
 use Rattle.records.proofs.Steps.{use_none, use_refused, use_counted}
-use Rattle.std.proofs.Common.{rules}
 use Rattle.records.proofs.form.word_ok.Goals as goal
 
 pub returns-then-chain-eq0 : goal.returns-then-chain-eq0

@@ -1,7 +1,5 @@
 -- The first test that fails gives the verdict. Assumes nothing.
-use borrow.Author.Tests.{not-true, not-false}
 use Rattle.records.proofs.Stages.{count_most, form_header, form_form, form_accepted}
-use Rattle.std.proofs.Common.{rules}
 use Rattle.records.proofs.stage.check_form.Goals as goal
 
 pub returns-then-not-header_ok : goal.returns-then-not-header_ok

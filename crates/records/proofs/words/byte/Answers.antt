@@ -2,7 +2,6 @@
 use mathlib.Core.Path.{sym}
 use Rattle.std.proofs.Common.{arith}
 use lib.ListN.{get_or-eq_default}
-use Rattle.std.proofs.Common.{rules}
 use Rattle.records.proofs.words.byte.Goals as goal
 
 pub returns-else-at-file : goal.returns-else-at-file

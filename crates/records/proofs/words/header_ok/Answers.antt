@@ -1,7 +1,6 @@
 -- One law for each test of number 1. Assumes nothing.
 use Rattle.std.proofs.Common.{arith}
 use Rattle.records.proofs.Stages.{header_short, header_long, header_count_law, header_kind_law}
-use Rattle.std.proofs.Common.{rules}
 use Rattle.records.proofs.words.header_ok.Goals as goal
 
 pub returns-then-file-lt-RECORD_BYTES : goal.returns-then-file-lt-RECORD_BYTES

@@ -1,9 +1,8 @@
 -- Past the file every word is 0, else each byte by itself. Assumes nothing.
 use mathlib.Core.Path.{sym}
-use Rattle.std.proofs.Common.{arith}
+use Rattle.std.proofs.Common.{arith, rules}
 use Rattle.language.specs.File.{word}
 use Rattle.records.specs.Words.{word_past}
-use Rattle.std.proofs.Common.{rules}
 use Rattle.records.proofs.words.last_word.Goals as goal
 
 pub returns-then-i-file : goal.returns-then-i-file

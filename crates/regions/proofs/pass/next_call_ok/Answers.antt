@@ -1,5 +1,5 @@
 use Prim.Native.Nat.{◌<◌}
-use Rattle.std.proofs.Common.{arith}
+use Rattle.std.proofs.Common.{arith, rules}
 use mathlib.Core.Path.{ap, ◌∙◌}
 use Rattle.language.specs.Format.{max_records}
 use Rattle.chains.specs.Formed.{counted}
@@ -8,7 +8,6 @@ use Rattle.regions.specs.Here.{here}
 use Rattle.regions.specs.CallEffect.{call_window}
 use Rattle.regions.proofs.RepeatsLaws.{repeated_agrees, repeated_made}
 use Rattle.regions.proofs.RowedLaws.{rowed_put}
-use Rattle.std.proofs.Common.{rules}
 use Rattle.regions.proofs.pass.next_call_ok.Goals as goal
 
 pub repeats-requires : goal.repeats-requires

@@ -1,5 +1,5 @@
 use Prim.Native.Nat.{◌<◌}
-use Rattle.std.proofs.Common.{arith}
+use Rattle.std.proofs.Common.{arith, rules}
 use mathlib.Core.Logic.{inr}
 use mathlib.Core.Path.{refl, sym, ◌∙◌}
 use Rattle.language.specs.Format.{max_records}
@@ -7,7 +7,6 @@ use Rattle.chains.specs.Formed.{counted}
 use Rattle.regions.proofs.HereLaws.{other_agrees}
 use Rattle.regions.proofs.EffectsLaws.{literal_made, sum_made, print_made, test_made, assign_step, construct_step, create_step, remove_step, switch_none, no_step_left}
 use Rattle.regions.proofs.RowedLaws.{rowed_put, rowed_not}
-use Rattle.std.proofs.Common.{rules}
 use Rattle.regions.proofs.pass.next_ok.Goals as goal
 
 pub put_none-requires : goal.put_none-requires

@@ -1,6 +1,5 @@
 -- The records below are done, and the rest decides.
-use Rattle.std.proofs.Common.{rules}
-use Rattle.std.proofs.Common.{arith}
+use Rattle.std.proofs.Common.{rules, arith}
 use Rattle.language.specs.File.{record_count}
 use Rattle.regions.proofs.RowedLaws.{going_first, going_stop, going_next, going_last, going_passed, going_stopped, going_before}
 use Rattle.regions.proofs.TermsLaws.{firsts_none}

@@ -1,6 +1,5 @@
-use Rattle.std.proofs.Common.{arith}
+use Rattle.std.proofs.Common.{arith, rules}
 use Rattle.regions.proofs.TermsLaws.{count_four, count_three, count_two, count_one, count_none}
-use Rattle.std.proofs.Common.{rules}
 use Rattle.regions.proofs.terms.count_arguments.Goals as goal
 
 pub word-requires : goal.word-requires

@@ -1,6 +1,5 @@
 -- What is kept for the functor is of this chain, or it is searched for and kept.
-use Rattle.std.proofs.Common.{rules}
-use Rattle.std.proofs.Common.{arith}
+use Rattle.std.proofs.Common.{rules, arith}
 use Rattle.regions.proofs.TermsLaws.{firsts_put, first_kept}
 use Rattle.regions.proofs.terms.first_edge.Goals as goal
 

@@ -1,11 +1,10 @@
 -- The arguments that are not looked at yet decide.
 use Prim.Native.Nat.{ℕ}
-use Rattle.std.proofs.Common.{arith}
+use Rattle.std.proofs.Common.{arith, rules}
 use mathlib.Core.List.{List}
 use mathlib.Core.Path.{refl, ◌∙◌}
 use Rattle.chains.specs.Formed.{edges_at}
 use Rattle.regions.proofs.TermsLaws.{rest_stop, rest_on, rest_end, terms_decided}
-use Rattle.std.proofs.Common.{rules}
 use Rattle.regions.proofs.terms.in_targets.Goals as goal
 
 pub word-functor-requires : goal.word-functor-requires

@@ -1,5 +1,4 @@
-use Rattle.std.proofs.Common.{arith, rules}
-use Rattle.std.proofs.lemmas.Nat.{trailing_le}
+use Rattle.std.proofs.Common.{arith}
 use Rattle.sets.proofs.Set.after.Goals as goal
 use Rattle.sets.specs.Code.{after_low, after_here}
 use Rattle.sets.specs.Walk.{next_eq}

@@ -1,9 +1,6 @@
 -- A walk over the members.
 use Prim.Native.Nat.{◌-◌}
-use Rattle.std.proofs.Common.{rules}
-use Rattle.language.specs.Format.{places}
-use Rattle.tables.specs.Walks.{Gathering, gather_first, gather_more, gather_last, next_falls}
-use Rattle.tables.specs.Window.{reach_in}
+use Rattle.tables.specs.Walks.{gather_first, gather_more, gather_last, next_falls}
 use Rattle.tables.proofs.reaches.reach_all.Goals as goal
 
 pub loop-x-init : goal.loop-x-init

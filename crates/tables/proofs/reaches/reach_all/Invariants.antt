@@ -1,8 +1,7 @@
 -- A walk over the members.
 use Prim.Native.Nat.{◌-◌}
-use Rattle.std.proofs.Common.{rules}
 use Rattle.language.specs.Format.{places}
-use Rattle.tables.specs.Walks.{Gathering, gather_first, gather_more, gather_last, next_falls}
+use Rattle.tables.specs.Walks.{Gathering}
 use Rattle.tables.specs.Window.{reach_in}
 use Rattle.tables.proofs.reaches.reach_all.Given as goal
 

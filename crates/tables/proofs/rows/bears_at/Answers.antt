@@ -1,5 +1,4 @@
 use Rattle.tables.specs.Rows.{bears_in}
-use Rattle.std.proofs.Common.{rules}
 use Rattle.tables.proofs.rows.bears_at.Goals as goal
 
 pub returns : goal.returns

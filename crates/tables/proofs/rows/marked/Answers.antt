@@ -1,6 +1,5 @@
 use mathlib.Core.Path.{refl}
 use Rattle.tables.proofs.Finding.{mark_some, mark_past}
-use Rattle.std.proofs.Common.{rules}
 use Rattle.tables.proofs.rows.marked.Goals as goal
 
 pub returns-then-i-lt-MAX_RECORDS : goal.returns-then-i-lt-MAX_RECORDS

@@ -1,5 +1,4 @@
 use Rattle.tables.specs.Rows.{needs_in}
-use Rattle.std.proofs.Common.{rules}
 use Rattle.tables.proofs.rows.needs_at.Goals as goal
 
 pub returns : goal.returns

@@ -1,5 +1,4 @@
 use Rattle.tables.specs.Rows.{put_access}
-use Rattle.std.proofs.Common.{rules}
 use Rattle.tables.proofs.rows.put_access.Goals as goal
 
 pub returns : goal.returns

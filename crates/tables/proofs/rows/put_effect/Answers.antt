@@ -1,5 +1,4 @@
 use Rattle.tables.specs.Rows.{put_effect}
-use Rattle.std.proofs.Common.{rules}
 use Rattle.tables.proofs.rows.put_effect.Goals as goal
 
 pub returns : goal.returns

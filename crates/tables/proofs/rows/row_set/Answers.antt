@@ -1,5 +1,4 @@
 use Rattle.tables.proofs.Finding.{row_some, row_past}
-use Rattle.std.proofs.Common.{rules}
 use Rattle.tables.proofs.rows.row_set.Goals as goal
 
 pub returns-then-i-lt-MAX_RECORDS : goal.returns-then-i-lt-MAX_RECORDS

@@ -5,7 +5,6 @@ use Prim.Native.Nat.{ℕ}
 use lib.ListN.{get_or}
 use Rattle.tables.specs.Window.{body_place}
 use Rattle.tables.specs.Starts.{window_lent}
-use Rattle.std.proofs.Common.{rules}
 use Rattle.tables.proofs.starts.body_of.Goals as goal
 
 pub returns : goal.returns

@@ -2,7 +2,6 @@ use mathlib.Core.Path.{sym}
 use Rattle.std.proofs.Common.{arith}
 use Rattle.tables.specs.Starts.{start_is}
 use Rattle.tables.proofs.Finding.{start_past, start_none}
-use Rattle.std.proofs.Common.{rules}
 use Rattle.tables.proofs.starts.start_of.Goals as goal
 
 pub returns-then-start-table : goal.returns-then-start-table

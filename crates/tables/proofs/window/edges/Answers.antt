@@ -1,6 +1,5 @@
 use Rattle.std.proofs.Common.{arith}
 use Rattle.tables.specs.Window.{number_few, edges_past, edges_some, edges_none}
-use Rattle.std.proofs.Common.{rules}
 use Rattle.tables.proofs.window.edges.Goals as goal
 
 pub returns-then-n-ge-PLACES : goal.returns-then-n-ge-PLACES

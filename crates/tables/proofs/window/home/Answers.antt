@@ -1,6 +1,5 @@
 use Rattle.std.proofs.Common.{arith}
 use Rattle.tables.specs.Window.{number_few, home_some, home_none}
-use Rattle.std.proofs.Common.{rules}
 use Rattle.tables.proofs.window.home.Goals as goal
 
 pub overflow_mul-x : goal.overflow_mul-x

@@ -1,6 +1,5 @@
 use mathlib.Core.Path.{sym}
 use lib.ListN.{get_or-eq_default}
-use Rattle.std.proofs.Common.{rules}
 use Rattle.tables.proofs.window.word_at.Goals as goal
 
 pub returns-else-k-own : goal.returns-else-k-own

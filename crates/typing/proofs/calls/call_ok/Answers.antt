@@ -6,7 +6,6 @@ use Rattle.chains.specs.Shapes.{to_arguments}
 use Rattle.declarations.specs.Functors.{stands_same}
 use Rattle.declarations.specs.Declares.{procedure_stands}
 use Rattle.typing.proofs.CallsLaws.{call_none, call_some}
-use Rattle.std.proofs.Common.{rules}
 use Rattle.typing.proofs.calls.call_ok.Goals as goal
 
 pub word-requires : goal.word-requires

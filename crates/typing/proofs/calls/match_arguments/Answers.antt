@@ -1,14 +1,10 @@
 -- What is left of the two chains decides as the whole does.
 use Rattle.std.proofs.Common.{arith}
-use mathlib.Core.Path.{◌≡◌, refl, ◌∙◌}
-use borrow.Author.Tests.{not-true, not-false}
-use Rattle.language.specs.Format.{next_word, variable_mode}
-use Rattle.language.specs.File.{variables, arguments, word}
-use Rattle.language.specs.Typing.{have_types}
-use Rattle.chains.specs.Formed.{Stands, variables_at, arguments_at, ahead, counted}
+use mathlib.Core.Path.{refl, ◌∙◌}
+use Rattle.language.specs.Format.{next_word}
+use Rattle.language.specs.File.{word}
+use Rattle.chains.specs.Formed.{counted}
 use Rattle.chains.specs.Is.{chain_next}
-use Rattle.declarations.specs.Parameters.{taken_types}
-use Rattle.declarations.specs.Own.{declared}
 use Rattle.typing.proofs.CallsLaws.{match_start, match_short, match_wrong, match_next, match_end, parameter_at}
 use Rattle.typing.proofs.calls.match_arguments.Goals as goal
 

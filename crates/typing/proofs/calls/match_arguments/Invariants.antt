@@ -1,15 +1,11 @@
 -- What is left of the two chains decides as the whole does.
-use Rattle.std.proofs.Common.{arith}
-use mathlib.Core.Path.{◌≡◌, refl, ◌∙◌}
-use borrow.Author.Tests.{not-true, not-false}
-use Rattle.language.specs.Format.{next_word, variable_mode}
+use mathlib.Core.Path.{◌≡◌}
+use Rattle.language.specs.Format.{variable_mode}
 use Rattle.language.specs.File.{variables, arguments, word}
 use Rattle.language.specs.Typing.{have_types}
-use Rattle.chains.specs.Formed.{Stands, variables_at, arguments_at, ahead, counted}
-use Rattle.chains.specs.Is.{chain_next}
+use Rattle.chains.specs.Formed.{Stands, variables_at, arguments_at, ahead}
 use Rattle.declarations.specs.Parameters.{taken_types}
 use Rattle.declarations.specs.Own.{declared}
-use Rattle.typing.proofs.CallsLaws.{match_start, match_short, match_wrong, match_next, match_end, parameter_at}
 use Rattle.typing.proofs.calls.match_arguments.Given as goal
 
 abbrev pub invariant-loop-v : goal.invariant-loop-v

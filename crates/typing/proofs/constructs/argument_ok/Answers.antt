@@ -1,6 +1,5 @@
-use Rattle.std.proofs.Common.{arith}
+use Rattle.std.proofs.Common.{arith, rules}
 use Rattle.typing.proofs.ArgumentsLaws.{argument_in, argument_past}
-use Rattle.std.proofs.Common.{rules}
 use Rattle.typing.proofs.constructs.argument_ok.Goals as goal
 
 pub word-a-requires : goal.word-a-requires

@@ -1,12 +1,8 @@
 -- The slots that are not looked at yet decide.
 use Prim.Native.Nat.{◌-◌}
-use Rattle.std.proofs.Common.{arith}
-use mathlib.Core.Path.{◌≡◌, refl, ◌∙◌}
-use borrow.Author.Tests.{not-true, not-false}
-use Rattle.language.specs.Format.{max_arity}
-use Rattle.declarations.specs.Own.{declared}
-use Rattle.typing.specs.Arguments.{slots_left, slots_whole, slots_stop, slots_on, slots_end}
-use Rattle.std.proofs.Common.{rules}
+use Rattle.std.proofs.Common.{arith, rules}
+use mathlib.Core.Path.{refl, ◌∙◌}
+use Rattle.typing.specs.Arguments.{slots_whole, slots_stop, slots_on, slots_end}
 use Rattle.typing.proofs.constructs.arguments_ok.Goals as goal
 
 pub loop-k-init : goal.loop-k-init

@@ -3,7 +3,6 @@ use Rattle.declarations.specs.Functors.{stands_same}
 use Rattle.declarations.specs.Declares.{functor_stands}
 use Rattle.declarations.specs.Own.{variable_stands}
 use Rattle.typing.proofs.StepsLaws.{construct_unlisted, construct_none, construct_all}
-use Rattle.std.proofs.Common.{rules}
 use Rattle.typing.proofs.constructs.construct_ok.Goals as goal
 
 pub word-requires : goal.word-requires

@@ -1,12 +1,8 @@
 -- The rest of the chain decides as the whole does.
 use Rattle.std.proofs.Common.{arith}
-use mathlib.Core.Path.{◌≡◌, refl, ◌∙◌}
-use borrow.Author.Tests.{not-true, not-false}
-use Rattle.language.specs.Lists.{all}
-use Rattle.language.specs.File.{procedures}
-use Rattle.language.specs.Answers.{program}
+use mathlib.Core.Path.{refl, ◌∙◌}
 use Rattle.language.specs.Typing.{procedure_ok}
-use Rattle.chains.specs.Formed.{Stands, procedures_at, procedures_none, ahead}
+use Rattle.chains.specs.Formed.{procedures_none}
 use Rattle.chains.specs.Is.{chain_next}
 use Rattle.laws.specs.Lists.{all_end}
 use Rattle.typing.proofs.ProceduresLaws.{procedures_no, procedures_yes}

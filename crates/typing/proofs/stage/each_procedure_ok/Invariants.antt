@@ -1,15 +1,10 @@
 -- The rest of the chain decides as the whole does.
-use Rattle.std.proofs.Common.{arith}
-use mathlib.Core.Path.{◌≡◌, refl, ◌∙◌}
-use borrow.Author.Tests.{not-true, not-false}
+use mathlib.Core.Path.{◌≡◌}
 use Rattle.language.specs.Lists.{all}
 use Rattle.language.specs.File.{procedures}
 use Rattle.language.specs.Answers.{program}
 use Rattle.language.specs.Typing.{procedure_ok}
-use Rattle.chains.specs.Formed.{Stands, procedures_at, procedures_none, ahead}
-use Rattle.chains.specs.Is.{chain_next}
-use Rattle.laws.specs.Lists.{all_end}
-use Rattle.typing.proofs.ProceduresLaws.{procedures_no, procedures_yes}
+use Rattle.chains.specs.Formed.{Stands, procedures_at, ahead}
 use Rattle.typing.proofs.stage.each_procedure_ok.Given as goal
 
 abbrev pub invariant-loop-i : goal.invariant-loop-i

@@ -1,11 +1,9 @@
 use Rattle.std.proofs.Common.{arith}
 use mathlib.Core.Path.{refl, sym, ◌∙◌}
-use borrow.Author.Tests.{not-true, not-false}
 use Rattle.chains.specs.Is.{procedure_is}
 use Rattle.chains.specs.Declared.{procedure_at_law}
 use Rattle.declarations.specs.Functors.{stands_same}
 use Rattle.typing.proofs.ProceduresLaws.{many_declared, wrong_signature, procedure_all}
-use Rattle.std.proofs.Common.{rules}
 use Rattle.typing.proofs.stage.procedure_ok.Goals as goal
 
 pub counts_ok-requires : goal.counts_ok-requires

@@ -3,7 +3,6 @@ use Rattle.chains.specs.Formed.{procedures_stand, counted}
 use Rattle.chains.specs.Elements.{procedure_count}
 use Rattle.declarations.specs.Functors.{stands_same}
 use Rattle.typing.proofs.ProceduresLaws.{no_procedure_law, many_procedures, procedures_all}
-use Rattle.std.proofs.Common.{rules}
 use Rattle.typing.proofs.stage.procedures_ok.Goals as goal
 
 pub word-first-requires : goal.word-first-requires

@@ -1,5 +1,4 @@
 use mathlib.Core.Path.{sym, ◌∙◌}
-use borrow.Author.Tests.{not-true, not-false}
 use Rattle.typing.proofs.ProceduresLaws.{wrong_types, typing_all}
 use Rattle.std.proofs.Common.{rules}
 use Rattle.typing.proofs.stage.typing_ok.Goals as goal

@@ -1,8 +1,7 @@
-use Rattle.std.proofs.Common.{arith}
+use Rattle.std.proofs.Common.{arith, rules}
 use Rattle.declarations.specs.Functors.{stands_same}
 use Rattle.declarations.specs.Own.{variable_stands}
 use Rattle.typing.proofs.StepsLaws.{assign_none, assign_all}
-use Rattle.std.proofs.Common.{rules}
 use Rattle.typing.proofs.steps.assign_ok.Goals as goal
 
 pub word-requires : goal.word-requires

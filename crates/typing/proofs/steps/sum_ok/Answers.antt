@@ -1,4 +1,3 @@
-use borrow.Author.Tests.{not-true, not-false}
 use Rattle.typing.proofs.StepsLaws.{sum_first, sum_operation_law, sum_second, sum_all}
 use Rattle.std.proofs.Common.{rules}
 use Rattle.typing.proofs.steps.sum_ok.Goals as goal

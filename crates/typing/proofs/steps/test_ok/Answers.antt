@@ -1,4 +1,3 @@
-use borrow.Author.Tests.{not-true, not-false}
 use Rattle.typing.proofs.StepsLaws.{test_first, test_both}
 use Rattle.std.proofs.Common.{rules}
 use Rattle.typing.proofs.steps.test_ok.Goals as goal

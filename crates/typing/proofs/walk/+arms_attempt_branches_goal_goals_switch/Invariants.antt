@@ -1,23 +1,12 @@
 -- The walk over goals: a chain of goals, a goal, an if, a try, a switch, its arms. The records still ahead fall.
-use Prim.Native.Nat.{ℕ, ◌<◌, ◌≤◌, ◌+◌, ◌*◌}
-use native.Mathlib.Numerals.{add-one}
-use Rattle.std.proofs.Common.{arith}
-use mathlib.Core.Logic.{⊎_elim}
-use mathlib.Core.Path.{◌≡◌, refl, sym, ◌∙◌}
-use borrow.Author.Tests.{not-true, not-false}
-use Rattle.std.proofs.Common.{rules}
+use Prim.Native.Nat.{◌<◌, ◌≤◌, ◌+◌, ◌*◌}
+use mathlib.Core.Path.{◌≡◌}
 use Rattle.language.specs.Format.{max_records}
 use Rattle.language.specs.File.{functors, goals, arms}
 use Rattle.language.specs.Answers.{program}
 use Rattle.language.specs.Typing.{goals_ok, arms_ok}
-use Rattle.chains.specs.Formed.{Stands, goals_at, arms_at, functors_at, ahead, ahead_below}
-use Rattle.chains.specs.Is.{chain_next}
-use Rattle.chains.specs.Shapes.{to_arms, to_then, to_else, to_condition, to_try_then, to_try_else, arm_goals_law}
-use Rattle.declarations.specs.Functors.{stands_same}
-use Rattle.declarations.specs.Declares.{functor_stands}
-use Rattle.declarations.specs.Own.{declared, variable_stands}
-use Rattle.typing.proofs.ArgumentsLaws.{arm_some}
-use Rattle.typing.proofs.WalkLaws.{goals_no, goals_yes, goals_end, if_first, if_second, if_then_law, if_else_law, try_condition_law, try_then_law, try_else_law, switch_none, switch_number, switch_arms_law, arms_unfit, arms_goals, arms_next, arms_end}
+use Rattle.chains.specs.Formed.{Stands, goals_at, arms_at, functors_at, ahead}
+use Rattle.declarations.specs.Own.{declared}
 use Rattle.typing.proofs.walk.+arms_attempt_branches_goal_goals_switch.Given as goal
 
 -- The functions `past` lead from a point that several needs pass to the earlier points that these look at, so that a path stands once.

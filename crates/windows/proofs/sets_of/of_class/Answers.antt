@@ -1,6 +1,5 @@
 use mathlib.Core.Path.{◌∙◌}
-use Rattle.std.proofs.Common.{arith}
-use Rattle.std.proofs.Common.{rules}
+use Rattle.std.proofs.Common.{arith, rules}
 use Rattle.chains.specs.Is.{chain_next}
 use Rattle.chains.specs.Formed.{ahead_below, regions_none}
 use Rattle.windows.specs.Sorting.{sort_first, sort_last}

@@ -2,8 +2,7 @@ use Rattle.chains.specs.Is.{chain_next}
 use Rattle.windows.proofs.Variables.{found_one, found_other}
 use Rattle.windows.specs.Modes.{find_first, find_last}
 use Rattle.chains.specs.Formed.{ahead_below, variables_none}
-use Rattle.std.proofs.Common.{arith}
-use Rattle.std.proofs.Common.{rules}
+use Rattle.std.proofs.Common.{arith, rules}
 use mathlib.Core.Path.{◌∙◌}
 use Rattle.windows.proofs.sets_of.variables_in.Goals as goal
 use Rattle.windows.proofs.sets_of.variables_in.Goals.{else-word-mode, then-word-mode}

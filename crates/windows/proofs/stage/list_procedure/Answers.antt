@@ -1,7 +1,6 @@
-use Rattle.std.proofs.Common.{rules}
+use Rattle.std.proofs.Common.{rules, arith}
 use mathlib.Core.Path.{refl, sym, ◌∙◌}
 use Prim.Native.Nat.{◌+◌, ◌*◌, ◌≤◌}
-use Rattle.std.proofs.Common.{arith}
 use lib.ListN.{length, length-set}
 use Rattle.chains.specs.Records.{chain_records}
 use Rattle.tables.specs.TablePlaces.{head_size}

@@ -1,7 +1,6 @@
 use Prim.Native.Nat.{ℕ}
-use Rattle.std.proofs.Common.{rules}
+use Rattle.std.proofs.Common.{rules, arith}
 use mathlib.Core.Path.{refl, sym, ap, ◌∙◌}
-use Rattle.std.proofs.Common.{arith}
 use lib.ListN.{length, length-set, length-replicate}
 use Rattle.language.specs.Format.{places}
 use Rattle.chains.specs.Formed.{counted}

@@ -1,6 +1,5 @@
-use Rattle.std.proofs.Common.{rules}
+use Rattle.std.proofs.Common.{rules, arith}
 use mathlib.Core.Path.{refl}
-use Rattle.std.proofs.Common.{arith}
 use lib.ListN.{length-set}
 use Rattle.chains.specs.Is.{chain_next}
 use Rattle.windows.specs.Along.{along_first, along_below, along_next, along_last}

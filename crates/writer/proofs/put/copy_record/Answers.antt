@@ -1,5 +1,4 @@
 -- What was read is what is put.
-use Rattle.std.proofs.Common.{rules}
 use Rattle.writer.proofs.LaidLaws.{laid_next}
 use Rattle.writer.proofs.put.copy_record.Goals as goal
 

@@ -1,7 +1,6 @@
 -- Eight words, joined from the last to the first (`row_more`).
 use Rattle.std.proofs.Common.{arith}
 use mathlib.Core.Path.{refl, ◌∙◌}
-use Rattle.std.proofs.Common.{rules}
 use Rattle.writer.proofs.LaidLaws.{row_none, row_more, laid_row}
 use Rattle.writer.proofs.put.put_record.Goals as goal
 

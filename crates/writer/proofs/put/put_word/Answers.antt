@@ -1,7 +1,6 @@
 -- Two stores make the word (`put_made`).
 use Rattle.std.proofs.Common.{arith}
 use lib.ListN.{length-set}
-use Rattle.std.proofs.Common.{rules}
 use Rattle.writer.proofs.LaidLaws.{put_made}
 use Rattle.writer.proofs.put.put_word.Goals as goal
 

@@ -1,12 +1,8 @@
 -- Skipping along a chain and along the words of a record.
-use Rattle.std.proofs.Common.{rules}
 use Rattle.std.proofs.Common.{arith}
-use Rattle.language.specs.File.{record_count}
-use Rattle.records.specs.Sizes.{record_words}
-use Rattle.chains.specs.Formed.{ahead}
 use Rattle.writer.proofs.LeadsLaws.{told}
-use Rattle.writer.proofs.SkipsLaws.{Skipping, skipping_first, skipping_last, skipping_less, skipping_falls, skipping_next, Passing, passing_first, passing_plain, passing_below, passing_falls, passing_leads, passing_done}
-use Prim.Native.Nat.{◌+◌, ◌-◌, ◌*◌, ℕ, ◌<◌}
+use Rattle.writer.proofs.SkipsLaws.{skipping_first, skipping_last, skipping_less, skipping_falls, skipping_next, passing_first, passing_plain, passing_below, passing_falls, passing_leads, passing_done}
+use Prim.Native.Nat.{◌-◌}
 use Rattle.writer.proofs.skip.+skip_chain_skip_record.Goals as goal
 
 pub skip_chain-loop-i-init : goal.skip_chain-loop-i-init

@@ -1,5 +1,4 @@
 -- The header with the types, then the procedures, are the whole (`whole_written`).
-use Rattle.std.proofs.Common.{rules}
 use Rattle.writer.proofs.WholeLaws.{header_ready, procedures_ready, whole_written}
 use Rattle.writer.proofs.stage.write_in_order.Goals as goal
 

@@ -1,16 +1,10 @@
 -- The walk in written order: the invariants are `Writing` along a chain and `Spelling` along the words of a record.
-use Rattle.std.proofs.Common.{rules}
-use mathlib.Core.Path.{◌∙◌}
-use Rattle.std.proofs.Common.{arith}
 use Rattle.language.specs.File.{record_count}
 use Rattle.records.specs.Sizes.{record_words}
 use Rattle.chains.specs.Formed.{ahead}
-use Rattle.writer.proofs.LaidLaws.{linked_small}
-use Rattle.writer.proofs.LeadsLaws.{told}
-use Rattle.writer.proofs.ReadyLaws.{Writing, writing_first, writing_record, writing_less, writing_falls, writing_next, writing_last}
-use Rattle.writer.proofs.LeafLaws.{leaf_room, leaf_wrote}
-use Rattle.writer.proofs.Spelling.{Spelling, spelling_first, spelling_room, spelling_falls, spelling_chain, spelling_leads, spelling_plain, done_room, spelling_done}
-use Prim.Native.Nat.{◌+◌, ◌-◌, ◌*◌, ℕ, ◌<◌}
+use Rattle.writer.proofs.ReadyLaws.{Writing}
+use Rattle.writer.proofs.Spelling.{Spelling}
+use Prim.Native.Nat.{◌+◌, ◌-◌, ◌*◌}
 use Rattle.writer.proofs.walk.+write_chain_write_record.Given as goal
 
 -- The functions `past` lead from a point that several needs pass to the earlier points that these look at, so that a path stands once.
