@@ -12,8 +12,7 @@ use chains::{chain_length, word};
 use language::format::{
     CALL_PROCEDURE, ENTRY_PROCEDURE, HEADER_PROCEDURES, MAX_PROCEDURES, MAX_RECORDS,
 };
-use records::blank::blank_procedures;
-use records::{narrow, wide};
+use records::narrow;
 
 // Marks what procedure p calls; those that had no mark go behind the n procedures found so far. How many those are then.
 fn look_at(
@@ -33,7 +32,7 @@ fn look_at(
     ensures { Looked file.now p marks.old order.old n marks.new order.new result }
 {
     let mut found = n;
-    let mut i = wide(lasts[p]);
+    let mut i = usize::from(lasts[p]);
     while i != 0 {
         let q = word(file, i, CALL_PROCEDURE);
         if marks[q] == 0 {
@@ -41,7 +40,7 @@ fn look_at(
             order[found] = narrow(q);
             found += 1;
         }
-        i = wide(links[i]);
+        i = usize::from(links[i]);
     }
     found
 }
@@ -53,13 +52,13 @@ pub fn reaches_all(file: &[u8], links: &[u16; MAX_RECORDS], lasts: &[u16; MAX_PR
     requires calls_linked { CallsLinked file.now links.now lasts.now }
     ensures { result ≡ reached_ok (program file.now) }
 {
-    let mut marks = blank_procedures();
-    let mut order = blank_procedures();
+    let mut marks = [0; MAX_PROCEDURES];
+    let mut order = [0; MAX_PROCEDURES];
     marks[ENTRY_PROCEDURE] = 1;
     let mut found = 1;
     let mut k = 0;
     while k < found {
-        let p = wide(order[k]);
+        let p = usize::from(order[k]);
         found = look_at(file, links, lasts, p, &mut marks, &mut order, found);
         k += 1;
     }

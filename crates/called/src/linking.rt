@@ -8,7 +8,7 @@ ghost use Rattle.called.specs.Linked.{OwnersIn, CallsLinked, LinksLeft};
 
 use chains::{record_count, word};
 use language::format::{CALL, KIND, MAX_PROCEDURES, MAX_RECORDS};
-use records::{narrow, wide};
+use records::narrow;
 
 // Puts the call at record i in front of those of its procedure, whose number stands in its place.
 fn link_call(i: usize, links: &mut [u16; MAX_RECORDS], lasts: &mut [u16; MAX_PROCEDURES])
@@ -16,7 +16,7 @@ fn link_call(i: usize, links: &mut [u16; MAX_RECORDS], lasts: &mut [u16; MAX_PRO
     ensures links_after { links.new ≡ set links.old i (get_or lasts.old (get_or links.old i 0) 0) }
     ensures lasts_after { lasts.new ≡ set lasts.old (get_or links.old i 0) i }
 {
-    let p = wide(links[i]);
+    let p = usize::from(links[i]);
     links[i] = lasts[p];
     lasts[p] = narrow(i);
 }

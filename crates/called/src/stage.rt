@@ -8,8 +8,7 @@ ghost use Rattle.called.specs.Linked.{OwnersIn, LinksLeft};
 
 use crate::finding::reaches_all;
 use crate::linking::link_calls;
-use language::format::MAX_RECORDS;
-use records::blank::blank_procedures;
+use language::format::{MAX_PROCEDURES, MAX_RECORDS};
 
 // Whether chains of calls from the entry reach every procedure. In `owners` stands the procedure that each record belongs to; a call's place gets the link to
 // the call before it of the same procedure.
@@ -20,7 +19,7 @@ pub fn all_reached(file: &[u8], owners: &mut [u16; MAX_RECORDS]) -> bool
     ensures value { result ≡ reached_ok (program file.now) }
     ensures links_left { LinksLeft file.now owners.old owners.new }
 {
-    let mut lasts = blank_procedures();
+    let mut lasts = [0; MAX_PROCEDURES];
     link_calls(file, owners, &mut lasts);
     reaches_all(file, owners, &lasts)
 }

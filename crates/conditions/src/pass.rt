@@ -13,8 +13,8 @@ ghost use Rattle.conditions.specs.Without.{any_condition};
 
 use chains::record_count;
 use language::format;
+use language::format::MAX_RECORDS;
 use owners::{hand_to, part_words};
-use records::blank::blank_owners;
 use records::sizes::KINDS_END;
 use records::word_in;
 
@@ -28,7 +28,7 @@ pub fn conditions_ok(file: &[u8]) -> bool
     }
     let n = record_count(file);
     let parts = part_words();
-    let mut inside = blank_owners();
+    let mut inside = [0; MAX_RECORDS];
     let mut i = 0;
     while i < n {
         if !may_stand(inside[i], word_in(file, i, format::KIND)) {

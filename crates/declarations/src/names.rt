@@ -9,7 +9,6 @@ ghost use Rattle.declarations.specs.Own.{Own, declared};
 use crate::places::{FILE_PLACES, FUNCTOR_PLACES, OWN_PLACES, PROCEDURE_PLACES, REGION_PLACES};
 use chains::word;
 use language::format::{MAX_FUNCTORS, MAX_PROCEDURES, PLACES, REGION_TYPE, VARIABLE_TYPE};
-use records::wide;
 
 // Entry n of the `most` from place `at` on.
 fn place(table: &[u16], at: usize, most: usize, n: usize) -> usize
@@ -19,7 +18,7 @@ fn place(table: &[u16], at: usize, most: usize, n: usize) -> usize
     if most <= n {
         return 0;
     }
-    wide(table[at + n])
+    usize::from(table[at + n])
 }
 
 // Functor n of type t.
@@ -37,7 +36,7 @@ pub fn first_functor(table: &[u16; FILE_PLACES], t: usize) -> usize
     requires { t < places }
     ensures { result ≡ functor_in table.now t 0 }
 {
-    wide(table[FUNCTOR_PLACES + MAX_FUNCTORS * t])
+    usize::from(table[FUNCTOR_PLACES + MAX_FUNCTORS * t])
 }
 
 // The first functor of type t, where the type has regions.
@@ -45,7 +44,7 @@ pub fn regioned(table: &[u16; FILE_PLACES], t: usize) -> usize
     requires { functor_in table.now t 0 < max_records }
     ensures { result ≡ regioned_in table.now t }
 {
-    wide(table[functor(table, t, 0)])
+    usize::from(table[functor(table, t, 0)])
 }
 
 pub fn procedure(table: &[u16; FILE_PLACES], q: usize) -> usize
@@ -59,7 +58,7 @@ pub fn parameter(table: &[u16; FILE_PLACES], v: usize) -> usize
     requires { v < max_records }
     ensures { result ≡ get_or table.now v 0 }
 {
-    wide(table[v])
+    usize::from(table[v])
 }
 
 pub fn variable(own: &[u16; OWN_PLACES], x: usize) -> usize

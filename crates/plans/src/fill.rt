@@ -11,8 +11,8 @@ use crate::joining::join_records;
 use crate::onward::fill_onward;
 use crate::sides::fill_sides;
 use crate::{CALLEES, IMAGES, PLAN};
+use language::format::MAX_RECORDS;
 use owners::list_owners;
-use records::blank::blank_owners;
 use tables::TABLE;
 
 // Fills the plan and the images, which have zeros before, and the callees of a file that passed numbers 1 to 3, by the file's table.
@@ -34,7 +34,7 @@ pub fn fill_plan(
     ensures images_after { images.new ≡ images_of file.now images.old }
     ensures callees_after { callees.new ≡ callees_of table.now callees.old }
 {
-    let mut owners = blank_owners();
+    let mut owners = [0; MAX_RECORDS];
     list_owners(file, &mut owners);
     fill_onward(file, plan);
     match_calls(file, table, plan);

@@ -14,7 +14,6 @@ use crate::IMAGES;
 use crate::sides::image_count;
 use language::format;
 use language::format::PLACES;
-use records::blank::blank_places;
 use records::word;
 use regions::{call_repeats, map_call, owner_of};
 use tables::start_of;
@@ -94,7 +93,7 @@ pub fn fill_images(file: &[u8], table: &[u64], owners: &[u16], images: &mut [u8;
     ensures images_after { images.new ≡ picturing file.now (record_count file.now - 1) 1 images.old }
 {
     let records = word(file, 0, format::HEADER_COUNT);
-    let mut found = blank_places();
+    let mut found = [0; PLACES];
     let mut last = 0;
     let mut i = 1;
     let mut at = 0;

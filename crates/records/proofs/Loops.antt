@@ -9,12 +9,12 @@ use lib.ListN.{length, get_or, replicate}
 use Rattle.sets.specs.Tests.{◌&◌}
 use Rattle.language.specs.Lists.{all, up_from}
 use Rattle.language.specs.Format.{max_records, kind_word}
-use Rattle.language.specs.File.{Use, number, unused, first, row, kind_of, kind_at, record_ok, leading, references, references_of, once_in, form_ok}
+use Rattle.language.specs.File.{Use, row, kind_of, kind_at, record_ok, leading, references, references_of, once_in, form_ok}
 use Rattle.records.specs.Lists.{all_same, from_here, from_end, tally}
 use Rattle.records.proofs.ListsLaws.{tally_append, tally_once}
 use Rattle.records.specs.Table.{digit, pack, packed, uses}
 use Rattle.records.proofs.TableLaws.{seven, pack_first, pack_rest}
-use Rattle.records.specs.Form.{Tallied, UseTallied, use_ok, refers, leads, refers_ok, spare_ok, references_by_uses}
+use Rattle.records.specs.Form.{Tallied, UseTallied, refers, leads, refers_ok, spare_ok, references_by_uses}
 use Rattle.records.proofs.FormLaws.{leading_cons, record_apart}
 use Rattle.records.specs.Sizes.{digit_end, record_words}
 
@@ -62,16 +62,7 @@ module _ (W : ℕ → ℕ → ℕ) (n i : ℕ) where
   abbrev pub Said : ℕ → ℕ → Bool → List ℕ → List ℕ → Type 0
   Said k d b seen after = (u : Use) → d ≡ digit u → UseTallied W n i k u b seen after
 
-  -- while a digit is left there is a word
-  pub words_some : {seen₀ seen : List ℕ} {digits k : ℕ} → Words seen₀ seen digits k → (digits ≡ 0 → ⊥) → k < record_words
-  unfolding pack
-  words_some {digits = digits} {k = k} h l = go h.ahead h.many h.packs
-    where
-      go : (us : List Use) → k + length us ≡ record_words → digits ≡ pack us → k < record_words
-      go [] e p = absurd (l p)
-      go (u ∷ us) e p = omega arith
-
-  module _ {seen₀ seen after : List ℕ} {digits k : ℕ} {b : Bool} (h : Words seen₀ seen digits k) (l : digits ≡ 0 → ⊥)
+  module _ {seen₀ seen after : List ℕ} {digits k : ℕ} {b : Bool} (h : Words seen₀ seen digits k) (l : k < record_words)
       (s : Said k (digits % digit_end) b seen after) where
     pub words_next : b ≡ true → length after ≡ length seen → Words seen₀ after (digits / digit_end) (k + 1)
     unfolding pack refers
@@ -79,7 +70,7 @@ module _ (W : ℕ → ℕ → ℕ) (n i : ℕ) where
       where
         go : (us : List Use) → k + length us ≡ record_words → digits ≡ pack us → refers_ok W n i ≡ refers W n i k us
             → tally seen (leading W n i k us) ≡ tally seen₀ (references W n i) → Words seen₀ after (digits / digit_end) (k + 1)
-        go [] e p q r = absurd (l p)
+        go [] e p q r = absurd (omega arith)
         go (u ∷ us) e p q r =
             let g : suc k ≡ k + 1 = omega arith in
             let w = s u (ap (λ x. x % digit_end) p ∙ pack_first u us) in
@@ -96,27 +87,22 @@ module _ (W : ℕ → ℕ → ℕ) (n i : ℕ) where
 
     pub words_refused : b ≡ false → Tallied false (refers_ok W n i) (references W n i) seen₀ after
     unfolding pack refers
-    words_refused t = record { says = go h.ahead h.packs h.says; counts = λ e. absurd (false≢true e) }
+    words_refused t = record { says = go h.ahead h.many h.packs h.says; counts = λ e. absurd (false≢true e) }
       where
-        go : (us : List Use) → digits ≡ pack us → refers_ok W n i ≡ refers W n i k us → false ≡ refers_ok W n i
-        go [] p q = absurd (l p)
-        go (u ∷ us) p q =
+        go : (us : List Use) → k + length us ≡ record_words → digits ≡ pack us → refers_ok W n i ≡ refers W n i k us → false ≡ refers_ok W n i
+        go [] e p q = absurd (omega arith)
+        go (u ∷ us) e p q =
             let w = s u (ap (λ x. x % digit_end) p ∙ pack_first u us) in
             sym (q ∙ and_none _ (sym w.says ∙ t))
 
-  -- where no digit is left, no word leads anywhere
-  none_left : (k : ℕ) (us : List Use) → pack us ≡ 0 → (refers W n i k us ≡ true) × (leading W n i k us ≡ [])
-  unfolding pack digit refers use_ok leading ◌&◌
-  none_left k [] e = (refl, refl)
-  none_left k (number ∷ us) e = none_left (suc k) us (omega arith)
-  none_left k (unused ∷ us) e = none_left (suc k) us (omega arith)
-  none_left k (first c ∷ us) e = absurd (omega arith)
-
-  pub words_last : {seen₀ seen : List ℕ} {digits k : ℕ} → Words seen₀ seen digits k → digits ≡ 0 → Tallied true (refers_ok W n i) (references W n i) seen₀ seen
-  unfolding tally
-  words_last {seen = seen} {k = k} h z =
-      let e = none_left k h.ahead (sym h.packs ∙ z) in
-      record { says = sym (h.says ∙ e.0); counts = λ _. ap (tally seen) (sym e.1) ∙ h.counts }
+  pub words_last : {seen₀ seen : List ℕ} {digits k : ℕ} → Words seen₀ seen digits k → record_words ≤ k → Tallied true (refers_ok W n i) (references W n i) seen₀ seen
+  unfolding tally refers leading
+  words_last {seen₀} {seen} {k = k} h z = go h.ahead h.many h.says h.counts
+    where
+      go : (us : List Use) → k + length us ≡ record_words → refers_ok W n i ≡ refers W n i k us
+          → tally seen (leading W n i k us) ≡ tally seen₀ (references W n i) → Tallied true (refers_ok W n i) (references W n i) seen₀ seen
+      go [] e q r = record { says = sym q; counts = λ _. r }
+      go (u ∷ us) e q r = absurd (omega arith)
 
 -- ---- a record: its unused words, then its references
 module _ (W : ℕ → ℕ → ℕ) (n i : ℕ) {a : Bool} (p : a ≡ spare_ok W i) where

@@ -1,5 +1,5 @@
 -- Tables of zeros, and how long a file may be. The code has the number under the same name (src/blank.rt).
-use Rattle.std.specs.Prelude.{ℕ, zero, suc, ◌+◌, ◌*◌, ◌≤◌, List, ◌≡◌, refl, length, get_or, replicate}
+use Rattle.std.specs.Prelude.{ℕ, zero, suc, ◌+◌, ◌≤◌, List, ◌≡◌, refl, length, get_or, replicate}
 use Rattle.std.proofs.Common.{arith, ap}
 use Rattle.std.proofs.lemmas.List.{length-replicate}
 use Rattle.language.specs.Format.{max_bytes}

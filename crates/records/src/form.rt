@@ -9,10 +9,9 @@ ghost use Rattle.records.specs.Spare.{LowWords, HighWords};
 ghost use Rattle.records.specs.Form.{Tallied, UseTallied, refers_ok, spare_ok};
 ghost use Rattle.records.specs.Sizes.{record_words};
 
-use crate::blank::blank_marks;
-use crate::sizes::{DIGIT_END, KINDS_END, WORD_END};
+use crate::sizes::{DIGIT_END, KINDS_END, RECORD_WORDS, WORD_END};
 use crate::words::word_in;
-use language::format::KIND;
+use language::format::{KIND, MAX_RECORDS};
 
 // The record table, a row for each kind's number. Hex digit k, from the right, is the chain that word k leads to: 0 none at all, 1 nowhere,
 // 2 types, 3 functors, 4 procedures, 5 variables, 6 regions, 7 edges, 8 goals, 9 arms, a arguments. Digit 0 is the chain that the kind stands in.
@@ -153,10 +152,7 @@ fn spare_ok(low: &[usize; KINDS_END], high: &[usize; KINDS_END], file: &[u8], i:
     let kind = word_in(file, i, KIND);
     let first = low_words(file, i);
     let last = high_words(file, i);
-    if row_of(low, kind) < first {
-        return false;
-    }
-    last <= row_of(high, kind)
+    first <= row_of(low, kind) && last <= row_of(high, kind)
 }
 
 // Whether r, a reference of record i, ends its chain or goes up to a record that stands in such a chain.
@@ -233,14 +229,12 @@ fn refers_ok(rows: &[usize; KINDS_END], file: &[u8], seen: &mut [u8], n: usize, 
     requires i_lt_n { (i < n) × (n ≤ length seen.old) × (record_bytes * n ≤ length file.now) }
     ensures { Tallied result (refers_ok (word file.now) n i) (references (word file.now) n i) seen.old seen.new }
 {
-    let mut row = row_of(rows, word_in(file, i, KIND)) / DIGIT_END;
-    let mut k: usize = 1;
-    while row != 0 {
+    let mut row = row_of(rows, word_in(file, i, KIND));
+    for k in 1..RECORD_WORDS {
+        row /= DIGIT_END;
         if !word_ok(rows, file, seen, n, i, k, row % DIGIT_END) {
             return false;
         }
-        row = row / DIGIT_END;
-        k += 1;
     }
     true
 }
@@ -273,12 +267,10 @@ fn records_ok(file: &[u8], seen: &mut [u8], n: usize) -> bool
     let table = rows();
     let low = low_most();
     let high = high_most();
-    let mut i: usize = 0;
-    while i < n {
+    for i in 0..n {
         if !record_ok(&table, &low, &high, file, seen, n, i) {
             return false;
         }
-        i += 1;
     }
     true
 }
@@ -289,10 +281,8 @@ fn all_once(seen: &[u8], n: usize) -> bool
     ensures { result ≡ all (λ j. eqb (get_or seen.now j 0) 1) (up_from 1 (n - 1)) }
 {
     let mut once = true;
-    let mut j: usize = 1;
-    while j < n {
-        once = once & (seen[j] == 1);
-        j += 1;
+    for j in 1..n {
+        once &= seen[j] == 1;
     }
     once
 }
@@ -302,7 +292,7 @@ pub(crate) fn form_ok(file: &[u8], n: usize) -> bool
     requires { (n ≤ max_records) × (record_bytes * n ≤ length file.now) }
     ensures { result ≡ form_ok (word file.now) n }
 {
-    let mut seen = blank_marks();
+    let mut seen = [0; MAX_RECORDS];
     if !records_ok(file, &mut seen, n) {
         return false;
     }

@@ -11,7 +11,7 @@ mod words;
 
 pub use decode::record_at;
 pub use stage::check_form;
-pub use widths::{narrow, wide};
+pub use widths::narrow;
 pub use words::{header_ok, word, word_in};
 
 // A record, its words named as document 01's table names them. `Other` stands for every number that is no kind.

@@ -7,12 +7,6 @@ ghost use Rattle.records.specs.Sizes.{byte_end, record_words, word_end};
 use crate::sizes::BYTE_END;
 use language::format::{HEADER, HEADER_COUNT, KIND, MAX_BYTES, RECORD_BYTES};
 
-fn wide(x: u8) -> usize
-    ensures { (result ≡ x) × (result < byte_end) }
-{
-    x as usize
-}
-
 // Word k of record i; what is past the end counts as 0.
 pub fn word(file: &[u8], i: usize, k: usize) -> usize
     requires { k < record_words }
@@ -30,8 +24,8 @@ pub fn word_in(file: &[u8], i: usize, k: usize) -> usize
     ensures { (result ≡ word file.now i k) × (result < word_end) }
 {
     let at = RECORD_BYTES * i + 2 * k;
-    let low = wide(file[at]);
-    let high = wide(file[at + 1]);
+    let low = usize::from(file[at]);
+    let high = usize::from(file[at + 1]);
     low + BYTE_END * high
 }
 
@@ -53,7 +47,11 @@ fn last_word(file: &[u8], i: usize, k: usize) -> usize
 fn byte(file: &[u8], at: usize) -> usize
     ensures { (result ≡ get_or file.now at 0) × (result < byte_end) }
 {
-    if at < file.len() { wide(file[at]) } else { 0 }
+    if at < file.len() {
+        usize::from(file[at])
+    } else {
+        0
+    }
 }
 
 // Number 1.

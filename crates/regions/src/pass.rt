@@ -23,7 +23,6 @@ use crate::single::record_ok;
 use chains::record_count;
 use language::format;
 use language::format::PLACES;
-use records::blank::blank_places;
 use records::word;
 use tables::{Effect, ROWS, bears_at, ends_at, marked, needs_at, put_effect, start_of};
 
@@ -34,7 +33,7 @@ fn call_ok(file: &[u8], own: &[u64], callee: &[u64], i: usize, rows: &mut [u64; 
     ensures value { result ≡ record_test (agrees file.now) file.now i }
     ensures rowed { Rowed file.now i rows.old result rows.new }
 {
-    let mut images = blank_places();
+    let mut images = [0; PLACES];
     let arguments = word(file, i, format::CALL_ARGUMENTS);
     if !map_call(file, own, callee, arguments, &mut images) {
         return false;
@@ -196,7 +195,7 @@ pub fn regions_agree(file: &[u8], table: &[u64], owners: &[u16], rows: &mut [u64
     ensures after_pass { AfterPass file.now rows.old result rows.new }
 {
     let n = record_count(file);
-    let mut firsts = blank_places();
+    let mut firsts = [0; PLACES];
     let mut last = 0;
     let mut i = 1;
     while i < n {

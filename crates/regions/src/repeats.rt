@@ -7,7 +7,6 @@ ghost use Rattle.regions.specs.Repeats.{Repeats};
 
 use chains::word;
 use language::format;
-use records::wide;
 use tables::home;
 
 // Whether the arguments in the chains at records a and b are in the same regions.
@@ -37,7 +36,11 @@ fn same_homes(file: &[u8], own: &[u64], a: usize, b: usize) -> bool
 pub fn owner_of(owners: &[u16], i: usize) -> usize
     ensures { result ≡ get_or owners.now i 0 }
 {
-    if i < owners.len() { wide(owners[i]) } else { 0 }
+    if i < owners.len() {
+        usize::from(owners[i])
+    } else {
+        0
+    }
 }
 
 // Whether records j and i are calls of one procedure from one procedure with arguments in the same regions, by its window. They may be any numbers.

@@ -14,9 +14,9 @@ ghost use Rattle.stages.specs.Tabled.{TablesAfter};
 
 use called::all_reached;
 use conditions::conditions_ok;
+use language::format::MAX_RECORDS;
 use language::{Refusal, Verdict};
 use owners::list_owners;
-use records::blank::blank_owners;
 use records::check_form;
 use regions::regions_agree;
 use tables::{ROWS, TABLE};
@@ -61,7 +61,7 @@ fn check_regions(file: &[u8], table: &[u64; TABLE], rows: &mut [u64; ROWS]) -> V
     ensures value { result ≡ lowest (region_stages file.now) }
     ensures after_pass { AfterPass file.now rows.old (regions_ok (program file.now)) rows.new }
 {
-    let mut owners = blank_owners();
+    let mut owners = [0; MAX_RECORDS];
     list_owners(file, &mut owners);
     if !regions_agree(file, table, &owners, rows) {
         return Verdict::Refused(Refusal::Regions);

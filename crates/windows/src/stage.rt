@@ -18,10 +18,9 @@ use crate::writing::{list_regions, list_variables, store};
 use crate::{Classes, Counts, Listed};
 use chains::{chain_length, word};
 use language::format::{
-    HEADER_PROCEDURES, MAX_PROCEDURES, NEXT, PROCEDURE_GOALS, PROCEDURE_REGIONS,
+    HEADER_PROCEDURES, MAX_PROCEDURES, NEXT, PLACES, PROCEDURE_GOALS, PROCEDURE_REGIONS,
     PROCEDURE_VARIABLES,
 };
-use records::blank::blank_sets;
 use tables::HEAD;
 
 // Stores the first words of a window.
@@ -97,7 +96,7 @@ pub fn list_procedures(file: &[u8], table: &mut [u64]) -> bool
     ensures file_table { FileTable file.now table.new }
     ensures only_windows { OnlyWindows file.now table.old table.new }
 {
-    let mut targets = blank_sets();
+    let mut targets = [0; PLACES];
     let mut right = true;
     let mut i = word(file, 0, HEADER_PROCEDURES);
     let mut q = 0;

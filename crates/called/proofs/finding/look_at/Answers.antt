@@ -13,7 +13,7 @@ pub bounds-lasts-p : goal.bounds-lasts-p
 bounds-lasts-p c = let b = (procedures_count _ c.requires.file_value).1 in search rules
 
 pub loop-i-init : goal.loop-i-init
-loop-i-init c = looking_first c.requires.calls_linked (omega (arith, c.requires.p_in_bounds.0, (procedures_count _ c.requires.file_value).1)) c.requires.found c.wide-i.ensures
+loop-i-init c = looking_first c.requires.calls_linked (omega (arith, c.requires.p_in_bounds.0, (procedures_count _ c.requires.file_value).1)) c.requires.found c.from-i.ensures
 
 pub word-q-requires : goal.word-q-requires
 word-q-requires c = record {
@@ -62,8 +62,8 @@ loop-i-preserved c =
     let w = c.word-q.ensures.0 in
     elim c.if-marks-q-eq0.branch [
       | then-marks-q-eq0 t ↦ rw (t.marks-is, t.order-is, t.found-is, t.narrow.ensures)
-          (looking_new c.requires.calls_linked h z c.requires.formed (procedures_count _ c.requires.file_value).1 c.requires.p_in_bounds.1 w (call_fits c.requires.calls_linked h z c.requires.formed c.requires.file_value w).1 t.if-marks-q-eq0.true c.wide-i-in-loop-i.ensures)
-      | else-marks-q-eq0 t ↦ rw (t.marks-is, t.order-is, t.found-is) (looking_old c.requires.calls_linked h z w t.if-marks-q-eq0.false c.wide-i-in-loop-i.ensures)
+          (looking_new c.requires.calls_linked h z c.requires.formed (procedures_count _ c.requires.file_value).1 c.requires.p_in_bounds.1 w (call_fits c.requires.calls_linked h z c.requires.formed c.requires.file_value w).1 t.if-marks-q-eq0.true c.from-i-in-loop-i.ensures)
+      | else-marks-q-eq0 t ↦ rw (t.marks-is, t.order-is, t.found-is) (looking_old c.requires.calls_linked h z w t.if-marks-q-eq0.false c.from-i-in-loop-i.ensures)
     ]
 
 pub returns : goal.returns

@@ -15,7 +15,7 @@ pub bounds-order-k : goal.bounds-order-k
 bounds-order-k c = let b = (procedures_count _ c.requires.file_value).1 in let m = c.loop-k.invariant.found.counted in search rules
 
 pub look_at-found-requires : goal.look_at-found-requires
-look_at-found-requires c = let h = c.loop-k.invariant.found in let e = c.wide-p.ensures in let l = c.loop-k-test.true in record {
+look_at-found-requires c = let h = c.loop-k.invariant.found in let e = c.from-p.ensures in let l = c.loop-k-test.true in record {
   formed = c.requires.formed;
   file_value = c.requires.file_value;
   calls_linked = c.requires.calls_linked;

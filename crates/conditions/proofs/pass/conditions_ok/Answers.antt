@@ -19,11 +19,8 @@ record_count-n-requires c = search rules
 pub part_words-parts-requires : goal.part_words-parts-requires
 part_words-parts-requires c = search rules
 
-pub blank_owners-inside-requires : goal.blank_owners-inside-requires
-blank_owners-inside-requires c = search rules
-
 pub loop-i-init : goal.loop-i-init
-loop-i-init c = passed_first c.requires c.record_count-n.ensures c.blank_owners-inside.ensures
+loop-i-init c = passed_first c.requires c.record_count-n.ensures refl
 
 pub offset_bounds-inside-i : goal.offset_bounds-inside-i
 offset_bounds-inside-i c = omega (arith, c.loop-i.invariant.count, (counted c.requires).most)

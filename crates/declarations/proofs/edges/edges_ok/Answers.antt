@@ -1,5 +1,4 @@
 -- What is left of the two chains decides as the whole does.
-use mathlib.Core.Bool.{true}
 use mathlib.Core.Path.{refl, ◌∙◌}
 use Rattle.std.proofs.Common.{arith}
 use native.Mathlib.Numerals.{add-one}

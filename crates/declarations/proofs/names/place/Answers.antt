@@ -6,4 +6,4 @@ pub returns-then-most-n : goal.returns-then-most-n
 returns-then-most-n c = place_past _ _ _ _ c.if-most-n.true
 
 pub returns : goal.returns
-returns c = c.wide.ensures ∙ place_there _ _ _ _ c.if-most-n.false
+returns c = c.from.ensures ∙ place_there _ _ _ _ c.if-most-n.false

@@ -1,4 +1,4 @@
 use Rattle.declarations.proofs.names.regioned.Goals as goal
 
 pub returns : goal.returns
-returns c = rw c.functor.ensures at c.wide.ensures
+returns c = rw c.functor.ensures at c.from.ensures

@@ -1,7 +1,6 @@
 -- The rest of the chain decides as the whole does.
 use Rattle.std.proofs.Common.{arith}
 use mathlib.Core.Path.{refl, ◌∙◌}
-use Rattle.language.specs.Typing.{variable_ok}
 use Rattle.chains.specs.Formed.{variables_none}
 use Rattle.chains.specs.Is.{chain_next}
 use Rattle.laws.specs.Lists.{all_end, all_no, all_yes}

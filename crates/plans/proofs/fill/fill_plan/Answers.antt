@@ -1,7 +1,7 @@
 -- What the passes leave is what the definitions say, and those are tables of the file.
 use Prim.Native.Nat.{ℕ, ◌<◌, ◌≤◌}
 use Rattle.std.proofs.Common.{arith, rules}
-use mathlib.Core.Path.{ap, ◌∙◌}
+use mathlib.Core.Path.{ap, refl, ◌∙◌}
 use lib.ListN.{length, length-replicate}
 use Rattle.language.specs.Format.{places}
 use Rattle.plans.specs.Plan.{image_bytes}
@@ -17,7 +17,7 @@ use Rattle.plans.proofs.fill.fill_plan.Goals as goal
 pub list_owners-requires : goal.list_owners-requires
 list_owners-requires c = let F = c.requires.typed_and_filled.formed in record {
   formed = F;
-  file_in_bounds = owners_fit F c.blank_owners-owners.ensures;
+  file_in_bounds = owners_fit F refl;
 }
 
 pub fill_onward-requires : goal.fill_onward-requires

@@ -1,6 +1,6 @@
 -- The pass from record i on is still to do, `at` counts the images of the calls before it, those of the last stand in `found`, and every byte is 0 or
 -- a region's number.
-use Rattle.std.proofs.Common.{arith}
+use Rattle.std.proofs.Common.{arith, refl}
 use Rattle.language.specs.File.{record_count}
 use Rattle.chains.specs.Formed.{counted}
 use Rattle.plans.specs.Passes.{picturing}
@@ -12,7 +12,7 @@ use Rattle.plans.proofs.images.fill_images.Goals as goal
 pub loop-i-init : goal.loop-i-init
 unfolding record_count
 loop-i-init c =
-    (pass_first _ _ c.word-records.ensures.0, before_first c.requires.given.formed, found_none c.requires.given.formed c.blank_places-found.ensures, c.requires.regional)
+    (pass_first _ _ c.word-records.ensures.0, before_first c.requires.given.formed, found_none c.requires.given.formed refl, c.requires.regional)
 
 pub image_count-n-requires : goal.image_count-n-requires
 image_count-n-requires c = let P = c.loop-i.invariant.0 in record {

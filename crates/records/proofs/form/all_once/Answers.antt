@@ -1,5 +1,4 @@
 -- Invariant: the counts looked at and those still ahead decide. Assumes nothing.
-use Prim.Native.Nat.{◌-◌}
 use Rattle.std.proofs.Common.{arith}
 use Rattle.records.proofs.Loops.{once_first, once_next, once_last}
 use Rattle.records.proofs.form.all_once.Goals as goal

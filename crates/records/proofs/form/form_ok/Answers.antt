@@ -1,5 +1,5 @@
 -- Every record in order, and each counted once from nothing. Assumes nothing.
-use Rattle.std.proofs.Common.{arith}
+use Rattle.std.proofs.Common.{arith, refl}
 use mathlib.Core.Path.{◌∙◌}
 use Rattle.records.proofs.Loops.{form_refused, form_counted}
 use Rattle.records.proofs.form.form_ok.Goals as goal
@@ -10,4 +10,4 @@ returns-then-not-records_ok c = form_refused _ _ c.records_ok.ensures c.if-not-r
 pub returns : goal.returns
 returns c =
     c.all_once.ensures
-    ∙ form_counted _ _ c.records_ok.ensures c.if-not-records_ok.false c.blank_marks-seen.ensures (omega arith)
+    ∙ form_counted _ _ c.records_ok.ensures c.if-not-records_ok.false refl (omega arith)

@@ -1,5 +1,4 @@
 -- Invariant: the records still ahead decide. Assumes nothing.
-use Prim.Native.Nat.{◌-◌}
 use Rattle.std.proofs.Common.{arith, rules}
 use mathlib.Core.Path.{◌∙◌}
 use Rattle.records.proofs.Loops.{records_first, records_next, records_refused, records_last}

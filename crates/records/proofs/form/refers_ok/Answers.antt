@@ -1,29 +1,26 @@
--- Invariant: the words still ahead decide; the digits fall. Assumes nothing.
+-- Invariant: the words still ahead decide. Assumes nothing.
 use mathlib.Core.Path.{◌∙◌}
-use Rattle.std.proofs.Common.{rules}
+use Rattle.std.proofs.Common.{rules, arith}
 use Rattle.records.specs.Table.{packed}
-use Rattle.records.proofs.Loops.{words_some, words_first, words_next, words_refused, words_last}
+use Rattle.records.proofs.Loops.{words_first, words_next, words_refused, words_last}
 use Rattle.records.proofs.form.refers_ok.Goals as goal
 
-pub loop-row-init : goal.loop-row-init
-loop-row-init c = words_first _ _ _ _ c.word_in.ensures.0 (c.row_of-row.ensures packed (search rules))
-
-pub word_ok-requires : goal.word_ok-requires
-word_ok-requires c = let h = words_some _ _ _ c.loop-row.invariant c.loop-row-test.true in search rules
+pub loop-k-init : goal.loop-k-init
+loop-k-init c = words_first _ _ _ _ c.word_in.ensures.0 (c.row_of-row.ensures packed (search rules))
 
 pub shape_of-seen-then-not-word_ok : goal.shape_of-seen-then-not-word_ok
-shape_of-seen-then-not-word_ok c = c.word_ok.auto.seen ∙ c.loop-row.invariant.same
+shape_of-seen-then-not-word_ok c = c.word_ok.auto.seen ∙ c.loop-k.invariant.same
 
 pub returns-then-not-word_ok : goal.returns-then-not-word_ok
 returns-then-not-word_ok c =
-    words_refused _ _ _ c.loop-row.invariant c.loop-row-test.true c.word_ok.ensures c.if-not-word_ok.true
+    words_refused _ _ _ c.loop-k.invariant (omega arith) c.word_ok.ensures c.if-not-word_ok.true
 
-pub loop-row-preserved : goal.loop-row-preserved
-loop-row-preserved c =
-    words_next _ _ _ c.loop-row.invariant c.loop-row-test.true c.word_ok.ensures c.if-not-word_ok.false c.word_ok.auto.seen
+pub loop-k-preserved : goal.loop-k-preserved
+loop-k-preserved c =
+    words_next _ _ _ c.loop-k.invariant (omega arith) c.word_ok.ensures c.if-not-word_ok.false c.word_ok.auto.seen
 
 pub shape_of-seen : goal.shape_of-seen
-shape_of-seen c = c.loop-row.invariant.same
+shape_of-seen c = c.loop-k.invariant.same
 
 pub returns : goal.returns
-returns c = words_last _ _ _ c.loop-row.invariant c.loop-row-test.false
+returns c = words_last _ _ _ c.loop-k.invariant (omega arith)

@@ -19,7 +19,7 @@ map_call-requires c = let K = c.requires.call_here in record {
 
 pub returns-then-not-map_call : goal.returns-then-not-map_call
 returns-then-not-map_call c = let K = c.requires.call_here in let z = c.if-not-map_call.true in record {
-  value = sym z ∙ call_agrees K c.word-arguments.ensures.0 (blank c.blank_places-images.ensures) _ _ c.map_call.ensures.call_mapped;
+  value = sym z ∙ call_agrees K c.word-arguments.ensures.0 (blank refl) _ _ c.map_call.ensures.call_mapped;
   rowed = rowed_not c.args.file.now c.args.i _ (inl refl);
 }
 
@@ -29,7 +29,7 @@ put_effect-requires c =
     omega (arith, (counted c.requires.call_here.here.formed).most, b)
 
 pub returns : goal.returns
-returns c = let K = c.requires.call_here in let y = c.if-not-map_call.false in let B = blank c.blank_places-images.ensures in let e = c.word-arguments.ensures.0 in let below = K.here.below in let few : c.args.i < max_records = omega (arith, (counted K.here.formed).most, below) in let long = c.requires.row_words_in_bounds in record {
+returns c = let K = c.requires.call_here in let y = c.if-not-map_call.false in let B = blank refl in let e = c.word-arguments.ensures.0 in let below = K.here.below in let few : c.args.i < max_records = omega (arith, (counted K.here.formed).most, below) in let long = c.requires.row_words_in_bounds in record {
   value = sym y ∙ call_agrees K e B _ _ c.map_call.ensures.call_mapped;
   rowed = rowed_put c.args.file.now c.args.i c.args.rows.now few long c.put_effect.ensures (call_made K e B _ _ c.map_call.ensures.call_mapped y c.image_effect.ensures);
 }

@@ -1,5 +1,5 @@
 -- The records below are done, and the rest decides.
-use Rattle.std.proofs.Common.{rules, arith}
+use Rattle.std.proofs.Common.{rules, arith, refl}
 use Rattle.language.specs.File.{record_count}
 use Rattle.regions.proofs.RowedLaws.{going_first, going_stop, going_next, going_last, going_passed, going_stopped, going_before}
 use Rattle.regions.proofs.TermsLaws.{firsts_none}
@@ -9,14 +9,11 @@ use Rattle.regions.proofs.pass.regions_agree.Goals.{then-word-eq-CALL, else-word
 pub record_count-n-requires : goal.record_count-n-requires
 record_count-n-requires c = search rules
 
-pub blank_places-firsts-requires : goal.blank_places-firsts-requires
-blank_places-firsts-requires c = search rules
-
 pub loop-i-init : goal.loop-i-init
 unfolding record_count
 loop-i-init c =
     let F = c.requires.given.formed in
-    (going_first _ F c.record_count-n.ensures, omega arith, firsts_none F c.blank_places-firsts.ensures)
+    (going_first _ F c.record_count-n.ensures, omega arith, firsts_none F refl)
 
 pub next_ok-requires : goal.next_ok-requires
 next_ok-requires c = let k = c.loop-i.invariant.0 in let m = k.size in record {

@@ -1,4 +1,5 @@
 use Rattle.owners.specs.Owners.{owners_fit}
+use Rattle.std.proofs.Common.{refl}
 use Rattle.stages.proofs.StagesLaws.{regions_refused, unreached_refused, regions_passed}
 use Rattle.stages.proofs.Owned.{given, owners_in}
 use Rattle.stages.proofs.lowest.check_regions.Goals as goal
@@ -6,7 +7,7 @@ use Rattle.stages.proofs.lowest.check_regions.Goals as goal
 pub list_owners-requires : goal.list_owners-requires
 list_owners-requires c = let F = c.requires.formed in record {
   formed = F;
-  file_in_bounds = owners_fit F c.blank_owners-owners.ensures;
+  file_in_bounds = owners_fit F refl;
 }
 
 pub regions_agree-requires : goal.regions_agree-requires

@@ -1,7 +1,7 @@
 use Prim.Native.Nat.{ℕ}
 use Rattle.std.proofs.Common.{rules, arith}
-use mathlib.Core.Path.{refl, sym, ap, ◌∙◌}
-use lib.ListN.{length, length-set, length-replicate}
+use mathlib.Core.Path.{refl, sym, ◌∙◌}
+use lib.ListN.{length-set, length-replicate}
 use Rattle.language.specs.Format.{places}
 use Rattle.chains.specs.Formed.{counted}
 use Rattle.chains.specs.Is.{chain_next}
@@ -15,7 +15,7 @@ word-i-requires c = let F = c.requires.formed in record {
 }
 
 pub loop-i-init : goal.loop-i-init
-loop-i-init c = (listing_first c.args.table.now c.requires.formed c.requires.file_value c.requires.file_words_in_bounds c.word-i.ensures.0, refl, sym (length-replicate {A = ℕ} places 0) ∙ ap length (sym c.blank_sets-targets.ensures))
+loop-i-init c = (listing_first c.args.table.now c.requires.formed c.requires.file_value c.requires.file_words_in_bounds c.word-i.ensures.0, refl, sym (length-replicate {A = ℕ} places 0))
 
 pub offset_bounds-table-q : goal.offset_bounds-table-q
 offset_bounds-table-q c =
