@@ -8,7 +8,7 @@ use Rattle.std.proofs.Math.Decide.{dec_lt, ℕ_discrete}
 use Rattle.sets.specs.Tests.{same_truth, false_of, clash}
 use Rattle.sets.specs.Sets.{member, empty_set, single, ◌∪◌, ◌∖◌, same_set, Small, same_eq, member_empty, member_some, member_pos, single_mk, single_in, difference_mk, difference_in}
 use Rattle.sets.specs.SetLaws.{small_top}
-use Rattle.sets.specs.Members.{cons_if, members, next_member, set_of, filtered, keep, in_list, nil_in, members_in, members_mk}
+use Rattle.sets.specs.Members.{cons_if, members, next_member, set_of, filtered, keep, in_list, nil_in, cons_here, members_in, members_mk}
 use Rattle.sets.specs.Size.{size}
 use Rattle.sets.specs.Walk.{above, next_is, above_start, above_next, above_in, above_mk}
 use Rattle.sets.specs.Rising.{Rising, rising_nil, rising_ext, members_rising, above_rising}
@@ -89,3 +89,13 @@ module _ (p : ℕ → Bool) (s : Set) where
     pub keep_skip : p (next_member s 0) ≡ false → keep p s ≡ keep p (s ∖ single (next_member s 0))
     unfolding keep cons_if
     keep_skip t = lowest_first ∙ ap (λ (b : Bool). set_of (cons_if b (next_member s 0) (filtered p (members (s ∖ single (next_member s 0)))))) t
+
+-- ---- a walk that takes the least member off (`Members`): what is left before and after
+pub members_taken : (s t : Set) (r : ℕ) → Small s → same_set s empty_set ≡ false → r ≡ next_member s 0 → t ≡ s ∖ single (next_member s 0)
+    → members s ≡ r ∷ members t
+members_taken s t r S e q p = rw q (rw p (members_lowest s S e))
+
+-- what comes is a member
+pub taken_in : (s : Set) (r : ℕ) (xs : List ℕ) → members s ≡ r ∷ xs → (member s r ≡ true) × (1 ≤ r) × (r ≤ 64)
+taken_in s r xs e =
+    let m = members_in s r (ap (in_list r) e ∙ cons_here r r xs refl) in (m.0, member_pos s r m.0, m.1)

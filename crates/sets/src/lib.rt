@@ -1,18 +1,39 @@
 // A set of numbers from 1 to 64, by value: the number n is the bit at the place n - 1.
 #![tactic(auto)]
 
-ghost use Rattle.std.specs.Prelude.{◌≡◌, false};
+ghost use Rattle.std.specs.Prelude.{◌≡◌, false, [], ◌∷◌, MatchOption};
+ghost use Rattle.std.specs.Iterator.{YieldsFirst, item_count};
 ghost use Rattle.sets.specs.Sets.{member, empty_set, single, ◌∪◌, ◌∩◌, ◌∖◌, same_set, subset, stored, loaded};
-ghost use Rattle.sets.specs.Members.{next_member};
+ghost use Rattle.sets.specs.Members.{members, next_member};
 
 // The greatest number that may be a member, and the one that stands for none.
 const GREATEST: usize = 64;
 
 const NONE: usize = GREATEST + 1;
 
-#[derive(Clone, Copy)]
+#[derive(Clone, Copy, PartialEq, Eq)]
 pub struct Set {
     bits: u64,
+}
+
+// The members that a walk over a set has still to come to, in rising order: each call of `next` takes the least one off.
+#[derive(Clone, Copy)]
+pub struct Members {
+    left: Set,
+}
+
+impl Iterator for Members {
+    type Item = usize;
+
+    ghost next_gives = { YieldsFirst (λ walk. members walk.left) };
+
+    ghost remaining = { item_count (λ walk. members walk.left) };
+
+    fn next(&mut self) -> Option<usize> {
+        let (least, others) = self.left.split_lowest()?;
+        self.left = others;
+        Some(least)
+    }
 }
 
 impl Set {
@@ -78,14 +99,21 @@ impl Set {
     pub fn same(self, other: Set) -> bool
         ensures { result ≡ same_set self other }
     {
-        self.bits == other.bits
+        self == other
     }
 
     // Whether `other` has every member.
     pub fn is_subset(self, other: Set) -> bool
         ensures { result ≡ subset self other }
     {
-        self.difference(other).same(Set::EMPTY)
+        self.difference(other).is_empty()
+    }
+
+    // The members, in rising order.
+    pub fn members(self) -> Members
+        ensures { members result.left ≡ members self }
+    {
+        Members { left: self }
     }
 
     // The least member above `n`, or 65 where there is none, in one step. A loop over all members starts at `n` = 0.
@@ -124,6 +152,16 @@ impl Set {
         Set {
             bits: self.bits & (self.bits - 1),
         }
+    }
+
+    // The least member and the others; none of the empty set.
+    fn split_lowest(self) -> Option<(usize, Set)>
+        ensures { MatchOption result (members self ≡ []) (λ r. members self ≡ r.0 ∷ members r.1) }
+    {
+        if self.is_empty() {
+            return None;
+        }
+        Some((self.lowest(), self.without_lowest()))
     }
 
     // The set as one word of memory, for tables of sets; 0 is the empty set.
