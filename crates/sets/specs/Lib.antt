@@ -9,3 +9,4 @@ pub mod Size
 pub mod Walk
 pub mod Code
 pub mod Lowest
+pub mod Gathering

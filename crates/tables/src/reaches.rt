@@ -4,7 +4,6 @@ ghost use Rattle.sets.specs.Members.{union_over};
 ghost use Rattle.tables.specs.Window.{reach_in};
 
 use crate::window::reach;
-use language::format::PLACES;
 use sets::Set;
 
 // The regions that the variables xs reach.
@@ -12,10 +11,8 @@ pub fn reach_all(own: &[u64], xs: Set) -> Set
     ensures { result ≡ union_over (reach_in own.now) xs }
 {
     let mut found = Set::EMPTY;
-    let mut x = xs.after(0);
-    while x < PLACES {
+    for x in xs.members() {
         found = found.union(reach(own, x));
-        x = xs.after(x);
     }
     found
 }

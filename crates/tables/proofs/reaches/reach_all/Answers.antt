@@ -1,18 +1,12 @@
--- A walk over the members.
-use Prim.Native.Nat.{◌-◌}
-use Rattle.tables.specs.Walks.{gather_first, gather_more, gather_last, next_falls}
+-- What the variables met so far reach, with what those left do, is the whole.
+use Rattle.sets.specs.Gathering.{gathered_first, gathered_more, gathered_last}
 use Rattle.tables.proofs.reaches.reach_all.Goals as goal
 
 pub loop-x-init : goal.loop-x-init
-loop-x-init c = gather_first _ _ c.after-x.ensures
-
-pub loop-x-smaller : goal.loop-x-smaller
-loop-x-smaller c = next_falls _ c.loop-x-test.true c.after-x-in-loop-x.ensures
+loop-x-init c = gathered_first _ _ (rw c.into_iter-x-iterator.ensures.into_iter_gives c.members-x-items.ensures)
 
 pub loop-x-preserved : goal.loop-x-preserved
-loop-x-preserved c =
-    gather_more _ _ c.loop-x.invariant c.loop-x-test.true c.reach.ensures c.union-found.ensures
-    c.after-x-in-loop-x.ensures
+loop-x-preserved c = gathered_more _ _ c.loop-x.invariant c.in-Some.ensures.steps c.reach.ensures c.union-found.ensures
 
 pub returns : goal.returns
-returns c = gather_last _ _ c.loop-x.invariant c.loop-x-test.false
+returns c = gathered_last _ _ c.loop-x.invariant c.in-None.ensures.steps.0

@@ -1,12 +1,8 @@
--- A walk over the members.
-use Prim.Native.Nat.{◌-◌}
-use Rattle.language.specs.Format.{places}
-use Rattle.tables.specs.Walks.{Gathering}
+-- What the variables met so far reach, with what those left do, is the whole.
+use Rattle.sets.specs.Members.{members}
+use Rattle.sets.specs.Gathering.{Gathered}
 use Rattle.tables.specs.Window.{reach_in}
 use Rattle.tables.proofs.reaches.reach_all.Given as goal
 
 abbrev pub invariant-loop-x : goal.invariant-loop-x
-invariant-loop-x l = Gathering (reach_in l.own) l.xs l.found l.x
-
-abbrev pub decreases-loop-x : goal.decreases-loop-x
-decreases-loop-x l = places - l.x
+invariant-loop-x l = Gathered (reach_in l.own) l.fn.xs l.found (members l.x-iterator.left)
