@@ -2,11 +2,13 @@
 use Prim.Native.Nat.{ℕ, ◌+◌, ◌-◌, ◌≤◌, ◌<◌}
 use native.Mathlib.Omega.{arith}
 use native.Mathlib.Numerals.{add-one}
-use mathlib.Core.Bool.{Bool, true, false}
+use mathlib.Core.Bool.{Bool, true, false, ◌||◌}
+use mathlib.Core.Logic.{inl, inr}
+use Rattle.std.proofs.lemmas.Bool.Decides.{leb_tells}
 use mathlib.Core.List.{List, ◌∷◌}
 use mathlib.Core.Path.{◌≡◌, refl, sym, ap, ◌∙◌}
 use borrow.Author.Tests.{eq-eqb, ne_eqb, lt-ltb, le-ltb}
-use lib.Dec.{eqb, ltb}
+use lib.Dec.{eqb, leb, ltb}
 use lib.ListN.{length, get_or, set, replicate, length-replicate, get_or-replicate}
 use Rattle.sets.specs.Tests.{◌&◌, ◌or◌, neg}
 use Rattle.language.specs.Lists.{choose, all, up_from}
@@ -61,6 +63,15 @@ module _ (f : List ℕ) (i : ℕ) (t : List ℕ) where
   tries_down e o p q r s = try_handed inside_by f i t e p q r s (rw (e, o) refl) (rw e refl) (rw (e, o) refl) (rw (e, o) refl)
 
 -- ---- the loop that looks for a try or a test: b says that one of the first i records is
+not_below : (k w : ℕ) → neg (leb k w) ≡ ltb w k
+unfolding neg
+not_below k w = elim (leb_tells k w) [ inl e ↦ rw (e.0, le-ltb w k e.1) refl | inr e ↦ rw (e.0, lt-ltb w k e.1) refl ]
+
+found_too : (b : Bool) (k w : ℕ) (x : Bool) → (neg (b || leb k w) & x) ≡ (neg b & ltb w k & x)
+unfolding neg ◌&◌
+found_too true k w x = refl
+found_too false k w x = rw (← not_below k w) refl
+
 twice : (b : Bool) → b ≡ neg (neg b & true)
 unfolding neg ◌&◌
 twice true = refl
@@ -84,19 +95,13 @@ module _ (f : List ℕ) where
     unfolding all
     here l = L.rest ∙ ap (λ xs. neg b & all low xs) (from_here n i l)
 
-    pub looked_found : {w : ℕ} {r : Bool} → i < n → w ≡ word f i kind_word → try_kind ≤ w → r ≡ true → Looked n (i + 1) r
-    unfolding neg ◌&◌
-    looked_found l e h k =
-        record { count = L.count; most = omega arith; rest = here l ∙ rw (le-ltb (word f i kind_word) try_kind (omega arith), k) (stop (neg b)) }
-      where
-        stop : (c : Bool) → (c & false) ≡ false
-        stop true = refl
-        stop false = refl
-
-    pub looked_next : {w : ℕ} {r : Bool} → i < n → w ≡ word f i kind_word → w < try_kind → r ≡ b → Looked n (i + 1) r
-    unfolding ◌&◌
-    looked_next l e h k =
-        record { count = L.count; most = omega arith; rest = here l ∙ rw (lt-ltb (word f i kind_word) try_kind (omega arith), k) refl }
+    pub looked_next : {w : ℕ} → i < n → w ≡ word f i kind_word → Looked n (i + 1) (b || leb try_kind w)
+    looked_next {w} l e =
+        record {
+          count = L.count;
+          most = omega arith;
+          rest = here l ∙ ap (λ v. neg b & ltb v try_kind & all low (up_from (i + 1) (n - (i + 1)))) (sym e) ∙ sym (found_too b try_kind w _);
+        }
 
     pub looked_last : n ≤ i → b ≡ any_condition f
     unfolding any_condition all

@@ -29,13 +29,11 @@ pub fn conditions_ok(file: &[u8]) -> bool
     let n = record_count(file);
     let parts = part_words();
     let mut inside = [0; MAX_RECORDS];
-    let mut i = 0;
-    while i < n {
+    for i in 0..n {
         if !may_stand(inside[i], word_in(file, i, format::KIND)) {
             return false;
         }
         hand_down(&parts, file, i, &mut inside);
-        i += 1;
     }
     true
 }
@@ -46,14 +44,9 @@ fn any_condition(file: &[u8]) -> bool
     requires { Formed file.now }
     ensures { result ≡ any_condition file.now }
 {
-    let n = record_count(file);
-    let mut i = 0;
     let mut found = false;
-    while i < n {
-        if word_in(file, i, format::KIND) >= format::TRY {
-            found = true;
-        }
-        i += 1;
+    for i in 0..record_count(file) {
+        found |= word_in(file, i, format::KIND) >= format::TRY;
     }
     found
 }

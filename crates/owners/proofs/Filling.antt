@@ -7,7 +7,7 @@ use mathlib.Core.Path.{◌≡◌, refl, sym, ap, ◌∙◌}
 use mathlib.Core.List.{List, ◌++◌}
 use borrow.Author.Tests.{eq-eqb, ne_eqb}
 use lib.Dec.{eqb}
-use lib.ListN.{length, get_or, set, drop, replicate, length-replicate, get_or-append}
+use lib.ListN.{length, get_or, set, take, drop, replicate, length-replicate, length-append, length-take, length-drop, get_or-append}
 use Rattle.language.specs.Lists.{choose}
 use Rattle.language.specs.File.{word, record_count}
 use Rattle.language.specs.Format.{kind_word, procedure_kind}
@@ -17,6 +17,15 @@ use Rattle.chains.specs.Formed.{Formed, counted}
 use Rattle.owners.specs.Handed.{next_and, hand_to, words_of, given, hand_down, handed_up_to, handed}
 use Rattle.owners.specs.Handing.{up_to_length, up_to_keeps, up_to_append, handed_append}
 use Rattle.owners.specs.Owner.{owner_by, owners_of}
+
+-- ---- the first n places cleared, in place
+pub cleared : (n : ℕ) (d : List ℕ) {t : List ℕ} → n ≤ length d → t ≡ replicate (length (take n d)) 0 → t ++ drop n d ≡ replicate n 0 ++ drop n d
+cleared n d l e =
+    let k : length (take n d) ≡ n = simp length-take (omega arith) in
+    ap (λ (u : List ℕ). u ++ drop n d) (e ∙ ap (λ m. replicate m 0) k)
+
+pub cleared_length : (n : ℕ) (d : List ℕ) {t : List ℕ} → n ≤ length d → t ≡ replicate (length (take n d)) 0 → length (t ++ drop n d) ≡ length d
+cleared_length n d l e = ap length (cleared n d l e) ∙ simp (length-append, length-drop, length-replicate) (omega arith)
 
 -- ---- one record
 module _ (f : List ℕ) (i : ℕ) (t : List ℕ) {k : ℕ} (g : k ≡ word f i kind_word) where

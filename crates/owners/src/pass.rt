@@ -21,26 +21,12 @@ pub fn list_owners(file: &[u8], owners: &mut [u16])
     ensures { owners.new ≡ owners_of file.now ++ drop (record_count file.now) owners.old }
 {
     let n = record_count(file);
-    clear(owners, n);
+    owners[..n].fill(0);
     let parts = part_words();
-    let mut i = 0;
-    while i < n {
+    for i in 0..n {
         hand_down(&parts, file, i, owners);
-        i += 1;
     }
     owners[0] = 0;
-}
-
-// Clears the first n places.
-fn clear(owners: &mut [u16], n: usize)
-    requires { n ≤ length owners.old }
-    ensures { owners.new ≡ replicate n 0 ++ drop n owners.old }
-{
-    let mut k = 0;
-    while k < n {
-        owners[k] = 0;
-        k += 1;
-    }
 }
 
 // Hands down the entry of record i: the next procedure has the next number.

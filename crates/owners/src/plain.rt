@@ -13,17 +13,11 @@ pub fn is_unannotated(file: &[u8]) -> bool
     requires { Formed file.now }
     ensures { result ≡ unannotated (program file.now) }
 {
-    let n = record_count(file);
-    let mut i = 1;
-    while i < n {
+    for i in 1..record_count(file) {
         let kind = word(file, i, format::KIND);
-        if kind == format::CREATE {
+        if kind == format::CREATE || kind == format::REMOVE {
             return false;
         }
-        if kind == format::REMOVE {
-            return false;
-        }
-        i += 1;
     }
     true
 }

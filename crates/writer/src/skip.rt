@@ -46,13 +46,9 @@ pub fn skip_record(file: &[u8], i: usize, first: usize) -> usize
 {
     let kind = word(file, i, KIND);
     let mut at = behind(first);
-    let mut k = 2;
-    while k < RECORD_WORDS {
+    for k in 2..RECORD_WORDS {
         if leads(kind, k) {
             at = skip_chain(file, word(file, i, k), at);
-            k += 1;
-        } else {
-            k += 1;
         }
     }
     at

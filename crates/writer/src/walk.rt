@@ -27,12 +27,7 @@ pub fn leads(kind: usize, k: usize) -> bool
         REGION => k == REGION_EDGES,
         SWITCH => k == SWITCH_ARMS,
         ARM => k == ARM_GOALS,
-        IF => {
-            if k == IF_THEN {
-                return true;
-            }
-            k == IF_ELSE
-        }
+        IF => k == IF_THEN || k == IF_ELSE,
         CALL => k == CALL_ARGUMENTS,
         TRY => k <= TRY_ELSE,
         _ => false,
@@ -86,16 +81,13 @@ pub fn write_record(file: &[u8], out: &mut [u8], i: usize, on: usize, at: usize)
         copy_record(file, out, i, at, link(on, end));
         return end;
     }
-    let mut k = 2;
-    while k < RECORD_WORDS {
+    for k in 2..RECORD_WORDS {
         let w = word(file, i, k);
         if leads(kind, k) {
             put_word(out, at, k, link(w, end));
             end = write_chain(file, out, w, end);
-            k += 1;
         } else {
             put_word(out, at, k, w);
-            k += 1;
         }
     }
     let next = link(on, end);

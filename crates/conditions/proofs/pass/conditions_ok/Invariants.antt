@@ -1,10 +1,6 @@
 -- The first i records have handed down, and stand where they may.
-use Prim.Native.Nat.{◌-◌}
 use Rattle.conditions.proofs.PassLaws.{Passed}
 use Rattle.conditions.proofs.pass.conditions_ok.Given as goal
 
 abbrev pub invariant-loop-i : goal.invariant-loop-i
 invariant-loop-i l = Passed l.file l.n l.i l.inside
-
-abbrev pub decreases-loop-i : goal.decreases-loop-i
-decreases-loop-i l = l.n - l.i

@@ -1,20 +1,20 @@
 -- The invariant and its laws are in Testing.
-use Prim.Native.Nat.{◌-◌}
-use Rattle.std.proofs.Common.{arith, rules}
+use Rattle.std.proofs.Common.{arith, rules, inl, inr}
 use Rattle.owners.proofs.Testing.{first, stop_create, stop_remove, next, last}
 use Rattle.owners.proofs.plain.is_unannotated.Goals as goal
 
-pub record_count-n-requires : goal.record_count-n-requires
-record_count-n-requires c = search rules
+pub record_count-i-end-requires : goal.record_count-i-end-requires
+record_count-i-end-requires c = search rules
 
 pub loop-i-init : goal.loop-i-init
-loop-i-init c = first c.requires c.record_count-n.ensures
+loop-i-init c = first c.requires c.record_count-i-end.ensures
 
 pub returns-then-kind-eq-CREATE : goal.returns-then-kind-eq-CREATE
-returns-then-kind-eq-CREATE c = stop_create c.loop-i.invariant c.loop-i-test.true c.word-kind.ensures.0 c.if-kind-eq-CREATE.true
-
-pub returns-then-kind-eq-REMOVE : goal.returns-then-kind-eq-REMOVE
-returns-then-kind-eq-REMOVE c = stop_remove c.loop-i.invariant c.loop-i-test.true c.word-kind.ensures.0 c.if-kind-eq-REMOVE.true
+returns-then-kind-eq-CREATE c =
+    elim c.then-kind-eq-CREATE.either [
+      | inl e ↦ stop_create c.loop-i.invariant c.loop-i-test.true c.word-kind.ensures.0 e
+      | inr e ↦ stop_remove c.loop-i.invariant c.loop-i-test.true c.word-kind.ensures.0 e.1
+    ]
 
 pub loop-i-preserved : goal.loop-i-preserved
 loop-i-preserved c = next c.loop-i.invariant c.loop-i-test.true c.word-kind.ensures.0 c.if-kind-eq-CREATE.false c.if-kind-eq-REMOVE.false

@@ -1,10 +1,6 @@
 -- The invariant and its laws are in Testing.
-use Prim.Native.Nat.{◌-◌}
 use Rattle.owners.proofs.Testing.{Left}
 use Rattle.owners.proofs.plain.is_unannotated.Given as goal
 
 abbrev pub invariant-loop-i : goal.invariant-loop-i
-invariant-loop-i l = Left l.file l.n l.i
-
-abbrev pub decreases-loop-i : goal.decreases-loop-i
-decreases-loop-i l = l.n - l.i
+invariant-loop-i l = Left l.file l.i-end l.i

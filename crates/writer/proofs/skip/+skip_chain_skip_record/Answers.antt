@@ -2,8 +2,8 @@
 use Rattle.std.proofs.Common.{arith}
 use Rattle.writer.proofs.LeadsLaws.{told}
 use Rattle.writer.proofs.SkipsLaws.{skipping_first, skipping_last, skipping_less, skipping_falls, skipping_next, passing_first, passing_plain, passing_below, passing_falls, passing_leads, passing_done}
-use Prim.Native.Nat.{◌-◌}
 use Rattle.writer.proofs.skip.+skip_chain_skip_record.Goals as goal
+use Rattle.writer.proofs.skip.+skip_chain_skip_record.Goals.{skip_record-then-leads, skip_record-else-leads}
 
 pub skip_chain-loop-i-init : goal.skip_chain-loop-i-init
 skip_chain-loop-i-init t c = skipping_first c.requires.start_bound
@@ -37,12 +37,13 @@ skip_record-skip_chain-at-requires t c = let e = told _ _ _ c.leads.ensures c.wo
     let l = passing_falls c.requires.formed c.requires.i_bound c.loop-k.invariant c.loop-k-test.true e c.word.ensures.0 in
     (omega (arith, l, c.decreases), (c.requires.formed, b))
 
-pub skip_record-loop-k-preserved-then-leads : goal.skip_record-loop-k-preserved-then-leads
-skip_record-loop-k-preserved-then-leads t c = let e = told _ _ _ c.leads.ensures c.word-kind.ensures.0 c.if-leads.true in
-    passing_leads c.requires.formed c.requires.i_bound c.loop-k.invariant c.loop-k-test.true e c.word.ensures.0 c.skip_chain-at.ensures
-
 pub skip_record-loop-k-preserved : goal.skip_record-loop-k-preserved
-skip_record-loop-k-preserved t c = passing_plain c.requires.formed c.requires.i_bound c.loop-k.invariant c.loop-k-test.true (told _ _ _ c.leads.ensures c.word-kind.ensures.0 c.if-leads.false)
+skip_record-loop-k-preserved t c = let F = c.requires.formed in let l = c.requires.i_bound in let v = c.loop-k.invariant in let m = c.loop-k-test.true in
+    elim c.if-leads.branch [
+      | skip_record-then-leads w ↦ (let e = told _ _ _ c.leads.ensures c.word-kind.ensures.0 w.if-leads.true in
+          rw w.at-is (passing_leads F l v m e w.word.ensures.0 w.skip_chain-at.ensures))
+      | skip_record-else-leads w ↦ rw w.at-is (passing_plain F l v m (told _ _ _ c.leads.ensures c.word-kind.ensures.0 w.if-leads.false))
+    ]
 
 pub skip_record-returns : goal.skip_record-returns
 skip_record-returns t c = passing_done c.requires.formed c.requires.i_bound c.loop-k.invariant c.loop-k-test.false

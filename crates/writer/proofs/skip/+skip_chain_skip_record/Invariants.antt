@@ -1,6 +1,5 @@
 -- Skipping along a chain and along the words of a record.
 use Rattle.language.specs.File.{record_count}
-use Rattle.records.specs.Sizes.{record_words}
 use Rattle.chains.specs.Formed.{ahead}
 use Rattle.writer.proofs.SkipsLaws.{Skipping, Passing}
 use Prim.Native.Nat.{◌+◌, ◌-◌, ◌*◌}
@@ -26,7 +25,3 @@ decreases-skip_record l =
 abbrev pub invariant-skip_record-loop-k : goal.invariant-skip_record-loop-k
 invariant-skip_record-loop-k l =
     Passing l.file l.i l.first l.k l.at
-
-abbrev pub decreases-skip_record-loop-k : goal.decreases-skip_record-loop-k
-decreases-skip_record-loop-k l =
-    record_words - l.k

@@ -6,8 +6,8 @@ use Rattle.writer.proofs.LeadsLaws.{told}
 use Rattle.writer.proofs.ReadyLaws.{writing_first, writing_record, writing_less, writing_falls, writing_next, writing_last}
 use Rattle.writer.proofs.LeafLaws.{leaf_room, leaf_wrote}
 use Rattle.writer.proofs.Spelling.{spelling_first, spelling_room, spelling_falls, spelling_chain, spelling_leads, spelling_plain, done_room, spelling_done}
-use Prim.Native.Nat.{◌-◌}
 use Rattle.writer.proofs.walk.+write_chain_write_record.Goals as goal
+use Rattle.writer.proofs.walk.+write_chain_write_record.Goals.{write_record-then-leads, write_record-else-leads}
 
 pub write_chain-loop-i-init : goal.write_chain-loop-i-init
 write_chain-loop-i-init t c = writing_first _ c.requires
@@ -70,14 +70,6 @@ write_record-write_chain-end-requires t c =
     let g = c.word-w.ensures.0 in
     (omega (arith, spelling_falls R G m e g, c.decreases), spelling_chain R G m e g c.put_word.ensures)
 
-pub write_record-loop-k-preserved-then-leads : goal.write_record-loop-k-preserved-then-leads
-write_record-loop-k-preserved-then-leads t c =
-    let R = c.requires in
-    let G = c.loop-k.invariant in
-    let m = c.loop-k-test.true in
-    let e = told _ _ _ c.leads.ensures c.word-kind.ensures.0 c.if-leads.true in
-    spelling_leads R G m e c.word-w.ensures.0 c.link-then-leads.ensures c.put_word.ensures c.write_chain-end.ensures
-
 pub write_record-put_word-requires-else-leads : goal.write_record-put_word-requires-else-leads
 write_record-put_word-requires-else-leads t c = let m = c.loop-k-test.true in record {
   record_bytes_in_bounds = (spelling_room c.requires c.loop-k.invariant m).0;
@@ -86,8 +78,16 @@ write_record-put_word-requires-else-leads t c = let m = c.loop-k-test.true in re
 }
 
 pub write_record-loop-k-preserved : goal.write_record-loop-k-preserved
-write_record-loop-k-preserved t c = let e = told _ _ _ c.leads.ensures c.word-kind.ensures.0 c.if-leads.false in
-    spelling_plain c.requires c.loop-k.invariant c.loop-k-test.true e c.word-w.ensures.0 c.put_word-else-leads.ensures
+write_record-loop-k-preserved t c =
+    let R = c.requires in
+    let G = c.loop-k.invariant in
+    let m = c.loop-k-test.true in
+    elim c.if-leads.branch [
+      | write_record-then-leads w ↦ (let e = told _ _ _ c.leads.ensures c.word-kind.ensures.0 w.if-leads.true in
+          rw (w.out-is, w.end-is) (spelling_leads R G m e c.word-w.ensures.0 w.link-then-leads.ensures w.put_word.ensures w.write_chain-end.ensures))
+      | write_record-else-leads w ↦ (let e = told _ _ _ c.leads.ensures c.word-kind.ensures.0 w.if-leads.false in
+          rw (w.out-is, w.end-is) (spelling_plain R G m e c.word-w.ensures.0 w.put_word-else-leads.ensures))
+    ]
 
 pub write_record-put_word-requires-2 : goal.write_record-put_word-requires-2
 write_record-put_word-requires-2 t c = record {

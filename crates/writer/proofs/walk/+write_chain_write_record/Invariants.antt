@@ -1,6 +1,5 @@
 -- The walk in written order: the invariants are `Writing` along a chain and `Spelling` along the words of a record.
 use Rattle.language.specs.File.{record_count}
-use Rattle.records.specs.Sizes.{record_words}
 use Rattle.chains.specs.Formed.{ahead}
 use Rattle.writer.proofs.ReadyLaws.{Writing}
 use Rattle.writer.proofs.Spelling.{Spelling}
@@ -27,7 +26,3 @@ decreases-write_record l =
 abbrev pub invariant-write_record-loop-k : goal.invariant-write_record-loop-k
 invariant-write_record-loop-k l =
     Spelling l.file l.i l.at l.initial.out l.out l.k l.end
-
-abbrev pub decreases-write_record-loop-k : goal.decreases-write_record-loop-k
-decreases-write_record-loop-k l =
-    record_words - l.k

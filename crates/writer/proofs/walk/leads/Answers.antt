@@ -1,9 +1,11 @@
 -- Each arm says what the row of its kind says.
 use Rattle.writer.proofs.LeadsLaws.{header_leads, type_leads, procedure_leads, region_leads, switch_leads, arm_leads, then_leads, else_leads, call_leads, try_leads, none_leads}
+use borrow.Author.Tests.{eq-eqb}
+use mathlib.Core.Path.{◌∙◌}
 use Rattle.writer.proofs.walk.leads.Goals as goal
 
 pub returns-then-k-eq-IF_THEN : goal.returns-then-k-eq-IF_THEN
-returns-then-k-eq-IF_THEN c = then_leads c.requires.le_k c.requires.k_lt_record_words c.in-14.is c.if-k-eq-IF_THEN.true
+returns-then-k-eq-IF_THEN c = eq-eqb _ _ c.if-k-eq-IF_THEN.true ∙ then_leads c.requires.le_k c.requires.k_lt_record_words c.in-14.is c.if-k-eq-IF_THEN.true
 
 pub returns-in-1 : goal.returns-in-1
 returns-in-1 c = header_leads c.requires.le_k c.requires.k_lt_record_words c.in-1.is
