@@ -1,9 +1,8 @@
 -- What the code that matches edges computes: one place, a functor's places, all places.
 use Prim.Native.Nat.{ℕ, zero, suc, ◌+◌, ◌<◌}
 use mathlib.Core.Path.{◌≡◌, ap, refl, sym, ◌∙◌}
-use mathlib.Core.Bool.{Bool, true, false, false≢true}
-use Rattle.declarations.specs.declared.Rest.{Rest}
-use Rattle.declarations.specs.declared.Rest.TheVariants.{At, Wrong}
+use mathlib.Core.Bool.{Bool, true, false}
+use Rattle.std.specs.Prelude.{Option, Some, None}
 use native.Mathlib.Omega.{arith}
 use native.Mathlib.Decide.{dec_lt}
 use mathlib.Core.List.{List, ◌∷◌, ◌++◌, append_assoc, []}
@@ -30,20 +29,15 @@ use Rattle.declarations.proofs.DeclaresLaws.{regioned_none, regioned_some}
 use Rattle.declarations.specs.Edges.{goes_on, EdgesMatch, place_at}
 
 -- ---- two rests
-pub at_same : {a b : ℕ} → At a ≡ At b → a ≡ b
+pub at_same : {a b : ℕ} → Some a ≡ Some b → a ≡ b
 at_same e = cc
 
-is_at : Rest → Bool
-is_at (At a) = true
-is_at Wrong = false
-
-pub wrong_at : {b : ℕ} → Wrong ≡ At b → ⊥
-unfolding is_at
-wrong_at e = false≢true (ap is_at e)
+pub wrong_at : {b : ℕ} → None ≡ Some b → ⊥
+wrong_at e = cc
 
 -- ---- one place
 module _ (f : List ℕ) (S : Signature) (g k ty e : ℕ) where
-  pub place_none : e ≡ 0 → EdgesMatch f S (record { functor = g; position = k; type = ty } ∷ []) e Wrong
+  pub place_none : e ≡ 0 → EdgesMatch f S (record { functor = g; position = k; type = ty } ∷ []) e None
   unfolding goes_on edges_ok
   place_none z = record { stands = λ e' h. absurd (wrong_at h); same = λ qs. rw (edges_none f z) }
 
@@ -53,12 +47,12 @@ module _ (f : List ℕ) (S : Signature) (g k ty e : ℕ) where
     unfolding edges_ok
     place_here qs = rw v.view
 
-    pub place_functor : (functor ≡ g → ⊥) → EdgesMatch f S (record { functor = g; position = k; type = ty } ∷ []) e Wrong
+    pub place_functor : (functor ≡ g → ⊥) → EdgesMatch f S (record { functor = g; position = k; type = ty } ∷ []) e None
     unfolding goes_on
     place_functor h = record { stands = λ e' h. absurd (wrong_at h); same = λ qs. place_here qs ∙ sym (and_stop _ (ne_eqb functor g h)) }
 
     module _ (p : functor ≡ g) where
-      pub place_position : (position ≡ k → ⊥) → EdgesMatch f S (record { functor = g; position = k; type = ty } ∷ []) e Wrong
+      pub place_position : (position ≡ k → ⊥) → EdgesMatch f S (record { functor = g; position = k; type = ty } ∷ []) e None
       unfolding goes_on
       place_position h = record {
         stands = λ e' h. absurd (wrong_at h);
@@ -66,14 +60,14 @@ module _ (f : List ℕ) (S : Signature) (g k ty e : ℕ) where
       }
 
       module _ (q : position ≡ k) {r : Bool} (h : r ≡ is_region_of S ty target) where
-        pub place_target : r ≡ false → EdgesMatch f S (record { functor = g; position = k; type = ty } ∷ []) e Wrong
+        pub place_target : r ≡ false → EdgesMatch f S (record { functor = g; position = k; type = ty } ∷ []) e None
         unfolding goes_on
         place_target b = record {
           stands = λ e' h. absurd (wrong_at h);
           same = λ qs. place_here qs ∙ sym (and_on (eq-eqb functor g p) (and_on (eq-eqb position k q) (refuse _ h b)));
         }
 
-        pub place_all : r ≡ true → EdgesMatch f S (record { functor = g; position = k; type = ty } ∷ []) e (At next)
+        pub place_all : r ≡ true → EdgesMatch f S (record { functor = g; position = k; type = ty } ∷ []) e (Some next)
         unfolding goes_on
         place_all b = record {
           stands = λ e' h. rw (sym (at_same h)) v.to_next.stands;
@@ -82,21 +76,21 @@ module _ (f : List ℕ) (S : Signature) (g k ty e : ℕ) where
 
 -- ---- a position that may have no place
 module _ {f : List ℕ} {S : Signature} where
-  pub match_same : {ps qs : List Place} {e : ℕ} {r : Rest} → ps ≡ qs → EdgesMatch f S qs e r → EdgesMatch f S ps e r
+  pub match_same : {ps qs : List Place} {e : ℕ} {r : Option ℕ} → ps ≡ qs → EdgesMatch f S qs e r → EdgesMatch f S ps e r
   match_same h k = rw h k
 
-  match_none : {e : ℕ} → Stands f edges e → EdgesMatch f S [] e (At e)
+  match_none : {e : ℕ} → Stands f edges e → EdgesMatch f S [] e (Some e)
   unfolding goes_on
   match_none s = record { stands = λ e' h. rw (sym (at_same h)) s; same = λ qs. refl }
 
-  match_stop : {ps : List Place} {e : ℕ} {r : Rest} → EdgesMatch f S ps e r → r ≡ Wrong → (qs : List Place) → EdgesMatch f S (ps ++ qs) e Wrong
+  match_stop : {ps : List Place} {e : ℕ} {r : Option ℕ} → EdgesMatch f S ps e r → r ≡ None → (qs : List Place) → EdgesMatch f S (ps ++ qs) e None
   unfolding goes_on
   match_stop {ps} {e} k h qs = record {
     stands = λ e' h. absurd (wrong_at h);
     same = λ rs. ap (λ l. edges_ok (program f).types S l (edges_at f e)) (append_assoc ps qs rs) ∙ k.same (qs ++ rs) ∙ ap (λ r. goes_on f S r (qs ++ rs)) h;
   }
 
-  match_more : {ps qs : List Place} {e e' : ℕ} {r r' : Rest} → EdgesMatch f S ps e r → r ≡ At e' → EdgesMatch f S qs e' r' → EdgesMatch f S (ps ++ qs) e r'
+  match_more : {ps qs : List Place} {e e' : ℕ} {r r' : Option ℕ} → EdgesMatch f S ps e r → r ≡ Some e' → EdgesMatch f S qs e' r' → EdgesMatch f S (ps ++ qs) e r'
   unfolding goes_on
   match_more {ps} {qs} {e} k h l = record {
     stands = l.stands;
@@ -104,11 +98,11 @@ module _ {f : List ℕ} {S : Signature} where
   }
 
   module _ (g k ty : ℕ) {t : List ℕ} (D : Declares f t) {w i : ℕ} (ei : i ≡ functor_in t ty 0) (ew : w ≡ get_or t i 0) where
-    pub position_bare : {e : ℕ} → Stands f edges e → w ≡ 0 → EdgesMatch f S (place_at f g k ty) e (At e)
+    pub position_bare : {e : ℕ} → Stands f edges e → w ≡ 0 → EdgesMatch f S (place_at f g k ty) e (Some e)
     unfolding place_at place_if
     position_bare s z = rw (regioned_none D ty (ew ∙ ap (λ k. get_or t k 0) ei) z) (match_none s)
 
-    pub position_regioned : {e : ℕ} {r : Rest} → (w ≡ 0 → ⊥) → EdgesMatch f S (record { functor = g; position = k; type = ty } ∷ []) e r
+    pub position_regioned : {e : ℕ} {r : Option ℕ} → (w ≡ 0 → ⊥) → EdgesMatch f S (record { functor = g; position = k; type = ty } ∷ []) e r
         → EdgesMatch f S (place_at f g k ty) e r
     unfolding place_at place_if
     position_regioned z p = rw (regioned_some D ty (ew ∙ ap (λ k. get_or t k 0) ei) z) p
@@ -172,24 +166,24 @@ module _ {f : List ℕ} {i next arity t1 t2 t3 t4 : ℕ} (v : FunctorAt f i next
       rw (v.w3, v.w4, v.w5, v.w6) (four_below (program f).types ok _ _ _ _ (types_all (program f).types (word f i functor_arity) _ k.0 k.1))
 
 module _ {f : List ℕ} {S : Signature} (g e : ℕ) {i next arity t1 t2 t3 t4 : ℕ} (v : FunctorAt f i next arity t1 t2 t3 t4) (o : functor_ok (program f).types (functor_at_record f i) ≡ true) where
-  module _ {r1 : Rest} (k1 : EdgesMatch f S (place_at f g 1 t1) e r1) where
-    pub functor_first : r1 ≡ Wrong → EdgesMatch f S (places_in (program f).types g 1 (types_in (functor_at_record f i))) e Wrong
+  module _ {r1 : Option ℕ} (k1 : EdgesMatch f S (place_at f g 1 t1) e r1) where
+    pub functor_first : r1 ≡ None → EdgesMatch f S (places_in (program f).types g 1 (types_in (functor_at_record f i))) e None
     functor_first h = match_same (places_here v o g) (match_stop k1 h _)
 
-    module _ {e1 : ℕ} {r2 : Rest} (h1 : r1 ≡ At e1) (k2 : EdgesMatch f S (place_at f g 2 t2) e1 r2) where
-      pub functor_second : r2 ≡ Wrong → EdgesMatch f S (places_in (program f).types g 1 (types_in (functor_at_record f i))) e Wrong
+    module _ {e1 : ℕ} {r2 : Option ℕ} (h1 : r1 ≡ Some e1) (k2 : EdgesMatch f S (place_at f g 2 t2) e1 r2) where
+      pub functor_second : r2 ≡ None → EdgesMatch f S (places_in (program f).types g 1 (types_in (functor_at_record f i))) e None
       functor_second h = match_same (places_here v o g) (match_more k1 h1 (match_stop k2 h _))
 
-      module _ {e2 : ℕ} {r3 : Rest} (h2 : r2 ≡ At e2) (k3 : EdgesMatch f S (place_at f g 3 t3) e2 r3) where
-        pub functor_third : r3 ≡ Wrong → EdgesMatch f S (places_in (program f).types g 1 (types_in (functor_at_record f i))) e Wrong
+      module _ {e2 : ℕ} {r3 : Option ℕ} (h2 : r2 ≡ Some e2) (k3 : EdgesMatch f S (place_at f g 3 t3) e2 r3) where
+        pub functor_third : r3 ≡ None → EdgesMatch f S (places_in (program f).types g 1 (types_in (functor_at_record f i))) e None
         functor_third h = match_same (places_here v o g) (match_more k1 h1 (match_more k2 h2 (match_stop k3 h _)))
 
-        pub functor_all : {e3 : ℕ} {r4 : Rest} → r3 ≡ At e3 → EdgesMatch f S (place_at f g 4 t4) e3 r4
+        pub functor_all : {e3 : ℕ} {r4 : Option ℕ} → r3 ≡ Some e3 → EdgesMatch f S (place_at f g 4 t4) e3 r4
             → EdgesMatch f S (places_in (program f).types g 1 (types_in (functor_at_record f i))) e r4
         functor_all h3 k4 = match_same (places_here v o g) (match_more k1 h1 (match_more k2 h2 (match_more k3 h3 k4)))
 
 pub functor_none : {f : List ℕ} {S : Signature} (g i : ℕ) {e w : ℕ} → Stands f edges e → w ≡ word f i functor_arity → w ≡ 0
-    → EdgesMatch f S (places_in (program f).types g 1 (types_in (functor_at_record f i))) e (At e)
+    → EdgesMatch f S (places_in (program f).types g 1 (types_in (functor_at_record f i))) e (Some e)
 unfolding types_in functor_at_record places_in
 functor_none {f} g i s h z = let a : word f i functor_arity ≡ 0 = sym h ∙ z in rw a (match_none s)
 
@@ -206,17 +200,17 @@ module _ {f : List ℕ} (i : ℕ) (F : Formed f) (s : Stands f functors i) (z : 
   fit_next e = rw e (and_true fit_both).1
 
 module _ {f : List ℕ} {S : Signature} (g i e : ℕ) (F : Formed f) where
-  module _ (s : Stands f functors i) (z : i ≡ 0 → ⊥) {r : Rest} (k : EdgesMatch f S (places_in (program f).types g 1 (types_in (functor_at_record f i))) e r) where
+  module _ (s : Stands f functors i) (z : i ≡ 0 → ⊥) {r : Option ℕ} (k : EdgesMatch f S (places_in (program f).types g 1 (types_in (functor_at_record f i))) e r) where
     edges_here : edges_ok (program f).types S (places_from (program f).types g (functors_at f i)) (edges_at f e)
         ≡ goes_on f S r (places_from (program f).types (suc g) (functors_at f (word f i next_word)))
     unfolding places_from
     edges_here = ap (λ fs. edges_ok (program f).types S (places_from (program f).types g fs) (edges_at f e)) (functors_step F i s z) ∙ k.same _
 
-    pub edges_wrong : r ≡ Wrong → false ≡ edges_ok (program f).types S (places_from (program f).types g (functors_at f i)) (edges_at f e)
+    pub edges_wrong : r ≡ None → false ≡ edges_ok (program f).types S (places_from (program f).types g (functors_at f i)) (edges_at f e)
     unfolding goes_on
     edges_wrong h = sym (edges_here ∙ ap (λ r. goes_on f S r (places_from (program f).types (suc g) (functors_at f (word f i next_word)))) h)
 
-    pub edges_next : {e' w g' : ℕ} → r ≡ At e' → w ≡ word f i next_word → g' ≡ suc g
+    pub edges_next : {e' w g' : ℕ} → r ≡ Some e' → w ≡ word f i next_word → g' ≡ suc g
         → edges_ok (program f).types S (places_from (program f).types g' (functors_at f w)) (edges_at f e') ≡ edges_ok (program f).types S (places_from (program f).types g (functors_at f i)) (edges_at f e)
     unfolding goes_on
     edges_next h ew eg = rw (ew, eg) (sym (edges_here ∙ ap (λ r. goes_on f S r (places_from (program f).types (suc g) (functors_at f (word f i next_word)))) h))

@@ -11,21 +11,27 @@ ghost use Rattle.declarations.specs.Declares.{Declares};
 ghost use Rattle.declarations.specs.Own.{Own};
 ghost use Rattle.declarations.specs.Edges.{place_at, PlaceMatch, PlacesMatch, FunctorMatch, AllMatch};
 
-use crate::Rest;
 use crate::names::{first_functor, is_region_of};
 use crate::places::{FILE_PLACES, OWN_PLACES};
 use chains::word;
 use language::format::{FUNCTOR_ARITY, NEXT};
 use records::{Record, record_at};
 
-// The edge at record e stands for the place of functor g, position k and type t.
-fn place_ok(file: &[u8], own: &[u16; OWN_PLACES], e: usize, g: usize, k: usize, t: usize) -> Rest
+// The record behind the edge at record e, where that stands for the place of functor g, position k and type t.
+fn place_ok(
+    file: &[u8],
+    own: &[u16; OWN_PLACES],
+    e: usize,
+    g: usize,
+    k: usize,
+    t: usize,
+) -> Option<usize>
     requires formed { Formed file.now × Own file.now own.now }
     requires stands { Stands file.now edges e }
     ensures { PlaceMatch file.now own.now (record { functor = g; position = k; type = t }) e result }
 {
     if e == 0 {
-        return Rest::Wrong;
+        return None;
     }
     let Record::Edge {
         next,
@@ -34,21 +40,21 @@ fn place_ok(file: &[u8], own: &[u16; OWN_PLACES], e: usize, g: usize, k: usize, 
         target,
     } = record_at(file, e)
     else {
-        return Rest::Wrong;
+        return None;
     };
     if functor != g {
-        return Rest::Wrong;
+        return None;
     }
     if position != k {
-        return Rest::Wrong;
+        return None;
     }
     if !is_region_of(file, own, t, target) {
-        return Rest::Wrong;
+        return None;
     }
-    Rest::At(next)
+    Some(next)
 }
 
-// The same for position k, where its type t has regions.
+// The same for position k, where its type t has regions: where it has none, no edge is asked for.
 fn position_ok(
     file: &[u8],
     table: &[u16; FILE_PLACES],
@@ -57,19 +63,19 @@ fn position_ok(
     g: usize,
     k: usize,
     t: usize,
-) -> Rest
+) -> Option<usize>
     requires declares { Declares file.now table.now × Own file.now own.now }
     requires stands { Stands file.now edges e }
     requires t_lt_places { t < places }
     ensures { PlacesMatch file.now own.now (place_at file.now g k t) e result }
 {
     if table[first_functor(table, t)] == 0 {
-        return Rest::At(e);
+        return Some(e);
     }
     place_ok(file, own, e, g, k, t)
 }
 
-// The edges from record e on, for all places of functor number g, which record i holds: none at arity 0. The words past the arity are 0, which is no
+// The record behind the edges from record e on for all places of functor number g, which record i holds: none at arity 0. The words past the arity are 0, which is no
 // type with regions.
 fn functor_edges(
     file: &[u8],
@@ -78,7 +84,7 @@ fn functor_edges(
     e: usize,
     g: usize,
     i: usize,
-) -> Rest
+) -> Option<usize>
     requires declares { Declares file.now table.now × Own file.now own.now }
     requires stands { Stands file.now edges e }
     requires stands_2 { Stands file.now functors i × (i ≡ 0 → ⊥) }
@@ -86,7 +92,7 @@ fn functor_edges(
     ensures { FunctorMatch file.now own.now g i e result }
 {
     if word(file, i, FUNCTOR_ARITY) == 0 {
-        return Rest::At(e);
+        return Some(e);
     }
     let Record::Functor {
         next: _,
@@ -97,17 +103,11 @@ fn functor_edges(
         t4,
     } = record_at(file, i)
     else {
-        return Rest::Wrong;
+        return None;
     };
-    let Rest::At(e1) = position_ok(file, table, own, e, g, 1, t1) else {
-        return Rest::Wrong;
-    };
-    let Rest::At(e2) = position_ok(file, table, own, e1, g, 2, t2) else {
-        return Rest::Wrong;
-    };
-    let Rest::At(e3) = position_ok(file, table, own, e2, g, 3, t3) else {
-        return Rest::Wrong;
-    };
+    let e1 = position_ok(file, table, own, e, g, 1, t1)?;
+    let e2 = position_ok(file, table, own, e1, g, 2, t2)?;
+    let e3 = position_ok(file, table, own, e2, g, 3, t3)?;
     position_ok(file, table, own, e3, g, 4, t4)
 }
 
@@ -128,7 +128,7 @@ pub fn edges_ok(
     let mut g = 0;
     let mut e = first;
     while i != 0 {
-        let Rest::At(after) = functor_edges(file, table, own, e, g, i) else {
+        let Some(after) = functor_edges(file, table, own, e, g, i) else {
             return false;
         };
         e = after;

@@ -11,13 +11,6 @@ mod types;
 
 pub use listing::{list_file, list_own};
 pub use names::{functor, has_type, parameter, procedure, region, variable};
-pub use places::{FILE_PLACES, OWN_PLACES, blank_file, blank_own};
+pub use places::{FILE_PLACES, OWN_PLACES};
 pub use signatures::{counts_ok, signature_ok};
 pub use types::types_ok;
-
-// What is left of a chain after its front was matched: the record where it goes on, or that the front did not match.
-#[derive(Clone, Copy)]
-pub enum Rest {
-    At(usize),
-    Wrong,
-}

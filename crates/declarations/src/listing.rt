@@ -90,9 +90,7 @@ fn list_parameters(file: &[u8], table: &mut [u16; FILE_PLACES])
     requires file_places_in_bounds { (file_places ≤ length table.old) × (get_or table.old 0 0 ≡ 0) }
     ensures { Linked file.now table.old table.new 1 }
 {
-    let mut i = record_count(file);
-    while 1 < i {
-        i -= 1;
+    for i in (1..record_count(file)).rev() {
         if word(file, i, KIND) == VARIABLE {
             table[i] = link(file, table, i);
         }

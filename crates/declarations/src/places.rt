@@ -1,7 +1,5 @@
 // The two tables that number 3 lends, and their places: one table for what the file declares, one for what the procedure at hand declares. A place has
 // a record's number, 0 where there is none.
-ghost use Rattle.std.specs.Prelude.{◌≡◌, replicate};
-ghost use Rattle.declarations.specs.DeclaredPlaces.{file_places, own_places};
 
 use language::format::{MAX_FUNCTORS, MAX_PROCEDURES, MAX_RECORDS, PLACES};
 
@@ -17,15 +15,3 @@ pub const FILE_PLACES: usize = FUNCTOR_PLACES + MAX_FUNCTORS * PLACES;
 pub const REGION_PLACES: usize = PLACES;
 
 pub const OWN_PLACES: usize = REGION_PLACES + PLACES;
-
-pub fn blank_file() -> [u16; FILE_PLACES]
-    ensures { result ≡ replicate file_places 0 }
-{
-    [0; FILE_PLACES]
-}
-
-pub fn blank_own() -> [u16; OWN_PLACES]
-    ensures { result ≡ replicate own_places 0 }
-{
-    [0; OWN_PLACES]
-}

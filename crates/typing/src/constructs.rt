@@ -33,12 +33,10 @@ fn arguments_ok(file: &[u8], own: &[u16; OWN_PLACES], g: usize, i: usize) -> boo
     requires g_bound { (g < record_count file.now) × (i < record_count file.now) }
     ensures { ArgumentsTested file.now own.now g i result }
 {
-    let mut k = 0;
-    while k < MAX_ARITY {
+    for k in 0..MAX_ARITY {
         if !argument_ok(file, own, g, k, i) {
             return false;
         }
-        k += 1;
     }
     true
 }

@@ -11,7 +11,7 @@ ghost use Rattle.typing.specs.Procedures.{procedures_ok, procedure_at_record};
 use crate::walk::goals;
 use chains::{chain_length, word};
 use declarations::{
-    FILE_PLACES, blank_file, blank_own, counts_ok, list_file, list_own, signature_ok, types_ok,
+    FILE_PLACES, OWN_PLACES, counts_ok, list_file, list_own, signature_ok, types_ok,
 };
 use language::format::{HEADER_PROCEDURES, MAX_PROCEDURES, NEXT, PROCEDURE_GOALS};
 
@@ -24,7 +24,7 @@ fn procedure_ok(file: &[u8], table: &[u16; FILE_PLACES], i: usize) -> bool
     if !counts_ok(file, i) {
         return false;
     }
-    let mut own = blank_own();
+    let mut own = [0; OWN_PLACES];
     list_own(file, i, &mut own);
     if !signature_ok(file, table, &own) {
         return false;
@@ -62,7 +62,7 @@ fn procedures_ok(file: &[u8]) -> bool
     if MAX_PROCEDURES < count {
         return false;
     }
-    let mut table = blank_file();
+    let mut table = [0; FILE_PLACES];
     list_file(file, &mut table);
     each_procedure_ok(file, &table, first)
 }

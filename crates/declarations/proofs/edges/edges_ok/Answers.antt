@@ -39,7 +39,7 @@ loop-i-preserved c = let F = c.requires.declares.0.formed in
     let l = c.loop-i.invariant in
     let z = c.loop-i-test.true in
     let o = chain_next F l.0.0 z c.word-i.ensures.0 in
-    ((o.stands, fit_next _ F l.0.0 z l.0.1 c.word-i.ensures.0), c.functor_edges.ensures.stands _ c.in-At.is, omega (arith, o.falls), edges_next _ _ _ F l.0.0 z c.functor_edges.ensures c.in-At.is c.word-i.ensures.0 (add-one c.loop-i.g) ∙ l.3)
+    ((o.stands, fit_next _ F l.0.0 z l.0.1 c.word-i.ensures.0), c.functor_edges.ensures.stands _ c.in-Some.is, omega (arith, o.falls), edges_next _ _ _ F l.0.0 z c.functor_edges.ensures c.in-Some.is c.word-i.ensures.0 (add-one c.loop-i.g) ∙ l.3)
 
 pub returns : goal.returns
 returns c = edges_end _ _ _ c.requires.declares.0.formed c.loop-i.invariant.1 c.loop-i-test.false (declared _ _) ∙ c.loop-i.invariant.3

@@ -21,35 +21,35 @@ position_ok-requires c = record {
   t_lt_places = (types_below (functor_at_law c.requires.declares.0.formed c.record_at.ensures c.in-Functor.is) c.requires.i_value c.requires.declares.0.types_ok_law).0;
 }
 
-pub returns-in_default-position_ok : goal.returns-in_default-position_ok
-returns-in_default-position_ok c = functor_first _ _ (functor_at_law c.requires.declares.0.formed c.record_at.ensures c.in-Functor.is) c.requires.i_value c.position_ok.ensures c.in_default-position_ok.is
+pub returns-in_err-e1 : goal.returns-in_err-e1
+returns-in_err-e1 c = rw c.from_residual.ensures (functor_first _ _ (functor_at_law c.requires.declares.0.formed c.record_at.ensures c.in-Functor.is) c.requires.i_value c.position_ok.ensures c.in_err-e1.was)
 
 pub position_ok-requires-2 : goal.position_ok-requires-2
 position_ok-requires-2 c = record {
   declares = c.requires.declares;
-  stands = c.position_ok.ensures.stands _ c.in-At.is;
+  stands = c.position_ok.ensures.stands _ c.in_ok-e1.was;
   t_lt_places = (types_below (functor_at_law c.requires.declares.0.formed c.record_at.ensures c.in-Functor.is) c.requires.i_value c.requires.declares.0.types_ok_law).1;
 }
 
-pub returns-in_default-position_ok-2 : goal.returns-in_default-position_ok-2
-returns-in_default-position_ok-2 c = functor_second _ _ (functor_at_law c.requires.declares.0.formed c.record_at.ensures c.in-Functor.is) c.requires.i_value c.position_ok.ensures c.in-At.is c.position_ok-2.ensures c.in_default-position_ok-2.is
+pub returns-in_err-e2 : goal.returns-in_err-e2
+returns-in_err-e2 c = rw c.from_residual-in_err-e2.ensures (functor_second _ _ (functor_at_law c.requires.declares.0.formed c.record_at.ensures c.in-Functor.is) c.requires.i_value c.position_ok.ensures c.in_ok-e1.was c.position_ok-2.ensures c.in_err-e2.was)
 
 pub position_ok-requires-3 : goal.position_ok-requires-3
 position_ok-requires-3 c = record {
   declares = c.requires.declares;
-  stands = c.position_ok-2.ensures.stands _ c.in-At-position_ok.is;
+  stands = c.position_ok-2.ensures.stands _ c.in_ok-e2.was;
   t_lt_places = (types_below (functor_at_law c.requires.declares.0.formed c.record_at.ensures c.in-Functor.is) c.requires.i_value c.requires.declares.0.types_ok_law).2;
 }
 
-pub returns-in_default-position_ok-3 : goal.returns-in_default-position_ok-3
-returns-in_default-position_ok-3 c = functor_third _ _ (functor_at_law c.requires.declares.0.formed c.record_at.ensures c.in-Functor.is) c.requires.i_value c.position_ok.ensures c.in-At.is c.position_ok-2.ensures c.in-At-position_ok.is c.position_ok-3.ensures c.in_default-position_ok-3.is
+pub returns-in_err-e3 : goal.returns-in_err-e3
+returns-in_err-e3 c = rw c.from_residual-in_err-e3.ensures (functor_third _ _ (functor_at_law c.requires.declares.0.formed c.record_at.ensures c.in-Functor.is) c.requires.i_value c.position_ok.ensures c.in_ok-e1.was c.position_ok-2.ensures c.in_ok-e2.was c.position_ok-3.ensures c.in_err-e3.was)
 
 pub position_ok-requires-4 : goal.position_ok-requires-4
 position_ok-requires-4 c = record {
   declares = c.requires.declares;
-  stands = c.position_ok-3.ensures.stands _ c.in-At-position_ok-2.is;
+  stands = c.position_ok-3.ensures.stands _ c.in_ok-e3.was;
   t_lt_places = (types_below (functor_at_law c.requires.declares.0.formed c.record_at.ensures c.in-Functor.is) c.requires.i_value c.requires.declares.0.types_ok_law).3;
 }
 
 pub returns : goal.returns
-returns c = functor_all _ _ (functor_at_law c.requires.declares.0.formed c.record_at.ensures c.in-Functor.is) c.requires.i_value c.position_ok.ensures c.in-At.is c.position_ok-2.ensures c.in-At-position_ok.is c.position_ok-3.ensures c.in-At-position_ok-2.is c.position_ok-4.ensures
+returns c = functor_all _ _ (functor_at_law c.requires.declares.0.formed c.record_at.ensures c.in-Functor.is) c.requires.i_value c.position_ok.ensures c.in_ok-e1.was c.position_ok-2.ensures c.in_ok-e2.was c.position_ok-3.ensures c.in_ok-e3.was c.position_ok-4.ensures

@@ -6,6 +6,3 @@ use Rattle.declarations.proofs.listing.list_parameters.Given as goal
 
 abbrev pub invariant-loop-i : goal.invariant-loop-i
 invariant-loop-i l = Linked l.file l.initial.table l.table l.i × (l.i ≤ record_count l.file)
-
-abbrev pub decreases-loop-i : goal.decreases-loop-i
-decreases-loop-i l = l.i

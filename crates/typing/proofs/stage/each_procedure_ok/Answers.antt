@@ -1,7 +1,6 @@
 -- The rest of the chain decides as the whole does.
 use Rattle.std.proofs.Common.{arith}
 use mathlib.Core.Path.{refl, ◌∙◌}
-use Rattle.language.specs.Typing.{procedure_ok}
 use Rattle.chains.specs.Formed.{procedures_none}
 use Rattle.chains.specs.Is.{chain_next}
 use Rattle.laws.specs.Lists.{all_end}

@@ -19,7 +19,7 @@ pub list_own-requires : goal.list_own-requires
 list_own-requires c = record {
   formed = c.requires.declares.formed;
   stands = c.requires.stands;
-  i_value = (sym c.counts_ok.ensures ∙ c.if-not-counts_ok.false, c.blank_own-own.ensures);
+  i_value = (sym c.counts_ok.ensures ∙ c.if-not-counts_ok.false, refl);
 }
 
 pub signature_ok-requires : goal.signature_ok-requires

@@ -1,4 +1,4 @@
-use Rattle.std.proofs.Common.{arith}
+use Rattle.std.proofs.Common.{arith, refl}
 use Rattle.chains.specs.Formed.{procedures_stand, counted}
 use Rattle.chains.specs.Elements.{procedure_count}
 use Rattle.declarations.specs.Functors.{stands_same}
@@ -27,7 +27,7 @@ pub list_file-requires : goal.list_file-requires
 list_file-requires c = record {
   formed = c.requires.formed;
   file_value = (c.requires.file_value, omega (arith, c.if-count-gt-MAX_PROCEDURES.false, procedure_count c.requires.formed c.word-first.ensures.0 c.chain_length-count.ensures));
-  table_value = c.blank_file-table.ensures;
+  table_value = refl;
 }
 
 pub each_procedure_ok-requires : goal.each_procedure_ok-requires

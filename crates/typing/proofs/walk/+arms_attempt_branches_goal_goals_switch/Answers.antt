@@ -1,9 +1,7 @@
 -- The walk over goals: a chain of goals, a goal, an if, a try, a switch, its arms. The records still ahead fall.
-use Prim.Native.Nat.{◌+◌}
 use native.Mathlib.Numerals.{add-one}
 use Rattle.std.proofs.Common.{arith}
 use mathlib.Core.Path.{refl, sym, ◌∙◌}
-use Rattle.language.specs.File.{goals, arms}
 use Rattle.chains.specs.Formed.{ahead_below}
 use Rattle.chains.specs.Is.{chain_next}
 use Rattle.chains.specs.Shapes.{to_arms, to_then, to_else, to_condition, to_try_then, to_try_else, arm_goals_law}
