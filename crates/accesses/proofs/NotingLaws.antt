@@ -24,6 +24,10 @@ use Rattle.walks.specs.Steps.{is_step, step_kind, arm_kind_law, arm_some}
 use Rattle.chains.specs.Shapes.{kind_number}
 use Rattle.accesses.specs.Noting.{AllNoted, Beside, RowHas, RowListed, RowOf, RowsKept}
 
+-- a record of the file has a row
+pub has_row : (f : List ℕ) → Formed f → record_count f ≤ max_records
+has_row f F = (counted F).most
+
 -- the code has found a step
 pub found_step : (f : List ℕ) (i k : ℕ) {w : ℕ} → w ≡ word f i kind_word → w ≡ k → is_step k ≡ true → is_step (word f i kind_word) ≡ true
 found_step f i k e g s = ap is_step (sym e ∙ g) ∙ s

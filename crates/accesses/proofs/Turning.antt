@@ -11,7 +11,7 @@ use Rattle.language.specs.Lists.{choose}
 use Rattle.language.specs.Program.{parameters_from, arguments_in, in_mode, out_mode, Signature, Parameter, parameters_of, parameter_variables}
 use Rattle.tables.specs.declared.Access.{Access}
 use Rattle.accesses.specs.Gathering.{no_access, read_in, given_in, passed_in, Gathers}
-use Rattle.accesses.proofs.GatheringLaws.{gathers_none, gathers_read, gathers_give}
+use Rattle.accesses.proofs.GatheringLaws.{gathers_none, gathers_read, gathers_give, pass_in, pass_out}
 use Rattle.accesses.specs.Matching.{CallMatches, passing}
 use native.Mathlib.Omega.{arith}
 use Rattle.sets.specs.Sets.{member, ◌∪◌}
@@ -127,6 +127,14 @@ told_in ins x e h = rw (sym e ∙ h) refl
 pub told_out : (ins : Set) (x : ℕ) {b : Bool} → b ≡ member ins x → b ≡ false → out_mode ≡ told_mode ins x
 unfolding told_mode choose
 told_out ins x e h = rw (sym e ∙ h) refl
+
+-- an argument at the place of variable x, read or given a value
+module _ (ins : Set) (x y : ℕ) (a : Access) {b : Bool} {r : Access} (e : b ≡ member ins x) where
+  pub told_read : b ≡ true → r ≡ read_in a y → r ≡ passed_in (told_mode ins x) a y
+  told_read h g = pass_in _ _ (sym (told_in ins x e h)) g
+
+  pub told_give : b ≡ false → r ≡ given_in a y → r ≡ passed_in (told_mode ins x) a y
+  told_give h g = pass_out _ _ (sym (told_out ins x e h)) g
 
 -- ---- a call's arguments
 pub record ArgumentsGoing (f : List ℕ) (ins both : Set) (y0 : ℕ) (a : Access) (x y : ℕ) : Type 0 where

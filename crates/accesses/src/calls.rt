@@ -15,23 +15,15 @@ ghost use Rattle.accesses.specs.Fitting.{AccessFits};
 
 use crate::steps::{give, no_access, read};
 use chains::word;
-use language::format::{
-    ARGUMENT_VARIABLE, CALL_ARGUMENTS, CALL_PROCEDURE, MODE_IN, MODE_OUT, NEXT, PLACES,
-};
+use language::format::{ARGUMENT_VARIABLE, CALL_ARGUMENTS, CALL_PROCEDURE, NEXT, PLACES};
 use sets::Set;
 use tables::{Access, INS, OUTS, TABLE, set_at, word_at};
 
-// y stands at the place of a variable of that mode.
-fn pass(a: Access, mode: usize, y: usize) -> Access
-    ensures { result ≡ passed_in mode a y }
+// y stands at the place of variable x, an in variable if it is in ins, else an out variable.
+fn pass(a: Access, ins: Set, x: usize, y: usize) -> Access
+    ensures { result ≡ passed_in (told_mode ins x) a y }
 {
-    if mode == MODE_IN {
-        return read(a, y);
-    }
-    if mode == MODE_OUT {
-        return give(a, y);
-    }
-    a
+    if ins.has(x) { read(a, y) } else { give(a, y) }
 }
 
 // The call at record i, where there are that many procedures.
@@ -66,13 +58,6 @@ fn called_access(file: &[u8], table: &[u64; TABLE], procedures: usize, q: usize,
     match_arguments(file, ins, outs, y)
 }
 
-// The mode of variable x, an in variable if it is in ins, else an out variable.
-fn mode_of(ins: Set, x: usize) -> usize
-    ensures { result ≡ told_mode ins x }
-{
-    if ins.has(x) { MODE_IN } else { MODE_OUT }
-}
-
 // The arguments from record y0 on at the places of the variables of ins and outs, in rising number.
 fn match_arguments(file: &[u8], ins: Set, outs: Set, y0: usize) -> Access
     requires formed { Formed file.now }
@@ -87,7 +72,7 @@ fn match_arguments(file: &[u8], ins: Set, outs: Set, y0: usize) -> Access
         if y == 0 {
             return a;
         }
-        a = pass(a, mode_of(ins, x), word(file, y, ARGUMENT_VARIABLE));
+        a = pass(a, ins, x, word(file, y, ARGUMENT_VARIABLE));
         y = word(file, y, NEXT);
         x = both.after(x);
     }

@@ -34,14 +34,13 @@ pub fn list_accesses(file: &[u8], table: &[u64; TABLE], rows: &mut [u64; ROWS])
 {
     let procedures = chain_length(file, word(file, 0, HEADER_PROCEDURES));
     let count = record_count(file);
-    let mut i = 1;
-    while i < count {
+    for i in 1..count {
         list_access(file, table, procedures, i, rows);
-        i += 1;
     }
 }
 
 // Fills the row of record i, where it is a step or an arm. There are that many procedures.
+#[tactic(auto, using(crate::proofs::NotingLaws::has_row))]
 fn list_access(
     file: &[u8],
     table: &[u64; TABLE],

@@ -57,6 +57,7 @@ pub fn reaches_all(file: &[u8], links: &[u16; MAX_RECORDS], lasts: &[u16; MAX_PR
     marks[ENTRY_PROCEDURE] = 1;
     let mut found = 1;
     let mut k = 0;
+    // What this looks at adds to the procedures that are left: no range counts them beforehand.
     while k < found {
         let p = usize::from(order[k]);
         found = look_at(file, links, lasts, p, &mut marks, &mut order, found);

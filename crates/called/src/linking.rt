@@ -31,11 +31,9 @@ pub fn link_calls(file: &[u8], links: &mut [u16; MAX_RECORDS], lasts: &mut [u16;
     ensures links_left { LinksLeft file.now links.old links.new }
 {
     let n = record_count(file);
-    let mut i = 1;
-    while i < n {
+    for i in 1..n {
         if word(file, i, KIND) == CALL {
             link_call(i, links, lasts);
         }
-        i += 1;
     }
 }

@@ -197,15 +197,13 @@ pub fn regions_agree(file: &[u8], table: &[u64], owners: &[u16], rows: &mut [u64
     let n = record_count(file);
     let mut firsts = [0; PLACES];
     let mut last = 0;
-    let mut i = 1;
-    while i < n {
+    for i in 1..n {
         if !next_ok(file, table, owners, last, i, rows, &mut firsts) {
             return false;
         }
         if word(file, i, format::KIND) == format::CALL {
             last = i;
         }
-        i += 1;
     }
     true
 }

@@ -111,13 +111,11 @@ pub fn in_targets(
     let functor = word(file, i, TERM_FUNCTOR);
     let first = first_edge(file, start, functor, firsts);
     let n = count_arguments(file, i);
-    let mut k = 0;
-    while k < n {
+    for k in 0..n {
         let r = home(own, word(file, i, TERM_ARGUMENTS + k));
         if r != target_for(file, first, functor, k + 1) {
             return false;
         }
-        k += 1;
     }
     true
 }

@@ -47,12 +47,10 @@ fn procedures_ok(file: &[u8], table: &[u64; TABLE], rows: &[u64; ROWS]) -> bool
     ensures { result ≡ all (procedure_values (program file.now)) (program file.now).procedures }
 {
     let count = chain_length(file, word(file, 0, HEADER_PROCEDURES));
-    let mut q = 0;
-    while q < count {
+    for q in 0..count {
         if !procedure_ok(file, table, rows, q) {
             return false;
         }
-        q += 1;
     }
     true
 }

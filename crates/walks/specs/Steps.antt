@@ -1,8 +1,8 @@
 -- The kinds of steps, and the kind of a record that a step or an arm stands at.
-use Rattle.std.specs.Prelude.{ℕ, Bool, true, false, List, [], ◌∷◌}
-use Rattle.std.proofs.Common.{arith, sym}
+use Rattle.std.specs.Prelude.{ℕ, ◌≤◌, Bool, true, false, List, [], ◌∷◌, ◌⊎◌}
+use Rattle.std.proofs.Common.{arith}
 use Rattle.std.proofs.Math.Path.{◌≡◌, refl}
-use borrow.Author.Tests.{ne_eqb}
+use Rattle.std.proofs.lemmas.Bool.Decides.{nat_tests}
 use Rattle.sets.specs.Tests.{◌or◌}
 use Rattle.sets.specs.Members.{in_list}
 use Rattle.language.specs.Format.{literal_kind, sum_kind, assign_kind, construct_kind, call_kind, print_kind, create_kind, remove_kind, test_kind, kind_word}
@@ -18,22 +18,12 @@ unfoldable pub is_step : ℕ → Bool
 is_step k =
     in_list k (literal_kind ∷ sum_kind ∷ assign_kind ∷ construct_kind ∷ call_kind ∷ print_kind ∷ create_kind ∷ remove_kind ∷ test_kind ∷ [])
 
-module _ {k : ℕ} where
-  pub not_step : (k ≡ literal_kind → ⊥) → (k ≡ sum_kind → ⊥) → (k ≡ assign_kind → ⊥) → (k ≡ construct_kind → ⊥) → (k ≡ call_kind → ⊥) → (k ≡ print_kind → ⊥)
-      → (k ≡ create_kind → ⊥) → (k ≡ remove_kind → ⊥) → (k ≡ test_kind → ⊥) → false ≡ is_step k
-  unfolding is_step in_list ◌or◌
-  not_step a b c d e f g h i =
-      rw (
-        ne_eqb literal_kind k (λ q. a (sym q)),
-        ne_eqb sum_kind k (λ q. b (sym q)),
-        ne_eqb assign_kind k (λ q. c (sym q)),
-        ne_eqb construct_kind k (λ q. d (sym q)),
-        ne_eqb call_kind k (λ q. e (sym q)),
-        ne_eqb print_kind k (λ q. f (sym q)),
-        ne_eqb create_kind k (λ q. g (sym q)),
-        ne_eqb remove_kind k (λ q. h (sym q)),
-        ne_eqb test_kind k (λ q. i (sym q)),
-      ) refl
+-- .. by number, for `grind`
+pub step_tells : (k : ℕ)
+    → ((is_step k ≡ true) × (((8 ≤ k) × (k ≤ 11)) ⊎ ((k ≡ 15) ⊎ (((17 ≤ k) × (k ≤ 19)) ⊎ (k ≡ 21)))))
+    ⊎ ((is_step k ≡ false) × ((8 ≤ k → k ≤ 11 → ⊥) × ((k ≡ 15 → ⊥) × ((17 ≤ k → k ≤ 19 → ⊥) × (k ≡ 21 → ⊥)))))
+unfolding is_step in_list ◌or◌
+step_tells k = grind (arith, nat_tests)
 
 -- ---- a step's kind
 goal_some : {k : GoalKind} → k_goal k ≡ k_none → ⊥

@@ -5,19 +5,12 @@ ghost use Rattle.walks.specs.Steps.{is_step};
 use language::format::{ASSIGN, CALL, CONSTRUCT, CREATE, LITERAL, PRINT, REMOVE, SUM, TEST};
 
 // Whether a goal of that kind is a step.
+#[tactic(auto, using(crate::specs::Steps::step_tells))]
 pub fn is_step(kind: usize) -> bool
     ensures { result ≡ is_step kind }
 {
-    match kind {
-        LITERAL => true,
-        SUM => true,
-        ASSIGN => true,
-        CONSTRUCT => true,
-        CALL => true,
-        PRINT => true,
-        CREATE => true,
-        REMOVE => true,
-        TEST => true,
-        _ => false,
-    }
+    matches!(
+        kind,
+        LITERAL | SUM | ASSIGN | CONSTRUCT | CALL | PRINT | CREATE | REMOVE | TEST
+    )
 }

@@ -66,11 +66,9 @@ pub fn list_reaches(targets: &mut [u64], n: usize)
     requires n_lt_places { n < places }
     ensures { Closing targets.old n targets.new }
 {
-    let mut r = 0;
-    while r < n {
+    for r in 1..=n {
         let mut read = 0;
-        let reach = reach_from(targets, r + 1, &mut read);
-        targets[r + 1] = reach.stored();
-        r += 1;
+        let reach = reach_from(targets, r, &mut read);
+        targets[r] = reach.stored();
     }
 }

@@ -78,9 +78,5 @@ pub fn store(table: &mut [u64], at: usize, words: &[u64])
     requires { at + length words.now ≤ length table.old }
     ensures { StoredWords table.old at words.now (length words.now) table.new }
 {
-    let mut k = 0;
-    while k < words.len() {
-        table[at + k] = words[k];
-        k += 1;
-    }
+    table[at..at + words.len()].copy_from_slice(words);
 }

@@ -1,5 +1,6 @@
 -- What is gathered so far and what the parameters left would take make the whole.
 use Rattle.std.proofs.Common.{arith, rules}
+use mathlib.Core.Path.{refl}
 use Rattle.accesses.proofs.Turning.{going_first, going_short, going_last, going_next, going_rises}
 use Rattle.accesses.proofs.calls.match_arguments.Goals as goal
 
@@ -20,7 +21,7 @@ loop-x-smaller c = omega (arith, going_rises _ _ c.loop-x-test.true c.after-x-in
 
 pub loop-x-preserved : goal.loop-x-preserved
 loop-x-preserved c =
-    going_next c.loop-x.invariant c.requires.formed c.loop-x-test.true c.if-y-eq0.false c.mode_of.ensures c.word.ensures.0 c.pass-a.ensures c.word-y.ensures.0 c.after-x-in-loop-x.ensures
+    going_next c.loop-x.invariant c.requires.formed c.loop-x-test.true c.if-y-eq0.false refl c.word.ensures.0 c.pass-a.ensures c.word-y.ensures.0 c.after-x-in-loop-x.ensures
 
 pub returns : goal.returns
 returns c = going_last c.loop-x.invariant c.loop-x-test.false c.union-both.ensures

@@ -4,31 +4,10 @@ use mathlib.Core.Logic.{inl, inr}
 use Rattle.sets.specs.Tests.{◌or◌}
 use Rattle.sets.specs.Members.{in_list}
 use Rattle.language.specs.Format.{literal_kind, sum_kind, assign_kind, construct_kind, call_kind, print_kind, create_kind, remove_kind, test_kind}
-use Rattle.chains.specs.Formed.{counted}
 use Rattle.accesses.proofs.FittingLaws.{literal_fits, sum_fits, assign_fits, construct_fits, print_fits, create_fits, remove_fits, test_fits, arm_fits_law}
 use Rattle.accesses.proofs.NotingLaws.{found_step, listed_put, listed_none}
-use Rattle.walks.specs.Steps.{is_step, not_step}
+use Rattle.walks.specs.Steps.{is_step, step_tells}
 use Rattle.accesses.proofs.filling.list_access.Goals as goal
-
-pub put_access-requires : goal.put_access-requires
-put_access-requires c =
-    omega (arith, (counted c.requires.formed).most, c.requires.i_bound.0)
-
-pub put_access-requires-in-9 : goal.put_access-requires-in-9
-put_access-requires-in-9 c =
-    omega (arith, (counted c.requires.formed).most, c.requires.i_bound.0)
-
-pub put_access-requires-in-10 : goal.put_access-requires-in-10
-put_access-requires-in-10 c =
-    omega (arith, (counted c.requires.formed).most, c.requires.i_bound.0)
-
-pub put_access-requires-in-11 : goal.put_access-requires-in-11
-put_access-requires-in-11 c =
-    omega (arith, (counted c.requires.formed).most, c.requires.i_bound.0)
-
-pub put_access-requires-in-13 : goal.put_access-requires-in-13
-put_access-requires-in-13 c =
-    omega (arith, (counted c.requires.formed).most, c.requires.i_bound.0)
 
 pub call_access-requires : goal.call_access-requires
 call_access-requires c = record {
@@ -38,26 +17,6 @@ call_access-requires c = record {
   call = sym c.word.ensures.0 ∙ c.in-15.is;
   file_value = c.requires.file_value;
 }
-
-pub put_access-requires-in-15 : goal.put_access-requires-in-15
-put_access-requires-in-15 c =
-    omega (arith, (counted c.requires.formed).most, c.requires.i_bound.0)
-
-pub put_access-requires-in-17 : goal.put_access-requires-in-17
-put_access-requires-in-17 c =
-    omega (arith, (counted c.requires.formed).most, c.requires.i_bound.0)
-
-pub put_access-requires-in-18 : goal.put_access-requires-in-18
-put_access-requires-in-18 c =
-    omega (arith, (counted c.requires.formed).most, c.requires.i_bound.0)
-
-pub put_access-requires-in-19 : goal.put_access-requires-in-19
-put_access-requires-in-19 c =
-    omega (arith, (counted c.requires.formed).most, c.requires.i_bound.0)
-
-pub put_access-requires-in-21 : goal.put_access-requires-in-21
-put_access-requires-in-21 c =
-    omega (arith, (counted c.requires.formed).most, c.requires.i_bound.0)
 
 pub returns-in-8 : goal.returns-in-8
 unfolding is_step in_list ◌or◌
@@ -131,8 +90,4 @@ returns-in-21 c =
 pub returns-in_default : goal.returns-in_default
 returns-in_default c =
     let e = c.word.ensures.0 in
-    let u = c.in_default.in_default-own.rest in
-    let r = u.0 in
-    let s = r.0.0.0 in
-    let t = s.0.0.0 in
-    listed_none c.requires.formed (sym (ap is_step e) ∙ sym (not_step t.0.0.1 t.0.1 t.1 s.0.0.1 s.1 r.0.0.1 r.0.1 r.1 u.1)) (λ k. s.0.1 (e ∙ k))
+    listed_none c.requires.formed (sym (ap is_step e) ∙ grind (arith, step_tells)) (λ k. absurd (omega (arith, e, k)))

@@ -33,9 +33,6 @@ returns-then-not-next_ok c = let k = c.loop-i.invariant.0 in let e = c.next_ok.e
 pub word-requires : goal.word-requires
 word-requires c = search rules
 
-pub overflow_add-i : goal.overflow_add-i
-overflow_add-i c = search rules
-
 pub loop-i-preserved : goal.loop-i-preserved
 loop-i-preserved c =
     let k = c.loop-i.invariant in

@@ -1,5 +1,5 @@
 -- The arguments that are not looked at yet decide.
-use Prim.Native.Nat.{◌-◌, ◌≤◌}
+use Prim.Native.Nat.{◌≤◌}
 use mathlib.Core.Path.{◌≡◌}
 use Rattle.chains.specs.Formed.{edges_at}
 use Rattle.regions.proofs.TermsLaws.{rest_in}
@@ -8,6 +8,3 @@ use Rattle.regions.proofs.terms.in_targets.Given as goal
 abbrev pub invariant-loop-k : goal.invariant-loop-k
 invariant-loop-k l =
     (l.k ≤ l.n) × (rest_in l.file l.own (edges_at l.file l.first) l.functor l.i l.n l.k ≡ rest_in l.file l.own (edges_at l.file l.first) l.functor l.i l.n 0)
-
-abbrev pub decreases-loop-k : goal.decreases-loop-k
-decreases-loop-k l = l.n - l.k

@@ -1,5 +1,4 @@
 -- The procedures passed in turn.
-use Prim.Native.Nat.{◌-◌}
 use Rattle.language.specs.Values.{procedure_values}
 use Rattle.language.specs.Answers.{program}
 use Rattle.values.proofs.Turns.{TestTurn}
@@ -7,6 +6,3 @@ use Rattle.values.proofs.stage.procedures_ok.Given as goal
 
 abbrev pub invariant-loop-q : goal.invariant-loop-q
 invariant-loop-q l = TestTurn (program l.file) (procedure_values (program l.file)) l.q
-
-abbrev pub decreases-loop-q : goal.decreases-loop-q
-decreases-loop-q l = l.count - l.q
