@@ -1,12 +1,12 @@
 -- A call's arguments: what one adds, the loop through the callee's in and out variables, and one turn of it over the code's own values.
-use Prim.Native.Nat.{ℕ, ◌<◌, ◌≤◌}
+use Prim.Native.Nat.{ℕ}
 use mathlib.Core.Path.{◌≡◌, refl, ap, sym, ap₂, ◌∙◌}
 use mathlib.Core.Bool.{Bool, true, false}
 use mathlib.Core.List.{List, ◌∷◌, ◌++◌, append-nil, append_assoc, []}
 use lib.Dec.{eqb}
 use borrow.Author.Tests.{eqb-true}
 use Rattle.sets.specs.Tests.{clash}
-use Rattle.sets.specs.Members.{cons_if, next_member}
+use Rattle.sets.specs.Members.{cons_if, members}
 use Rattle.language.specs.Lists.{choose}
 use Rattle.language.specs.Program.{parameters_from, arguments_in, in_mode, out_mode, Signature, Parameter, parameters_of, parameter_variables}
 use Rattle.tables.specs.declared.Access.{Access}
@@ -15,9 +15,8 @@ use Rattle.accesses.proofs.GatheringLaws.{gathers_none, gathers_read, gathers_gi
 use Rattle.accesses.specs.Matching.{CallMatches, passing}
 use native.Mathlib.Omega.{arith}
 use Rattle.sets.specs.Sets.{member, ◌∪◌}
-use Rattle.sets.specs.Walk.{above, above_start, above_end, above_next, next_is}
 use Rattle.sets.specs.declared.Set.{Set}
-use Rattle.language.specs.Format.{places, argument_variable, next_word}
+use Rattle.language.specs.Format.{argument_variable, next_word}
 use Rattle.accesses.specs.Parameters.{DeclaredSets, Told, in_turn, tell, told_cons, told_nil, told_mode}
 use Rattle.language.specs.File.{arguments, word}
 use Rattle.chains.specs.Formed.{Formed, Stands, arguments_at, arguments_none}
@@ -49,10 +48,10 @@ gathers_pass {a} {rs} {gs} m y h = go (eqb m in_mode) (eqb m out_mode) (not_both
     go false true n = rw (append-nil rs) (gathers_give h y)
     go false false n = rw (append-nil rs, append-nil gs) h
 
--- ---- some of the arguments are gathered: the parameters above number n and the arguments ys are left
-pub record Gathered (S : Signature) (ins both : Set) (ys₀ : List ℕ) (a : Access) (n : ℕ) (ys : List ℕ) : Type 0 where
+-- ---- some of the arguments are gathered: the parameters of the numbers xs and the arguments ys are left
+pub record Gathered (S : Signature) (ins : Set) (ys₀ : List ℕ) (a : Access) (xs ys : List ℕ) : Type 0 where
   pub left : List Parameter
-  pub numbers : parameter_variables left ≡ above both n
+  pub numbers : parameter_variables left ≡ xs
   pub told : Told ins left
   pub read : List ℕ
   pub given : List ℕ
@@ -60,11 +59,12 @@ pub record Gathered (S : Signature) (ins both : Set) (ys₀ : List ℕ) (a : Acc
   pub ins_left : read ++ arguments_in in_mode left ys ≡ passing in_mode 1 S.variables ys₀
   pub outs_left : given ++ arguments_in out_mode left ys ≡ passing out_mode 1 S.variables ys₀
 
-pub turned_first : {S : Signature} {ins outs both : Set} (ys : List ℕ) → DeclaredSets S ins outs → both ≡ ins ∪ outs → Gathered S ins both ys no_access 0 ys
+pub turned_first : {S : Signature} {ins outs : Set} {xs : List ℕ} (ys : List ℕ) → DeclaredSets S ins outs → xs ≡ members (ins ∪ outs)
+    → Gathered S ins ys no_access xs ys
 unfolding passing parameters_of
 turned_first {S} ys D e = record {
   left = parameters_of S;
-  numbers = rw e (sym (in_turn D) ∙ sym (above_start _));
+  numbers = sym (in_turn D) ∙ sym e;
   told = tell D;
   read = [];
   given = [];
@@ -78,35 +78,35 @@ unfolding arguments_in
 none_left m [] = refl
 none_left m (p ∷ ps) = refl
 
-module _ {S : Signature} {ins both : Set} {ys₀ : List ℕ} {a : Access} {n : ℕ} {ys : List ℕ} (h : Gathered S ins both ys₀ a n ys) where
+module _ {S : Signature} {ins : Set} {ys₀ : List ℕ} {a : Access} {xs ys : List ℕ} (h : Gathered S ins ys₀ a xs ys) where
   ended : ((m : ℕ) → arguments_in m h.left ys ≡ []) → CallMatches S.variables ys₀ a
   ended z = rw (sym h.ins_left, sym h.outs_left, z in_mode, z out_mode, append-nil h.read, append-nil h.given) h.gathered
 
   pub turned_short : ys ≡ [] → CallMatches S.variables ys₀ a
   turned_short e = ended (λ m. rw e (none_left m h.left))
 
-  pub turned_last : next_member both n ≡ places → CallMatches S.variables ys₀ a
+  pub turned_last : xs ≡ [] → CallMatches S.variables ys₀ a
   unfolding arguments_in parameter_variables
-  turned_last e = ended (go h.left (h.numbers ∙ above_end both n e))
+  turned_last e = ended (go h.left (h.numbers ∙ e))
     where
       go : (ps : List Parameter) → parameter_variables ps ≡ [] → (m : ℕ) → arguments_in m ps ys ≡ []
       go [] z m = refl
       go (p ∷ ps) z m = absurd (let w : ◌≡◌ {A = ℕ} 0 1 = cc in omega arith)
 
-step_left : (ins both : Set) (ps : List Parameter) → Told ins ps → (x : ℕ) → parameter_variables ps ≡ x ∷ above both x
-    → (rest : List Parameter) × (ps ≡ record { mode = told_mode ins x; variable = x } ∷ rest) × (parameter_variables rest ≡ above both x) × Told ins rest
+step_left : (ins : Set) (ps : List Parameter) → Told ins ps → (x : ℕ) (xs : List ℕ) → parameter_variables ps ≡ x ∷ xs
+    → (rest : List Parameter) × (ps ≡ record { mode = told_mode ins x; variable = x } ∷ rest) × (parameter_variables rest ≡ xs) × Told ins rest
 unfolding parameter_variables
-step_left ins both [] told_nil x e = absurd (let w : ◌≡◌ {A = ℕ} 0 1 = cc in omega arith)
-step_left ins both (_ ∷ ps) (told_cons {x = z} q t) x e =
+step_left ins [] told_nil x xs e = absurd (let w : ◌≡◌ {A = ℕ} 0 1 = cc in omega arith)
+step_left ins (_ ∷ ps) (told_cons {x = z} q t) x xs e =
     let i : z ≡ x = cc in
-    let j : parameter_variables ps ≡ above both x = cc in
+    let j : parameter_variables ps ≡ xs = cc in
     (ps, rw (q, i) refl, j, t)
 
-pub turned_next : {S : Signature} {ins both : Set} {ys₀ : List ℕ} {a : Access} {n : ℕ} {ys : List ℕ} → Gathered S ins both ys₀ a n ys
-    → {x y : ℕ} {zs : List ℕ} → x ≡ next_member both n → x < places → ys ≡ y ∷ zs → Gathered S ins both ys₀ (passed_in (told_mode ins x) a y) x zs
+pub turned_next : {S : Signature} {ins : Set} {ys₀ : List ℕ} {a : Access} {xs ys : List ℕ} → Gathered S ins ys₀ a xs ys
+    → {x y : ℕ} {rest zs : List ℕ} → xs ≡ x ∷ rest → ys ≡ y ∷ zs → Gathered S ins ys₀ (passed_in (told_mode ins x) a y) rest zs
 unfolding arguments_in
-turned_next {S} {ins} {both} {ys₀} {a} {n} {ys} h {x} {y} {zs} e l f =
-    let t = step_left ins both h.left h.told x (h.numbers ∙ above_next both n x (sym e) l) in
+turned_next {S} {ins} {ys₀} {a} {xs} {ys} h {x} {y} {rest} {zs} e f =
+    let t = step_left ins h.left h.told x rest (h.numbers ∙ e) in
     let step : (m : ℕ) → arguments_in m h.left ys ≡ cons_if (eqb (told_mode ins x) m) y (arguments_in m t.0 zs) = λ m. ap₂ (arguments_in m) t.1 f in
     record {
       left = t.0;
@@ -136,34 +136,27 @@ module _ (ins : Set) (x y : ℕ) (a : Access) {b : Bool} {r : Access} (e : b ≡
   pub told_give : b ≡ false → r ≡ given_in a y → r ≡ passed_in (told_mode ins x) a y
   told_give h g = pass_out _ _ (sym (told_out ins x e h)) g
 
--- ---- a call's arguments
-pub record ArgumentsGoing (f : List ℕ) (ins both : Set) (y0 : ℕ) (a : Access) (x y : ℕ) : Type 0 where
-  pub passed : ℕ
-  pub next : x ≡ next_member both passed
+-- ---- a call's arguments: the variables xs are left, and the arguments from record y on
+pub record ArgumentsGoing (f : List ℕ) (ins outs : Set) (y0 : ℕ) (a : Access) (xs : List ℕ) (y : ℕ) : Type 0 where
   pub argument : Stands f arguments y
-  pub turned : (S : Signature) (outs : Set) → both ≡ ins ∪ outs → DeclaredSets S ins outs → Gathered S ins both (arguments_at f y0) a passed (arguments_at f y)
+  pub turned : (S : Signature) → DeclaredSets S ins outs → Gathered S ins (arguments_at f y0) a xs (arguments_at f y)
 
-pub going_first : {f : List ℕ} (ins : Set) {both : Set} {y0 : ℕ} {a : Access} {x : ℕ} → Stands f arguments y0 → a ≡ no_access → x ≡ next_member both 0
-    → ArgumentsGoing f ins both y0 a x y0
-going_first ins s e n = record { passed = 0; next = n; argument = s; turned = λ S o b D. rw e (turned_first _ D b) }
+pub going_first : {f : List ℕ} {ins outs both : Set} {y0 : ℕ} {a : Access} {xs : List ℕ} → Stands f arguments y0 → a ≡ no_access → both ≡ ins ∪ outs
+    → xs ≡ members both → ArgumentsGoing f ins outs y0 a xs y0
+going_first s e b n = record { argument = s; turned = λ S D. rw e (turned_first _ D (n ∙ ap members b)) }
 
-module _ {f : List ℕ} {ins both : Set} {y0 : ℕ} {a : Access} {x y : ℕ} (h : ArgumentsGoing f ins both y0 a x y) where
-  pub going_short : y ≡ 0 → {outs : Set} → both ≡ ins ∪ outs → (S : Signature) → DeclaredSets S ins outs → CallMatches S.variables (arguments_at f y0) a
-  going_short e b S D = turned_short (h.turned S _ b D) (arguments_none f e)
+module _ {f : List ℕ} {ins outs : Set} {y0 : ℕ} {a : Access} {xs : List ℕ} {y : ℕ} (h : ArgumentsGoing f ins outs y0 a xs y) where
+  pub going_short : y ≡ 0 → (S : Signature) → DeclaredSets S ins outs → CallMatches S.variables (arguments_at f y0) a
+  going_short e S D = turned_short (h.turned S D) (arguments_none f e)
 
-  pub going_last : places ≤ x → {outs : Set} → both ≡ ins ∪ outs → (S : Signature) → DeclaredSets S ins outs → CallMatches S.variables (arguments_at f y0) a
-  going_last l b S D = turned_last (h.turned S _ b D) (omega (arith, h.next, (next_is both h.passed).top))
+  pub going_last : xs ≡ [] → (S : Signature) → DeclaredSets S ins outs → CallMatches S.variables (arguments_at f y0) a
+  going_last e S D = turned_last (h.turned S D) e
 
-  pub going_next : Formed f → x < places → (y ≡ 0 → ⊥) → {m w u z : ℕ} {b : Access} → m ≡ told_mode ins x → w ≡ word f y argument_variable → b ≡ passed_in m a w
-      → u ≡ word f y next_word → z ≡ next_member both x → ArgumentsGoing f ins both y0 b z u
-  going_next F l p {m} {w} {u} {z} {b} i j k e n =
+  pub going_next : Formed f → (y ≡ 0 → ⊥) → {x w u : ℕ} {b : Access} {rest : List ℕ} → xs ≡ x ∷ rest → w ≡ word f y argument_variable
+      → b ≡ passed_in (told_mode ins x) a w → u ≡ word f y next_word → ArgumentsGoing f ins outs y0 b rest u
+  going_next F p e j k n =
       let t = argument_here F p h.argument in
       record {
-        passed = x;
-        next = n;
-        argument = rw e t.to_next.stands;
-        turned = λ S o q D. rw (k, i, j, e) (turned_next (h.turned S o q D) h.next l t.view);
+        argument = rw n t.to_next.stands;
+        turned = λ S D. rw (k, j, n) (turned_next (h.turned S D) e t.view);
       }
-
-pub going_rises : (both : Set) (x : ℕ) {z : ℕ} → x < places → z ≡ next_member both x → x < z
-going_rises both x l e = omega (arith, (next_is both x).low)

@@ -15,7 +15,7 @@ ghost use Rattle.accesses.specs.Fitting.{AccessFits};
 
 use crate::steps::{give, no_access, read};
 use chains::word;
-use language::format::{ARGUMENT_VARIABLE, CALL_ARGUMENTS, CALL_PROCEDURE, NEXT, PLACES};
+use language::format::{ARGUMENT_VARIABLE, CALL_ARGUMENTS, CALL_PROCEDURE, NEXT};
 use sets::Set;
 use tables::{Access, INS, OUTS, TABLE, set_at, word_at};
 
@@ -66,15 +66,13 @@ fn match_arguments(file: &[u8], ins: Set, outs: Set, y0: usize) -> Access
 {
     let both = ins.union(outs);
     let mut a = no_access();
-    let mut x = both.after(0);
     let mut y = y0;
-    while x < PLACES {
+    for x in both.members() {
         if y == 0 {
             return a;
         }
         a = pass(a, ins, x, word(file, y, ARGUMENT_VARIABLE));
         y = word(file, y, NEXT);
-        x = both.after(x);
     }
     a
 }

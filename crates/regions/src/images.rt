@@ -6,7 +6,6 @@ ghost use Rattle.regions.specs.Doubled.{Doubled};
 ghost use Rattle.regions.specs.Images.{ImageEffect};
 
 use chains::entry;
-use language::format::PLACES;
 use sets::Set;
 use tables::{BORN, DEAD, Effect, KEPT, PASSED, set_at};
 
@@ -15,10 +14,8 @@ fn images_of(images: &[usize], rs: Set) -> Set
     ensures { result ≡ image (images_in images.now) rs }
 {
     let mut found = Set::EMPTY;
-    let mut r = rs.after(0);
-    while r < PLACES {
+    for r in rs.members() {
         found = found.union(Set::of(entry(images, r)));
-        r = rs.after(r);
     }
     found
 }
@@ -29,12 +26,10 @@ fn shared_images(images: &[usize], rs: Set) -> Set
 {
     let mut seen = Set::EMPTY;
     let mut twice = Set::EMPTY;
-    let mut r = rs.after(0);
-    while r < PLACES {
+    for r in rs.members() {
         let one = Set::of(entry(images, r));
         twice = twice.union(seen.intersection(one));
         seen = seen.union(one);
-        r = rs.after(r);
     }
     twice
 }

@@ -53,6 +53,7 @@ pub fn reach_from(targets: &[u64], r: usize, read: &mut u64) -> Set
 {
     let mut found = Set::of(r);
     let mut u = found.after(0);
+    // What is read adds to what is left, so this is no walk over the members of a set.
     while u < PLACES {
         found = found.union(read_edges(targets, read, u));
         u = found.difference(Set::loaded(*read)).after(0);
