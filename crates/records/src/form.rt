@@ -15,7 +15,7 @@ use language::format::{KIND, MAX_RECORDS};
 
 // The record table, a row for each kind's number. Hex digit k, from the right, is the chain that word k leads to: 0 none at all, 1 nowhere,
 // 2 types, 3 functors, 4 procedures, 5 variables, 6 regions, 7 edges, 8 goals, 9 arms, a arguments. Digit 0 is the chain that the kind stands in.
-const ROWS: [usize; KINDS_END] = [
+static ROWS: [usize; KINDS_END] = [
     0x11, // no kind
     0x241, // header
     0x322, // type
@@ -41,7 +41,7 @@ const ROWS: [usize; KINDS_END] = [
 ];
 
 // The most that w2 and w3 may be as one number, w2 lowest: the words that a kind does not use are its last ones, and are 0.
-const LOW: [usize; KINDS_END] = [
+static LOW: [usize; KINDS_END] = [
     0, // no kind
     0xffffffff, // header
     0xffff, // type
@@ -67,7 +67,7 @@ const LOW: [usize; KINDS_END] = [
 ];
 
 // The same of w4 to w7.
-const HIGH: [usize; KINDS_END] = [
+static HIGH: [usize; KINDS_END] = [
     0, // no kind
     0, // header
     0, // type
@@ -92,25 +92,6 @@ const HIGH: [usize; KINDS_END] = [
     0, // test
 ];
 
-// The tables in memory, to be lent.
-fn rows() -> [usize; KINDS_END]
-    ensures { result ≡ table_of packed }
-{
-    ROWS
-}
-
-fn low_most() -> [usize; KINDS_END]
-    ensures { result ≡ table_of low_most }
-{
-    LOW
-}
-
-fn high_most() -> [usize; KINDS_END]
-    ensures { result ≡ table_of high_most }
-{
-    HIGH
-}
-
 fn row_of(table: &[usize; KINDS_END], kind: usize) -> usize
     ensures { (f : Kind → ℕ) → table.now ≡ table_of f → result ≡ f (kind_of kind) }
 {
@@ -119,6 +100,24 @@ fn row_of(table: &[usize; KINDS_END], kind: usize) -> usize
     } else {
         table[0]
     }
+}
+
+fn packed(kind: usize) -> usize
+    ensures { result ≡ packed (kind_of kind) }
+{
+    row_of(&ROWS, kind)
+}
+
+fn low_most(kind: usize) -> usize
+    ensures { result ≡ low_most (kind_of kind) }
+{
+    row_of(&LOW, kind)
+}
+
+fn high_most(kind: usize) -> usize
+    ensures { result ≡ high_most (kind_of kind) }
+{
+    row_of(&HIGH, kind)
 }
 
 // w2 and w3 of record i as one number.
@@ -144,28 +143,19 @@ fn high_words(file: &[u8], i: usize) -> usize
 }
 
 // Whether the words of record i that its kind does not use are 0.
-fn spare_ok(low: &[usize; KINDS_END], high: &[usize; KINDS_END], file: &[u8], i: usize) -> bool
-    requires low_value { (low.now ≡ table_of low_most) × (high.now ≡ table_of high_most) }
-    requires record_bytes_in_bounds { record_bytes * i + record_bytes ≤ length file.now }
+fn spare_ok(file: &[u8], i: usize) -> bool
+    requires { record_bytes * i + record_bytes ≤ length file.now }
     ensures { result ≡ spare_ok (word file.now) i }
 {
     let kind = word_in(file, i, KIND);
     let first = low_words(file, i);
     let last = high_words(file, i);
-    first <= row_of(low, kind) && last <= row_of(high, kind)
+    first <= low_most(kind) && last <= high_most(kind)
 }
 
 // Whether r, a reference of record i, ends its chain or goes up to a record that stands in such a chain.
-fn reference_ok(
-    rows: &[usize; KINDS_END],
-    file: &[u8],
-    n: usize,
-    i: usize,
-    r: usize,
-    chain: usize,
-) -> bool
-    requires rows_value { rows.now ≡ table_of packed }
-    requires i_lt_n { (i < n) × (record_bytes * n ≤ length file.now) }
+fn reference_ok(file: &[u8], n: usize, i: usize, r: usize, chain: usize) -> bool
+    requires { (i < n) × (record_bytes * n ≤ length file.now) }
     ensures { ((c : Chain) → chain ≡ digit (first c) → result ≡ reference_ok (word file.now) n i c r) × (result ≡ true → r < n) }
 {
     if r == 0 {
@@ -177,7 +167,7 @@ fn reference_ok(
     if n <= r {
         return false;
     }
-    row_of(rows, word_in(file, r, KIND)) % DIGIT_END == chain
+    packed(word_in(file, r, KIND)) % DIGIT_END == chain
 }
 
 fn one_more(x: u8) -> u8
@@ -199,24 +189,15 @@ fn count(seen: &mut [u8], r: usize)
 }
 
 // Whether word k of record i is a reference as it should be, or none where chain is 0. Counts what it refers to.
-fn word_ok(
-    rows: &[usize; KINDS_END],
-    file: &[u8],
-    seen: &mut [u8],
-    n: usize,
-    i: usize,
-    k: usize,
-    chain: usize,
-) -> bool
-    requires rows_value { rows.now ≡ table_of packed }
-    requires k_lt_record_words { (k < record_words) × (i < n) × (n ≤ length seen.old) × (record_bytes * n ≤ length file.now) }
+fn word_ok(file: &[u8], seen: &mut [u8], n: usize, i: usize, k: usize, chain: usize) -> bool
+    requires { (k < record_words) × (i < n) × (n ≤ length seen.old) × (record_bytes * n ≤ length file.now) }
     ensures { (u : Use) → chain ≡ digit u → UseTallied (word file.now) n i k u result seen.old seen.new }
 {
     if chain == 0 {
         return true;
     }
     let r = word_in(file, i, k);
-    if !reference_ok(rows, file, n, i, r, chain) {
+    if !reference_ok(file, n, i, r, chain) {
         return false;
     }
     count(seen, r);
@@ -224,15 +205,14 @@ fn word_ok(
 }
 
 // Whether the references of record i are in order. Counts what they refer to.
-fn refers_ok(rows: &[usize; KINDS_END], file: &[u8], seen: &mut [u8], n: usize, i: usize) -> bool
-    requires rows_value { rows.now ≡ table_of packed }
-    requires i_lt_n { (i < n) × (n ≤ length seen.old) × (record_bytes * n ≤ length file.now) }
+fn refers_ok(file: &[u8], seen: &mut [u8], n: usize, i: usize) -> bool
+    requires { (i < n) × (n ≤ length seen.old) × (record_bytes * n ≤ length file.now) }
     ensures { Tallied result (refers_ok (word file.now) n i) (references (word file.now) n i) seen.old seen.new }
 {
-    let mut row = row_of(rows, word_in(file, i, KIND));
+    let mut row = packed(word_in(file, i, KIND));
     for k in 1..RECORD_WORDS {
         row /= DIGIT_END;
-        if !word_ok(rows, file, seen, n, i, k, row % DIGIT_END) {
+        if !word_ok(file, seen, n, i, k, row % DIGIT_END) {
             return false;
         }
     }
@@ -240,23 +220,11 @@ fn refers_ok(rows: &[usize; KINDS_END], file: &[u8], seen: &mut [u8], n: usize, 
 }
 
 // Whether record i is in order. Counts what it refers to.
-fn record_ok(
-    rows: &[usize; KINDS_END],
-    low: &[usize; KINDS_END],
-    high: &[usize; KINDS_END],
-    file: &[u8],
-    seen: &mut [u8],
-    n: usize,
-    i: usize,
-) -> bool
-    requires rows_value { (rows.now ≡ table_of packed) × (low.now ≡ table_of low_most) × (high.now ≡ table_of high_most) }
-    requires i_lt_n { (i < n) × (n ≤ length seen.old) × (record_bytes * n ≤ length file.now) }
+fn record_ok(file: &[u8], seen: &mut [u8], n: usize, i: usize) -> bool
+    requires { (i < n) × (n ≤ length seen.old) × (record_bytes * n ≤ length file.now) }
     ensures { Tallied result (record_ok (word file.now) n i) (references (word file.now) n i) seen.old seen.new }
 {
-    if !spare_ok(low, high, file, i) {
-        return false;
-    }
-    refers_ok(rows, file, seen, n, i)
+    spare_ok(file, i) && refers_ok(file, seen, n, i)
 }
 
 // Whether every record is. Counts what they refer to.
@@ -264,11 +232,8 @@ fn records_ok(file: &[u8], seen: &mut [u8], n: usize) -> bool
     requires { (n ≤ length seen.old) × (record_bytes * n ≤ length file.now) }
     ensures { Tallied result (all (record_ok (word file.now) n) (up_from 0 n)) (references_of (word file.now) n (up_from 0 n)) seen.old seen.new }
 {
-    let table = rows();
-    let low = low_most();
-    let high = high_most();
     for i in 0..n {
-        if !record_ok(&table, &low, &high, file, seen, n, i) {
+        if !record_ok(file, seen, n, i) {
             return false;
         }
     }

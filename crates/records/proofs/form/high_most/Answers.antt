@@ -6,4 +6,4 @@ use Rattle.records.proofs.form.high_most.Goals as goal
 
 pub returns : goal.returns
 unfolding table_of kinds high_most listed row row_in padded
-returns c = refl
+returns c = c.row_of.ensures high_most refl

@@ -2,8 +2,8 @@
 use mathlib.Core.Path.{refl}
 use Rattle.language.specs.File.{row, row_in, padded, kinds, code}
 use Rattle.records.specs.Table.{packed, pack, uses, digit, table_of}
-use Rattle.records.proofs.form.rows.Goals as goal
+use Rattle.records.proofs.form.packed.Goals as goal
 
 pub returns : goal.returns
 unfolding table_of kinds packed pack uses digit code row row_in padded
-returns c = refl
+returns c = c.row_of.ensures packed refl
