@@ -1,7 +1,7 @@
 -- A table of targets becomes one of reaches, place by place: what is reached is put where the targets stood, and what is read there later leads as far.
 use Rattle.std.specs.Prelude.{ℕ, ◌+◌, ◌≤◌, ◌<◌, true, List, ◌≡◌, length, set}
 use Rattle.std.proofs.Math.Decide.{dec_lt}
-use Rattle.std.proofs.Common.{arith, ⊎_elim, refl, sym, ap, ◌∙◌}
+use Rattle.std.proofs.Common.{arith, ⊎_elim, sym, ap, ◌∙◌}
 use Rattle.sets.specs.Sets.{member, stored, subset_in}
 use Rattle.sets.specs.Members.{set_of, in_list}
 use Rattle.sets.specs.MemberLaws.{set_of_in, set_of_mk}
@@ -46,19 +46,15 @@ pub closing_first : (g : List ℕ) → Closing g 0 g
 closing_first g T S d q = record { done = λ u i l. absurd (omega (arith, region_in_law S u i)); left = λ u i l. q.at u i }
 
 -- the reach of region r is put, those before it are there
-pub closing_put : (g t : List ℕ) {k r w : ℕ} {x : Set} {u : List ℕ} → r ≡ k + 1 → Closing g k t → r < length t → RegionReach t r x → w ≡ stored x → u ≡ set t r w
+pub closing_next : (g t : List ℕ) {k r w : ℕ} {x : Set} {u : List ℕ} → r ≡ k + 1 → Closing g k t → r < length t → RegionReach t r x → w ≡ stored x → u ≡ set t r w
     → Closing g r u
-closing_put g t {k} {r} n h l f e i T S d q =
+closing_next g t {k} {r} n h l f e i T S d q =
     let m = h T S d q in
     record {
       done = λ v j b.
           ⊎_elim (λ a. a.1 ∙ f T S d (between S d t m) (rw (← a.0) j) ∙ ap (reach_from S) (sym a.0)) (λ a. a.1 ∙ m.done v j (let z = a.0 in omega (arith, z))) (set_stored t l e i v);
       left = λ v j b. ⊎_elim (λ a. absurd (let z = a.0 in omega (arith, z))) (λ a. a.1 ∙ m.left v j (omega arith)) (set_stored t l e i v);
     }
-
-pub closing_next : (g t : List ℕ) {r w : ℕ} {x : Set} {u : List ℕ} → Closing g r t → r + 1 < length t → RegionReach t (r + 1) x → w ≡ stored x → u ≡ set t (r + 1) w
-    → Closing g (r + 1) u
-closing_next g t = closing_put g t refl
 
 pub closing_last : (g t : List ℕ) {n : ℕ} → Closing g n t → (T : List (List Functor)) (S : Signature) → Declared T S → TargetTable S g → length S.regions ≤ n
     → ReachTable S t

@@ -1,6 +1,7 @@
 pub mod Targets
 pub mod Reading
 pub mod Closing
+pub mod Numbered
 pub mod Modes
 pub mod Sorting
 pub mod Along

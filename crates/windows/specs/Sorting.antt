@@ -1,17 +1,18 @@
 -- The regions of one class among those that a procedure declares, in chain order.
-use Rattle.std.specs.Prelude.{ℕ, zero, suc, ◌+◌, ◌≤◌, ◌<◌, Bool, List, [], ◌∷◌, ◌≡◌, refl, eqb, length}
+use Rattle.std.specs.Prelude.{ℕ, zero, suc, ◌+◌, ◌≤◌, ◌<◌, Bool, List, [], ◌∷◌, ◌≡◌, refl, eqb, length, map}
 use Rattle.std.proofs.Common.{arith, sym, ap, ap₂, ◌∙◌}
-use Rattle.std.proofs.Math.Numerals.{add-one}
-use borrow.Author.Tests.{eq-eqb, ne_eqb}
-use Rattle.sets.specs.Sets.{empty_set, single, ◌∪◌}
-use Rattle.sets.specs.SetLaws.{union_empty, empty_union, union_assoc}
 use Rattle.sets.specs.Members.{cons_if, members, set_of, filtered, keep}
 use Rattle.sets.specs.Rising.{Rising, rising_nil, rising_cons, members_set_of}
-use Rattle.sets.specs.declared.Set.{Set}
 use Rattle.language.specs.Lists.{nth, nth1, up_from}
-use Rattle.language.specs.Program.{Edge, Region, Signature, region_at}
+use Rattle.language.specs.Program.{Region, Signature, region_at}
 use Rattle.language.specs.Lifetimes.{of_class, declared}
-use Rattle.language.specs.Format.{max_regions}
+use Rattle.language.specs.File.{regions}
+use Rattle.language.specs.Format.{max_regions, region_class}
+use Rattle.chains.specs.Fields.{field_of}
+use Rattle.chains.specs.Formed.{Formed, Stands, regions_at}
+use Rattle.chains.specs.Records.{chain_records}
+use Rattle.chains.specs.Elements.{region_from, regions_map}
+use Rattle.windows.specs.Numbered.{numbered, numbers_with}
 use Rattle.laws.specs.Numbers.{up_from_in}
 
 -- those numbered from n on
@@ -56,25 +57,13 @@ of_class_law S c few =
     at : (k : ℕ) → classed (1 + k) ≡ eqb (nth none S.regions k).class c
     at k = let z : 1 + k ≡ suc k = omega arith in ap classed z
 
--- ---- the loop's laws: what is found and what is left make the whole
-pub record Sorting (c : ℕ) (rs₀ : List Region) (found : Set) (n : ℕ) (rs : List Region) : Type 0 where
-  pub whole : found ∪ set_of (class_from c n rs) ≡ set_of (of_class_in c rs₀)
+-- ---- they are the numbers of the records with that class
+module _ (f : List ℕ) (c : ℕ) where
+  classes_from : (n : ℕ) (js : List ℕ) → class_from c n (map (region_from f) js) ≡ numbered f region_class c n js
+  unfolding numbered class_from
+  classes_from n [] = refl
+  classes_from n (j ∷ js) = ap (cons_if (eqb (field_of f j region_class) c) n) (classes_from (suc n) js)
 
-pub sort_first : (c : ℕ) (rs : List Region) → Sorting c rs empty_set 1 rs
-unfolding of_class_in
-sort_first c rs = record { whole = empty_union (set_of (class_from c 1 rs)) }
-
-module _ {c : ℕ} {rs₀ qs rs : List Region} {found : Set} {n type class : ℕ} {edges : List Edge} (h : Sorting c rs₀ found n qs)
-    (e : qs ≡ record { type = type; class = class; edges = edges } ∷ rs) where
-  pub sort_one : class ≡ c → {s u : Set} → s ≡ single n → u ≡ found ∪ s → Sorting c rs₀ u (n + 1) rs
-  unfolding class_from cons_if set_of
-  sort_one q i j =
-      record { whole = rw (j, i, add-one n) (union_assoc found (single n) (set_of (class_from c (suc n) rs)) ∙ (rw (e, eq-eqb class c q) at h.whole)) }
-
-  pub sort_other : (class ≡ c → ⊥) → Sorting c rs₀ found (n + 1) rs
-  unfolding class_from cons_if
-  sort_other q = record { whole = rw (add-one n) (rw (e, ne_eqb class c q) at h.whole) }
-
-pub sort_last : {c : ℕ} {rs₀ qs : List Region} {found : Set} {n : ℕ} → Sorting c rs₀ found n qs → qs ≡ [] → found ≡ set_of (of_class_in c rs₀)
-unfolding class_from set_of
-sort_last {found = found} h e = sym (union_empty found) ∙ (rw e at h.whole)
+  pub classes_numbered : {i : ℕ} → Formed f → Stands f regions i → of_class_in c (regions_at f i) ≡ numbers_with f i region_class c
+  unfolding of_class_in
+  classes_numbered {i} F s = ap (of_class_in c) (regions_map F i s) ∙ classes_from 1 (chain_records f i)

@@ -1,7 +1,6 @@
 -- Stores into a table: what stands at each place afterwards.
 use Rattle.std.specs.Prelude.{ℕ, ◌+◌, ◌≤◌, ◌<◌, List, ◌≡◌, length, get_or, set}
-use Rattle.std.proofs.Math.Decide.{ℕ_discrete}
-use Rattle.std.proofs.Common.{arith, sym, ap, ◌∙◌, get_or-set_same, get_or-set_other}
+use Rattle.std.proofs.Common.{ap, ◌∙◌, get_or-set_same, get_or-set_other}
 
 -- one store: the place has it, every other is as it was
 pub set_here : (t : List ℕ) {u : List ℕ} {m w : ℕ} → m < length t → u ≡ set t m w → {p : ℕ} → p ≡ m → get_or u p 0 ≡ w
@@ -15,23 +14,3 @@ pub record StoredWords (t₀ : List ℕ) (at : ℕ) (words : List ℕ) (n : ℕ)
   pub there : (k : ℕ) → k < n → get_or t (at + k) 0 ≡ get_or words k 0
   pub before : (p : ℕ) → p < at → get_or t p 0 ≡ get_or t₀ p 0
   pub behind : (p : ℕ) → at + n ≤ p → get_or t p 0 ≡ get_or t₀ p 0
-
-module _ (t₀ : List ℕ) (at : ℕ) (words : List ℕ) where
-  pub stored_none : (t : List ℕ) {n : ℕ} → n ≡ 0 → t ≡ t₀ → StoredWords t₀ at words n t
-  stored_none t z e = record {
-    there = λ k l. absurd (omega arith);
-    before = λ p l. ap (λ (x : List ℕ). get_or x p 0) e;
-    behind = λ p l. ap (λ (x : List ℕ). get_or x p 0) e;
-  }
-
-  pub stored_more : (t : List ℕ) {n w : ℕ} {u : List ℕ} → StoredWords t₀ at words n t → at + n < length t → w ≡ get_or words n 0 → u ≡ set t (at + n) w
-      → StoredWords t₀ at words (n + 1) u
-  stored_more t {n} {w} {u} h l e g = record {
-    there = λ k m. go k m (ℕ_discrete k n);
-    before = λ p m. set_else t (at + n) w g p (λ q. omega arith) ∙ h.before p m;
-    behind = λ p m. set_else t (at + n) w g p (λ q. omega arith) ∙ h.behind p (omega arith);
-  }
-    where
-      go : (k : ℕ) → k < n + 1 → Dec (k ≡ n) → get_or u (at + k) 0 ≡ get_or words k 0
-      go k m (yes z) = set_here t l g (omega arith) ∙ e ∙ ap (λ (j : ℕ). get_or words j 0) (sym z)
-      go k m (no z) = set_else t (at + n) w g (at + k) (λ q. z (omega arith)) ∙ h.there k (omega (arith, z))

@@ -32,7 +32,7 @@ pub struct Counts {
     pub first: usize,
 }
 
-// How many words a procedure's window has, and whether its classes are right.
+// How many words a procedure's window has, and whether its classes are right. The window is there either way: this is no Option.
 #[derive(Clone, Copy)]
 pub struct Listed {
     pub size: usize,

@@ -2,7 +2,7 @@ use mathlib.Core.Path.{◌≡◌, refl, sym, ◌∙◌}
 use Rattle.std.proofs.Common.{arith}
 use lib.ListN.{length-set}
 use Rattle.sets.specs.Sets.{loaded_zero}
-use Rattle.windows.specs.Closing.{closing_first, closing_put}
+use Rattle.windows.specs.Closing.{closing_first, closing_next}
 use Rattle.windows.proofs.reaching.list_reaches.Goals as goal
 
 pub loop-r-init : goal.loop-r-init
@@ -21,7 +21,7 @@ pub loop-r-preserved : goal.loop-r-preserved
 loop-r-preserved c = let v = c.loop-r.invariant in (
   c.loop-r.r,
   refl,
-  closing_put c.args.targets.now c.loop-r.targets v.1 v.2 (omega (arith, v.3)) c.reach_from-reach.ensures.region_reach c.stored.ensures refl,
+  closing_next c.args.targets.now c.loop-r.targets v.1 v.2 (omega (arith, v.3)) c.reach_from-reach.ensures.region_reach c.stored.ensures refl,
   simp length-set v.3,
   omega arith,
 )
@@ -40,4 +40,4 @@ pub returns-2 : goal.returns-2
 returns-2 c =
     let v = c.loop-r.invariant in
     let e : c.loop-r.r ≡ c.args.n = omega arith in
-    rw (← e) (closing_put c.args.targets.now c.loop-r.targets v.1 v.2 (omega (arith, v.3)) c.reach_from-reach.ensures.region_reach c.stored.ensures refl)
+    rw (← e) (closing_next c.args.targets.now c.loop-r.targets v.1 v.2 (omega (arith, v.3)) c.reach_from-reach.ensures.region_reach c.stored.ensures refl)

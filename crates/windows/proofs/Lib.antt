@@ -1,2 +1,0 @@
-mod Variables
-mod Regions
