@@ -11,7 +11,7 @@ ghost use Rattle.lent_runs.specs.Lent.{cells_lent, regions_lent, frames_lent, pr
 use language::format::RECORD_BYTES;
 use lines::{ENDING_BYTES, NUMBER_BYTES, runner_output};
 use machine::Outcome;
-use packs::{JOBS, PACK_END, next_byte, next_bytes, next_number, print_name};
+use packs::{JOBS, next_byte, next_bytes, next_digit, next_number, print_name};
 use running::run;
 use std::io::{Print, Stdin};
 
@@ -100,18 +100,6 @@ fn run_in(
     )
 }
 
-// "printed places past the last keep their contents": whether every word from `at` on is as it was before the run.
-fn marked(words: &[u32], at: usize) -> bool {
-    let mut i = at;
-    while i < words.len() {
-        if words[i] != MARK {
-            return false;
-        }
-        i += 1;
-    }
-    true
-}
-
 fn print_lines(rt: &HostRuntime, prints: &[u32], r: Outcome)
     requires { (r.printed ≤ length prints.now) × (length prints.now ≤ prints_lent) }
 {
@@ -120,7 +108,8 @@ fn print_lines(rt: &HostRuntime, prints: &[u32], r: Outcome)
     let mut out = [0; OUTPUT_BYTES];
     let k = runner_output(&prints[..n], ending, r.steps as u64, &mut out);
     let _ = rt.write_all(&out[..k]);
-    if !marked(prints, n) {
+    // "printed places past the last keep their contents"
+    if !prints.iter().skip(n).all(|word| *word == MARK) {
         let _ = rt.write_all(b"a place behind the last number has changed\n");
     }
 }
@@ -153,36 +142,31 @@ fn try_run(rt: &HostRuntime, pack: &mut Stdin, file: &[u8]) {
 }
 
 fn try_runs(rt: &HostRuntime, pack: &mut Stdin, file: &[u8], n: usize) {
-    let mut left = n;
-    while left > 0 {
+    for _ in 0..n {
         try_run(rt, pack, file);
-        left -= 1;
     }
 }
 
 // Whether there was a job.
 fn try_job(rt: &HostRuntime, pack: &mut Stdin) -> bool {
-    let n = next_byte(pack);
-    if n == PACK_END {
+    let Some(n) = next_byte(pack) else {
         return false;
-    }
-    print_name(rt, pack, n);
+    };
+    print_name(rt, pack, usize::from(n));
     let _ = rt.write_all(b"\n");
     let mut file = file_memory();
     let bytes = next_number(pack);
     let k = next_bytes(pack, &mut file, bytes);
-    let runs = next_byte(pack);
+    let runs = next_digit(pack);
     try_runs(rt, pack, &file[..k], runs);
     true
 }
 
 fn main(rt: HostRuntime) {
     let mut pack = rt.stdin();
-    let mut left = JOBS;
-    while left > 0 {
-        left -= 1;
+    for _ in 0..JOBS {
         if !try_job(&rt, &mut pack) {
-            left = 0;
+            return;
         }
     }
 }

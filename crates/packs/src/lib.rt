@@ -1,16 +1,13 @@
 // Packs of job files, as tools/pack-jobs and pack-runs of rust/compare write them: names and files behind their lengths, numbers low byte first.
 #![tactic(auto)]
 
-ghost use Rattle.std.specs.Prelude.{◌≤◌, ◌<◌, ◌≡◌, length, take};
+ghost use Rattle.std.specs.Prelude.{◌≤◌, ◌≡◌, length, take};
 ghost use Rattle.packs.specs.Bytes.{byte_end};
 
 use std::io::{Print, Read};
 
 // What bytes are below.
-const BYTE_END: usize = 256;
-
-// What is read in place of a byte at the end of a pack.
-pub const PACK_END: usize = BYTE_END;
+pub const BYTE_END: usize = 256;
 
 // More jobs than a pack has.
 pub const JOBS: usize = 1000;
@@ -18,13 +15,8 @@ pub const JOBS: usize = 1000;
 // More bytes than a name has.
 const NAME_BYTES: usize = 4096;
 
-fn wide(x: u8) -> usize
-    ensures { result < byte_end }
-{
-    x as usize
-}
-
-// Reads until `out` is full, the pack ends or a read fails. Answers how many bytes were read.
+// Reads until `out` is full, the pack ends or a read fails. Answers how many bytes were read. (Not `read_input`: a read that fails ends the pack here, and
+// what came before it counts.)
 fn read_full<R: Read>(reader: &mut R, out: &mut [u8]) -> usize
     ensures fits { result ≤ length out.new }
     ensures counted { result ≡ length (take result out.new) }
@@ -40,22 +32,27 @@ fn read_full<R: Read>(reader: &mut R, out: &mut [u8]) -> usize
     done
 }
 
-// The next byte, or the end of the pack.
-pub fn next_byte<R: Read>(reader: &mut R) -> usize
-    ensures { result ≤ byte_end }
-{
+// The next byte, unless the pack has ended.
+pub fn next_byte<R: Read>(reader: &mut R) -> Option<u8> {
     let mut byte = [0u8; 1];
     if read_full(reader, &mut byte) == 0 {
-        return PACK_END;
+        return None;
     }
-    wide(byte[0])
+    Some(byte[0])
+}
+
+// The next byte as a number, or `BYTE_END` where the pack has ended.
+pub fn next_digit<R: Read>(reader: &mut R) -> usize
+    ensures { result ≤ byte_end }
+{
+    next_byte(reader).map_or(BYTE_END, |b| usize::from(b))
 }
 
 // The next number, in three bytes.
 pub fn next_number<R: Read>(reader: &mut R) -> usize {
-    let low = next_byte(reader);
-    let middle = next_byte(reader);
-    let high = next_byte(reader);
+    let low = next_digit(reader);
+    let middle = next_digit(reader);
+    let high = next_digit(reader);
     low + BYTE_END * (middle + BYTE_END * high)
 }
 

@@ -8,7 +8,7 @@ mod parts;
 use accepted::{OUTPUT_BYTES, print_accepted};
 use answering::print;
 use checking::check;
-use input::{Input, read_standard};
+use input::read_standard;
 use language::Verdict;
 use language::format::MAX_BYTES;
 use lines::{REFUSAL_BYTES, checker_output};
@@ -34,7 +34,7 @@ fn print_profile(rt: &HostRuntime, file: &[u8]) {
 
 fn main(rt: HostRuntime) {
     let mut file = blank_input();
-    let Input::Bytes(n) = read_standard(&rt, &mut file) else {
+    let Ok(n) = read_standard(&rt, &mut file) else {
         return;
     };
     print_profile(&rt, &file[..n]);

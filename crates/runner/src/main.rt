@@ -3,12 +3,12 @@
 #![tactic(auto)]
 
 use answering::print_run;
-use input::{Input, read_standard};
+use input::read_standard;
 use records::blank::blank_input;
 
 fn main(rt: HostRuntime) {
     let mut file = blank_input();
-    let Input::Bytes(n) = read_standard(&rt, &mut file) else {
+    let Ok(n) = read_standard(&rt, &mut file) else {
         return;
     };
     print_run(&rt, &file[..n]);

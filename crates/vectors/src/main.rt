@@ -11,7 +11,7 @@ ghost use Rattle.language.specs.Answers.{annotator_bytes};
 use annotation::annotated_front;
 use answering::{print_annotated, print_checked, print_run};
 use language::format::MAX_BYTES;
-use packs::{JOBS, PACK_END, next_byte, next_bytes, next_number, print_name};
+use packs::{JOBS, next_byte, next_bytes, next_number, print_name};
 use records::blank::blank_input;
 use std::env::{Env, FillError};
 use std::fs::File;
@@ -29,24 +29,13 @@ fn lent() -> [u8; MAX_BYTES]
     [MARK; MAX_BYTES]
 }
 
-fn marked(bytes: &[u8], at: usize) -> bool {
-    let mut i = at;
-    while i < bytes.len() {
-        if bytes[i] != MARK {
-            return false;
-        }
-        i += 1;
-    }
-    true
-}
-
 // "A good annotation is handed back as the front part of the caller's output memory; bytes behind it keep their contents", all of them after a refusal. No
 // contract of a function that hands back the part can say so: whether it is so here.
 fn keeps_the_rest(file: &[u8]) -> bool {
     let mut out = lent();
     let front = annotated_front(file, &mut out);
     let n = front.len();
-    marked(&out, n)
+    out.iter().skip(n).all(|byte| *byte == MARK)
 }
 
 fn try_file(rt: &HostRuntime, pack: &mut File, n: usize) {
@@ -62,11 +51,10 @@ fn try_file(rt: &HostRuntime, pack: &mut File, n: usize) {
 
 // Whether there was a job.
 fn try_job(rt: &HostRuntime, pack: &mut File) -> bool {
-    let n = next_byte(pack);
-    if n == PACK_END {
+    let Some(n) = next_byte(pack) else {
         return false;
-    }
-    print_name(rt, pack, n);
+    };
+    print_name(rt, pack, usize::from(n));
     let _ = rt.write_all(b" ");
     let length = next_number(pack);
     try_file(rt, pack, length);
@@ -81,11 +69,9 @@ fn try_pack(rt: &HostRuntime, path: &str) {
             return;
         }
     };
-    let mut left = JOBS;
-    while left > 0 {
-        left -= 1;
+    for _ in 0..JOBS {
         if !try_job(rt, &mut pack) {
-            left = 0;
+            return;
         }
     }
 }
