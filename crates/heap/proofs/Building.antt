@@ -1,5 +1,5 @@
 -- A construct: the answer is the definition's, and the words stand for the memory with one cell more.
-use Rattle.std.specs.Prelude.{ℕ, suc, ◌≤◌, ◌<◌, ◌≡◌, true, List, ◌∷◌, ◌++◌, ◌≢◌, length, []}
+use Rattle.std.specs.Prelude.{ℕ, suc, ◌≤◌, ◌<◌, ◌≡◌, true, List, ◌∷◌, ◌++◌, ◌≢◌, length, [], Option, Some, None}
 use Rattle.std.proofs.Math.Path.{refl}
 use Rattle.std.proofs.Common.{sym, ap, ◌∙◌, arith, lt-ltb, le-ltb, le-leb}
 use Rattle.std.proofs.Math.Decide.{ℕ_discrete}
@@ -12,8 +12,6 @@ use Rattle.laws.specs.Choices.{put_same, put_other}
 use Rattle.laws.specs.Lists.{all_append, nth_front, nth_last}
 use Rattle.memory.specs.declared.Contents.{Contents}
 use Rattle.memory.specs.declared.Heap.{Heap}
-use Rattle.memory.specs.declared.Made.{Made}
-use Rattle.memory.specs.declared.Made.TheVariants.{At, NoRoom}
 use Rattle.memory.specs.Memory.{cell_words, cell_next, cell_word, first, built, built_cells, built_regions}
 use Rattle.heap.specs.Labels.{Labels, busy, having, Vacant, vacant_busy}
 use Rattle.heap.specs.Words.{argument_words, words_of, arguments_same, FilledCell}
@@ -119,9 +117,9 @@ module _ {k : Room} {h : Heap} {m rs : List ℕ} {M : Memory} {ρ χ : ℕ → �
     }
 
   -- ---- the answer
-  build_by : (o : Made) (m' rs' : List ℕ) → B.LabelledBuilds R.labelled (ρ r) size (R.lives r er) c o m' rs' → Builds k m rs M ρ χ r new.cell o m' rs'
-  build_by NoRoom m rs (B.no_place e) = stops_11 (le-ltb (cells_held M.alive M.cells) k.cells (omega (arith, R.cell_room)))
-  build_by (At x h') m' rs' (B.new_cell l vacant ec es full others L) =
+  build_by : (o : Option (ℕ × Heap)) (m' rs' : List ℕ) → B.LabelledBuilds R.labelled (ρ r) size (R.lives r er) c o m' rs' → Builds k m rs M ρ χ r new.cell o m' rs'
+  build_by None m rs (B.no_place e) = stops_11 (le-ltb (cells_held M.alive M.cells) k.cells (omega (arith, R.cell_room)))
+  build_by (Some (x, h')) m' rs' (B.new_cell l vacant ec es full others L) =
       builds (lt-ltb (cells_held M.alive M.cells) k.cells (omega (arith, R.cell_room))) (represents_built x h' m' rs' vacant ec es full others L)
 
   pub build_ok : Builds k m rs M ρ χ r (record { functor = c.functor; contents = vs }) (built h m) (built_cells h m rs (ρ r) c) (built_regions h m rs (ρ r))

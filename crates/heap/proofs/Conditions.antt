@@ -1,5 +1,5 @@
 -- The words of an open condition (C-20) and what each of its steps does to them, in the definition's own terms.
-use Rattle.std.specs.Prelude.{ℕ, suc, ◌≤◌, ◌<◌, ◌≡◌, true, false, List, ltb, length, set}
+use Rattle.std.specs.Prelude.{ℕ, suc, ◌≤◌, ◌<◌, ◌≡◌, true, false, List, ltb, length, set, Option, Some, None}
 use Rattle.std.proofs.Math.Path.{refl}
 use Rattle.std.proofs.Common.{sym, subst, ◌∙◌}
 use Rattle.language.specs.Lists.{put}
@@ -9,8 +9,6 @@ use Rattle.language.specs.AcceptedRun.{RegionFrame, RegionCell, Memory, with_cel
 use Rattle.language.specs.Machine.{Room, cells_held, regions_held, counted_in}
 use Rattle.memory.specs.declared.Contents.{Contents}
 use Rattle.memory.specs.declared.Heap.{Heap}
-use Rattle.memory.specs.declared.Made.{Made}
-use Rattle.memory.specs.declared.Made.TheVariants.{At, NoRoom}
 use Rattle.memory.specs.Memory.{created, created_regions, built, built_cells, built_regions}
 use Rattle.memory.specs.Log.{built_in, made_at, removed_at, entry, Stored, stored, undone, freed}
 use Rattle.heap.specs.Words.{words_of}
@@ -62,15 +60,15 @@ module _ {k : Room} {s : Stored} {log : List ℕ} {i : ℕ} {n m : Memory} {ρ �
 
     -- ---- a create: it stops exactly if no region fits, as they count
     module _ (a : Goals) (f : RegionFrame) where
-      pub data CreatesIn : Made → List ℕ → Type 0 where
-        stops : ltb (regions_held (counted_in (opened a f n) m)) k.regions ≡ false → CreatesIn NoRoom s.regions
+      pub data CreatesIn : Option (ℕ × Heap) → List ℕ → Type 0 where
+        stops : ltb (regions_held (counted_in (opened a f n) m)) k.regions ≡ false → CreatesIn None s.regions
         makes : {p : ℕ} {h' : Heap} {rs' : List ℕ} → ltb (regions_held (counted_in (opened a f n) m)) k.regions ≡ true
             → Opened k (stored h' s.cells rs') (set log i (entry p made_at)) (suc i) n (with_region m) (put ρ (suc m.made) p) χ
-            → CreatesIn (At p h') rs'
+            → CreatesIn (Some (p, h')) rs'
 
-      create_by : (o : Made) (rs' : List ℕ) → Creates k s.cells s.regions O.held ρ χ o rs' → CreatesIn o rs'
-      create_by NoRoom rs' (stops_12 e) = stops (rw (regions_counted O.logged (closed_by O.stands) a f) e)
-      create_by (At p h') rs' (creates e R) =
+      create_by : (o : Option (ℕ × Heap)) (rs' : List ℕ) → Creates k s.cells s.regions O.held ρ χ o rs' → CreatesIn o rs'
+      create_by None rs' (stops_12 e) = stops (rw (regions_counted O.logged (closed_by O.stands) a f) e)
+      create_by (Some (p, h')) rs' (creates e R) =
           makes {p = p} {h' = h'} {rs' = rs'} (rw (regions_counted O.logged (closed_by O.stands) a f) e)
           (subst (λ (d : ℕ). Opened k (stored h' s.cells rs') (set log i (entry p made_at)) (suc i) n (with_region m) (put ρ (suc d) p) χ) (sym same_made)
           (record { held = with_region O.held; logged = logs_region O.logged room (closed_by O.stands) p; stands = R }))
@@ -79,21 +77,21 @@ module _ {k : Room} {s : Stored} {log : List ℕ} {i : ℕ} {n m : Memory} {ρ �
       creates_in = create_by (created s.heap s.regions) (created_regions s.heap s.regions) (create_ok O.stands)
 
       -- ---- a construct
-      pub data BuildsIn (r : ℕ) (c : Cell) : Made → List ℕ → List ℕ → Type 0 where
+      pub data BuildsIn (r : ℕ) (c : Cell) : Option (ℕ × Heap) → List ℕ → List ℕ → Type 0 where
         stops : ltb (cells_held (counted_in (opened a f n) m).alive (counted_in (opened a f n) m).cells) k.cells ≡ false
-            → BuildsIn r c NoRoom s.cells s.regions
+            → BuildsIn r c None s.cells s.regions
         makes : {x : ℕ} {h' : Heap} {m' rs' : List ℕ}
             → ltb (cells_held (counted_in (opened a f n) m).alive (counted_in (opened a f n) m).cells) k.cells ≡ true
             → Opened k (stored h' m' rs') (set log i (entry (ρ r) built_in)) (suc i) n (with_cell m (record { cell = c; region = r })) ρ (put χ (length m.cells) x)
-            → BuildsIn r c (At x h') m' rs'
+            → BuildsIn r c (Some (x, h')) m' rs'
 
       module _ (r : ℕ) (er : m.alive r ≡ true) (c : Contents) (vs : List Value) (ws : StandEach χ (length m.cells) (words_of c) vs) where
         abbrev new : Cell
         new = record { functor = c.functor; contents = vs }
 
-        build_by : (o : Made) (m' rs' : List ℕ) → Builds k s.cells s.regions O.held ρ χ r new o m' rs' → BuildsIn r new o m' rs'
-        build_by NoRoom m' rs' (stops_11 e) = stops (rw (cells_counted O.logged (closed_by O.stands) a f) e)
-        build_by (At x h') m' rs' (builds e R) =
+        build_by : (o : Option (ℕ × Heap)) (m' rs' : List ℕ) → Builds k s.cells s.regions O.held ρ χ r new o m' rs' → BuildsIn r new o m' rs'
+        build_by None m' rs' (stops_11 e) = stops (rw (cells_counted O.logged (closed_by O.stands) a f) e)
+        build_by (Some (x, h')) m' rs' (builds e R) =
             makes {x = x} {h' = h'} {m' = m'} {rs' = rs'} (rw (cells_counted O.logged (closed_by O.stands) a f) e)
             (subst
             (λ (cs : List RegionCell). Opened k (stored h' m' rs') (set log i (entry (ρ r) built_in)) (suc i) n (with_cell m (record { cell = new; region = r })) ρ (put χ (length cs) x))

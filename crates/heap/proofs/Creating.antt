@@ -1,6 +1,6 @@
 -- A create: the answer is the definition's, and the words stand for the memory with one region more.
 use Prim.Native.Nat.{ℕ, suc, ◌≤◌, ◌<◌}
-use Rattle.std.specs.Prelude.{◌≡◌, true, List, ◌≢◌, length}
+use Rattle.std.specs.Prelude.{◌≡◌, true, List, ◌≢◌, length, Option, Some, None}
 use Rattle.std.proofs.Common.{sym, ◌∙◌, arith}
 use Rattle.std.proofs.Math.Path.{ap}
 use Rattle.std.proofs.Math.Decide.{ℕ_discrete}
@@ -11,8 +11,6 @@ use Rattle.language.specs.Machine.{Room, cells_held, regions_held}
 use Rattle.laws.specs.Choices.{put_same, put_other}
 use Rattle.laws.specs.Lists.{all_weaker, all_nth}
 use Rattle.memory.specs.declared.Heap.{Heap}
-use Rattle.memory.specs.declared.Made.{Made}
-use Rattle.memory.specs.declared.Made.TheVariants.{At, NoRoom}
 use Rattle.memory.specs.Memory.{created, created_regions}
 use Rattle.heap.specs.Labels.{Labels, having, Vacant, vacant_busy}
 use Rattle.heap.specs.Counts.{cells_in, within, held_same, in_new, alive_same, alive_more}
@@ -112,9 +110,9 @@ module _ {k : Room} {h : Heap} {m rs : List ℕ} {M : Memory} {ρ χ : ℕ → �
     }
 
   -- ---- the answer
-  create_by : (o : Made) (rs' : List ℕ) → C.LabelledCreates R.labelled o rs' → Creates k m rs M ρ χ o rs'
-  create_by NoRoom rs (C.no_place e) = stops_12 (le-ltb (regions_held M) k.regions (omega (arith, R.region_room)))
-  create_by (At p h') rs' (C.new_region l vacant ec er L) =
+  create_by : (o : Option (ℕ × Heap)) (rs' : List ℕ) → C.LabelledCreates R.labelled o rs' → Creates k m rs M ρ χ o rs'
+  create_by None rs (C.no_place e) = stops_12 (le-ltb (regions_held M) k.regions (omega (arith, R.region_room)))
+  create_by (Some (p, h')) rs' (C.new_region l vacant ec er L) =
       creates (lt-ltb (regions_held M) k.regions (omega (arith, R.region_room))) (represents_created p h' rs' vacant ec er L)
 
   pub create_ok : Creates k m rs M ρ χ (created h rs) (created_regions h rs)

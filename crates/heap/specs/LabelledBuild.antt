@@ -1,16 +1,12 @@
 -- A cell is built in a region: it becomes the first of the region's cells.
-use Rattle.std.specs.Prelude.{ℕ, zero, suc, ◌+◌, ◌*◌, ◌≤◌, ◌<◌, ◌≡◌, refl, List, ◌≢◌, length}
+use Rattle.std.specs.Prelude.{ℕ, zero, suc, ◌+◌, ◌*◌, ◌≤◌, ◌<◌, ◌≡◌, refl, List, ◌≢◌, length, Option, Some, None}
 use Rattle.std.proofs.Common.{sym, ap, ◌∙◌, arith}
 use Rattle.std.proofs.Math.Decide.{ℕ_discrete}
 use Rattle.language.specs.Lists.{put}
 use Rattle.laws.specs.Choices.{put_same, put_other}
 use Rattle.memory.specs.declared.Contents.{Contents}
 use Rattle.memory.specs.declared.Pool.{Pool}
-use Rattle.memory.specs.declared.Taken.{Taken}
-use Rattle.memory.specs.declared.Taken.TheVariants.{Place, Full}
 use Rattle.memory.specs.declared.Heap.{Heap}
-use Rattle.memory.specs.declared.Made.{Made}
-use Rattle.memory.specs.declared.Made.TheVariants.{At, NoRoom}
 use Rattle.memory.specs.Memory.{cell_words, region_words, cell_next, cell_word, link, first, last, cell_taken, filled, hung, built, built_of, built_cells, built_cells_of, built_regions, built_regions_of}
 use Rattle.heap.specs.Labels.{busy, having, Labels, Vacant, vacant_busy, busy_region, busy_height}
 use Rattle.heap.specs.Pools.{NowBusy, Gave, Takes, full, gave, take_ok, stays_ok}
@@ -23,12 +19,12 @@ module _ {h : Heap} {m rs : List ℕ} {own reg : Labels} {cells regions : ℕ} (
   abbrev reg1 : Labels
   reg1 = put reg r (having (suc s))
 
-  pub data LabelledBuilds : Made → List ℕ → List ℕ → Type 0 where
-    no_place : cells ≡ h.cells.limit → LabelledBuilds NoRoom m rs
+  pub data LabelledBuilds : Option (ℕ × Heap) → List ℕ → List ℕ → Type 0 where
+    no_place : cells ≡ h.cells.limit → LabelledBuilds None m rs
     new_cell : {x : ℕ} {h' : Heap} {m' rs' : List ℕ} → cells < h.cells.limit → Vacant (own x) → h'.cells.limit ≡ h.cells.limit
         → h'.regions.limit ≡ h.regions.limit → FilledCell m' x c (first rs r)
         → ((y k : ℕ) → k < cell_words → y ≢ x → cell_word m' y k ≡ cell_word m y k)
-        → Labelled h' m' rs' (put own x (busy r s)) reg1 (suc cells) regions → LabelledBuilds (At x h') m' rs'
+        → Labelled h' m' rs' (put own x (busy r s)) reg1 (suc cells) regions → LabelledBuilds (Some (x, h')) m' rs'
 
   module _ (x : ℕ) (p : Pool) (G : Gave own (link m) h.cells H.free_cells x p) where
     abbrev m1 : List ℕ
@@ -156,14 +152,14 @@ module _ {h : Heap} {m rs : List ℕ} {own reg : Labels} {cells regions : ℕ} (
       ends = rw G.same built_ends;
     }
 
-    new_built : LabelledBuilds (At x (record { cells = p; regions = h.regions })) m1 rs1
+    new_built : LabelledBuilds (Some (x, record { cells = p; regions = h.regions })) m1 rs1
     new_built = new_cell (omega (arith, H.cell_count, G.count, G.high)) G.vacant G.same refl new others built_labelled
 
-  build_by : (t : Taken) → Takes own (link m) h.cells H.free_cells t
+  build_by : (t : Option (ℕ × Pool)) → Takes own (link m) h.cells H.free_cells t
       → LabelledBuilds (built_of h t) (built_cells_of m rs r c t) (built_regions_of h rs r t)
   unfolding built_of built_cells_of built_regions_of
-  build_by Full (full e g) = no_place (omega (arith, H.cell_count))
-  build_by (Place x p) (gave G) = new_built x p G
+  build_by None (full e g) = no_place (omega (arith, H.cell_count))
+  build_by (Some (x, p)) (gave G) = new_built x p G
 
   pub builds : LabelledBuilds (built h m) (built_cells h m rs r c) (built_regions h m rs r)
   unfolding built built_cells built_regions

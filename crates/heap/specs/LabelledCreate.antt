@@ -1,16 +1,12 @@
 -- A region is created: its place is labelled, the rest is as it was.
-use Rattle.std.specs.Prelude.{ℕ, suc, ◌+◌, ◌*◌, ◌<◌, ◌≡◌, List, set}
+use Rattle.std.specs.Prelude.{ℕ, suc, ◌+◌, ◌*◌, ◌<◌, ◌≡◌, List, set, Option, Some, None}
 use Rattle.std.proofs.Math.Path.{refl}
 use Rattle.std.proofs.Common.{sym, ap, ◌∙◌, arith, length-set}
 use Rattle.std.proofs.Math.Decide.{ℕ_discrete}
 use Rattle.language.specs.Lists.{put}
 use Rattle.laws.specs.Choices.{put_same, put_other}
 use Rattle.memory.specs.declared.Pool.{Pool}
-use Rattle.memory.specs.declared.Taken.{Taken}
-use Rattle.memory.specs.declared.Taken.TheVariants.{Place, Full}
 use Rattle.memory.specs.declared.Heap.{Heap}
-use Rattle.memory.specs.declared.Made.{Made}
-use Rattle.memory.specs.declared.Made.TheVariants.{At, NoRoom}
 use Rattle.memory.specs.Memory.{region_words, region_last, first, last, region_taken, created, created_of, created_regions, created_regions_of}
 use Rattle.heap.specs.Labels.{having, Labels, Vacant, vacant_busy}
 use Rattle.heap.specs.Pools.{Gave, Takes, full, gave, take_ok}
@@ -18,10 +14,10 @@ use Rattle.heap.specs.Words.{first_last, last_here, last_other}
 use Rattle.heap.specs.Labelled.{Ends, Labelled, having_size, ends_kept}
 
 module _ {h : Heap} {m rs : List ℕ} {own reg : Labels} {cells regions : ℕ} (H : Labelled h m rs own reg cells regions) where
-  pub data LabelledCreates : Made → List ℕ → Type 0 where
-    no_place : regions ≡ h.regions.limit → LabelledCreates NoRoom rs
+  pub data LabelledCreates : Option (ℕ × Heap) → List ℕ → Type 0 where
+    no_place : regions ≡ h.regions.limit → LabelledCreates None rs
     new_region : {r : ℕ} {h' : Heap} {rs' : List ℕ} → regions < h.regions.limit → Vacant (reg r) → h'.cells.limit ≡ h.cells.limit
-        → h'.regions.limit ≡ h.regions.limit → Labelled h' m rs' own (put reg r (having 0)) cells (suc regions) → LabelledCreates (At r h') rs'
+        → h'.regions.limit ≡ h.regions.limit → Labelled h' m rs' own (put reg r (having 0)) cells (suc regions) → LabelledCreates (Some (r, h')) rs'
 
   module _ (r : ℕ) (p : Pool) (G : Gave reg (first rs) h.regions H.free_regions r p) where
     abbrev rs1 : List ℕ
@@ -66,10 +62,10 @@ module _ {h : Heap} {m rs : List ℕ} {own reg : Labels} {cells regions : ℕ} (
       ends = created_ends;
     }
 
-  create_by : (t : Taken) → Takes reg (first rs) h.regions H.free_regions t → LabelledCreates (created_of h t) (created_regions_of h rs t)
+  create_by : (t : Option (ℕ × Pool)) → Takes reg (first rs) h.regions H.free_regions t → LabelledCreates (created_of h t) (created_regions_of h rs t)
   unfolding created_of created_regions_of
-  create_by Full (full e d) = no_place (omega (arith, H.region_count))
-  create_by (Place r p) (gave G) =
+  create_by None (full e d) = no_place (omega (arith, H.region_count))
+  create_by (Some (r, p)) (gave G) =
       new_region (omega (arith, H.region_count, G.count, G.high)) G.vacant refl G.same (created_labelled r p G)
 
   pub creates : LabelledCreates (created h rs) (created_regions h rs)

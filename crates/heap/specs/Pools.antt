@@ -1,10 +1,8 @@
 -- The free places of a sort, and what taking one does to them.
-use Rattle.std.specs.Prelude.{ℕ, zero, suc, ◌+◌, ◌≤◌, ◌<◌, ◌≡◌, refl, ◌≢◌}
+use Rattle.std.specs.Prelude.{ℕ, zero, suc, ◌+◌, ◌≤◌, ◌<◌, ◌≡◌, refl, ◌≢◌, Option, Some, None}
 use Rattle.std.proofs.Common.{sym, ap, ◌∙◌, arith}
 use Rattle.std.proofs.Math.Decide.{dec_le}
 use Rattle.memory.specs.declared.Pool.{Pool}
-use Rattle.memory.specs.declared.Taken.{Taken}
-use Rattle.memory.specs.declared.Taken.TheVariants.{Place, Full}
 use Rattle.memory.specs.Memory.{unused, taken, headed, raised}
 use Rattle.memory.specs.Laws.{take_full, take_top, take_link}
 use Rattle.heap.specs.Labels.{fresh, free, busy, Labels, Vacant, was_fresh, was_free, fresh_free, free_busy, vacant_busy, free_height}
@@ -65,9 +63,9 @@ pub record Gave (own : Labels) (next : ℕ → ℕ) (p : Pool) (f x : ℕ) (p' :
   pub count : suc (left + p.top) ≡ f + p'.top
   pub ok : (own' : Labels) (next' : ℕ → ℕ) → NowBusy own own' next next' x → PoolOk own' next' p' left
 
-pub data Takes (own : Labels) (next : ℕ → ℕ) (p : Pool) (f : ℕ) : Taken → Type 0 where
-  full : f ≡ 0 → p.top ≡ p.limit → Takes own next p f Full
-  gave : {x : ℕ} {p' : Pool} → Gave own next p f x p' → Takes own next p f (Place x p')
+pub data Takes (own : Labels) (next : ℕ → ℕ) (p : Pool) (f : ℕ) : Option (ℕ × Pool) → Type 0 where
+  full : f ≡ 0 → p.top ≡ p.limit → Takes own next p f None
+  gave : {x : ℕ} {p' : Pool} → Gave own next p f x p' → Takes own next p f (Some (x, p'))
 
 module _ {own : Labels} {next : ℕ → ℕ} {p : Pool} where
   -- the head of the chain is taken

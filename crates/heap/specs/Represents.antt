@@ -1,12 +1,10 @@
 -- The lent words stand for the definition's memory: places for numbers of cells and regions.
-use Rattle.std.specs.Prelude.{ℕ, suc, ◌≤◌, ◌<◌, ◌≡◌, true, false, List, ltb, length}
+use Rattle.std.specs.Prelude.{ℕ, suc, ◌≤◌, ◌<◌, ◌≡◌, true, false, List, ltb, length, Option, Some, None}
 use Rattle.language.specs.Lists.{nth, all, put}
 use Rattle.language.specs.Frames.{Cell, no_cell}
 use Rattle.language.specs.AcceptedRun.{RegionCell, Memory, with_cell, with_region}
 use Rattle.language.specs.Machine.{Room, cells_held, regions_held}
 use Rattle.memory.specs.declared.Heap.{Heap}
-use Rattle.memory.specs.declared.Made.{Made}
-use Rattle.memory.specs.declared.Made.TheVariants.{At, NoRoom}
 use Rattle.memory.specs.Memory.{cell_word}
 use Rattle.heap.specs.Labels.{Labels, busy, having}
 use Rattle.heap.specs.Words.{argument_words}
@@ -48,14 +46,14 @@ pub record Represents (k : Room) (h : Heap) (m rs : List ℕ) (M : Memory) (ρ �
 
 -- ---- what is proved of it: `starts`, `reads`, `place_low` and `prints` in Reading, `create_ok`, `build_ok` and `remove_ok` in the modules of their names
 -- a create stops exactly if no region fits, and then nothing changes; else the new region's number has the new place
-pub data Creates (k : Room) (m rs : List ℕ) (M : Memory) (ρ χ : ℕ → ℕ) : Made → List ℕ → Type 0 where
-  stops_12 : ltb (regions_held M) k.regions ≡ false → Creates k m rs M ρ χ NoRoom rs
+pub data Creates (k : Room) (m rs : List ℕ) (M : Memory) (ρ χ : ℕ → ℕ) : Option (ℕ × Heap) → List ℕ → Type 0 where
+  stops_12 : ltb (regions_held M) k.regions ≡ false → Creates k m rs M ρ χ None rs
   creates : {p : ℕ} {h' : Heap} {rs' : List ℕ} → ltb (regions_held M) k.regions ≡ true
-      → Represents k h' m rs' (with_region M) (put ρ (suc M.made) p) χ → Creates k m rs M ρ χ (At p h') rs'
+      → Represents k h' m rs' (with_region M) (put ρ (suc M.made) p) χ → Creates k m rs M ρ χ (Some (p, h')) rs'
 
 -- a construct of cell c in region r stops exactly if no cell fits, and then nothing changes; else the new cell's number has the new place
-pub data Builds (k : Room) (m rs : List ℕ) (M : Memory) (ρ χ : ℕ → ℕ) (r : ℕ) (c : Cell) : Made → List ℕ → List ℕ → Type 0 where
-  stops_11 : ltb (cells_held M.alive M.cells) k.cells ≡ false → Builds k m rs M ρ χ r c NoRoom m rs
+pub data Builds (k : Room) (m rs : List ℕ) (M : Memory) (ρ χ : ℕ → ℕ) (r : ℕ) (c : Cell) : Option (ℕ × Heap) → List ℕ → List ℕ → Type 0 where
+  stops_11 : ltb (cells_held M.alive M.cells) k.cells ≡ false → Builds k m rs M ρ χ r c None m rs
   builds : {x : ℕ} {h' : Heap} {m' rs' : List ℕ} → ltb (cells_held M.alive M.cells) k.cells ≡ true
       → Represents k h' m' rs' (with_cell M (record { cell = c; region = r })) ρ (put χ (length M.cells) x)
-      → Builds k m rs M ρ χ r c (At x h') m' rs'
+      → Builds k m rs M ρ χ r c (Some (x, h')) m' rs'

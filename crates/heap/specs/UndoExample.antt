@@ -1,16 +1,14 @@
 -- A condition on words, computed (C-20). Before it, one region has one cell. It builds a second cell there, makes a region, builds a cell in that and removes
 -- the first region. Undone, the first region has its one cell at its two ends, and the places taken are free again, the newest of them last.
-use Rattle.std.specs.Prelude.{ℕ, ◌≡◌, refl, List, [], ◌∷◌}
+use Rattle.std.specs.Prelude.{ℕ, ◌≡◌, refl, List, [], ◌∷◌, Option, Some, None}
 use Rattle.language.specs.Lists.{choose}
 use Rattle.memory.specs.declared.Heap.{Heap}
 use Rattle.memory.specs.Memory.{link, first, last, taken, unused, empty_heap, created, created_of, created_regions, created_regions_of, filled, hung, built_of, built, built_cells, built_cells_of, built_regions, built_regions_of, removed, removed_cells, removed_regions}
-use Rattle.memory.specs.declared.Made.{Made}
-use Rattle.memory.specs.declared.Made.TheVariants.{At, NoRoom}
 use Rattle.memory.specs.Log.{built_in, made_at, removed_at, entry, Stored, stored, unbuilt, unbuilt_cells, unhung, unbuilt_regions, without_cell, without, undone_of, undone_one, undone, freed_of, freed_one, freed}
 
-heap_of : Heap → Made → Heap
-heap_of h (At x g) = g
-heap_of h NoRoom = h
+heap_of : Heap → Option (ℕ × Heap) → Heap
+heap_of h (Some (x, g)) = g
+heap_of h None = h
 
 build : ℕ → Stored → Stored
 build r s =
@@ -34,7 +32,7 @@ log : List ℕ
 log = entry 0 built_in ∷ entry 1 made_at ∷ entry 1 built_in ∷ entry 0 removed_at ∷ []
 
 -- all three cells and both regions are held
-full : (built inside.heap inside.cells ≡ NoRoom) × (created inside.heap inside.regions ≡ NoRoom)
+full : (built inside.heap inside.cells ≡ None) × (created inside.heap inside.regions ≡ None)
 unfolding inside before build make heap_of empty_heap unused created created_regions created_of created_regions_of built built_of built_cells built_cells_of built_regions built_regions_of taken choose filled hung
 full = (refl, refl)
 

@@ -1,5 +1,6 @@
 -- Laws of `specs/Cells` that only proofs cite.
 use Prim.Native.Nat.{ℕ, ◌+◌, ◌-◌, ◌*◌, ◌≤◌, ◌<◌}
+use Rattle.std.specs.Prelude.{Option, Some, None}
 use native.Mathlib.Omega.{arith}
 use mathlib.Core.Path.{◌≡◌, refl, sym, ap, ◌∙◌}
 use mathlib.Core.Bool.{Bool, true, false}
@@ -13,8 +14,6 @@ use Rattle.language.specs.File.{word}
 use Rattle.language.specs.Format.{goal_x, switch_arms, term_functor, term_arguments}
 use Rattle.chains.specs.Records.{chain_records}
 use Rattle.memory.specs.declared.Heap.{Heap}
-use Rattle.memory.specs.declared.Made.{Made}
-use Rattle.memory.specs.declared.Made.TheVariants.{At, NoRoom}
 use Rattle.memory.specs.Memory.{cell_words, constants_from}
 use Rattle.plans.specs.Plan.{sides_from}
 use Rattle.word_machine.specs.Machine.{regions_from, arm_of}
@@ -27,16 +26,16 @@ unfolding home_for
 home_as plan i k p a fw e z = rw (e, z)
 
 module _ (f plan : List ℕ) (i k : ℕ) (h : Heap) (m rs fw : List ℕ) where
-  pub make_constant : (a t : ℕ) → a ≡ word f i term_arguments → a ≡ 0 → t ≡ word f i term_functor → Makes f plan i k h m rs fw (At (constants_from + t) h) m rs
+  pub make_constant : (a t : ℕ) → a ≡ word f i term_arguments → a ≡ 0 → t ≡ word f i term_functor → Makes f plan i k h m rs fw (Some ((constants_from + t), h)) m rs
   unfolding term_made cells_made regions_made
   make_constant a t e z et = rw (← e, z, et) (refl, refl, refl)
 
-  module _ (md : Made) (m₁ rs₁ : List ℕ) (M : Makes f plan i k h m rs fw md m₁ rs₁) where
-    pub construct_none : md ≡ NoRoom → Constructs f plan i k h m rs fw NoRoom m₁ rs₁ fw
+  module _ (md : Option (ℕ × Heap)) (m₁ rs₁ : List ℕ) (M : Makes f plan i k h m rs fw md m₁ rs₁) where
+    pub construct_none : md ≡ None → Constructs f plan i k h m rs fw None m₁ rs₁ fw
     unfolding placed
     construct_none z = (rw z at M, refl)
 
-    pub construct_made : (y : ℕ) (l : Heap) → md ≡ At y l → (x : ℕ) (fx : List ℕ) → x ≡ word f i goal_x → fx ≡ set fw (k + x) y → Constructs f plan i k h m rs fw (At y l) m₁ rs₁ fx
+    pub construct_made : (y : ℕ) (l : Heap) → md ≡ Some (y, l) → (x : ℕ) (fx : List ℕ) → x ≡ word f i goal_x → fx ≡ set fw (k + x) y → Constructs f plan i k h m rs fw (Some (y, l)) m₁ rs₁ fx
     unfolding placed
     construct_made y l z x fx ex ef = (rw z at M, rw (ef, ex))
 

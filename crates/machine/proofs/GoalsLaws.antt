@@ -1,5 +1,6 @@
 -- What the functions come to on each way through them, from what the functions that they call promise. P and k are the place of a frame's first word.
 use Prim.Native.Nat.{ℕ, ◌+◌}
+use Rattle.std.specs.Prelude.{Option, Some, None}
 use mathlib.Core.Path.{◌≡◌, refl, ap, ◌∙◌}
 use mathlib.Core.Bool.{Bool, true, false}
 use mathlib.Core.List.{List}
@@ -13,8 +14,6 @@ use Rattle.language.specs.File.{word}
 use Rattle.language.specs.Format.{lifetime_region}
 use Rattle.language.specs.Numbers.{in_range, less}
 use Rattle.memory.specs.declared.Heap.{Heap}
-use Rattle.memory.specs.declared.Made.{Made}
-use Rattle.memory.specs.declared.Made.TheVariants.{At, NoRoom}
 use Rattle.memory.specs.Memory.{created, created_regions, removed, removed_cells, removed_regions}
 use Rattle.word_machine.specs.Tables.{onto}
 use Rattle.word_machine.specs.Machine.{regions_from, sum_of_words}
@@ -49,13 +48,13 @@ module _ (b : Bool) (y z u v x a c : ℕ) (e : b ≡ less (to_z w32 y) (to_z w32
   part_else h k = rw (← ey, ← ez, ← e, h, k)
 
 -- ---- regions
-module _ (f : List ℕ) (i k : ℕ) (h : Heap) (rs fw : List ℕ) (made : Made) (rs₁ : List ℕ) (e : made ≡ created h rs) (er : rs₁ ≡ created_regions h rs) where
-  pub create_none : made ≡ NoRoom → (NoRoom ≡ created h rs) × ((rs₁ ≡ created_regions h rs) × (fw ≡ placed (k + regions_from + word f i lifetime_region) NoRoom fw))
+module _ (f : List ℕ) (i k : ℕ) (h : Heap) (rs fw : List ℕ) (made : Option (ℕ × Heap)) (rs₁ : List ℕ) (e : made ≡ created h rs) (er : rs₁ ≡ created_regions h rs) where
+  pub create_none : made ≡ None → (None ≡ created h rs) × ((rs₁ ≡ created_regions h rs) × (fw ≡ placed (k + regions_from + word f i lifetime_region) None fw))
   unfolding placed
   create_none z = (rw (← e, z), (er, refl))
 
-  pub create_made : (x y : ℕ) (l : Heap) (fx : List ℕ) → made ≡ At y l → fx ≡ set fw (k + regions_from + x) y → x ≡ word f i lifetime_region
-      → (At y l ≡ created h rs) × ((rs₁ ≡ created_regions h rs) × (fx ≡ placed (k + regions_from + word f i lifetime_region) (At y l) fw))
+  pub create_made : (x y : ℕ) (l : Heap) (fx : List ℕ) → made ≡ Some (y, l) → fx ≡ set fw (k + regions_from + x) y → x ≡ word f i lifetime_region
+      → (Some (y, l) ≡ created h rs) × ((rs₁ ≡ created_regions h rs) × (fx ≡ placed (k + regions_from + word f i lifetime_region) (Some (y, l)) fw))
   unfolding placed
   create_made x y l fx z ex ey = (rw (← e, z), (er, rw (ex, ey)))
 

@@ -1,49 +1,44 @@
 -- The number of places for cells and regions stays as it was, whatever is made and undone.
 use Prim.Native.Nat.{ℕ, zero, suc, ◌/◌}
+use Rattle.std.specs.Prelude.{Option, Some, None}
 use mathlib.Core.Path.{◌≡◌, refl, sym, ◌∙◌}
 use mathlib.Core.Bool.{Bool, true, false}
 use mathlib.Core.List.{List}
 use lib.ListN.{get_or}
 use Rattle.language.specs.Lists.{choose}
 use Rattle.memory.specs.declared.Heap.{Heap}
-use Rattle.memory.specs.declared.Made.{Made}
-use Rattle.memory.specs.declared.Made.TheVariants.{At}
-use Rattle.memory.specs.declared.Taken.TheVariants.{Place, Full}
-use Rattle.memory.specs.Building.{not_made}
+use Rattle.memory.specs.Building.{not_made, same_made}
 use Rattle.memory.specs.Memory.{headed, raised, taken, created, created_of, built, built_of, removed}
 use Rattle.memory.specs.Log.{kinds, Stored, without_cell, without, unbuilt, undone_of, undone_one, undone, freed_of, freed_one, freed}
 use Rattle.machine.specs.GoalWords.{term_made}
 use Rattle.machine.specs.Trying.{SameLimits}
 
 -- ---- what is made
-same_made : {x y : ℕ} {g h : Heap} → At x g ≡ At y h → g ≡ h
-same_made e = cc
-
 module _ (h : Heap) where
   built_by : (b d : Bool) (l y : ℕ) (g : Heap)
-      → At y g ≡ built_of h (choose b Full (choose d (Place h.cells.head (raised h.cells)) (Place h.cells.head (headed h.cells l)))) → SameLimits g h
+      → Some (y, g) ≡ built_of h (choose b None (choose d (Some (h.cells.head, raised h.cells)) (Some (h.cells.head, headed h.cells l)))) → SameLimits g h
   unfolding built_of choose
   built_by true d l y g e = absurd (not_made _ _ (sym e))
-  built_by false true l y g e = rw (same_made e) (refl, refl)
-  built_by false false l y g e = rw (same_made e) (refl, refl)
+  built_by false true l y g e = rw ((same_made e).1) (refl, refl)
+  built_by false false l y g e = rw ((same_made e).1) (refl, refl)
 
-  built_limits : (m : List ℕ) (y : ℕ) (g : Heap) → At y g ≡ built h m → SameLimits g h
+  built_limits : (m : List ℕ) (y : ℕ) (g : Heap) → Some (y, g) ≡ built h m → SameLimits g h
   unfolding built taken
   built_limits m y g e = built_by _ _ _ y g e
 
-  pub term_limits : (m : List ℕ) (t a y : ℕ) (g : Heap) (md : Made) → md ≡ term_made t a h m → md ≡ At y g → SameLimits g h
+  pub term_limits : (m : List ℕ) (t a y : ℕ) (g : Heap) (md : Option (ℕ × Heap)) → md ≡ term_made t a h m → md ≡ Some (y, g) → SameLimits g h
   unfolding term_made
-  term_limits m t zero y g md e d = rw (same_made (sym d ∙ e)) (refl, refl)
+  term_limits m t zero y g md e d = rw ((same_made (sym d ∙ e)).1) (refl, refl)
   term_limits m t (suc a) y g md e d = built_limits m y g (sym d ∙ e)
 
   created_by_law : (b d : Bool) (l y : ℕ) (g : Heap)
-      → At y g ≡ created_of h (choose b Full (choose d (Place h.regions.head (raised h.regions)) (Place h.regions.head (headed h.regions l)))) → SameLimits g h
+      → Some (y, g) ≡ created_of h (choose b None (choose d (Some (h.regions.head, raised h.regions)) (Some (h.regions.head, headed h.regions l)))) → SameLimits g h
   unfolding created_of choose
   created_by_law true d l y g e = absurd (not_made _ _ (sym e))
-  created_by_law false true l y g e = rw (same_made e) (refl, refl)
-  created_by_law false false l y g e = rw (same_made e) (refl, refl)
+  created_by_law false true l y g e = rw ((same_made e).1) (refl, refl)
+  created_by_law false false l y g e = rw ((same_made e).1) (refl, refl)
 
-  pub created_limits : (rs : List ℕ) (y : ℕ) (g : Heap) (md : Made) → md ≡ created h rs → md ≡ At y g → SameLimits g h
+  pub created_limits : (rs : List ℕ) (y : ℕ) (g : Heap) (md : Option (ℕ × Heap)) → md ≡ created h rs → md ≡ Some (y, g) → SameLimits g h
   unfolding created taken
   created_limits rs y g md e d = created_by_law _ _ _ y g (sym d ∙ e)
 

@@ -1,4 +1,5 @@
 -- Laws of `specs/Runs` that only proofs cite.
+use Rattle.std.specs.Prelude.{Result, Ok, Err}
 use Prim.Native.Nat.{ℕ, zero, suc, ◌+◌, ◌-◌, ◌≤◌, ◌<◌}
 use native.Mathlib.Omega.{arith}
 use mathlib.Core.Path.{◌≡◌, refl, sym, ap, ◌∙◌, subst}
@@ -21,14 +22,12 @@ use Rattle.plans.specs.Plan.{callee_word, callee_body}
 use Rattle.word_machine.specs.Tables.{Tables}
 use Rattle.word_machine.specs.Machine.{print_words, MachineWords, went, stops, frame_words, Outcome, ended_with, after_step, cleared, blocks, steps, settled_from, settled, settled_if, stepped, run_on, run_from, start_words, no_frame, lent_words, word_run}
 use Rattle.machine.specs.declared.State.{State}
-use Rattle.machine.specs.declared.HeapStep.{HeapStep}
-use Rattle.machine.specs.declared.HeapStep.TheVariants.{Left, Lacks}
+use Rattle.machine.specs.declared.TryDone.{TryDone}
+use Rattle.machine.specs.declared.TryStopped.{TryStopped}
 use Rattle.machine.specs.declared.Step.{Step}
-use Rattle.machine.specs.declared.Step.TheVariants.{Went as WentTo, Stops}
+use Rattle.machine.specs.declared.Step.TheVariants.{Went as WentTo}
 use Rattle.machine.specs.declared.Outcome.{Outcome as Answer}
-use Rattle.machine.specs.declared.ConditionEnd.{ConditionEnd}
-use Rattle.machine.specs.declared.ConditionEnd.TheVariants.{Left as TriedLeft, Lacks as TriedLacks}
-use Rattle.machine.specs.Trying.{Tried}
+use Rattle.machine.specs.Trying.{left_at, lacks_at, Tried}
 use Rattle.machine.specs.Words.{FramePlaced, words_of, onward_to, onward_placed, came_to, heap_came_to, Goes, HeapGoes}
 use Rattle.machine.specs.Runs.{Ran, ended_at, entry_state, first_state, run_first}
 
@@ -192,7 +191,7 @@ module _ (f : List ℕ) (T : Tables) (l : ℕ) (m₀ rs₀ fw₀ ps₀ : List �
     unfolding room_in lent_words
     room_prints = rw G.prints
 
-    pub went_on_law : (fx px : List ℕ) (v : State) (r : Step) → (s.goal ≡ 0 → ⊥) → 0 < n → Goes f T s m fw ps r fx px → r ≡ WentTo v
+    pub went_on_law : (fx px : List ℕ) (v : State) (r : Result Step Stop) → (s.goal ≡ 0 → ⊥) → 0 < n → Goes f T s m fw ps r fx px → r ≡ Ok (WentTo v)
         → length fx ≡ length fw → length px ≡ length ps → Going f T l m₀ rs₀ fw₀ ps₀ o (n - 1) h m rs fx px v
     unfolding came_to
     went_on_law fx px v r z q g er lf lp = record {
@@ -206,7 +205,7 @@ module _ (f : List ℕ) (T : Tables) (l : ℕ) (m₀ rs₀ fw₀ ps₀ : List �
     }
 
     -- a goal that changes it
-    pub changed_on : (h₁ : Heap) (m₁ rs₁ fx : List ℕ) (next : ℕ) (v : State) (r : HeapStep) → (s.goal ≡ 0 → ⊥) → 0 < n → HeapGoes f T s h m rs fw r m₁ rs₁ fx → r ≡ Left h₁
+    pub changed_on : (h₁ : Heap) (m₁ rs₁ fx : List ℕ) (next : ℕ) (v : State) (r : Result Heap Stop) → (s.goal ≡ 0 → ⊥) → 0 < n → HeapGoes f T s h m rs fw r m₁ rs₁ fx → r ≡ Ok h₁
         → next ≡ T.successor s.goal → v ≡ onward_to s next → length m₁ ≡ length m → length rs₁ ≡ length rs → length fx ≡ length fw
         → Going f T l m₀ rs₀ fw₀ ps₀ o (n - 1) h₁ m₁ rs₁ fx ps v
     unfolding heap_came_to
@@ -240,14 +239,14 @@ module _ (f : List ℕ) (T : Tables) (l : ℕ) (m₀ rs₀ fw₀ ps₀ : List �
         let a : suc (n - 1) ≡ n = omega arith in
         ran_as (Stopped c) (l - n) h m rs fw ps s o r (sym (halted f T K W c (l - n) (n - 1) s.goal z es) ∙ ap (λ j. run_on f T K j s.goal (l - n) W) a ∙ G.rest) er
 
-    pub went_stopped : (fx px : List ℕ) (c : Stop) (a : Step) (r : Answer) → (s.goal ≡ 0 → ⊥) → 0 < n → Goes f T s m fw ps a fx px → a ≡ Stops c → r ≡ ended_at (Stopped c) (l - n) s
+    pub went_stopped : (fx px : List ℕ) (c : Stop) (a : Result Step Stop) (r : Answer) → (s.goal ≡ 0 → ⊥) → 0 < n → Goes f T s m fw ps a fx px → a ≡ Err c → r ≡ ended_at (Stopped c) (l - n) s
         → Ran o r m rs fx px
     unfolding came_to
     went_stopped fx px c a r z q g ea er =
         let e = g.kept c ea in
         rw (e.0, e.1) (stopped c r z q (sym (g.comes K h rs room_frames room_prints) ∙ ap (λ t. came_to t h m rs fx px) ea) er)
 
-    pub change_stopped : (m₁ rs₁ fx : List ℕ) (c : Stop) (a : HeapStep) (r : Answer) → (s.goal ≡ 0 → ⊥) → 0 < n → HeapGoes f T s h m rs fw a m₁ rs₁ fx → a ≡ Lacks c
+    pub change_stopped : (m₁ rs₁ fx : List ℕ) (c : Stop) (a : Result Heap Stop) (r : Answer) → (s.goal ≡ 0 → ⊥) → 0 < n → HeapGoes f T s h m rs fw a m₁ rs₁ fx → a ≡ Err c
         → r ≡ ended_at (Stopped c) (l - n) s → Ran o r m₁ rs₁ fx ps
     unfolding heap_came_to
     change_stopped m₁ rs₁ fx c a r z q g ea er =
@@ -262,7 +261,7 @@ module _ (f : List ℕ) (T : Tables) (l : ℕ) (m₀ rs₀ fw₀ ps₀ : List �
     pub told : (fx px : List ℕ) → fx ≡ fw → px ≡ ps → Settled f T l m₀ rs₀ fw₀ ps₀ o n h m rs fx px s
     told fx px e d = rw (e, d) G
 
-    pub tried_on : (h₁ h₂ : Heap) (m₁ rs₁ fx : List ℕ) (i k : ℕ) (v : State) (r : ConditionEnd) → Tried f T s h n m rs fw r m₁ rs₁ fx → r ≡ TriedLeft h₁ i k → v ≡ onward_to s i
+    pub tried_on : (h₁ h₂ : Heap) (m₁ rs₁ fx : List ℕ) (i k : ℕ) (v : State) (r : Result TryDone TryStopped) → Tried f T s h n m rs fw r m₁ rs₁ fx → r ≡ left_at h₁ i k → v ≡ onward_to s i
         → (h₁.cells.limit ≡ h.cells.limit → h₁.regions.limit ≡ h.regions.limit → h₂ ≡ h₁) → length m₁ ≡ length m → length rs₁ ≡ length rs → length fx ≡ length fw
         → Going f T l m₀ rs₀ fw₀ ps₀ o k h₂ m₁ rs₁ fx ps v
     tried_on h₁ h₂ m₁ rs₁ fx i k v r t er ev eh lm lr lf =
@@ -277,7 +276,7 @@ module _ (f : List ℕ) (T : Tables) (l : ℕ) (m₀ rs₀ fw₀ ps₀ : List �
           placed = rw ev (onward_placed i (subst (FramePlaced s) (sym lf) G.placed));
         }
 
-    pub tried_stopped : (m₁ rs₁ fx : List ℕ) (c : Stop) (k : ℕ) (r : ConditionEnd) (a : Answer) → Tried f T s h n m rs fw r m₁ rs₁ fx → r ≡ TriedLacks c k
+    pub tried_stopped : (m₁ rs₁ fx : List ℕ) (c : Stop) (k : ℕ) (r : Result TryDone TryStopped) (a : Answer) → Tried f T s h n m rs fw r m₁ rs₁ fx → r ≡ lacks_at c k
         → a ≡ ended_at (Stopped c) (l - k) s → Ran o a m₁ rs₁ fx ps
     unfolding ended_at
     tried_stopped m₁ rs₁ fx c k r a t er ea =

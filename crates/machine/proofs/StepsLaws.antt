@@ -1,4 +1,5 @@
 -- What each kind of goal comes to, from what its function promises.
+use Rattle.std.specs.Prelude.{Result, Ok, Err}
 use Prim.Native.Nat.{ℕ, suc, ◌+◌, ◌-◌, ◌*◌, ◌≤◌, ◌<◌}
 use native.Mathlib.Omega.{arith}
 use mathlib.Core.Path.{◌≡◌, refl, sym, ap, ◌∙◌}
@@ -26,7 +27,7 @@ use Rattle.word_machine.specs.Tables.{Tables, onto}
 use Rattle.word_machine.specs.Machine.{print_words, Went, went, stops, frame_words, literal_word, given, sums, with_frames, value_of, prints_word, if_room, arm_of, switches, switches_on, enters_arm, arm_words, calls, callee_words, steps}
 use Rattle.machine.specs.declared.State.{State}
 use Rattle.machine.specs.declared.Step.{Step}
-use Rattle.machine.specs.declared.Step.TheVariants.{Went as WentTo, Stops, Tries}
+use Rattle.machine.specs.declared.Step.TheVariants.{Went as WentTo, Tries}
 use Rattle.machine.specs.Words.{FramePlaced, words_of, came_to, onward_to, onward_placed, Goes, GoesOrTries}
 use Rattle.machine.specs.GoalWords.{value_in, sum_at, arguments_from, words_from, functor_in, arm_for, arm_values, term_values}
 use Rattle.machine.specs.Steps.{of_kind}
@@ -66,26 +67,26 @@ module _ (f : List ℕ) (i w : ℕ) (ew : w ≡ word f i kind_word) where
   test_record z = of_kind f i w ew test_kind (k_goal k_test) refl z
 
 -- ---- answers told apart
-unfoldable told : Step → ℕ
-told (WentTo t) = 0
-told (Stops d) = 1
-told Tries = 2
+unfoldable told : Result Step Stop → ℕ
+told (Ok (WentTo t)) = 0
+told (Err d) = 1
+told (Ok Tries) = 2
 
-pub went_tries : (v : State) → WentTo v ≡ Tries → ⊥
+pub went_tries : (v : State) → ◌≡◌ {A = Result Step Stop} (Ok (WentTo v)) (Ok Tries) → ⊥
 unfolding told
 went_tries v e = let z : ◌≡◌ {A = ℕ} 0 2 = ap told e in omega arith
 
-pub stops_tries : (q : Stop) → Stops q ≡ Tries → ⊥
+pub stops_tries : (q : Stop) → ◌≡◌ {A = Result Step Stop} (Err q) (Ok Tries) → ⊥
 unfolding told
 stops_tries q e = let z : ◌≡◌ {A = ℕ} 1 2 = ap told e in omega arith
 
 -- ---- a goal that leaves the heap alone
-stopped_not : (s : State) (c : Stop) → WentTo s ≡ Stops c → ⊥
+stopped_not : (s : State) (c : Stop) → ◌≡◌ {A = Result Step Stop} (Ok (WentTo s)) (Err c) → ⊥
 unfolding told
 stopped_not s c e = let z : ◌≡◌ {A = ℕ} 0 1 = ap told e in omega arith
 
 -- what went on came to one state
-went_same : (v t : State) → WentTo v ≡ WentTo t → v ≡ t
+went_same : (v t : State) → ◌≡◌ {A = Result Step Stop} (Ok (WentTo v)) (Ok (WentTo t)) → v ≡ t
 went_same v t e = cc
 
 -- the words have frame k whole, if they hold more than k
@@ -99,7 +100,7 @@ step_fits s n limit D e l = omega (arith, D.place, room_for n (suc s.top) (rw (�
 
 module _ (f : List ℕ) (T : Tables) (s : State) (m fw ps : List ℕ) where
   -- the state as a function gives it
-  pub goes_same : (u v : State) (fx px : List ℕ) → u ≡ v → Goes f T s m fw ps (WentTo v) fx px → Goes f T s m fw ps (WentTo u) fx px
+  pub goes_same : (u v : State) (fx px : List ℕ) → u ≡ v → Goes f T s m fw ps (Ok (WentTo v)) fx px → Goes f T s m fw ps (Ok (WentTo u)) fx px
   goes_same u v fx px e g = rw e g
 
 module _ (f : List ℕ) (T : Tables) (s : State) (m fw ps : List ℕ) (D : FramePlaced s (length fw)) where
@@ -108,7 +109,7 @@ module _ (f : List ℕ) (T : Tables) (s : State) (m fw ps : List ℕ) (D : Frame
 
   -- it went on, whatever the heap is
   pub goes_on_law : (v : State) (fx px : List ℕ) → ((k : Room) (h : Heap) (rs : List ℕ) → went (words_of h m rs fx px v) ≡ Steps k h rs)
-      → FramePlaced v (length fw) → Goes f T s m fw ps (WentTo v) fx px
+      → FramePlaced v (length fw) → Goes f T s m fw ps (Ok (WentTo v)) fx px
   unfolding came_to
   goes_on_law v fx px e d = record { comes = λ k h rs a b. e k h rs; kept = λ c z. absurd (stopped_not v c z); stays = λ t z. rw (← went_same v t z) d; done = went_tries v }
 
@@ -119,7 +120,7 @@ module _ (f : List ℕ) (T : Tables) (s : State) (m fw ps : List ℕ) (D : Frame
     literal_step k h rs fx z ex = rw (literal_record f s.goal w ew z, ex, en, D.place)
 
     pub literal_goes : (fx : List ℕ) → w ≡ literal_kind → fx ≡ set fw (s.at + word f s.goal goal_x) (literal_word (word f s.goal literal_value))
-        → Goes f T s m fw ps (WentTo (onward_to s next)) fx ps
+        → Goes f T s m fw ps (Ok (WentTo (onward_to s next))) fx ps
     literal_goes fx z ex = goes_on_law _ fx ps (λ k h rs. literal_step k h rs fx z ex) (onward_placed _ D)
 
     assign_step : (k : Room) (h : Heap) (rs fx : List ℕ) → w ≡ assign_kind → fx ≡ set fw (s.at + word f s.goal goal_x) (value_in s.at fw (word f s.goal assign_y))
@@ -128,7 +129,7 @@ module _ (f : List ℕ) (T : Tables) (s : State) (m fw ps : List ℕ) (D : Frame
     assign_step k h rs fx z ex = rw (assign_record f s.goal w ew z, ex, en, D.place)
 
     pub assign_goes : (fx : List ℕ) → w ≡ assign_kind → fx ≡ set fw (s.at + word f s.goal goal_x) (value_in s.at fw (word f s.goal assign_y))
-        → Goes f T s m fw ps (WentTo (onward_to s next)) fx ps
+        → Goes f T s m fw ps (Ok (WentTo (onward_to s next))) fx ps
     assign_goes fx z ex = goes_on_law _ fx ps (λ k h rs. assign_step k h rs fx z ex) (onward_placed _ D)
 
     if_step : (k : Room) (h : Heap) (rs : List ℕ) (a g : ℕ) → w ≡ if_kind
@@ -139,7 +140,7 @@ module _ (f : List ℕ) (T : Tables) (s : State) (m fw ps : List ℕ) (D : Frame
 
     pub if_goes : (a g : ℕ) → w ≡ if_kind
         → a ≡ choose (less (to_z w32 (value_in s.at fw (word f s.goal if_y))) (to_z w32 (value_in s.at fw (word f s.goal if_z)))) (word f s.goal if_then) (word f s.goal if_else)
-        → g ≡ onto a next → Goes f T s m fw ps (WentTo (onward_to s g)) fw ps
+        → g ≡ onto a next → Goes f T s m fw ps (Ok (WentTo (onward_to s g))) fw ps
     if_goes a g z ea eg = goes_on_law _ fw ps (λ k h rs. if_step k h rs a g z ea eg) (onward_placed _ D)
 
     -- ---- a sum, v in full
@@ -149,7 +150,7 @@ module _ (f : List ℕ) (T : Tables) (s : State) (m fw ps : List ℕ) (D : Frame
     sum_step k h rs fx v z ev l ex = rw (sum_record f s.goal w ew z, ← D.place, ← ev, l, ex, en)
 
     pub sum_goes : (fx : List ℕ) (v : ℤ) → w ≡ sum_kind → v ≡ sum_at f s.goal s.at fw → in_range v ≡ true
-        → fx ≡ set fw (s.at + word f s.goal goal_x) (residue v) → Goes f T s m fw ps (WentTo (onward_to s next)) fx ps
+        → fx ≡ set fw (s.at + word f s.goal goal_x) (residue v) → Goes f T s m fw ps (Ok (WentTo (onward_to s next))) fx ps
     sum_goes fx v z ev l ex = goes_on_law _ fx ps (λ k h rs. sum_step k h rs fx v z ev l ex) (onward_placed _ D)
 
     -- ---- a print
@@ -160,7 +161,7 @@ module _ (f : List ℕ) (T : Tables) (s : State) (m fw ps : List ℕ) (D : Frame
         let o : s.printed + 1 ≡ suc s.printed = omega arith in rw (print_record f s.goal w ew z, lt-ltb s.printed k.prints l, ex, ev, en, o, D.place)
 
     pub print_goes : (px : List ℕ) (v limit : ℕ) → w ≡ print_kind → v ≡ value_in s.at fw (word f s.goal print_y) → px ≡ set ps s.printed v → limit ≡ holds (length ps) print_words
-        → s.printed < limit → Goes f T s m fw ps (WentTo (record { top = s.top; at = s.at; goal = next; printed = s.printed + 1 })) fw px
+        → s.printed < limit → Goes f T s m fw ps (Ok (WentTo (record { top = s.top; at = s.at; goal = next; printed = s.printed + 1 }))) fw px
     unfolding came_to
     print_goes px v limit z ev ex el l =
         record {
@@ -186,14 +187,14 @@ module _ (f : List ℕ) (T : Tables) (s : State) (m fw ps : List ℕ) (D : Frame
 
     pub switch_goes : (fx : List ℕ) (j g : ℕ) → w ≡ switch_kind → j ≡ arm_for f s.goal s.at m fw
         → fx ≡ term_values f j (value_in s.at fw (word f s.goal goal_x)) s.at m fw → g ≡ T.entry j
-        → Goes f T s m fw ps (WentTo (onward_to s g)) fx ps
+        → Goes f T s m fw ps (Ok (WentTo (onward_to s g))) fx ps
     switch_goes fx j g z ej ex eg = goes_on_law _ fx ps (λ k h rs. switch_step k h rs fx j g z ej ex eg) (onward_placed _ D)
 
     sum_stop : (k : Room) (h : Heap) (rs : List ℕ) (v : ℤ) → w ≡ sum_kind → v ≡ sum_at f s.goal s.at fw → in_range v ≡ false → stops Sums ≡ Steps k h rs
     unfolding steps sums if_room words_of value_of
     sum_stop k h rs v z ev l = rw (sum_record f s.goal w ew z, ← D.place, ← ev, l)
 
-    pub sum_stops : (v : ℤ) → w ≡ sum_kind → v ≡ sum_at f s.goal s.at fw → in_range v ≡ false → Goes f T s m fw ps (Stops Sums) fw ps
+    pub sum_stops : (v : ℤ) → w ≡ sum_kind → v ≡ sum_at f s.goal s.at fw → in_range v ≡ false → Goes f T s m fw ps (Err Sums) fw ps
     unfolding came_to
     sum_stops v z ev l = record { comes = λ k h rs a b. sum_stop k h rs v z ev l; kept = λ c e. (refl, refl); stays = λ t e. absurd (stopped_not t _ (sym e)); done = stops_tries _ }
 
@@ -201,7 +202,7 @@ module _ (f : List ℕ) (T : Tables) (s : State) (m fw ps : List ℕ) (D : Frame
     unfolding steps if_room words_of
     print_stop k h rs z l = rw (print_record f s.goal w ew z, le-ltb s.printed k.prints l)
 
-    pub print_stops : (limit : ℕ) → w ≡ print_kind → limit ≡ holds (length ps) print_words → limit ≤ s.printed → Goes f T s m fw ps (Stops Prints) fw ps
+    pub print_stops : (limit : ℕ) → w ≡ print_kind → limit ≡ holds (length ps) print_words → limit ≤ s.printed → Goes f T s m fw ps (Err Prints) fw ps
     unfolding came_to
     print_stops limit z el l = record { comes = λ k h rs a b. print_stop k h rs z (rw (b ∙ sym el) l); kept = λ c e. (refl, refl); stays = λ t e. absurd (stopped_not t _ (sym e)); done = stops_tries _ }
 
@@ -214,7 +215,7 @@ module _ (f : List ℕ) (T : Tables) (s : State) (m fw ps : List ℕ) (D : Frame
 
     pub call_goes : (fx : List ℕ) (g t p limit : ℕ) → w ≡ call_kind → g ≡ T.body (word f s.goal call_procedure)
         → fx ≡ callee_words f T s.top s.goal (word f s.goal call_procedure) fw → t ≡ suc s.top → p ≡ s.at + frame_words → limit ≡ holds (length fw) frame_words → suc s.top < limit
-        → Goes f T s m fw ps (WentTo (record { top = t; at = p; goal = g; printed = s.printed })) fx ps
+        → Goes f T s m fw ps (Ok (WentTo (record { top = t; at = p; goal = g; printed = s.printed }))) fx ps
     unfolding came_to
     call_goes fx g t p limit z eg ex et ep el l =
         record {
@@ -228,7 +229,7 @@ module _ (f : List ℕ) (T : Tables) (s : State) (m fw ps : List ℕ) (D : Frame
     unfolding steps if_room words_of
     call_stop k h rs z l = rw (call_record f s.goal w ew z, le-ltb (suc s.top) k.frames l)
 
-    pub call_stops : (limit : ℕ) → w ≡ call_kind → limit ≡ holds (length fw) frame_words → limit ≤ suc s.top → Goes f T s m fw ps (Stops Frames) fw ps
+    pub call_stops : (limit : ℕ) → w ≡ call_kind → limit ≡ holds (length fw) frame_words → limit ≤ suc s.top → Goes f T s m fw ps (Err Frames) fw ps
     unfolding came_to
     call_stops limit z el l = record { comes = λ k h rs a b. call_stop k h rs z (rw (a ∙ sym el) l); kept = λ c e. (refl, refl); stays = λ t e. absurd (stopped_not t _ (sym e)); done = stops_tries _ }
 
@@ -260,13 +261,13 @@ module _ (f : List ℕ) (T : Tables) (s : State) (m fw ps : List ℕ) (D : Frame
     else_step k h rs (k_goal k_test) e nl ns na nb nw ni nc np nm nr nt = rw (record_as_law f s.goal e)
 
     pub else_goes : (w ≡ literal_kind → ⊥) → (w ≡ sum_kind → ⊥) → (w ≡ assign_kind → ⊥) → (w ≡ construct_kind → ⊥) → (w ≡ switch_kind → ⊥) → (w ≡ if_kind → ⊥) → (w ≡ call_kind → ⊥) → (w ≡ print_kind → ⊥) → (w ≡ create_kind → ⊥) → (w ≡ remove_kind → ⊥) → (w ≡ try_kind → ⊥)
-        → Goes f T s m fw ps (WentTo s) fw ps
+        → Goes f T s m fw ps (Ok (WentTo s)) fw ps
     else_goes nl ns na nb nw ni nc np nm nr nt = goes_on_law s fw ps (λ k h rs. else_step k h rs _ refl nl ns na nb nw ni nc np nm nr nt) D
 
 -- ---- what a goal comes to that may be a try
 module _ (f : List ℕ) (T : Tables) (s : State) (m fw ps : List ℕ) where
-  pub goes_comes : (r : Step) (fx px : List ℕ) → Goes f T s m fw ps r fx px → GoesOrTries f T s m fw ps r fx px
+  pub goes_comes : (r : Result Step Stop) (fx px : List ℕ) → Goes f T s m fw ps r fx px → GoesOrTries f T s m fw ps r fx px
   goes_comes r fx px g = record { goes = λ n. g; tries = λ e. absurd (g.done e) }
 
-  pub try_comes : (w : ℕ) → w ≡ word f s.goal kind_word → w ≡ try_kind → GoesOrTries f T s m fw ps Tries fw ps
+  pub try_comes : (w : ℕ) → w ≡ word f s.goal kind_word → w ≡ try_kind → GoesOrTries f T s m fw ps (Ok Tries) fw ps
   try_comes w ew z = record { goes = λ n. absurd (n refl); tries = λ e. (sym ew ∙ z, refl, refl) }

@@ -1,4 +1,5 @@
 -- A condition from its try to where the run goes on outside it: what is done so far and the steps still to come make the whole.
+use Rattle.std.specs.Prelude.{Result, Ok, Err}
 use Prim.Native.Nat.{ℕ, zero, suc, ◌+◌, ◌-◌, ◌*◌, ◌≤◌, ◌<◌}
 use native.Mathlib.Omega.{arith}
 use mathlib.Core.Path.{◌≡◌, refl, sym, ap, ◌∙◌, subst}
@@ -22,14 +23,14 @@ use Rattle.plans.specs.Plan.{tables_in}
 use Rattle.word_machine.specs.Tables.{Tables, onto}
 use Rattle.word_machine.specs.Machine.{frame_words, regions_end, MachineWords, ConditionWords, Outcome, went, opens, stops, stored_in, with_stored, with_frames, saved_frame, put_back, tries, fails, leaves, enters, enters_at, after_step, settled, settled_if, steps, stepped, steps_in, stepped_in, run_on, run_in, ended_with}
 use Rattle.machine.specs.declared.State.{State}
+use Rattle.machine.specs.declared.TryDone.{TryDone}
+use Rattle.machine.specs.declared.TryStopped.{TryStopped}
 use Rattle.machine.specs.declared.ConditionStep.{ConditionStep}
-use Rattle.machine.specs.declared.ConditionStep.TheVariants.{On, Fails, Lacks}
-use Rattle.machine.specs.declared.ConditionEnd.{ConditionEnd}
-use Rattle.machine.specs.declared.ConditionEnd.TheVariants.{Left, Lacks as EndLacks}
+use Rattle.machine.specs.declared.ConditionStep.TheVariants.{On, Fails}
 use Rattle.machine.specs.Words.{FramePlaced, words_of, onward_to, onward_placed}
 use Rattle.machine.specs.Steps.{of_kind}
 use Rattle.machine.specs.Entries.{log_words, Logs, logs_none}
-use Rattle.machine.specs.Trying.{frame_numbers, saved_words, count_end, Inside, SameLimits, GoesIn, Tried}
+use Rattle.machine.specs.Trying.{left_at, lacks_at, frame_numbers, saved_words, count_end, Inside, SameLimits, GoesIn, Tried}
 use Rattle.machine.proofs.LimitsLaws.{undone_limits, freed_limits}
 
 -- ---- words moved from lists that agree
@@ -55,19 +56,27 @@ unfolding put_back
 put_back_law at k p fw own told ea S = rw ea (moved_same p 1 (frame_words * k + 1) frame_numbers own told fw S)
 
 -- ---- answers told apart
-unfoldable sort_of : ConditionEnd → ℕ
-sort_of (Left h i k) = 0
-sort_of (EndLacks c k) = 1
+-- what a nested pattern matched
+pub step_is : {A : Type 0} (r : Result A Stop) (x y : A) → r ≡ Ok x → x ≡ y → r ≡ Ok y
+step_is r x y e d = rw (← d) e
 
-left_not : {h : Heap} {i k j : ℕ} {c : Stop} → Left h i k ≡ EndLacks c j → ⊥
+unfoldable sort_of : Result TryDone TryStopped → ℕ
+sort_of (Ok d) = 0
+sort_of (Err d) = 1
+
+left_not : {h : Heap} {i k j : ℕ} {c : Stop} → left_at h i k ≡ lacks_at c j → ⊥
 unfolding sort_of
 left_not e = let z : ◌≡◌ {A = ℕ} 0 1 = ap sort_of e in omega arith
 
-same_left : {h g : Heap} {i j k n : ℕ} → Left h i k ≡ Left g j n → (h ≡ g) × (i ≡ j) × (k ≡ n)
-same_left e = (cc, cc, cc)
+same_left : {h g : Heap} {i j k n : ℕ} → left_at h i k ≡ left_at g j n → (h ≡ g) × (i ≡ j) × (k ≡ n)
+same_left {h} {g} {i} {j} {k} {n} e =
+    let d : ◌≡◌ {A = TryDone} (record { heap = h; goal = i; left = k }) (record { heap = g; goal = j; left = n }) = cc in
+    (ap (λ (t : TryDone). t.heap) d, ap (λ (t : TryDone). t.goal) d, ap (λ (t : TryDone). t.left) d)
 
-same_lacks : {c d : Stop} {k n : ℕ} → EndLacks c k ≡ EndLacks d n → (c ≡ d) × (k ≡ n)
-same_lacks e = (cc, cc)
+same_lacks : {c d : Stop} {k n : ℕ} → lacks_at c k ≡ lacks_at d n → (c ≡ d) × (k ≡ n)
+same_lacks {c} {d} {k} {n} e =
+    let x : ◌≡◌ {A = TryStopped} (record { stop = c; left = k }) (record { stop = d; left = n }) = cc in
+    (ap (λ (t : TryStopped). t.stop) x, ap (λ (t : TryStopped). t.left) x)
 
 module _ (f : List ℕ) (T : Tables) (K : Room) where
   -- what a condition comes to from c on, j steps being left and n done; g is its next goal
@@ -193,7 +202,7 @@ module _ (f : List ℕ) (T : Tables) (s : State) (h₀ : Heap) (m₀ rs₀ fw₀
   left_tried : (g : Heap) (i k : ℕ) (m₁ rs₁ fw₁ : List ℕ)
       → ((K : Room) (n : ℕ) (ps : List ℕ)
       → Whole K n ps ≡ run_on f T K k (settled f T (words_of g m₁ rs₁ fw₁ ps (onward_to s i))).goal (n + (l - k)) (settled f T (words_of g m₁ rs₁ fw₁ ps (onward_to s i))))
-      → k < l → SameLimits g h₀ → Tried f T s h₀ l m₀ rs₀ fw₀ (Left g i k) m₁ rs₁ fw₁
+      → k < l → SameLimits g h₀ → Tried f T s h₀ l m₀ rs₀ fw₀ (left_at g i k) m₁ rs₁ fw₁
   left_tried g i k m₁ rs₁ fw₁ o q e = record {
     left = λ g' i' k' d. let x = same_left d in rw (← x.0, ← x.1, ← x.2) o;
     fewer = λ g' i' k' d. let x = same_left d in rw (← x.0, ← x.2) (q, e);
@@ -203,7 +212,7 @@ module _ (f : List ℕ) (T : Tables) (s : State) (h₀ : Heap) (m₀ rs₀ fw₀
 
   lacks_tried : (c : Stop) (k : ℕ) (m₁ rs₁ fw₁ : List ℕ)
       → ((K : Room) (n : ℕ) (ps : List ℕ) → (g : Heap) × (i : ℕ) × (Whole K n ps ≡ ended_with (Stopped c) (n + (l - k)) (words_of g m₁ rs₁ fw₁ ps (onward_to s i))))
-      → k < l → Tried f T s h₀ l m₀ rs₀ fw₀ (EndLacks c k) m₁ rs₁ fw₁
+      → k < l → Tried f T s h₀ l m₀ rs₀ fw₀ (lacks_at c k) m₁ rs₁ fw₁
   lacks_tried c k m₁ rs₁ fw₁ o q = record {
     left = λ g i k' d. absurd (left_not (sym d));
     fewer = λ g i k' d. absurd (left_not (sym d));
@@ -225,7 +234,7 @@ module _ (f : List ℕ) (T : Tables) (s : State) (h₀ : Heap) (m₀ rs₀ fw₀
 
     -- ---- the condition has ended
     pub along_leaves : u.goal ≡ 0 → (g : Heap) (m₁ rs₁ : List ℕ) (i : ℕ) → ((told : List ℕ) → Logs log told k → Is g m₁ rs₁ (freed told k (stored h m rs))) → i ≡ then_goal
-        → Tried f T s h₀ l m₀ rs₀ fw₀ (Left g i j) m₁ rs₁ fw
+        → Tried f T s h₀ l m₀ rs₀ fw₀ (left_at g i j) m₁ rs₁ fw
     along_leaves z g m₁ rs₁ i F ei = left_tried g i j m₁ rs₁ fw (λ K n ps. out K n ps) (omega (arith, A.counted)) lim
       where
         lim : SameLimits g h₀
@@ -240,7 +249,7 @@ module _ (f : List ℕ) (T : Tables) (s : State) (h₀ : Heap) (m₀ rs₀ fw₀
         out K n ps = let c = A.stands K n ps in rw (← left_words g m₁ rs₁ i ps c.here c.inside c.then_part F ei) (c.rest ∙ entered_none f T K u.goal j (n + (l - j)) c.here z)
 
     -- ---- no step is left
-    pub along_spent : (u.goal ≡ 0 → ⊥) → j ≡ 0 → Tried f T s h₀ l m₀ rs₀ fw₀ (EndLacks Steps j) m rs fw
+    pub along_spent : (u.goal ≡ 0 → ⊥) → j ≡ 0 → Tried f T s h₀ l m₀ rs₀ fw₀ (lacks_at Steps j) m rs fw
     along_spent z e = lacks_tried Steps j m rs fw out (omega (arith, A.counted))
       where
         out : (K : Room) (n : ℕ) (ps : List ℕ) → (g : Heap) × (i : ℕ) × (Whole K n ps ≡ ended_with (Stopped Steps) (n + (l - j)) (words_of g m rs fw ps (onward_to s i)))
@@ -295,9 +304,9 @@ module _ (f : List ℕ) (T : Tables) (s : State) (h₀ : Heap) (m₀ rs₀ fw₀
         frames = A.frames;
       }
 
-      module _ {r : ConditionStep} {m₁ rs₁ fw₁ log₁ : List ℕ} (G : GoesIn f T u h k m rs fw log r m₁ rs₁ fw₁ log₁) where
+      module _ {r : Result ConditionStep Stop} {m₁ rs₁ fw₁ log₁ : List ℕ} (G : GoesIn f T u h k m rs fw log r m₁ rs₁ fw₁ log₁) where
         -- it goes on in the condition
-        pub along_on : (g : Heap) (i b : ℕ) (v : State) → r ≡ On g i b → v ≡ onward_to u i → length m₁ ≡ length m → length rs₁ ≡ length rs → length fw₁ ≡ length fw
+        pub along_on : (g : Heap) (i b : ℕ) (v : State) → r ≡ Ok (On g i b) → v ≡ onward_to u i → length m₁ ≡ length m → length rs₁ ≡ length rs → length fw₁ ≡ length fw
             → Along log₁ g m₁ rs₁ fw₁ v b (j - 1)
         unfolding words_of
         along_on g i b v e ev lm lr lf =
@@ -327,7 +336,7 @@ module _ (f : List ℕ) (T : Tables) (s : State) (h₀ : Heap) (m₀ rs₀ fw₀
             }
 
         -- a cause to stop
-        pub along_lacks : (c : Stop) → r ≡ Lacks c → Tried f T s h₀ l m₀ rs₀ fw₀ (EndLacks c j) m₁ rs₁ fw₁
+        pub along_lacks : (c : Stop) → r ≡ Err c → Tried f T s h₀ l m₀ rs₀ fw₀ (lacks_at c j) m₁ rs₁ fw₁
         along_lacks c e = let d = G.kept c e in rw (d.0, d.1, d.2) (lacks_tried c j m rs fw out (omega (arith, A.counted)))
           where
             out : (K : Room) (n : ℕ) (ps : List ℕ) → (g : Heap) × (i : ℕ) × (Whole K n ps ≡ ended_with (Stopped c) (n + (l - j)) (words_of g m rs fw ps (onward_to s i)))
@@ -348,9 +357,9 @@ module _ (f : List ℕ) (T : Tables) (s : State) (h₀ : Heap) (m₀ rs₀ fw₀
             let e = F c.log I.logs in
             rw (I.words, I.count, t, ei, e.0, e.1, e.2, ← put_back_law u.at u.top p fw own c.own A.placed.place S, ← ef, A.state) refl
 
-        pub along_fails : r ≡ Fails → (g : Heap) (m₂ rs₂ fw₂ : List ℕ) (i : ℕ)
+        pub along_fails : r ≡ Ok Fails → (g : Heap) (m₂ rs₂ fw₂ : List ℕ) (i : ℕ)
             → ((told : List ℕ) → Logs log₁ told k → Is g m₂ rs₂ (undone told k (stored h m₁ rs₁))) → fw₂ ≡ moved p (u.at + 1) frame_numbers own fw₁ → i ≡ else_goal
-            → Tried f T s h₀ l m₀ rs₀ fw₀ (Left g i (j - 1)) m₂ rs₂ fw₂
+            → Tried f T s h₀ l m₀ rs₀ fw₀ (left_at g i (j - 1)) m₂ rs₂ fw₂
         along_fails e g m₂ rs₂ fw₂ i F ef ei = left_tried g i (j - 1) m₂ rs₂ fw₂ (λ K n ps. out K n ps) (omega (arith, A.counted)) lim
           where
             d : (m₁ ≡ m) × (rs₁ ≡ rs) × (fw₁ ≡ fw) × (log₁ ≡ log)
@@ -379,7 +388,7 @@ pub along_start : (f : List ℕ) (T : Tables) (s r : State) (h : Heap) (m rs fw 
     → g ≡ word f s.goal try_condition → Along f T (onward_to r s.goal) h m rs fw l p own log h m rs fw r 0 (l - 1)
 along_start f T s r h m rs fw l p own log own₀ g er q z t D ll lp lo eo eg = rw er (along_first f T s h m rs fw l p own log own₀ g (onward_to s g) q z t D ll lp lo eo eg refl)
 
-pub tried_as : (f : List ℕ) (T : Tables) (s r : State) (g : ℕ) → r ≡ onward_to s g → (h : Heap) (l : ℕ) (m rs fw : List ℕ) (e : ConditionEnd) (m₁ rs₁ fw₁ : List ℕ)
+pub tried_as : (f : List ℕ) (T : Tables) (s r : State) (g : ℕ) → r ≡ onward_to s g → (h : Heap) (l : ℕ) (m rs fw : List ℕ) (e : Result TryDone TryStopped) (m₁ rs₁ fw₁ : List ℕ)
     → Tried f T (onward_to r s.goal) h l m rs fw e m₁ rs₁ fw₁ → Tried f T s h l m rs fw e m₁ rs₁ fw₁
 tried_as f T s r g er h l m rs fw e m₁ rs₁ fw₁ t = rw er at t
 
@@ -388,6 +397,6 @@ unfolding tables_in
 goal_as plan images callees r a i e = e
 
 -- ---- a state and a heap of its own
-pub tried_apart : (f : List ℕ) (T : Tables) (s u : State) (h g : Heap) (l : ℕ) (m rs fw : List ℕ) (r : ConditionEnd) (m₁ rs₁ fw₁ : List ℕ) → u ≡ onward_to s s.goal → g ≡ h
+pub tried_apart : (f : List ℕ) (T : Tables) (s u : State) (h g : Heap) (l : ℕ) (m rs fw : List ℕ) (r : Result TryDone TryStopped) (m₁ rs₁ fw₁ : List ℕ) → u ≡ onward_to s s.goal → g ≡ h
     → Tried f T u g l m rs fw r m₁ rs₁ fw₁ → Tried f T s h l m rs fw r m₁ rs₁ fw₁
 tried_apart f T s u h g l m rs fw r m₁ rs₁ fw₁ e d t = subst (λ v. Tried f T v h l m rs fw r m₁ rs₁ fw₁) e (subst (λ k. Tried f T u k l m rs fw r m₁ rs₁ fw₁) d t)

@@ -1,5 +1,6 @@
 -- What each kind of goal comes to in an open condition, from what its function promises.
 use Prim.Native.Nat.{ℕ, zero, suc, ◌+◌, ◌*◌, ◌≤◌}
+use Rattle.std.specs.Prelude.{Option, Some, None, Ok, Err, Result}
 use native.Mathlib.Omega.{arith}
 use mathlib.Core.Path.{◌≡◌, refl, sym, ap, ◌∙◌}
 use mathlib.Core.Bool.{Bool, true, false}
@@ -20,18 +21,16 @@ use Rattle.chains.specs.Shapes.{goal_number}
 use Rattle.records.specs.declared.Record.{Record}
 use Rattle.records.specs.declared.Record.TheVariants.{Literal, Sum, Assign, Switch}
 use Rattle.memory.specs.declared.Heap.{Heap}
-use Rattle.memory.specs.declared.Made.{Made}
-use Rattle.memory.specs.declared.Made.TheVariants.{At, NoRoom}
+use Rattle.memory.specs.Building.{same_made}
 use Rattle.memory.specs.Memory.{created}
 use Rattle.memory.specs.Log.{built_in, made_at, removed_at, entry}
 use Rattle.plans.specs.Plan.{sides_from, tables_in}
 use Rattle.word_machine.specs.Tables.{Tables}
 use Rattle.word_machine.specs.Machine.{print_words, frame_words, regions_from, MachineWords, ConditionWords, Went, went, opens, stops, in_words, logged, with_stored, with_frames, fails, enters, enters_at, if_room, if_room_in, sums, value_of, region_for, constructs, constructed, constructed_by, constructs_in, constructed_in, makes_region, created_by, makes_region_in, created_in, drops_region_in, steps, steps_in}
 use Rattle.machine.specs.declared.State.{State}
-use Rattle.machine.specs.declared.Step.TheVariants.{Went as WentTo, Stops}
-use Rattle.machine.specs.declared.HeapStep.TheVariants.{Left, Lacks as HeapLacks}
+use Rattle.machine.specs.declared.Step.TheVariants.{Went as WentTo}
 use Rattle.machine.specs.declared.ConditionStep.{ConditionStep}
-use Rattle.machine.specs.declared.ConditionStep.TheVariants.{On, Fails, Lacks}
+use Rattle.machine.specs.declared.ConditionStep.TheVariants.{On, Fails}
 use Rattle.machine.specs.Words.{words_of, onward_to, came_to, heap_came_to, Goes, HeapGoes}
 use Rattle.machine.specs.Steps.{construct_record, create_record, remove_record}
 use Rattle.machine.specs.Entries.{noted, logs_next}
@@ -39,30 +38,30 @@ use Rattle.machine.specs.Trying.{Inside, SameLimits, Onward, GoesIn, fails_in}
 use Rattle.machine.proofs.StepsLaws.{literal_record, sum_record, assign_record, switch_record, test_record}
 
 -- ---- answers told apart
-unfoldable sort : ConditionStep → ℕ
-sort (On h i n) = 0
-sort Fails = 1
-sort (Lacks c) = 2
+unfoldable sort : Result ConditionStep Stop → ℕ
+sort (Ok (On h i n)) = 0
+sort (Ok Fails) = 1
+sort (Err c) = 2
 
-apart : {a b : ℕ} → (a ≡ b → ⊥) → (r s : ConditionStep) → sort r ≡ a → sort s ≡ b → r ≡ s → ⊥
+apart : {a b : ℕ} → (a ≡ b → ⊥) → (r s : Result ConditionStep Stop) → sort r ≡ a → sort s ≡ b → r ≡ s → ⊥
 apart n r s er es e = n (sym er ∙ ap sort e ∙ es)
 
-on_fails : (h : Heap) (i n : ℕ) → On h i n ≡ Fails → ⊥
+on_fails : (h : Heap) (i n : ℕ) → ◌≡◌ {A = Result ConditionStep Stop} (Ok (On h i n)) (Ok Fails) → ⊥
 unfolding sort
 on_fails h i n e = let z : ◌≡◌ {A = ℕ} 0 1 = ap sort e in omega arith
 
-on_lacks : (h : Heap) (i n : ℕ) (q : Stop) → On h i n ≡ Lacks q → ⊥
+on_lacks : (h : Heap) (i n : ℕ) (q : Stop) → ◌≡◌ {A = Result ConditionStep Stop} (Ok (On h i n)) (Err q) → ⊥
 unfolding sort
 on_lacks h i n q e = let z : ◌≡◌ {A = ℕ} 0 2 = ap sort e in omega arith
 
-fails_lacks : (q : Stop) → Fails ≡ Lacks q → ⊥
+fails_lacks : (q : Stop) → ◌≡◌ {A = Result ConditionStep Stop} (Ok Fails) (Err q) → ⊥
 unfolding sort
 fails_lacks q e = let z : ◌≡◌ {A = ℕ} 1 2 = ap sort e in omega arith
 
-same_on : {h g : Heap} {i j n k : ℕ} → On h i n ≡ On g j k → (h ≡ g) × (i ≡ j) × (n ≡ k)
+same_on : {h g : Heap} {i j n k : ℕ} → ◌≡◌ {A = Result ConditionStep Stop} (Ok (On h i n)) (Ok (On g j k)) → (h ≡ g) × (i ≡ j) × (n ≡ k)
 same_on e = (cc, cc, cc)
 
-same_lacks : {p q : Stop} → Lacks p ≡ Lacks q → p ≡ q
+same_lacks : {p q : Stop} → ◌≡◌ {A = Result ConditionStep Stop} (Err p) (Err q) → p ≡ q
 same_lacks e = cc
 
 unfoldable went_on : Went → ℕ
@@ -81,7 +80,7 @@ same_went e = cc
 module _ (f : List ℕ) (T : Tables) (s : State) (h : Heap) (n : ℕ) (m rs fw log : List ℕ) where
   pub goes_on_in : (g : Heap) (i k : ℕ) (m₁ rs₁ fw₁ log₁ : List ℕ)
       → ((ps : List ℕ) (c : ConditionWords) → Inside log h m rs fw ps s n c → Onward f T s c log₁ g m₁ rs₁ fw₁ ps i k) → SameLimits g h → k ≤ suc n
-      → ((ps : List ℕ) → fails_in (record_at f s.goal) (words_of h m rs fw ps s) ≡ false) → GoesIn f T s h n m rs fw log (On g i k) m₁ rs₁ fw₁ log₁
+      → ((ps : List ℕ) → fails_in (record_at f s.goal) (words_of h m rs fw ps s) ≡ false) → GoesIn f T s h n m rs fw log (Ok (On g i k)) m₁ rs₁ fw₁ log₁
   goes_on_in g i k m₁ rs₁ fw₁ log₁ o l q p = record {
     on = λ g' i' k' e ps c I. let d = same_on e in rw (← d.0, ← d.1, ← d.2) (o ps c I);
     limits = λ g' i' k' e. let d = same_on e in rw (← d.0, ← d.2) (l, q);
@@ -94,7 +93,7 @@ module _ (f : List ℕ) (T : Tables) (s : State) (h : Heap) (n : ℕ) (m rs fw l
   }
 
   pub lacks_in : (q : Stop) → ((ps : List ℕ) (c : ConditionWords) → Inside log h m rs fw ps s n c → steps_in f T s.goal (record_at f s.goal) c ≡ stops q)
-      → (m₁ rs₁ fw₁ : List ℕ) → (m₁ ≡ m) × (rs₁ ≡ rs) × (fw₁ ≡ fw) → GoesIn f T s h n m rs fw log (Lacks q) m₁ rs₁ fw₁ log
+      → (m₁ rs₁ fw₁ : List ℕ) → (m₁ ≡ m) × (rs₁ ≡ rs) × (fw₁ ≡ fw) → GoesIn f T s h n m rs fw log (Err q) m₁ rs₁ fw₁ log
   lacks_in q o m₁ rs₁ fw₁ E = record {
     on = λ g i k e. absurd (on_lacks g i k q (sym e));
     limits = λ g i k e. absurd (on_lacks g i k q (sym e));
@@ -107,7 +106,7 @@ module _ (f : List ℕ) (T : Tables) (s : State) (h : Heap) (n : ℕ) (m rs fw l
   }
 
   pub fails_in_law : ((ps : List ℕ) (c : ConditionWords) → Inside log h m rs fw ps s n c → steps_in f T s.goal (record_at f s.goal) c ≡ went (fails c))
-      → ((ps : List ℕ) → fails_in (record_at f s.goal) (words_of h m rs fw ps s) ≡ true) → GoesIn f T s h n m rs fw log Fails m rs fw log
+      → ((ps : List ℕ) → fails_in (record_at f s.goal) (words_of h m rs fw ps s) ≡ true) → GoesIn f T s h n m rs fw log (Ok Fails) m rs fw log
   fails_in_law o p = record {
     on = λ g i k e. absurd (on_fails g i k (sym e));
     limits = λ g i k e. absurd (on_fails g i k (sym e));
@@ -190,7 +189,7 @@ module _ (f : List ℕ) (T : Tables) (s : State) (h : Heap) (n : ℕ) (m rs fw l
     came : steps_in f T s.goal (record_at f s.goal) c ≡ via_in w c
     came = rw (e, eR, ← I.words) (A _ c)
 
-  value_onward : (next : ℕ) (fx ps : List ℕ) (c : ConditionWords) → Inside log h m rs fw ps s n c → Goes f T s m fw ps (WentTo (onward_to s next)) fx ps
+  value_onward : (next : ℕ) (fx ps : List ℕ) (c : ConditionWords) → Inside log h m rs fw ps s n c → Goes f T s m fw ps (Ok (WentTo (onward_to s next))) fx ps
       → Onward f T s c log h m rs fx ps next n
   unfolding came_to via_in in_words room
   value_onward next fx ps c I g = record {
@@ -202,22 +201,22 @@ module _ (f : List ℕ) (T : Tables) (s : State) (h : Heap) (n : ℕ) (m rs fw l
     else_part = refl;
   }
 
-  pub value_goes_in : (next : ℕ) (fx : List ℕ) → ((ps : List ℕ) → Goes f T s m fw ps (WentTo (onward_to s next)) fx ps)
-      → GoesIn f T s h n m rs fw log (On h next n) m rs fx log
+  pub value_goes_in : (next : ℕ) (fx : List ℕ) → ((ps : List ℕ) → Goes f T s m fw ps (Ok (WentTo (onward_to s next))) fx ps)
+      → GoesIn f T s h n m rs fw log (Ok (On h next n)) m rs fx log
   value_goes_in next fx g = goes_on_in f T s h n m rs fw log h next n m rs fx log (λ ps c I. value_onward next fx ps c I (g ps)) (refl, refl) (omega arith) (λ ps. P _)
 
-  value_stops : (q : Stop) (ps : List ℕ) (c : ConditionWords) → Inside log h m rs fw ps s n c → Goes f T s m fw ps (Stops q) fw ps
+  value_stops : (q : Stop) (ps : List ℕ) (c : ConditionWords) → Inside log h m rs fw ps s n c → Goes f T s m fw ps (Err q) fw ps
       → steps_in f T s.goal (record_at f s.goal) c ≡ stops q
   unfolding came_to via_in room
   value_stops q ps c I g = came ps c I (stops q) (g.comes _ h rs refl refl)
 
-  pub value_lacks_in : (q : Stop) → ((ps : List ℕ) → Goes f T s m fw ps (Stops q) fw ps) → GoesIn f T s h n m rs fw log (Lacks q) m rs fw log
+  pub value_lacks_in : (q : Stop) → ((ps : List ℕ) → Goes f T s m fw ps (Err q) fw ps) → GoesIn f T s h n m rs fw log (Err q) m rs fw log
   value_lacks_in q g = lacks_in f T s h n m rs fw log q (λ ps c I. value_stops q ps c I (g ps)) m rs fw (refl, refl, refl)
 
 -- ---- by the number of the kind, w
 module _ (f : List ℕ) (T : Tables) (s : State) (h : Heap) (n : ℕ) (m rs fw log : List ℕ) (w : ℕ) (ew : w ≡ word f s.goal kind_word) where
   abbrev Says : ℕ → List ℕ → Type 0
-  Says next fx = ((ps : List ℕ) → Goes f T s m fw ps (WentTo (onward_to s next)) fx ps) → GoesIn f T s h n m rs fw log (On h next n) m rs fx log
+  Says next fx = ((ps : List ℕ) → Goes f T s m fw ps (Ok (WentTo (onward_to s next))) fx ps) → GoesIn f T s h n m rs fw log (Ok (On h next n)) m rs fx log
 
   pub literal_in_law : w ≡ literal_kind → (next : ℕ) (fx : List ℕ) → Says next fx
   literal_in_law z next fx g = value_goes_in f T s h n m rs fw log _ (literal_record f s.goal w ew z) (λ k c. literal_alike f T k s.goal c _ _ _) (λ v. passes_by f s.goal v w ew (λ t. omega (arith, z, t))) next fx g
@@ -231,7 +230,7 @@ module _ (f : List ℕ) (T : Tables) (s : State) (h : Heap) (n : ℕ) (m rs fw l
   pub sum_in_law : w ≡ sum_kind → (next : ℕ) (fx : List ℕ) → Says next fx
   sum_in_law z next fx g = value_goes_in f T s h n m rs fw log _ (sum_record f s.goal w ew z) (λ k c. sum_alike f T k s.goal c _ _ _ _ _) (λ v. passes_by f s.goal v w ew (λ t. omega (arith, z, t))) next fx g
 
-  pub sum_lacks_in : w ≡ sum_kind → (q : Stop) → ((ps : List ℕ) → Goes f T s m fw ps (Stops q) fw ps) → GoesIn f T s h n m rs fw log (Lacks q) m rs fw log
+  pub sum_lacks_in : w ≡ sum_kind → (q : Stop) → ((ps : List ℕ) → Goes f T s m fw ps (Err q) fw ps) → GoesIn f T s h n m rs fw log (Err q) m rs fw log
   sum_lacks_in z q g = value_lacks_in f T s h n m rs fw log _ (sum_record f s.goal w ew z) (λ k c. sum_alike f T k s.goal c _ _ _ _ _) (λ v. passes_by f s.goal v w ew (λ t. omega (arith, z, t))) q g
 
 -- ---- constructs: without arguments a constant, with some a cell, which is logged
@@ -241,15 +240,15 @@ with_cell_in zero c w p = in_words c w
 with_cell_in (suc a) c w p = logged c w (entry p built_in)
 
 module _ (c : ConditionWords) (x i p : ℕ) (m rs : List ℕ) where
-  made_alike : (md : Made) (w : MachineWords) → constructed_by c.words x i m rs md ≡ went w → constructed_in c x i p m rs md ≡ enters (logged c w (entry p built_in))
+  made_alike : (md : Option (ℕ × Heap)) (w : MachineWords) → constructed_by c.words x i m rs md ≡ went w → constructed_in c x i p m rs md ≡ enters (logged c w (entry p built_in))
   unfolding constructed_by constructed_in with_stored
-  made_alike (At y h) w e = let z = same_went e in rw (← z) refl
-  made_alike NoRoom w e = absurd (stops_went e)
+  made_alike (Some (y, h)) w e = let z = same_went e in rw (← z) refl
+  made_alike None w e = absurd (stops_went e)
 
-  made_stops : (md : Made) (q : Stop) → constructed_by c.words x i m rs md ≡ stops q → constructed_in c x i p m rs md ≡ stops q
+  made_stops : (md : Option (ℕ × Heap)) (q : Stop) → constructed_by c.words x i m rs md ≡ stops q → constructed_in c x i p m rs md ≡ stops q
   unfolding constructed_by constructed_in
-  made_stops (At y h) q e = absurd (stops_went (sym e))
-  made_stops NoRoom q e = e
+  made_stops (Some (y, h)) q e = absurd (stops_went (sym e))
+  made_stops None q e = e
 
 module _ (c : ConditionWords) (x i r t : ℕ) where
   constructs_alike : (a b d e : ℕ) (w : MachineWords) → constructs c.words x i r t a b d e ≡ went w
@@ -274,7 +273,7 @@ module _ (f plan images callees : List ℕ) (s : State) (h : Heap) (n : ℕ) (m 
   unfolding region_for words_of tables_in
   home_place_law ps p e = rw (e, D)
 
-  module _ (z : w ≡ construct_kind) (l : Heap) (m₁ rs₁ fx : List ℕ) (G : HeapGoes f T s h m rs fw (Left l) m₁ rs₁ fx) (next : ℕ) (en : next ≡ T.successor s.goal)
+  module _ (z : w ≡ construct_kind) (l : Heap) (m₁ rs₁ fx : List ℕ) (G : HeapGoes f T s h m rs fw (Ok l) m₁ rs₁ fx) (next : ℕ) (en : next ≡ T.successor s.goal)
       (lim : SameLimits l h) where
     construct_onward : (ps : List ℕ) (c : ConditionWords) → Inside log h m rs fw ps s n c → (p : ℕ) → region_for (words_of h m rs fw ps s) (T.region s.goal) ≡ p
         → steps_in f T s.goal (record_at f s.goal) c ≡ enters (with_cell_in (word f s.goal term_arguments) c (words_of l m₁ rs₁ fx ps (onward_to s next)) p)
@@ -285,7 +284,7 @@ module _ (f plan images callees : List ℕ) (s : State) (h : Heap) (n : ℕ) (m 
         rw (q, ← ep, ← I.words) (constructs_alike c _ _ _ _ _ _ _ _ _ (rw I.words (sym (rw q at g))))
 
     -- without arguments
-    pub constant_in : word f s.goal term_arguments ≡ 0 → GoesIn f T s h n m rs fw log (On l next n) m₁ rs₁ fx log
+    pub constant_in : word f s.goal term_arguments ≡ 0 → GoesIn f T s h n m rs fw log (Ok (On l next n)) m₁ rs₁ fx log
     unfolding with_cell_in in_words
     constant_in e =
         goes_on_in f T s h n m rs fw log l next n m₁ rs₁ fx log
@@ -305,7 +304,7 @@ module _ (f plan images callees : List ℕ) (s : State) (h : Heap) (n : ℕ) (m 
     some (suc a) z c v p = refl
 
     pub cell_in_law : (word f s.goal term_arguments ≡ 0 → ⊥) → (p k : ℕ) (log₁ : List ℕ) → p ≡ get_or fw (s.at + regions_from + get_or plan (sides_from + s.goal) 0) 0
-        → log₁ ≡ noted n p built_in log → k ≡ suc n → GoesIn f T s h n m rs fw log (On l next k) m₁ rs₁ fx log₁
+        → log₁ ≡ noted n p built_in log → k ≡ suc n → GoesIn f T s h n m rs fw log (Ok (On l next k)) m₁ rs₁ fx log₁
     unfolding logged
     cell_in_law e p k log₁ ep el ek =
         goes_on_in f T s h n m rs fw log l next k m₁ rs₁ fx log₁
@@ -318,8 +317,8 @@ module _ (f plan images callees : List ℕ) (s : State) (h : Heap) (n : ℕ) (m 
           else_part = refl;
         }) lim (omega arith) (λ ps. passes_by f s.goal _ w ew (λ t. omega (arith, z, t)))
 
-  pub construct_lacks_in : w ≡ construct_kind → (q : Stop) (m₁ rs₁ fx : List ℕ) → HeapGoes f T s h m rs fw (HeapLacks q) m₁ rs₁ fx
-      → GoesIn f T s h n m rs fw log (Lacks q) m₁ rs₁ fx log
+  pub construct_lacks_in : w ≡ construct_kind → (q : Stop) (m₁ rs₁ fx : List ℕ) → HeapGoes f T s h m rs fw (Err q) m₁ rs₁ fx
+      → GoesIn f T s h n m rs fw log (Err q) m₁ rs₁ fx log
   unfolding steps_in steps heap_came_to
   construct_lacks_in z q m₁ rs₁ fx G =
       lacks_in f T s h n m rs fw log q
@@ -329,20 +328,20 @@ module _ (f plan images callees : List ℕ) (s : State) (h : Heap) (n : ℕ) (m 
       rw e (constructs_stops c _ _ _ _ _ _ _ _ q (rw I.words (sym (rw e at g))))) m₁ rs₁ fx (G.kept q refl)
 
   -- ---- creates
-  module _ (z : w ≡ create_kind) (md : Made) (e : md ≡ created h rs) where
-    created_alike : (c : ConditionWords) (r i y : ℕ) (rs₁ : List ℕ) (g : Heap) (v : MachineWords) → (md' : Made) → md' ≡ At y g → created_by c.words r i rs₁ md' ≡ went v
+  module _ (z : w ≡ create_kind) (md : Option (ℕ × Heap)) (e : md ≡ created h rs) where
+    created_alike : (c : ConditionWords) (r i y : ℕ) (rs₁ : List ℕ) (g : Heap) (v : MachineWords) → (md' : Option (ℕ × Heap)) → md' ≡ Some (y, g) → created_by c.words r i rs₁ md' ≡ went v
         → created_in c r i rs₁ md' ≡ enters (logged c v (entry y made_at))
     unfolding created_by created_in with_stored
-    created_alike c r i y rs₁ g v (At x k) q d = let a : x ≡ y = cc in rw (← same_went d, a) refl
-    created_alike c r i y rs₁ g v NoRoom q d = absurd (stops_went d)
+    created_alike c r i y rs₁ g v (Some (x, k)) q d = rw (← same_went d, (same_made q).0) refl
+    created_alike c r i y rs₁ g v None q d = absurd (stops_went d)
 
-    created_stops : (c : ConditionWords) (r i : ℕ) (rs₁ : List ℕ) (q : Stop) → (md' : Made) → created_by c.words r i rs₁ md' ≡ stops q → created_in c r i rs₁ md' ≡ stops q
+    created_stops : (c : ConditionWords) (r i : ℕ) (rs₁ : List ℕ) (q : Stop) → (md' : Option (ℕ × Heap)) → created_by c.words r i rs₁ md' ≡ stops q → created_in c r i rs₁ md' ≡ stops q
     unfolding created_by created_in
-    created_stops c r i rs₁ q (At x k) d = absurd (stops_went (sym d))
-    created_stops c r i rs₁ q NoRoom d = d
+    created_stops c r i rs₁ q (Some (x, k)) d = absurd (stops_went (sym d))
+    created_stops c r i rs₁ q None d = d
 
-    pub create_in : (y : ℕ) (l : Heap) → md ≡ At y l → (rs₁ fx : List ℕ) → HeapGoes f T s h m rs fw (Left l) m rs₁ fx → (next : ℕ) → next ≡ T.successor s.goal → SameLimits l h
-        → (k : ℕ) (log₁ : List ℕ) → log₁ ≡ noted n y made_at log → k ≡ suc n → GoesIn f T s h n m rs fw log (On l next k) m rs₁ fx log₁
+    pub create_in : (y : ℕ) (l : Heap) → md ≡ Some (y, l) → (rs₁ fx : List ℕ) → HeapGoes f T s h m rs fw (Ok l) m rs₁ fx → (next : ℕ) → next ≡ T.successor s.goal → SameLimits l h
+        → (k : ℕ) (log₁ : List ℕ) → log₁ ≡ noted n y made_at log → k ≡ suc n → GoesIn f T s h n m rs fw log (Ok (On l next k)) m rs₁ fx log₁
     unfolding steps_in steps heap_came_to makes_region makes_region_in logged words_of
     create_in y l d rs₁ fx G next en lim k log₁ el ek =
         goes_on_in f T s h n m rs fw log l next k m rs₁ fx log₁
@@ -358,7 +357,7 @@ module _ (f plan images callees : List ℕ) (s : State) (h : Heap) (n : ℕ) (m 
           else_part = refl;
         }) lim (omega arith) (λ ps. passes_by f s.goal _ w ew (λ t. omega (arith, z, t)))
 
-    pub create_lacks_in : (q : Stop) (rs₁ fx : List ℕ) → HeapGoes f T s h m rs fw (HeapLacks q) m rs₁ fx → GoesIn f T s h n m rs fw log (Lacks q) m rs₁ fx log
+    pub create_lacks_in : (q : Stop) (rs₁ fx : List ℕ) → HeapGoes f T s h m rs fw (Err q) m rs₁ fx → GoesIn f T s h n m rs fw log (Err q) m rs₁ fx log
     unfolding steps_in steps heap_came_to makes_region makes_region_in
     create_lacks_in q rs₁ fx G =
         lacks_in f T s h n m rs fw log q
@@ -369,7 +368,7 @@ module _ (f plan images callees : List ℕ) (s : State) (h : Heap) (n : ℕ) (m 
 
   -- ---- removes: nothing but an entry
   pub remove_in : w ≡ remove_kind → (next : ℕ) → next ≡ T.successor s.goal → (p k : ℕ) (log₁ : List ℕ) → p ≡ get_or fw (s.at + regions_from + word f s.goal lifetime_region) 0
-      → log₁ ≡ noted n p removed_at log → k ≡ suc n → GoesIn f T s h n m rs fw log (On h next k) m rs fw log₁
+      → log₁ ≡ noted n p removed_at log → k ≡ suc n → GoesIn f T s h n m rs fw log (Ok (On h next k)) m rs fw log₁
   unfolding steps_in drops_region_in logged with_frames region_for words_of
   remove_in z next en p k log₁ ep el ek =
       goes_on_in f T s h n m rs fw log h next k m rs fw log₁
@@ -394,7 +393,7 @@ module _ (f plan images callees : List ℕ) (s : State) (h : Heap) (n : ℕ) (m 
     unfolding fails_in value_of words_of
     fails_as ps = rw (test_record f s.goal w ew z, eb, D) refl
 
-    pub test_in : b ≡ true → (next : ℕ) → next ≡ T.successor s.goal → GoesIn f T s h n m rs fw log (On h next n) m rs fw log
+    pub test_in : b ≡ true → (next : ℕ) → next ≡ T.successor s.goal → GoesIn f T s h n m rs fw log (Ok (On h next n)) m rs fw log
     unfolding choose neg with_frames words_of in_words
     test_in eb next en =
         goes_on_in f T s h n m rs fw log h next n m rs fw log
@@ -407,7 +406,7 @@ module _ (f plan images callees : List ℕ) (s : State) (h : Heap) (n : ℕ) (m 
           else_part = refl;
         }) (refl, refl) (omega arith) (λ ps. fails_as ps ∙ ap neg eb)
 
-    pub test_fails_in : b ≡ false → GoesIn f T s h n m rs fw log Fails m rs fw log
+    pub test_fails_in : b ≡ false → GoesIn f T s h n m rs fw log (Ok Fails) m rs fw log
     unfolding choose neg
     test_fails_in eb = fails_in_law f T s h n m rs fw log (λ ps c I. test_as ps c I ∙ rw eb refl) (λ ps. fails_as ps ∙ ap neg eb)
 
@@ -449,7 +448,7 @@ module _ (f plan images callees : List ℕ) (s : State) (h : Heap) (n : ℕ) (m 
     other_step (k_goal k_test) e nl ns na nb nw nm nr nt c = absurd (nt (ew ∙ goal_number _ k_test e))
 
     pub other_in : (w ≡ literal_kind → ⊥) → (w ≡ sum_kind → ⊥) → (w ≡ assign_kind → ⊥) → (w ≡ construct_kind → ⊥) → (w ≡ switch_kind → ⊥)
-        → (w ≡ create_kind → ⊥) → (w ≡ remove_kind → ⊥) → (w ≡ test_kind → ⊥) → GoesIn f T s h n m rs fw log (On h s.goal n) m rs fw log
+        → (w ≡ create_kind → ⊥) → (w ≡ remove_kind → ⊥) → (w ≡ test_kind → ⊥) → GoesIn f T s h n m rs fw log (Ok (On h s.goal n)) m rs fw log
     unfolding words_of
     other_in nl ns na nb nw nm nr nt =
         goes_on_in f T s h n m rs fw log h s.goal n m rs fw log

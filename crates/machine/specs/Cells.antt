@@ -1,7 +1,7 @@
 -- A construct, as the code puts it together: a cell is taken, its words are put into it up to the first argument that is numbered 0, and it is hung into
 -- its region. A switch, likewise.
 use Prim.Native.Nat.{ℕ, zero, suc, ◌+◌, ◌*◌, ◌<◌}
-use Rattle.std.proofs.Common.{arith, sym, ap, ◌∙◌, get_or-set_other}
+use Rattle.std.proofs.Common.{arith, sym, ap, ◌∙◌, get_or-set_other, Option, Some, None}
 use Rattle.std.specs.Prelude.{◌≡◌, Bool, List, [], ◌∷◌, leb, ltb, length}
 use Rattle.std.proofs.Math.Path.{refl}
 use Rattle.std.proofs.Math.ListN.{get_or}
@@ -10,8 +10,6 @@ use Rattle.language.specs.File.{word}
 use Rattle.language.specs.Format.{goal_x, term_functor, term_arguments}
 use Rattle.memory.specs.declared.Contents.{Contents}
 use Rattle.memory.specs.declared.Heap.{Heap}
-use Rattle.memory.specs.declared.Made.{Made}
-use Rattle.memory.specs.declared.Made.TheVariants.{At, NoRoom}
 use Rattle.memory.specs.Memory.{cell_words, constants_from, cell_word, with_word, with_link, first, filled, hung, built, built_cells, built_regions}
 use Rattle.memory.specs.Building.{built_none, built_made, built_place, still}
 use Rattle.word_machine.specs.Machine.{term_of}
@@ -66,32 +64,32 @@ module _ (f plan : List ℕ) (i k : ℕ) (h : Heap) (m rs fw : List ℕ) where
   argument = word f i term_arguments
 
   -- what is made: r is the answer, m₁ and rs₁ are the words of cells and regions afterwards
-  abbrev pub Makes : Made → List ℕ → List ℕ → Type 0
+  abbrev pub Makes : Option (ℕ × Heap) → List ℕ → List ℕ → Type 0
   Makes r m₁ rs₁ =
       (r ≡ term_made (word f i term_functor) argument h m) × (m₁ ≡ cells_made argument h m rs home term) × (rs₁ ≡ regions_made argument h m rs home)
 
   -- a construct with arguments makes a cell
-  some_made : (b : ℕ) → (b ≡ 0 → ⊥) → (r : Made) (m₁ rs₁ : List ℕ) → r ≡ built h m → m₁ ≡ built_cells h m rs home term → rs₁ ≡ built_regions h m rs home
+  some_made : (b : ℕ) → (b ≡ 0 → ⊥) → (r : Option (ℕ × Heap)) (m₁ rs₁ : List ℕ) → r ≡ built h m → m₁ ≡ built_cells h m rs home term → rs₁ ≡ built_regions h m rs home
       → (r ≡ term_made (word f i term_functor) b h m) × (m₁ ≡ cells_made b h m rs home term) × (rs₁ ≡ regions_made b h m rs home)
   unfolding term_made cells_made regions_made
   some_made zero n r m₁ rs₁ er em es = absurd (n refl)
   some_made (suc b) n r m₁ rs₁ er em es = (er, em, es)
 
   module _ (a : ℕ) (e : a ≡ word f i term_arguments) (n : a ≡ 0 → ⊥) where
-    pub make_none : (md : Made) → md ≡ built h m → md ≡ NoRoom → Makes NoRoom m rs
-    make_none md d z = let b = built_none h m rs home term (sym z ∙ d) in some_made argument (λ x. n (e ∙ x)) NoRoom m rs (sym z ∙ d) (sym b.0) (sym b.1)
+    pub make_none : (md : Option (ℕ × Heap)) → md ≡ built h m → md ≡ None → Makes None m rs
+    make_none md d z = let b = built_none h m rs home term (sym z ∙ d) in some_made argument (λ x. n (e ∙ x)) None m rs (sym z ∙ d) (sym b.0) (sym b.1)
 
-    pub make_cell : (md : Made) (y : ℕ) (l : Heap) → md ≡ built h m → md ≡ At y l → (m₁ m₂ rs₁ : List ℕ) (p x : ℕ) → m₁ ≡ poured f i k fw y m → p ≡ home
-        → x ≡ h.cells.limit → m₂ ≡ with_link m₁ y (first rs p) → rs₁ ≡ hung rs p y x → Makes (At y l) m₂ rs₁
+    pub make_cell : (md : Option (ℕ × Heap)) (y : ℕ) (l : Heap) → md ≡ built h m → md ≡ Some (y, l) → (m₁ m₂ rs₁ : List ℕ) (p x : ℕ) → m₁ ≡ poured f i k fw y m → p ≡ home
+        → x ≡ h.cells.limit → m₂ ≡ with_link m₁ y (first rs p) → rs₁ ≡ hung rs p y x → Makes (Some (y, l)) m₂ rs₁
     make_cell md y l d z m₁ m₂ rs₁ p x e₁ ep ex e₂ er =
         let c = sym z ∙ d in
         let b = built_made h m rs home term y l c in
-        some_made argument (λ q. n (e ∙ q)) (At y l) m₂ rs₁ c
+        some_made argument (λ q. n (e ∙ q)) (Some (y, l)) m₂ rs₁ c
         (rw (b.0, e₂, e₁, ep) (poured_filled f i k fw y (first rs home) m ∙ ap (λ x. filled m y (term_in f i k fw m x) (first rs home)) (built_place h m y l c)))
         (rw (b.1, er, ep, ex))
 
   -- .. and X gets it: fx are the words of frames afterwards
-  abbrev pub Constructs : Made → List ℕ → List ℕ → List ℕ → Type 0
+  abbrev pub Constructs : Option (ℕ × Heap) → List ℕ → List ℕ → List ℕ → Type 0
   Constructs r m₁ rs₁ fx = Makes r m₁ rs₁ × (fx ≡ placed (k + word f i goal_x) r fw)
 
 -- ---- a switch

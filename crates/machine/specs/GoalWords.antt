@@ -1,13 +1,11 @@
 -- What goals read in words and do to them, one function for each part.
-use Rattle.std.specs.Prelude.{ℕ, zero, suc, ◌+◌, ◌-◌, ◌≤◌, ◌<◌, ◌≡◌, List, [], ◌∷◌, ltb, ℤ, get_or, set}
+use Rattle.std.specs.Prelude.{ℕ, zero, suc, ◌+◌, ◌-◌, ◌≤◌, ◌<◌, ◌≡◌, List, [], ◌∷◌, ltb, ℤ, get_or, set, Option, Some, None}
 use Rattle.language.specs.Lists.{choose}
 use Rattle.language.specs.File.{word}
 use Rattle.language.specs.Format.{max_arity, max_variables, goal_x, sum_operation, sum_y, sum_z, term_functor, term_arguments, switch_arms, lifetime_region}
 use Rattle.chains.specs.Records.{chain_records}
 use Rattle.memory.specs.declared.Contents.{Contents}
 use Rattle.memory.specs.declared.Heap.{Heap}
-use Rattle.memory.specs.declared.Made.{Made}
-use Rattle.memory.specs.declared.Made.TheVariants.{At, NoRoom}
 use Rattle.memory.specs.Memory.{constants_from, cell_word, with_word, built, built_cells, built_regions}
 use Rattle.plans.specs.Plan.{sides_from}
 use Rattle.word_machine.specs.Machine.{regions_from, sum_of_words, arm_of, gives_each, term_of}
@@ -63,8 +61,8 @@ region_for f i k fw = get_or fw (k + regions_from + word f i lifetime_region) 0
 
 -- What a construct of functor t makes, by its first argument: a constant, which leaves the heap and the words of cells and regions alone, or a cell
 -- in the region at place r.
-unfoldable pub term_made : ℕ → ℕ → Heap → List ℕ → Made
-term_made t zero h m = At (constants_from + t) h
+unfoldable pub term_made : ℕ → ℕ → Heap → List ℕ → Option (ℕ × Heap)
+term_made t zero h m = Some ((constants_from + t), h)
 term_made t (suc a) h m = built h m
 
 unfoldable pub cells_made : ℕ → Heap → List ℕ → List ℕ → ℕ → Contents → List ℕ
@@ -76,9 +74,9 @@ regions_made zero h m rs r = rs
 regions_made (suc a) h m rs r = built_regions h m rs r
 
 -- what was made is put into word a
-unfoldable pub placed : ℕ → Made → List ℕ → List ℕ
-placed a (At y h) fw = set fw a y
-placed a NoRoom fw = fw
+unfoldable pub placed : ℕ → Option (ℕ × Heap) → List ℕ → List ℕ
+placed a (Some (y, h)) fw = set fw a y
+placed a None fw = fw
 
 -- the functor of a term's word v: of the cell at that place, or of the constant
 unfoldable pub functor_in : List ℕ → ℕ → ℕ

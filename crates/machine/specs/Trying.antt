@@ -1,5 +1,5 @@
 -- What the code promises of an open condition (C-20): of each of its steps, and of a try as a whole.
-use Rattle.std.specs.Prelude.{ℕ, suc, ◌+◌, ◌-◌, ◌≤◌, ◌<◌, ◌≡◌, Bool, true, false, List}
+use Rattle.std.specs.Prelude.{ℕ, suc, ◌+◌, ◌-◌, ◌≤◌, ◌<◌, ◌≡◌, Bool, true, false, List, Result, Ok, Err}
 use Rattle.std.specs.Int.{w32}
 use Rattle.std.proofs.Common.{to_z}
 use Rattle.language.specs.declared.Stop.{Stop}
@@ -14,10 +14,10 @@ use Rattle.memory.specs.declared.Heap.{Heap}
 use Rattle.word_machine.specs.Tables.{Tables}
 use Rattle.word_machine.specs.Machine.{MachineWords, ConditionWords, value_of, went, stops, enters, fails, steps_in, settled, run_on, ended_with}
 use Rattle.machine.specs.declared.State.{State}
+use Rattle.machine.specs.declared.TryDone.{TryDone}
+use Rattle.machine.specs.declared.TryStopped.{TryStopped}
 use Rattle.machine.specs.declared.ConditionStep.{ConditionStep}
-use Rattle.machine.specs.declared.ConditionStep.TheVariants.{On, Fails, Lacks}
-use Rattle.machine.specs.declared.ConditionEnd.{ConditionEnd}
-use Rattle.machine.specs.declared.ConditionEnd.TheVariants.{Left, Lacks as EndLacks}
+use Rattle.machine.specs.declared.ConditionStep.TheVariants.{On, Fails}
 use Rattle.machine.specs.Words.{words_of, onward_to}
 use Rattle.machine.specs.Entries.{Logs}
 
@@ -77,22 +77,29 @@ pub record Onward (f : List ℕ) (T : Tables) (s : State) (c : ConditionWords) (
   pub else_part : next.else' ≡ c.else'
 
 -- the goal at state s is carried out in a condition with n entries, whatever is printed: r is the answer, which tells whether it is a test that fails
-pub record GoesIn (f : List ℕ) (T : Tables) (s : State) (h : Heap) (n : ℕ) (m rs fw log : List ℕ) (r : ConditionStep) (m₁ rs₁ fw₁ log₁ : List ℕ) : Type 0 where
-  pub on : (g : Heap) (i k : ℕ) → r ≡ On g i k → (ps : List ℕ) (c : ConditionWords) → Inside log h m rs fw ps s n c → Onward f T s c log₁ g m₁ rs₁ fw₁ ps i k
-  pub limits : (g : Heap) (i k : ℕ) → r ≡ On g i k → SameLimits g h × (k ≤ suc n)
-  pub passes : (g : Heap) (i k : ℕ) → r ≡ On g i k → (ps : List ℕ) → fails_in (record_at f s.goal) (words_of h m rs fw ps s) ≡ false
-  pub failing : r ≡ Fails → (ps : List ℕ) → fails_in (record_at f s.goal) (words_of h m rs fw ps s) ≡ true
-  pub fails : r ≡ Fails → (ps : List ℕ) (c : ConditionWords) → Inside log h m rs fw ps s n c → steps_in f T s.goal (record_at f s.goal) c ≡ went (fails c)
-  pub undoes : r ≡ Fails → (m₁ ≡ m) × (rs₁ ≡ rs) × (fw₁ ≡ fw) × (log₁ ≡ log)
-  pub lacks : (q : Stop) → r ≡ Lacks q → (ps : List ℕ) (c : ConditionWords) → Inside log h m rs fw ps s n c → steps_in f T s.goal (record_at f s.goal) c ≡ stops q
-  pub kept : (q : Stop) → r ≡ Lacks q → (m₁ ≡ m) × (rs₁ ≡ rs) × (fw₁ ≡ fw)
+pub record GoesIn (f : List ℕ) (T : Tables) (s : State) (h : Heap) (n : ℕ) (m rs fw log : List ℕ) (r : Result ConditionStep Stop) (m₁ rs₁ fw₁ log₁ : List ℕ) : Type 0 where
+  pub on : (g : Heap) (i k : ℕ) → r ≡ Ok (On g i k) → (ps : List ℕ) (c : ConditionWords) → Inside log h m rs fw ps s n c → Onward f T s c log₁ g m₁ rs₁ fw₁ ps i k
+  pub limits : (g : Heap) (i k : ℕ) → r ≡ Ok (On g i k) → SameLimits g h × (k ≤ suc n)
+  pub passes : (g : Heap) (i k : ℕ) → r ≡ Ok (On g i k) → (ps : List ℕ) → fails_in (record_at f s.goal) (words_of h m rs fw ps s) ≡ false
+  pub failing : r ≡ Ok Fails → (ps : List ℕ) → fails_in (record_at f s.goal) (words_of h m rs fw ps s) ≡ true
+  pub fails : r ≡ Ok Fails → (ps : List ℕ) (c : ConditionWords) → Inside log h m rs fw ps s n c → steps_in f T s.goal (record_at f s.goal) c ≡ went (fails c)
+  pub undoes : r ≡ Ok Fails → (m₁ ≡ m) × (rs₁ ≡ rs) × (fw₁ ≡ fw) × (log₁ ≡ log)
+  pub lacks : (q : Stop) → r ≡ Err q → (ps : List ℕ) (c : ConditionWords) → Inside log h m rs fw ps s n c → steps_in f T s.goal (record_at f s.goal) c ≡ stops q
+  pub kept : (q : Stop) → r ≡ Err q → (m₁ ≡ m) × (rs₁ ≡ rs) × (fw₁ ≡ fw)
+
+-- what a try comes to: the run goes on at goal i with heap g, or stops; k steps are left
+abbrev pub left_at : Heap → ℕ → ℕ → Result TryDone TryStopped
+left_at g i k = Ok (record { heap = g; goal = i; left = k })
+
+abbrev pub lacks_at : Stop → ℕ → Result TryDone TryStopped
+lacks_at q k = Err (record { stop = q; left = k })
 
 -- a try at state s, l steps being left: the run goes on at goal i with k steps left, or stops; W is the words before
-pub record Tried (f : List ℕ) (T : Tables) (s : State) (h : Heap) (l : ℕ) (m rs fw : List ℕ) (r : ConditionEnd) (m₁ rs₁ fw₁ : List ℕ) : Type 0 where
-  pub left : (g : Heap) (i k : ℕ) → r ≡ Left g i k → (K : Room) (n : ℕ) (ps : List ℕ)
+pub record Tried (f : List ℕ) (T : Tables) (s : State) (h : Heap) (l : ℕ) (m rs fw : List ℕ) (r : Result TryDone TryStopped) (m₁ rs₁ fw₁ : List ℕ) : Type 0 where
+  pub left : (g : Heap) (i k : ℕ) → r ≡ left_at g i k → (K : Room) (n : ℕ) (ps : List ℕ)
       → run_on f T K l s.goal n (words_of h m rs fw ps s)
       ≡ run_on f T K k (settled f T (words_of g m₁ rs₁ fw₁ ps (onward_to s i))).goal (n + (l - k)) (settled f T (words_of g m₁ rs₁ fw₁ ps (onward_to s i)))
-  pub fewer : (g : Heap) (i k : ℕ) → r ≡ Left g i k → (k < l) × SameLimits g h
-  pub lacks : (q : Stop) (k : ℕ) → r ≡ EndLacks q k → (K : Room) (n : ℕ) (ps : List ℕ)
+  pub fewer : (g : Heap) (i k : ℕ) → r ≡ left_at g i k → (k < l) × SameLimits g h
+  pub lacks : (q : Stop) (k : ℕ) → r ≡ lacks_at q k → (K : Room) (n : ℕ) (ps : List ℕ)
       → (g : Heap) × (i : ℕ) × (run_on f T K l s.goal n (words_of h m rs fw ps s) ≡ ended_with (Stopped q) (n + (l - k)) (words_of g m₁ rs₁ fw₁ ps (onward_to s i)))
-  pub most : (q : Stop) (k : ℕ) → r ≡ EndLacks q k → k < l
+  pub most : (q : Stop) (k : ℕ) → r ≡ lacks_at q k → k < l

@@ -14,7 +14,7 @@ use crate::arms::{arm_part, functor_of};
 use crate::cells::fill_part;
 use frames::{arm_of, give, region, value};
 use language::format::{GOAL_X, SWITCH_ARMS, TERM_ARGUMENTS, TERM_FUNCTOR};
-use memory::{CONSTANTS, Heap, Made, hang_cell, take_cell};
+use memory::{CONSTANTS, Heap, hang_cell, take_cell};
 use plans::{PLAN, SIDES};
 use records::word_in;
 
@@ -28,7 +28,7 @@ fn slow_term(
     cells: &mut [u32],
     regions: &mut [u32],
     frames: &[u32],
-) -> Made
+) -> Option<(u32, Heap)>
     requires i_lt_max_records { (i < max_records) × (record_bytes * i + record_bytes ≤ length file.now) × (at + frame_words ≤ length frames.now) }
     requires low { Low file.now i × (get_or plan.now (sides_from + i) 0 ≤ max_regions) }
     ensures { Makes file.now plan.now i at heap cells.old regions.old frames.now
@@ -36,16 +36,14 @@ fn slow_term(
 {
     if word_in(file, i, TERM_ARGUMENTS) == 0 {
         let constant = CONSTANTS + (word_in(file, i, TERM_FUNCTOR) as u32);
-        return Made::At(constant, heap);
+        return Some((constant, heap));
     }
-    let Made::At(cell, left) = take_cell(heap, &cells[..]) else {
-        return Made::NoRoom;
-    };
+    let (cell, left) = take_cell(heap, &cells[..])?;
     fill_part(file, i, at, cell, &mut cells[..], frames);
     let home = region(frames, at, plan[SIDES + i]);
     let free = heap.cells;
     hang_cell(&mut cells[..], &mut regions[..], home, cell, free.limit);
-    Made::At(cell, left)
+    Some((cell, left))
 }
 
 // X gets what is made.
@@ -58,13 +56,13 @@ pub fn slow_construct(
     cells: &mut [u32],
     regions: &mut [u32],
     frames: &mut [u32],
-) -> Made
+) -> Option<(u32, Heap)>
     requires i_lt_max_records { (i < max_records) × (record_bytes * i + record_bytes ≤ length file.now) × (at + frame_words ≤ length frames.old) }
     requires goal_x_bound { (word file.now i goal_x ≤ max_variables) × Low file.now i × (get_or plan.now (sides_from + i) 0 ≤ max_regions) }
     ensures { Constructs file.now plan.now i at heap cells.old regions.old frames.old
         result cells.new regions.new frames.new }
 {
-    let made = slow_term(
+    let (term, left) = slow_term(
         file,
         plan,
         i,
@@ -73,12 +71,9 @@ pub fn slow_construct(
         &mut cells[..],
         &mut regions[..],
         &frames[..],
-    );
-    let Made::At(term, left) = made else {
-        return Made::NoRoom;
-    };
+    )?;
     give(&mut frames[..], at, word_in(file, i, GOAL_X), term);
-    Made::At(term, left)
+    Some((term, left))
 }
 
 // The record of a switch's arm, whose variables get their values.

@@ -21,14 +21,12 @@ fn arm_values(file: &[u8], j: usize, cell: u32, at: usize, cells: &[u32], frames
     ensures { frames.new ≡ arm_values file.now j cell at cells.now frames.old }
 {
     let p = CELL_WORDS * (cell as usize);
-    let mut n = 0;
-    while n < MAX_ARITY {
+    for n in 0..MAX_ARITY {
         let x = word_in(file, j, TERM_ARGUMENTS + n);
         if x == 0 {
             return;
         }
         give(&mut frames[..], at, x, cells[p + CELL_ARGUMENTS + n]);
-        n += 1;
     }
 }
 
@@ -39,14 +37,12 @@ pub fn arm_part(file: &[u8], j: usize, cell: u32, at: usize, cells: &[u32], fram
     ensures { frames.new ≡ arm_values file.now j cell at cells.now frames.old }
 {
     let p = CELL_WORDS * (cell as usize);
-    let mut n = 0;
-    while n < MAX_ARITY {
+    for n in 0..MAX_ARITY {
         let x = word_in(file, j, TERM_ARGUMENTS + n);
         if x == 0 {
             return;
         }
         give(&mut frames[..], at, x, word(cells, p + CELL_ARGUMENTS + n));
-        n += 1;
     }
 }
 

@@ -10,7 +10,7 @@ ghost use Rattle.machine.specs.Cells.{Makes, Constructs};
 
 use frames::{give, region, store, value};
 use language::format::{GOAL_X, MAX_ARITY, TERM_ARGUMENTS, TERM_FUNCTOR};
-use memory::{CELL_ARGUMENTS, CELL_WORDS, CONSTANTS, Heap, Made, hang_cell, put, take_cell};
+use memory::{CELL_ARGUMENTS, CELL_WORDS, CONSTANTS, Heap, hang_cell, put, take_cell};
 use plans::{PLAN, SIDES};
 use records::word_in;
 
@@ -25,14 +25,12 @@ fn fill(file: &[u8], i: usize, at: usize, cell: u32, cells: &mut [u32], frames: 
 {
     let p = CELL_WORDS * (cell as usize);
     store(&mut cells[..], p, word_in(file, i, TERM_FUNCTOR) as u32);
-    let mut n = 0;
-    while n < MAX_ARITY {
+    for n in 0..MAX_ARITY {
         let x = word_in(file, i, TERM_ARGUMENTS + n);
         if x == 0 {
             return;
         }
         store(&mut cells[..], p + CELL_ARGUMENTS + n, value(frames, at, x));
-        n += 1;
     }
 }
 
@@ -44,14 +42,12 @@ pub fn fill_part(file: &[u8], i: usize, at: usize, cell: u32, cells: &mut [u32],
 {
     let p = CELL_WORDS * (cell as usize);
     put(&mut cells[..], p, word_in(file, i, TERM_FUNCTOR) as u32);
-    let mut n = 0;
-    while n < MAX_ARITY {
+    for n in 0..MAX_ARITY {
         let x = word_in(file, i, TERM_ARGUMENTS + n);
         if x == 0 {
             return;
         }
         put(&mut cells[..], p + CELL_ARGUMENTS + n, value(frames, at, x));
-        n += 1;
     }
 }
 
@@ -79,7 +75,7 @@ fn make_term(
     cells: &mut [u32],
     regions: &mut [u32],
     frames: &[u32],
-) -> Made
+) -> Option<(u32, Heap)>
     requires i_lt_max_records { (i < max_records) × (record_bytes * i + record_bytes ≤ length file.now) × (at + frame_words ≤ length frames.now) }
     requires low { Low file.now i × (get_or plan.now (sides_from + i) 0 ≤ max_regions) }
     ensures { Makes file.now plan.now i at heap cells.old regions.old frames.now
@@ -87,16 +83,14 @@ fn make_term(
 {
     if word_in(file, i, TERM_ARGUMENTS) == NO_ARGUMENT {
         let constant = CONSTANTS + (word_in(file, i, TERM_FUNCTOR) as u32);
-        return Made::At(constant, heap);
+        return Some((constant, heap));
     }
-    let Made::At(cell, left) = take_cell(heap, &cells[..]) else {
-        return Made::NoRoom;
-    };
+    let (cell, left) = take_cell(heap, &cells[..])?;
     fill_cell(file, i, at, cell, &mut cells[..], frames);
     let home = region(frames, at, plan[SIDES + i]);
     let free = heap.cells;
     hang_cell(&mut cells[..], &mut regions[..], home, cell, free.limit);
-    Made::At(cell, left)
+    Some((cell, left))
 }
 
 // X gets what is made.
@@ -109,13 +103,13 @@ pub fn construct(
     cells: &mut [u32],
     regions: &mut [u32],
     frames: &mut [u32],
-) -> Made
+) -> Option<(u32, Heap)>
     requires i_lt_max_records { (i < max_records) × (record_bytes * i + record_bytes ≤ length file.now) × (at + frame_words ≤ length frames.old) }
     requires goal_x_bound { (word file.now i goal_x ≤ max_variables) × Low file.now i × (get_or plan.now (sides_from + i) 0 ≤ max_regions) }
     ensures { Constructs file.now plan.now i at heap cells.old regions.old frames.old
         result cells.new regions.new frames.new }
 {
-    let made = make_term(
+    let (term, left) = make_term(
         file,
         plan,
         i,
@@ -124,10 +118,7 @@ pub fn construct(
         &mut cells[..],
         &mut regions[..],
         &frames[..],
-    );
-    let Made::At(term, left) = made else {
-        return Made::NoRoom;
-    };
+    )?;
     give(&mut frames[..], at, word_in(file, i, GOAL_X), term);
-    Made::At(term, left)
+    Some((term, left))
 }

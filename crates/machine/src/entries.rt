@@ -65,9 +65,7 @@ pub fn undo_log(
         → Is result cells.new regions.new (undone told count (stored heap cells.old regions.old)) }
 {
     let mut left = heap;
-    let mut i = count;
-    while i > 0 {
-        i -= 1;
+    for i in (0..count).rev() {
         let place = entry_word(log, i, 0);
         let kind = entry_word(log, i, 1);
         left = undo_entry(left, &mut cells[..], &mut regions[..], place, kind);
@@ -96,9 +94,7 @@ pub fn free_log(
         → Is result cells.new regions.new (freed told count (stored heap cells.old regions.old)) }
 {
     let mut left = heap;
-    let mut i = count;
-    while i > 0 {
-        i -= 1;
+    for i in (0..count).rev() {
         let place = entry_word(log, i, 0);
         let kind = entry_word(log, i, 1);
         left = free_entry(left, &mut cells[..], &mut regions[..], place, kind);

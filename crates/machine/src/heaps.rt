@@ -7,12 +7,12 @@ ghost use Rattle.chains.specs.Shapes.{IsConstruct, IsCreate};
 ghost use Rattle.plans.specs.Plan.{Numbered, tables_in};
 ghost use Rattle.machine.specs.Words.{FramePlaced, Changes, HeapGoes};
 
+use crate::State;
 use crate::cells::construct;
 use crate::places::{drop_region, make_region};
-use crate::{HeapStep, State};
 use language::Stop;
 use language::format::{CONSTRUCT, CREATE, KIND, REMOVE};
-use memory::{Heap, Made};
+use memory::Heap;
 use plans::PLAN;
 use records::word_in;
 
@@ -37,7 +37,7 @@ pub fn construct_step(
     cells: &mut [u32],
     regions: &mut [u32],
     frames: &mut [u32],
-) -> HeapStep
+) -> Result<Heap, Stop>
     requires formed { Formed file.now × Numbered file.now plan.now }
     requires goal_bound { (state.goal < record_count file.now) × IsConstruct file.now state.goal × FramePlaced state (length frames.old) }
     ensures { (images callees : List ℕ) → HeapGoes file.now (tables_in plan.now images callees) state heap
@@ -55,10 +55,8 @@ pub fn construct_step(
         &mut regions[..],
         &mut frames[..],
     );
-    let Made::At(cell, left) = made else {
-        return HeapStep::Lacks(Stop::Cells);
-    };
-    HeapStep::Left(left)
+    let (_, left) = made.ok_or(Stop::Cells)?;
+    Ok(left)
 }
 
 // A create, "12 no free region".
@@ -69,7 +67,7 @@ fn create_step(
     heap: Heap,
     regions: &mut [u32],
     frames: &mut [u32],
-) -> HeapStep
+) -> Result<Heap, Stop>
     requires formed { Formed file.now × Numbered file.now plan.now }
     requires goal_bound { (state.goal < record_count file.now) × IsCreate file.now state.goal × FramePlaced state (length frames.old) }
     ensures { (images callees m : List ℕ) → HeapGoes file.now (tables_in plan.now images callees) state heap
@@ -78,10 +76,8 @@ fn create_step(
     let i = state.goal;
     let at = state.at;
     let made = make_region(file, i, at, heap, &mut regions[..], &mut frames[..]);
-    let Made::At(place, left) = made else {
-        return HeapStep::Lacks(Stop::Places);
-    };
-    HeapStep::Left(left)
+    let (_, left) = made.ok_or(Stop::Places)?;
+    Ok(left)
 }
 
 // A construct, a create or a remove. With the create first the compiled step is shorter.
@@ -93,7 +89,7 @@ pub fn change_heap(
     cells: &mut [u32],
     regions: &mut [u32],
     frames: &mut [u32],
-) -> HeapStep
+) -> Result<Heap, Stop>
     requires formed { Formed file.now × Numbered file.now plan.now }
     requires goal_bound { (state.goal < record_count file.now) × FramePlaced state (length frames.old) }
     requires changes { Changes (word file.now state.goal kind_word) true }
@@ -113,7 +109,7 @@ pub fn change_heap(
             &mut regions[..],
             &mut frames[..],
         ),
-        _ => HeapStep::Left(drop_region(
+        _ => Ok(drop_region(
             file,
             i,
             at,

@@ -34,34 +34,34 @@ pub struct State {
     pub printed: usize,
 }
 
-// What a step comes to. A try's is told, not done: the condition runs by itself.
+// What a step comes to that doesn't stop the run. A try's is told, not done: the condition runs by itself. No Option: a None wouldn't say "a try".
 #[derive(Clone, Copy)]
 pub enum Step {
     Went(State),
-    Stops(Stop),
     Tries,
 }
 
-// What a construct, a create or a remove comes to.
-#[derive(Clone, Copy)]
-pub enum HeapStep {
-    Left(Heap),
-    Lacks(Stop),
-}
-
-// What a step in an open condition comes to: the heap, the next goal's record and how many entries are logged; or a test that fails.
+// What a step in an open condition comes to that doesn't stop the run: the heap, the next goal's record and how many entries are logged; or a test
+// that fails. No Option: a None wouldn't say "fails".
 #[derive(Clone, Copy)]
 pub enum ConditionStep {
     On(Heap, usize, usize),
     Fails,
-    Lacks(Stop),
 }
 
-// What a try comes to: the heap, the goal after its condition and how many steps are left; or a stop in the condition.
+// What a try comes to: the heap, the goal after its condition and how many steps are left.
 #[derive(Clone, Copy)]
-pub enum ConditionEnd {
-    Left(Heap, usize, usize),
-    Lacks(Stop, usize),
+pub struct TryDone {
+    pub heap: Heap,
+    pub goal: usize,
+    pub left: usize,
+}
+
+// What stops the run in a condition, and how many steps are left.
+#[derive(Clone, Copy)]
+pub struct TryStopped {
+    pub stop: Stop,
+    pub left: usize,
 }
 
 // "It returns the number and steps done"; the printed numbers stand at the front of the words lent for them.

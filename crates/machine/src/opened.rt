@@ -24,7 +24,7 @@ use language::format::{
     ASSIGN, CONSTRUCT, CREATE, GOAL_X, KIND, LIFETIME_REGION, LITERAL, MAX_REGIONS, MAX_VARIABLES,
     REMOVE, SUM, SWITCH, TERM_ARGUMENTS, TEST, TRY_ELSE, TRY_THEN,
 };
-use memory::{ENTRY_BUILT, ENTRY_MADE, ENTRY_REMOVED, Heap, Made, move_words};
+use memory::{ENTRY_BUILT, ENTRY_MADE, ENTRY_REMOVED, Heap, move_words};
 use plans::{PLAN, SIDES, onto};
 use records::word_in;
 
@@ -88,7 +88,7 @@ fn sum_in(
     heap: Heap,
     count: usize,
     frames: &mut [u32],
-) -> ConditionStep
+) -> Result<ConditionStep, Stop>
     requires formed { Formed file.now × Numbered file.now plan.now }
     requires goal_bound { (state.goal < record_count file.now) × IsSum file.now state.goal × FramePlaced state (length frames.old) }
     ensures { (images callees m rs log : List ℕ) → GoesIn file.now (tables_in plan.now images callees) state heap count
@@ -98,10 +98,10 @@ fn sum_in(
     let at = state.at;
     let v = sum(file, i, at, &frames[..]);
     if !in_range(v) {
-        return ConditionStep::Lacks(Stop::Sums);
+        return Err(Stop::Sums);
     }
     give(&mut frames[..], at, word_in(file, i, GOAL_X), word_of(v));
-    ConditionStep::On(heap, successor(plan, i), count)
+    Ok(ConditionStep::On(heap, successor(plan, i), count))
 }
 
 // A construct: "11 no free cell". One without arguments makes no cell, and is not logged.
@@ -115,7 +115,7 @@ fn construct_in(
     regions: &mut [u32],
     frames: &mut [u32],
     log: &mut [u32; LOG_WORDS],
-) -> ConditionStep
+) -> Result<ConditionStep, Stop>
     requires formed { Formed file.now × Numbered file.now plan.now × (count < count_end) }
     requires goal_bound { (state.goal < record_count file.now) × IsConstruct file.now state.goal × FramePlaced state (length frames.old) }
     ensures { (images callees : List ℕ) → GoesIn file.now (tables_in plan.now images callees) state heap count
@@ -135,15 +135,13 @@ fn construct_in(
         &mut regions[..],
         &mut frames[..],
     );
-    let Made::At(cell, left) = made else {
-        return ConditionStep::Lacks(Stop::Cells);
-    };
+    let (_, left) = made.ok_or(Stop::Cells)?;
     let next = successor(plan, i);
     if word_in(file, i, TERM_ARGUMENTS) == 0 {
-        return ConditionStep::On(left, next, count);
+        return Ok(ConditionStep::On(left, next, count));
     }
     note(log, count, home, ENTRY_BUILT);
-    ConditionStep::On(left, next, count + 1)
+    Ok(ConditionStep::On(left, next, count + 1))
 }
 
 // A create: "12 no free region".
@@ -156,7 +154,7 @@ fn create_in(
     regions: &mut [u32],
     frames: &mut [u32],
     log: &mut [u32; LOG_WORDS],
-) -> ConditionStep
+) -> Result<ConditionStep, Stop>
     requires formed { Formed file.now × Numbered file.now plan.now × (count < count_end) }
     requires goal_bound { (state.goal < record_count file.now) × IsCreate file.now state.goal × FramePlaced state (length frames.old) }
     ensures { (images callees m : List ℕ) → GoesIn file.now (tables_in plan.now images callees) state heap count
@@ -164,11 +162,9 @@ fn create_in(
 {
     let i = state.goal;
     let made = make_region(file, i, state.at, heap, &mut regions[..], &mut frames[..]);
-    let Made::At(place, left) = made else {
-        return ConditionStep::Lacks(Stop::Places);
-    };
+    let (place, left) = made.ok_or(Stop::Places)?;
     note(log, count, place, ENTRY_MADE);
-    ConditionStep::On(left, successor(plan, i), count + 1)
+    Ok(ConditionStep::On(left, successor(plan, i), count + 1))
 }
 
 // "A removal in a condition frees nothing before the then part begins": it is logged.
@@ -180,7 +176,7 @@ fn remove_in(
     count: usize,
     frames: &[u32],
     log: &mut [u32; LOG_WORDS],
-) -> ConditionStep
+) -> Result<ConditionStep, Stop>
     requires formed { Formed file.now × Numbered file.now plan.now × (count < count_end) }
     requires goal_bound { (state.goal < record_count file.now) × IsRemove file.now state.goal × FramePlaced state (length frames.now) }
     ensures { (images callees m rs : List ℕ) → GoesIn file.now (tables_in plan.now images callees) state heap count
@@ -189,7 +185,7 @@ fn remove_in(
     let i = state.goal;
     let place = region(frames, state.at, word_in(file, i, LIFETIME_REGION));
     note(log, count, place, ENTRY_REMOVED);
-    ConditionStep::On(heap, successor(plan, i), count + 1)
+    Ok(ConditionStep::On(heap, successor(plan, i), count + 1))
 }
 
 // A test, "which fails unless Y < Z".
@@ -200,7 +196,7 @@ fn test_in(
     heap: Heap,
     count: usize,
     frames: &[u32],
-) -> ConditionStep
+) -> Result<ConditionStep, Stop>
     requires formed { Formed file.now × Numbered file.now plan.now }
     requires goal_bound { (state.goal < record_count file.now) × IsTest file.now state.goal × FramePlaced state (length frames.now) }
     ensures { (images callees m rs log : List ℕ) → GoesIn file.now (tables_in plan.now images callees) state heap count
@@ -208,9 +204,9 @@ fn test_in(
 {
     let i = state.goal;
     if passes(file, i, state.at, frames) {
-        return ConditionStep::On(heap, successor(plan, i), count);
+        return Ok(ConditionStep::On(heap, successor(plan, i), count));
     }
-    ConditionStep::Fails
+    Ok(ConditionStep::Fails)
 }
 
 // The goal at record state.goal, in a condition that has logged `count` entries.
@@ -224,7 +220,7 @@ pub fn step_in(
     regions: &mut [u32],
     frames: &mut [u32],
     log: &mut [u32; LOG_WORDS],
-) -> ConditionStep
+) -> Result<ConditionStep, Stop>
     requires formed { Formed file.now × Numbered file.now plan.now × (count < count_end) }
     requires goal_bound { (state.goal < record_count file.now) × (state.goal ≡ 0 → ⊥) × FramePlaced state (length frames.old) }
     ensures { (images callees : List ℕ) → GoesIn file.now (tables_in plan.now images callees) state heap count
@@ -236,12 +232,12 @@ pub fn step_in(
     match word_in(file, i, KIND) {
         LITERAL => {
             literal(file, i, at, &mut frames[..]);
-            ConditionStep::On(heap, successor(plan, i), count)
+            Ok(ConditionStep::On(heap, successor(plan, i), count))
         }
         SUM => sum_in(file, plan, state, heap, count, &mut frames[..]),
         ASSIGN => {
             assign(file, i, at, &mut frames[..]);
-            ConditionStep::On(heap, successor(plan, i), count)
+            Ok(ConditionStep::On(heap, successor(plan, i), count))
         }
         CONSTRUCT => construct_in(
             file,
@@ -256,7 +252,7 @@ pub fn step_in(
         ),
         SWITCH => {
             let j = slow_arm(file, i, at, &cells[..], &mut frames[..]);
-            ConditionStep::On(heap, successor(plan, j), count)
+            Ok(ConditionStep::On(heap, successor(plan, j), count))
         }
         CREATE => create_in(
             file,
@@ -270,6 +266,6 @@ pub fn step_in(
         ),
         REMOVE => remove_in(file, plan, state, heap, count, &frames[..], log),
         TEST => test_in(file, plan, state, heap, count, &frames[..]),
-        _ => ConditionStep::On(heap, i, count),
+        _ => Ok(ConditionStep::On(heap, i, count)),
     }
 }

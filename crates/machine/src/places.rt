@@ -8,7 +8,7 @@ ghost use Rattle.machine.specs.GoalWords.{region_for, placed};
 
 use frames::{name_region, region};
 use language::format::LIFETIME_REGION;
-use memory::{Heap, Made, create, remove};
+use memory::{Heap, create, remove};
 use records::word_in;
 
 // "Create makes a new region".
@@ -19,23 +19,21 @@ pub fn make_region(
     heap: Heap,
     regions: &mut [u32],
     frames: &mut [u32],
-) -> Made
+) -> Option<(u32, Heap)>
     requires record_bytes_in_bounds { (record_bytes * i + record_bytes ≤ length file.now) × (at + frame_words ≤ length frames.old) }
     requires lifetime_region_bound { word file.now i lifetime_region ≤ max_regions }
     ensures value { result ≡ created heap regions.old }
     ensures regions_after { regions.new ≡ created_regions heap regions.old }
     ensures frames_after { frames.new ≡ placed (at + regions_from + word file.now i lifetime_region) result frames.old }
 {
-    let Made::At(place, left) = create(heap, &mut regions[..]) else {
-        return Made::NoRoom;
-    };
+    let (place, left) = create(heap, &mut regions[..])?;
     name_region(
         &mut frames[..],
         at,
         word_in(file, i, LIFETIME_REGION),
         place,
     );
-    Made::At(place, left)
+    Some((place, left))
 }
 
 // "Remove destroys one with its cells".

@@ -16,7 +16,7 @@ use crate::heaps::{change_heap, changes_heap};
 use crate::opened::SAVED_WORDS;
 use crate::steps::{go, onward};
 use crate::tries::{limited, run_try};
-use crate::{ConditionEnd, HeapStep, Outcome, State, Step};
+use crate::{Outcome, State, Step};
 use frames::{FRAME_WORDS, clear};
 use language::format::{KIND, MAX_BYTES, RECORD_BYTES};
 use language::{Ending, Stop};
@@ -100,23 +100,23 @@ fn run_on(
         if changes_heap(word_in(file, i, KIND)) {
             let stepped = change_heap(file, plan, here, heap, cells, regions, frames);
             match stepped {
-                HeapStep::Left(h) => {
+                Ok(h) => {
                     heap = h;
                     state = onward(here, successor(plan, i));
                     left -= 1;
                     continue;
                 }
-                HeapStep::Lacks(stop) => return ended(Ending::Stopped(stop), steps - left, here),
+                Err(lack) => return ended(Ending::Stopped(lack), steps - left, here),
             }
         }
         let went = go(file, plan, images, callees, here, &*cells, frames, prints);
         match went {
-            Step::Went(next) => {
+            Ok(Step::Went(next)) => {
                 state = next;
                 left -= 1;
             }
-            Step::Stops(stop) => return ended(Ending::Stopped(stop), steps - left, here),
-            Step::Tries => {
+            Err(stop) => return ended(Ending::Stopped(stop), steps - left, here),
+            Ok(Step::Tries) => {
                 // Called in two places, which differ in where the frame's words are saved, and with a state and a heap of its own: so the
                 // compiler does not lay the condition's loop into this one, whose registers it would take.
                 let start = onward(here, i);
@@ -131,13 +131,13 @@ fn run_on(
                     )
                 };
                 match tried {
-                    ConditionEnd::Left(g, goal, k) => {
-                        heap = limited(g, heap);
-                        state = onward(here, goal);
-                        left = k;
+                    Ok(done) => {
+                        heap = limited(done.heap, heap);
+                        state = onward(here, done.goal);
+                        left = done.left;
                     }
-                    ConditionEnd::Lacks(stop, k) => {
-                        return ended(Ending::Stopped(stop), steps - k, here);
+                    Err(stopped) => {
+                        return ended(Ending::Stopped(stopped.stop), steps - stopped.left, here);
                     }
                 }
             }

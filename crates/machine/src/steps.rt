@@ -1,10 +1,11 @@
 // One step: the goals that leave cells and regions alone.
-ghost use Rattle.std.specs.Prelude.{◌≡◌, List, ℕ, ◌<◌, length, false};
+ghost use Rattle.std.specs.Prelude.{◌≡◌, List, ℕ, ◌<◌, length, false, Ok};
 ghost use Rattle.language.specs.File.{word, record_count};
 ghost use Rattle.language.specs.Format.{kind_word};
 ghost use Rattle.chains.specs.Formed.{Formed};
 ghost use Rattle.chains.specs.Shapes.{IsCall, IsIf, IsPrint, IsSum, IsSwitch};
 ghost use Rattle.plans.specs.Plan.{Narrow, Numbered, tables_in};
+ghost use Rattle.machine.specs.declared.Step.TheVariants.{Went};
 ghost use Rattle.machine.specs.Words.{FramePlaced, Changes, onward_to, Goes, GoesOrTries};
 
 use crate::arms::switch_arm;
@@ -34,7 +35,12 @@ pub fn onward(state: State, goal: usize) -> State
 }
 
 // A sum or difference, 15 for one "outside −2,147,483,648 to 2,147,483,647".
-pub fn sum_step(file: &[u8], plan: &[usize; PLAN], state: State, frames: &mut [u32]) -> Step
+pub fn sum_step(
+    file: &[u8],
+    plan: &[usize; PLAN],
+    state: State,
+    frames: &mut [u32],
+) -> Result<Step, Stop>
     requires formed { Formed file.now × Numbered file.now plan.now }
     requires goal_bound { (state.goal < record_count file.now) × IsSum file.now state.goal × FramePlaced state (length frames.old) }
     ensures { (images callees m ps : List ℕ) → Goes file.now (tables_in plan.now images callees)
@@ -44,10 +50,10 @@ pub fn sum_step(file: &[u8], plan: &[usize; PLAN], state: State, frames: &mut [u
     let at = state.at;
     let v = sum(file, i, at, &frames[..]);
     if !in_range(v) {
-        return Step::Stops(Stop::Sums);
+        return Err(Stop::Sums);
     }
     give(&mut frames[..], at, word_in(file, i, GOAL_X), word_of(v));
-    Step::Went(onward(state, successor(plan, i)))
+    Ok(Step::Went(onward(state, successor(plan, i))))
 }
 
 // A call, "13 no free frame".
@@ -58,7 +64,7 @@ fn call_step(
     callees: &[u64; CALLEES],
     state: State,
     frames: &mut [u32],
-) -> Step
+) -> Result<Step, Stop>
     requires formed { Formed file.now }
     requires narrow { Narrow plan.now images.now }
     requires goal_bound { (state.goal < record_count file.now) × IsCall file.now state.goal × FramePlaced state (length frames.old) }
@@ -72,15 +78,15 @@ fn call_step(
     let limit = room(frames.len(), FRAME_WORDS) as usize;
     let above = (k as usize) + 1;
     if limit <= above {
-        return Step::Stops(Stop::Frames);
+        return Err(Stop::Frames);
     }
     let goal = call(file, plan, images, callees, i, at, &mut frames[..]);
-    Step::Went(State {
+    Ok(Step::Went(State {
         top: k + 1,
         at: at + FRAME_WORDS,
         goal,
         printed,
-    })
+    }))
 }
 
 // A print, "14 no place for a printed number".
@@ -90,7 +96,7 @@ fn print_step(
     state: State,
     frames: &[u32],
     prints: &mut [u32],
-) -> Step
+) -> Result<Step, Stop>
     requires formed { Formed file.now × Numbered file.now plan.now }
     requires goal_bound { (state.goal < record_count file.now) × IsPrint file.now state.goal × FramePlaced state (length frames.now) }
     ensures { (images callees m : List ℕ) → Goes file.now (tables_in plan.now images callees)
@@ -102,16 +108,16 @@ fn print_step(
     let printed = state.printed;
     let limit = room(prints.len(), PRINT_WORDS) as usize;
     if limit <= printed {
-        return Step::Stops(Stop::Prints);
+        return Err(Stop::Prints);
     }
     let v = value(frames, at, word_in(file, i, PRINT_Y));
     put(&mut prints[..], printed, v);
-    Step::Went(State {
+    Ok(Step::Went(State {
         top: k,
         at,
         goal: successor(plan, i),
         printed: printed + 1,
-    })
+    }))
 }
 
 // A switch.
@@ -121,29 +127,29 @@ pub fn switch_step(
     state: State,
     cells: &[u32],
     frames: &mut [u32],
-) -> Step
+) -> State
     requires formed { Formed file.now × Numbered file.now plan.now }
     requires goal_bound { (state.goal < record_count file.now) × IsSwitch file.now state.goal × FramePlaced state (length frames.old) }
     ensures { (images callees ps : List ℕ) → Goes file.now (tables_in plan.now images callees)
-        state cells.now frames.old ps result frames.new ps }
+        state cells.now frames.old ps (Ok (Went result)) frames.new ps }
 {
     let i = state.goal;
     let at = state.at;
     let j = switch_arm(file, i, at, cells, &mut frames[..]);
-    Step::Went(onward(state, successor(plan, j)))
+    onward(state, successor(plan, j))
 }
 
 // An if.
-fn if_step(file: &[u8], plan: &[usize; PLAN], state: State, frames: &[u32]) -> Step
+fn if_step(file: &[u8], plan: &[usize; PLAN], state: State, frames: &[u32]) -> State
     requires formed { Formed file.now × Numbered file.now plan.now }
     requires goal_bound { (state.goal < record_count file.now) × IsIf file.now state.goal × FramePlaced state (length frames.now) }
     ensures { (images callees m ps : List ℕ) → Goes file.now (tables_in plan.now images callees)
-        state m frames.now ps result frames.now ps }
+        state m frames.now ps (Ok (Went result)) frames.now ps }
 {
     let i = state.goal;
     let at = state.at;
     let part = part_of(file, i, at, frames);
-    Step::Went(onward(state, onto(part, successor(plan, i))))
+    onward(state, onto(part, successor(plan, i)))
 }
 
 // The goal at record state.goal, one that leaves cells and regions alone; a try is only told.
@@ -156,7 +162,7 @@ pub fn go(
     cells: &[u32],
     frames: &mut [u32],
     prints: &mut [u32],
-) -> Step
+) -> Result<Step, Stop>
     requires formed { Formed file.now × Numbered file.now plan.now }
     requires narrow { Narrow plan.now images.now }
     requires goal_bound { (state.goal < record_count file.now) × FramePlaced state (length frames.old) }
@@ -169,18 +175,18 @@ pub fn go(
     match word_in(file, i, KIND) {
         LITERAL => {
             literal(file, i, at, &mut frames[..]);
-            Step::Went(onward(state, successor(plan, i)))
+            Ok(Step::Went(onward(state, successor(plan, i))))
         }
         SUM => sum_step(file, plan, state, &mut frames[..]),
         ASSIGN => {
             assign(file, i, at, &mut frames[..]);
-            Step::Went(onward(state, successor(plan, i)))
+            Ok(Step::Went(onward(state, successor(plan, i))))
         }
-        SWITCH => switch_step(file, plan, state, cells, &mut frames[..]),
-        IF => if_step(file, plan, state, &frames[..]),
+        SWITCH => Ok(Step::Went(switch_step(file, plan, state, cells, &mut frames[..]))),
+        IF => Ok(Step::Went(if_step(file, plan, state, &frames[..]))),
         CALL => call_step(file, plan, images, callees, state, &mut frames[..]),
         PRINT => print_step(file, plan, state, &frames[..], &mut prints[..]),
-        TRY => Step::Tries,
-        _ => Step::Went(state),
+        TRY => Ok(Step::Tries),
+        _ => Ok(Step::Went(state)),
     }
 }

@@ -10,7 +10,7 @@ ghost use Rattle.machine.specs.Trying.{Tried};
 use crate::entries::{LOG_WORDS, free_log, log_length};
 use crate::opened::{SAVED_WORDS, else_goal, save_frame, step_in, take_back_all, then_goal};
 use crate::steps::onward;
-use crate::{ConditionEnd, ConditionStep, State};
+use crate::{ConditionStep, State, TryDone, TryStopped};
 use language::Stop;
 use language::format::{RECORD_BYTES, TRY_CONDITION};
 use memory::{Heap, Pool};
@@ -30,7 +30,7 @@ pub fn run_try(
     own: &mut [u32; SAVED_WORDS],
     from: usize,
     steps: usize,
-) -> ConditionEnd
+) -> Result<TryDone, TryStopped>
     requires formed { Formed file.now × Numbered file.now plan.now × (from ≤ 1) × (0 < steps) }
     requires goal_bound { (state.goal < record_count file.now) × (state.goal ≡ 0 → ⊥) × IsTry file.now state.goal × FramePlaced state (length frames.old) }
     ensures { (images callees : List ℕ) → Tried file.now (tables_in plan.now images callees) state heap steps
@@ -46,10 +46,17 @@ pub fn run_try(
     loop {
         if here.goal == 0 {
             let freed = free_log(made, cells, regions, &*log, count);
-            return ConditionEnd::Left(freed, then_goal(file, plan, i), left);
+            return Ok(TryDone {
+                heap: freed,
+                goal: then_goal(file, plan, i),
+                left,
+            });
         }
         if left == 0 {
-            return ConditionEnd::Lacks(Stop::Steps, left);
+            return Err(TryStopped {
+                stop: Stop::Steps,
+                left,
+            });
         }
         if file.len() / RECORD_BYTES <= here.goal {
             left -= 1;
@@ -57,19 +64,23 @@ pub fn run_try(
         }
         let stepped = step_in(file, plan, here, made, count, cells, regions, frames, log);
         match stepped {
-            ConditionStep::On(h, goal, n) => {
+            Ok(ConditionStep::On(h, goal, n)) => {
                 made = h;
                 here = onward(here, goal);
                 count = n;
                 left -= 1;
             }
-            ConditionStep::Fails => {
+            Ok(ConditionStep::Fails) => {
                 let back = take_back_all(
                     here.at, made, count, cells, regions, frames, &*log, &*own, from,
                 );
-                return ConditionEnd::Left(back, else_goal(file, plan, i), left - 1);
+                return Ok(TryDone {
+                    heap: back,
+                    goal: else_goal(file, plan, i),
+                    left: left - 1,
+                });
             }
-            ConditionStep::Lacks(stop) => return ConditionEnd::Lacks(stop, left),
+            Err(stop) => return Err(TryStopped { stop, left }),
         }
     }
 }

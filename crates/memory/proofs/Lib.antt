@@ -1,1 +1,2 @@
 mod Ways
+mod Copied

@@ -1,23 +1,22 @@
 -- What each function comes to on each way through it.
-use Rattle.std.specs.Prelude.{ℕ, ◌+◌, ◌*◌, ◌≤◌, ◌<◌, ◌≡◌, List, set}
+use Rattle.std.specs.Prelude.{ℕ, ◌+◌, ◌*◌, ◌≤◌, ◌<◌, ◌≡◌, List, set, Some, None}
 use Rattle.std.proofs.Math.Path.{refl}
 use borrow.Author.Tests.{le-leb, lt-leb, eq-eqb, ne_eqb}
 use Rattle.language.specs.Lists.{choose}
 use Rattle.memory.specs.declared.Pool.{Pool}
-use Rattle.memory.specs.declared.Taken.TheVariants.{Place, Full}
 use Rattle.memory.specs.declared.Heap.{Heap}
 use Rattle.memory.specs.Memory.{cell_words, region_words, cell_next, region_last, first, last, headed, raised, taken, hung, removed, removed_cells, removed_regions}
 
 module _ (p : Pool) (l : ℕ) where
-  pub take_full : p.limit ≤ p.head → taken p l ≡ Full
+  pub take_full : p.limit ≤ p.head → taken p l ≡ None
   unfolding taken choose
   take_full h = rw (le-leb _ _ h)
 
-  pub take_top : p.head < p.limit → p.head ≡ p.top → taken p l ≡ Place p.head (raised p)
+  pub take_top : p.head < p.limit → p.head ≡ p.top → taken p l ≡ Some (p.head, raised p)
   unfolding taken choose
   take_top h e = rw (lt-leb _ _ h, eq-eqb _ _ e)
 
-  pub take_link : p.head < p.limit → (p.head ≡ p.top → ⊥) → taken p l ≡ Place p.head (headed p l)
+  pub take_link : p.head < p.limit → (p.head ≡ p.top → ⊥) → taken p l ≡ Some (p.head, headed p l)
   unfolding taken choose
   take_link h e = rw (lt-leb _ _ h, ne_eqb _ _ e)
 

@@ -1,9 +1,9 @@
 -- What an open condition has done is logged (C-20), so that a failing test undoes it and the then part begins with what was removed freed.
 use Prim.Native.Nat.{ℕ, zero, suc, ◌+◌, ◌-◌, ◌*◌, ◌/◌, ◌%◌, ◌<◌}
 use native.Mathlib.Omega.{arith}
-use Rattle.std.specs.Prelude.{◌≡◌, Bool, List, get_or, set, eqb}
+use Rattle.std.specs.Prelude.{◌≡◌, List, get_or, set, eqb}
 use Rattle.std.proofs.Math.Path.{refl, sym}
-use Rattle.std.proofs.Common.{ap, ◌∙◌}
+use Rattle.std.proofs.Common.{◌∙◌}
 use borrow.Author.Tests.{eq-eqb, ne_eqb}
 use Rattle.language.specs.Lists.{choose}
 use Rattle.memory.specs.declared.Heap.{Heap}

@@ -1,13 +1,9 @@
 -- The memory's functions on lists of words.
-use Rattle.std.specs.Prelude.{ℕ, ◌+◌, ◌*◌, Bool, List, get_or, set, leb, eqb}
+use Rattle.std.specs.Prelude.{ℕ, ◌+◌, ◌*◌, Bool, List, get_or, set, leb, eqb, Option, Some, None}
 use Rattle.language.specs.Lists.{choose}
 use Rattle.memory.specs.declared.Contents.{Contents}
 use Rattle.memory.specs.declared.Pool.{Pool}
-use Rattle.memory.specs.declared.Taken.{Taken}
-use Rattle.memory.specs.declared.Taken.TheVariants.{Place, Full}
 use Rattle.memory.specs.declared.Heap.{Heap}
-use Rattle.memory.specs.declared.Made.{Made}
-use Rattle.memory.specs.declared.Made.TheVariants.{At, NoRoom}
 
 -- "Lent 32-bit words hold: 8 a cell, 2 a region"; the code has these numbers under the same names (src/lib.rt)
 abbrev pub cell_words : ℕ
@@ -67,32 +63,32 @@ abbrev pub raised : Pool → Pool
 raised p = record { head = p.head + 1; top = p.head + 1; limit = p.limit }
 
 -- the first free place; the next stands behind it on the chain, or is the first that was never used
-unfoldable pub taken : Pool → ℕ → Taken
-taken p l = choose (leb p.limit p.head) Full (choose (eqb p.head p.top) (Place p.head (raised p)) (Place p.head (headed p l)))
+unfoldable pub taken : Pool → ℕ → Option (ℕ × Pool)
+taken p l = choose (leb p.limit p.head) None (choose (eqb p.head p.top) (Some (p.head, raised p)) (Some (p.head, headed p l)))
 
 unfoldable pub empty_heap : ℕ → ℕ → Heap
 empty_heap cells regions = record { cells = unused cells; regions = unused regions }
 
 -- ---- a region is created
-abbrev pub region_taken : Heap → List ℕ → Taken
+abbrev pub region_taken : Heap → List ℕ → Option (ℕ × Pool)
 region_taken h rs = taken h.regions (first rs h.regions.head)
 
-unfoldable pub created_of : Heap → Taken → Made
-created_of h (Place r p) = At r (record { cells = h.cells; regions = p })
-created_of h Full = NoRoom
+unfoldable pub created_of : Heap → Option (ℕ × Pool) → Option (ℕ × Heap)
+created_of h (Some (r, p)) = Some (r, record { cells = h.cells; regions = p })
+created_of h None = None
 
-unfoldable pub created_regions_of : Heap → List ℕ → Taken → List ℕ
-created_regions_of h rs (Place r p) = set rs (region_words * r + region_last) h.cells.limit
-created_regions_of h rs Full = rs
+unfoldable pub created_regions_of : Heap → List ℕ → Option (ℕ × Pool) → List ℕ
+created_regions_of h rs (Some (r, p)) = set rs (region_words * r + region_last) h.cells.limit
+created_regions_of h rs None = rs
 
-unfoldable pub created : Heap → List ℕ → Made
+unfoldable pub created : Heap → List ℕ → Option (ℕ × Heap)
 created h rs = created_of h (region_taken h rs)
 
 unfoldable pub created_regions : Heap → List ℕ → List ℕ
 created_regions h rs = created_regions_of h rs (region_taken h rs)
 
 -- ---- a cell is built in region r
-abbrev pub cell_taken : Heap → List ℕ → Taken
+abbrev pub cell_taken : Heap → List ℕ → Option (ℕ × Pool)
 cell_taken h m = taken h.cells (link m h.cells.head)
 
 unfoldable pub filled : List ℕ → ℕ → Contents → ℕ → List ℕ
@@ -102,19 +98,19 @@ filled m x c n =
 unfoldable pub hung : List ℕ → ℕ → ℕ → ℕ → List ℕ
 hung rs r x n = choose (leb n (last rs r)) (set (set rs (region_words * r) x) (region_words * r + region_last) x) (set rs (region_words * r) x)
 
-unfoldable pub built_of : Heap → Taken → Made
-built_of h (Place x p) = At x (record { cells = p; regions = h.regions })
-built_of h Full = NoRoom
+unfoldable pub built_of : Heap → Option (ℕ × Pool) → Option (ℕ × Heap)
+built_of h (Some (x, p)) = Some (x, record { cells = p; regions = h.regions })
+built_of h None = None
 
-unfoldable pub built_cells_of : List ℕ → List ℕ → ℕ → Contents → Taken → List ℕ
-built_cells_of m rs r c (Place x p) = filled m x c (first rs r)
-built_cells_of m rs r c Full = m
+unfoldable pub built_cells_of : List ℕ → List ℕ → ℕ → Contents → Option (ℕ × Pool) → List ℕ
+built_cells_of m rs r c (Some (x, p)) = filled m x c (first rs r)
+built_cells_of m rs r c None = m
 
-unfoldable pub built_regions_of : Heap → List ℕ → ℕ → Taken → List ℕ
-built_regions_of h rs r (Place x p) = hung rs r x h.cells.limit
-built_regions_of h rs r Full = rs
+unfoldable pub built_regions_of : Heap → List ℕ → ℕ → Option (ℕ × Pool) → List ℕ
+built_regions_of h rs r (Some (x, p)) = hung rs r x h.cells.limit
+built_regions_of h rs r None = rs
 
-unfoldable pub built : Heap → List ℕ → Made
+unfoldable pub built : Heap → List ℕ → Option (ℕ × Heap)
 built h m = built_of h (cell_taken h m)
 
 unfoldable pub built_cells : Heap → List ℕ → List ℕ → ℕ → Contents → List ℕ

@@ -49,24 +49,10 @@ pub struct Pool {
     pub limit: u32,
 }
 
-// What a pool gives: a place, and the pool without it.
-#[derive(Clone, Copy)]
-pub enum Taken {
-    Place(u32, Pool),
-    Full,
-}
-
 #[derive(Clone, Copy)]
 pub struct Heap {
     pub cells: Pool,
     pub regions: Pool,
-}
-
-// What a create or a construct makes: its place, and the heap after it.
-#[derive(Clone, Copy)]
-pub enum Made {
-    At(u32, Heap),
-    NoRoom,
 }
 
 // What a cell holds: its functor's number and its arguments' words. Words past the arity mean nothing.

@@ -8,9 +8,5 @@ pub fn move_words(from: &[u32], p: usize, to: &mut [u32], q: usize, n: usize)
     requires n_in_bounds_2 { q + n ≤ length to.old }
     ensures { to.new ≡ moved p q n from.now to.old }
 {
-    let mut i = n;
-    while i > 0 {
-        i -= 1;
-        to[q + i] = from[p + i];
-    }
+    to[q..q + n].copy_from_slice(&from[p..p + n]);
 }

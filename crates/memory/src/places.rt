@@ -5,7 +5,7 @@ ghost use Rattle.memory.specs.Memory.{cell_words, region_words, empty_heap, crea
 
 use crate::pools::{fresh, room, take};
 use crate::words::{put, word};
-use crate::{CELL_NEXT, CELL_WORDS, Heap, Made, Pool, REGION_LAST, REGION_WORDS, Taken};
+use crate::{CELL_NEXT, CELL_WORDS, Heap, Pool, REGION_LAST, REGION_WORDS};
 
 // Before the first step. The words keep what stands there.
 pub fn empty(cells: &[u32], regions: &[u32]) -> Heap
@@ -17,47 +17,43 @@ pub fn empty(cells: &[u32], regions: &[u32]) -> Heap
     }
 }
 
-// "Create makes a new region": one without cells.
-pub fn create(heap: Heap, regions: &mut [u32]) -> Made
+// "Create makes a new region": one without cells. Its place, and the heap after it.
+pub fn create(heap: Heap, regions: &mut [u32]) -> Option<(u32, Heap)>
     ensures { (result ≡ created heap regions.old) × (regions.new ≡ created_regions heap regions.old) }
 {
     let cells = heap.cells;
     let free = heap.regions;
     let link = word(&regions[..], REGION_WORDS * (free.head as usize));
-    let Taken::Place(region, left) = take(free, link) else {
-        return Made::NoRoom;
-    };
+    let (region, left) = take(free, link)?;
     put(
         &mut regions[..],
         REGION_WORDS * (region as usize) + REGION_LAST,
         cells.limit,
     );
-    Made::At(
+    Some((
         region,
         Heap {
             cells,
             regions: left,
         },
-    )
+    ))
 }
 
 // "A construct makes one cell": its place, and the heap without it. The cell stands in no region yet.
-pub fn take_cell(heap: Heap, cells: &[u32]) -> Made
+pub fn take_cell(heap: Heap, cells: &[u32]) -> Option<(u32, Heap)>
     ensures { result ≡ built heap cells.now }
 {
     let free = heap.cells;
     let places = heap.regions;
     let link = word(&cells[..], CELL_WORDS * (free.head as usize) + CELL_NEXT);
-    let Taken::Place(cell, left) = take(free, link) else {
-        return Made::NoRoom;
-    };
-    Made::At(
+    let (cell, left) = take(free, link)?;
+    Some((
         cell,
         Heap {
             cells: left,
             regions: places,
         },
-    )
+    ))
 }
 
 // "Remove destroys one with its cells": they go before the free ones, all at once.

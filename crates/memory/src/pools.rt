@@ -3,7 +3,7 @@ ghost use Rattle.std.specs.Prelude.{◌≡◌};
 ghost use Rattle.language.specs.Machine.{holds};
 ghost use Rattle.memory.specs.Memory.{unused, taken};
 
-use crate::{MOST, Pool, Taken};
+use crate::{MOST, Pool};
 
 // How many of a sort the lent words hold: "a remainder too small for one is not used".
 pub fn room(words: usize, each: usize) -> u32
@@ -27,33 +27,33 @@ pub fn fresh(limit: u32) -> Pool
     }
 }
 
-// The first free place; `link` is what that place's link word says.
-pub fn take(pool: Pool, link: u32) -> Taken
+// The first free place, and the pool without it; `link` is what that place's link word says.
+pub fn take(pool: Pool, link: u32) -> Option<(u32, Pool)>
     ensures { result ≡ taken pool link }
 {
     let head = pool.head;
     let top = pool.top;
     let limit = pool.limit;
     if limit <= head {
-        return Taken::Full;
+        return None;
     }
     if head == top {
         let above = head + 1;
-        return Taken::Place(
+        return Some((
             head,
             Pool {
                 head: above,
                 top: above,
                 limit,
             },
-        );
+        ));
     }
-    Taken::Place(
+    Some((
         head,
         Pool {
             head: link,
             top,
             limit,
         },
-    )
+    ))
 }

@@ -1,5 +1,5 @@
 -- The points that a step in a condition, or one that ends it, leads to (C-20), as the code makes them.
-use Rattle.std.specs.Prelude.{ℕ, ◌+◌, ◌<◌, ◌≡◌, refl, List, length, get_or}
+use Rattle.std.specs.Prelude.{ℕ, ◌+◌, ◌<◌, ◌≡◌, refl, List, length, get_or, Result}
 use Rattle.std.proofs.Common.{ap, ◌∙◌}
 use Rattle.language.specs.File.{word}
 use Rattle.language.specs.Format.{try_then, try_else}
@@ -20,6 +20,7 @@ use Rattle.profiling.specs.declared.Open.{Open}
 use Rattle.profiling.specs.declared.Point.{Point}
 use Rattle.profiling.specs.Counting.{made_counted, counted}
 use Rattle.profiling.specs.Turning.{Settles}
+use Rattle.language.specs.declared.Stop.{Stop}
 use Rattle.profiling.specs.Moving.{words_at, RunStands, Ready, ReadyIn}
 
 -- the first goals of the parts of the try at record i, or what comes after it
@@ -60,7 +61,7 @@ pub record GoesBack (f : List ℕ) (T : Tables) (p : Point) (log own m rs fw m�
 
 -- the step at point p in its condition, from words where it stands: r is the answer, c the counts without what the condition removed; the words with ₁
 -- are those afterwards
-pub record Took (f : List ℕ) (T : Tables) (l : ℕ) (m rs fw ps log own : List ℕ) (p : Point) (r : ConditionStep) (c : Counts) (m₁ rs₁ fw₁ log₁ : List ℕ) : Type 0 where
+pub record Took (f : List ℕ) (T : Tables) (l : ℕ) (m rs fw ps log own : List ℕ) (p : Point) (r : Result ConditionStep Stop) (c : Counts) (m₁ rs₁ fw₁ log₁ : List ℕ) : Type 0 where
   pub stands : RunStands f T l m rs fw ps log own p
   pub low : p.done < l
   pub goes : GoesIn f T p.state p.heap p.condition.logged m rs fw log r m₁ rs₁ fw₁ log₁

@@ -1,10 +1,11 @@
 -- What each way through a step's code comes to, from where a run stands.
 use Prim.Native.Nat.{ℕ, suc, ◌+◌, ◌≤◌, ◌<◌}
-use Rattle.std.proofs.Common.{arith, sym, ◌∙◌}
+use Rattle.std.proofs.Common.{arith, sym, ◌∙◌, Result, Ok, Err, ControlFlow, Continue}
 use Rattle.std.proofs.Math.Decide.{ℕ_discrete}
 use Rattle.std.proofs.Math.Numerals.{add-one}
 use Rattle.std.specs.Prelude.{◌≡◌, List, length}
 use Rattle.std.proofs.Math.Path.{refl, ap}
+use Rattle.language.specs.declared.Ending.{Ending}
 use Rattle.language.specs.declared.Stop.{Stop}
 use Rattle.language.specs.declared.Stop.TheVariants.{Steps}
 use Rattle.language.specs.declared.Ending.TheVariants.{Finished, Stopped}
@@ -21,9 +22,7 @@ use Rattle.profiling.specs.declared.Counts.{Counts}
 use Rattle.profiling.specs.declared.Open.{Open}
 use Rattle.profiling.specs.declared.Point.{Point}
 use Rattle.profiling.specs.declared.Turn.{Turn}
-use Rattle.profiling.specs.declared.Turn.TheVariants.{On as TurnOn, Lacks, Tries}
-use Rattle.profiling.specs.declared.Moved.{Moved}
-use Rattle.profiling.specs.declared.Moved.TheVariants.{On}
+use Rattle.profiling.specs.declared.Turn.TheVariants.{On as TurnOn, Tries}
 use Rattle.profiling.specs.Counting.{counted}
 use Rattle.profiling.specs.Tallying.{alike}
 use Rattle.profiling.specs.Standing.{outside, words_in, at_as, finished_here, steps_on, stops_here, spent_here, inside_busy, inside_spent}
@@ -61,14 +60,14 @@ module _ {f : List ℕ} {T : Tables} {l : ℕ} {m rs fw ps log own : List ℕ} {
         (λ y. let W = stands_inside H y in record { is = inside_spent W.2 q })
 
     -- ---- a step outside conditions
-    module _ (o : p.condition.at ≡ 0) (q : p.done < l) {r : Turn} {m₁ rs₁ fw₁ ps₁ : List ℕ} (t : Turns f T p.state p.heap m rs fw ps r m₁ rs₁ fw₁ ps₁) where
+    module _ (o : p.condition.at ≡ 0) (q : p.done < l) {r : Result Turn Stop} {m₁ rs₁ fw₁ ps₁ : List ℕ} (t : Turns f T p.state p.heap m rs fw ps r m₁ rs₁ fw₁ ps₁) where
       abbrev K : Room
       K = room_in (lent_words m rs fw ps l)
 
       abbrev W : MachineWords
       W = words_at p m rs fw ps
 
-      came : (r ≡ Tries → ⊥) → turned_to r m₁ rs₁ fw₁ ps₁ ≡ settled_if f T (steps f T K (suc (some_goal i z).0) (record_at f (suc (some_goal i z).0)) W)
+      came : (r ≡ Ok Tries → ⊥) → turned_to r m₁ rs₁ fw₁ ps₁ ≡ settled_if f T (steps f T K (suc (some_goal i z).0) (record_at f (suc (some_goal i z).0)) W)
       unfolding stepped room_in lent_words
       came n = rw (← (some_goal i z).1) (t.comes n K refl refl)
 
@@ -76,13 +75,13 @@ module _ {f : List ℕ} {T : Tables} {l : ℕ} {m rs fw ps log own : List ℕ} {
       unfolding lent_words
       steps_low = q
 
-      lacks_done : (c : Stop) → r ≡ Lacks c → r ≡ Tries → ⊥
+      lacks_done : (c : Stop) → r ≡ Err c → r ≡ Ok Tries → ⊥
       lacks_done c e d = let x : ◌≡◌ {A = ℕ} 0 1 = cc in omega arith
 
-      on_done : (s : State) (h : Heap) → r ≡ TurnOn s h → r ≡ Tries → ⊥
+      on_done : (s : State) (h : Heap) → r ≡ Ok (TurnOn s h) → r ≡ Ok Tries → ⊥
       on_done s h e d = let x : ◌≡◌ {A = ℕ} 0 1 = cc in omega arith
 
-      pub moves_lacks : (c : Stop) → r ≡ Lacks c → EndsAfter f (lent_words m rs fw ps l) (Stopped c) p.done
+      pub moves_lacks : (c : Stop) → r ≡ Err c → EndsAfter f (lent_words m rs fw ps l) (Stopped c) p.done
       unfolding turned_to
       moves_lacks c e = record {
         is =
@@ -90,9 +89,9 @@ module _ {f : List ℕ} {T : Tables} {l : ℕ} {m rs fw ps log own : List ℕ} {
             (before_stops f T _ c (ap (λ x. turned_to x m₁ rs₁ fw₁ ps₁) (sym e) ∙ came (lacks_done c e)));
       }
 
-      pub moves_on : (s : State) (h : Heap) (c : Counts) (n : ℕ) (d : Open) → r ≡ TurnOn s h → c ≡ counted W (record_at f i) p.counts → n ≡ p.done + 1 → d.at ≡ 0
+      pub moves_on : (s : State) (h : Heap) (c : Counts) (n : ℕ) (d : Open) → r ≡ Ok (TurnOn s h) → c ≡ counted W (record_at f i) p.counts → n ≡ p.done + 1 → d.at ≡ 0
           → length m₁ ≡ length m → length rs₁ ≡ length rs → length fw₁ ≡ length fw → length ps₁ ≡ length ps → (own₁ : List ℕ)
-          → Moves f T l m rs fw ps p m₁ rs₁ fw₁ ps₁ log own₁ (On (record { state = s; heap = h; counts = c; done = n; condition = d }))
+          → Moves f T l m rs fw ps p m₁ rs₁ fw₁ ps₁ log own₁ (Continue (record { state = s; heap = h; counts = c; done = n; condition = d }))
       unfolding turned_to words_in
       moves_on s h c n d e ec en ed lm lr lf lp own₁ =
           let v = before_went f T _ (words_of h m₁ rs₁ fw₁ ps₁ s) (ap (λ x. turned_to x m₁ rs₁ fw₁ ps₁) (sym e) ∙ came (on_done s h e)) in
@@ -116,13 +115,13 @@ module _ {f : List ℕ} {T : Tables} {l : ℕ} {m rs fw ps log own : List ℕ} {
           })
 
 -- ---- a try is told, and the words are as they were
-module _ {f : List ℕ} {T : Tables} {l : ℕ} {m rs fw ps m₁ rs₁ fw₁ ps₁ m₂ rs₂ fw₂ ps₂ log own log₂ own₂ : List ℕ} {p : Point} {x : Moved} where
+module _ {f : List ℕ} {T : Tables} {l : ℕ} {m rs fw ps m₁ rs₁ fw₁ ps₁ m₂ rs₂ fw₂ ps₂ log own log₂ own₂ : List ℕ} {p : Point} {x : ControlFlow Ending Point} where
   tries_as : m₁ ≡ m → rs₁ ≡ rs → fw₁ ≡ fw → ps₁ ≡ ps
       → (RunStands f T l m₁ rs₁ fw₁ ps₁ log own p → Moves f T l m₁ rs₁ fw₁ ps₁ p m₂ rs₂ fw₂ ps₂ log₂ own₂ x)
       → RunStands f T l m rs fw ps log own p → Moves f T l m rs fw ps p m₂ rs₂ fw₂ ps₂ log₂ own₂ x
   tries_as a b d e F H = rw (← a, ← b, ← d, ← e) (F (rw (a, b, d, e) H))
 
-  pub moves_tries : {r : Turn} → Turns f T p.state p.heap m rs fw ps r m₁ rs₁ fw₁ ps₁ → r ≡ Tries
+  pub moves_tries : {r : Result Turn Stop} → Turns f T p.state p.heap m rs fw ps r m₁ rs₁ fw₁ ps₁ → r ≡ Ok Tries
       → (RunStands f T l m₁ rs₁ fw₁ ps₁ log own p → IsTry f p.state.goal → Moves f T l m₁ rs₁ fw₁ ps₁ p m₂ rs₂ fw₂ ps₂ log₂ own₂ x)
       → RunStands f T l m rs fw ps log own p → Moves f T l m rs fw ps p m₂ rs₂ fw₂ ps₂ log₂ own₂ x
   moves_tries t e F H = let u = t.tries e in tries_as u.1 u.2 u.3 u.4 (λ G. F G u.0) H

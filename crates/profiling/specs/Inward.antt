@@ -1,6 +1,6 @@
 -- What each way into, through and out of a condition comes to (C-20), from where a run stands.
 use Prim.Native.Nat.{ℕ, zero, suc, ◌+◌, ◌*◌, ◌≤◌, ◌<◌}
-use Rattle.std.proofs.Common.{arith, ◌∙◌}
+use Rattle.std.proofs.Common.{arith, ◌∙◌, Result, Ok, Err, Continue, Break}
 use Rattle.std.proofs.Math.Numerals.{add-one}
 use Rattle.std.specs.Prelude.{◌≡◌, true, false, List, length, replicate}
 use Rattle.std.proofs.Math.Path.{refl, sym, ap}
@@ -22,14 +22,13 @@ use Rattle.word_machine.specs.Machine.{frame_words, regions_end, MachineWords, C
 use Rattle.word_machine.specs.Returns.{some_goal}
 use Rattle.machine.specs.declared.State.{State}
 use Rattle.machine.specs.declared.ConditionStep.{ConditionStep}
-use Rattle.machine.specs.declared.ConditionStep.TheVariants.{On as StepOn, Fails, Lacks}
+use Rattle.machine.specs.declared.ConditionStep.TheVariants.{On as StepOn, Fails}
 use Rattle.machine.specs.Words.{words_of, onward_to, onward_placed}
 use Rattle.machine.specs.Steps.{of_kind}
 use Rattle.machine.specs.Entries.{Logs, logs_none}
 use Rattle.machine.specs.Trying.{fails_in, Inside, Onward}
 use Rattle.profiling.specs.declared.Counts.{Counts}
 use Rattle.profiling.specs.declared.Point.{Point}
-use Rattle.profiling.specs.declared.Moved.TheVariants.{On, Ended}
 use Rattle.profiling.specs.Counting.{made_counted, counted}
 use Rattle.profiling.specs.Tallying.{Tally, alike}
 use Rattle.profiling.specs.Standing.{outside, inside, words_in, StandsAfter, at_as, steps_on, steps_into, inside_busy, inside_on, inside_ends, inside_fails, inside_stops}
@@ -112,7 +111,7 @@ module _ {f : List ℕ} {T : Tables} {l : ℕ} {m rs fw ps log own : List ℕ} {
 
   pub enter_opens : (first ≡ 0 → ⊥) → (own₁ : List ℕ) → own₁ ≡ moved (p.state.at + 1) 1 regions_end fw own → regions_end < length own
       → (s : State) → s ≡ onward_to p.state first → i < record_count f
-      → Moves f T l m rs fw ps p m rs fw ps log own₁ (On (record {
+      → Moves f T l m rs fw ps p m rs fw ps log own₁ (Continue (record {
         state = s;
         heap = p.heap;
         counts = p.counts;
@@ -153,7 +152,7 @@ module _ {f : List ℕ} {T : Tables} {l : ℕ} {m rs fw ps log own : List ℕ} {
   shuts_here n = rw n refl
 
   pub enter_ends : first ≡ 0 → (r : Point) (fy : List ℕ) → r.heap ≡ p.heap → Behind f T p yes_part p.counts fw fy r → length fy ≡ length fw
-      → Moves f T l m rs fw ps p m rs fy ps log own (On r)
+      → Moves f T l m rs fw ps p m rs fy ps log own (Continue r)
   unfolding words_in
   enter_ends nf r fy eh D lf =
       let y : r.done ≡ suc p.done = D.done ∙ add-one p.done in
@@ -229,7 +228,7 @@ module _ {f : List ℕ} {T : Tables} {l : ℕ} {m rs fw ps log own : List ℕ} {
 
     -- the condition goes on
     pub goes_inside : (a ≡ 0 → ⊥) → k ≤ suc p.condition.logged → (d : Counts) → d ≡ counted (words_at p m rs fw ps) (record_at f j) p.condition.left
-        → Moves f T l m rs fw ps p m₁ rs₁ fw₁ ps log₁ own (On (opened_to f p g a k d))
+        → Moves f T l m rs fw ps p m₁ rs₁ fw₁ ps log₁ own (Continue (opened_to f p g a k d))
     unfolding words_in opened_to
     goes_inside na few d ed =
         let x : p.done + 1 ≡ suc p.done = add-one p.done in
@@ -277,7 +276,7 @@ module _ {f : List ℕ} {T : Tables} {l : ℕ} {m rs fw ps log own : List ℕ} {
       pub ends_inside : fails_in (record_at f j) (words_at p m rs fw ps) ≡ false → (c : Counts) (t : Point) (fy : List ℕ)
           → c ≡ counted (words_at p m rs fw ps) (record_at f j) p.condition.left → t.heap ≡ h → Behind f T p yes_at c fw₁ fy t
           → length m₂ ≡ length m → length rs₂ ≡ length rs → length fy ≡ length fw
-          → Moves f T l m rs fw ps p m₂ rs₂ fy ps log₁ own (On t)
+          → Moves f T l m rs fw ps p m₂ rs₂ fy ps log₁ own (Continue t)
       unfolding words_in
       ends_inside nf c t fy ec eh D l₂ r₂ f₂ =
           let x : t.done ≡ suc p.done = D.done ∙ add-one p.done in
@@ -319,7 +318,7 @@ module _ {f : List ℕ} {T : Tables} {l : ℕ} {m rs fw ps log own : List ℕ} {
 
     pub fails_inside : fails_in (record_at f j) (words_at p m rs fw ps) ≡ true → (t : Point) (fy : List ℕ) → t.heap ≡ h → Behind f T p no_at p.condition.before fw₁ fy t
         → length m₁ ≡ length m → length rs₁ ≡ length rs → length fy ≡ length fw
-        → Moves f T l m rs fw ps p m₁ rs₁ fy ps log own (On t)
+        → Moves f T l m rs fw ps p m₁ rs₁ fy ps log own (Continue t)
     unfolding words_in
     fails_inside nf t fy eh D l₁ r₁ f₁ =
         let x : t.done ≡ suc p.done = D.done ∙ add-one p.done in
@@ -341,31 +340,31 @@ module _ {f : List ℕ} {T : Tables} {l : ℕ} {m rs fw ps log own : List ℕ} {
         })
 
 -- ---- the answer of the step in a condition
-module _ {f : List ℕ} {T : Tables} {l : ℕ} {m rs fw ps log own : List ℕ} {p : Point} {r : ConditionStep} {c : Counts} {m₁ rs₁ fw₁ log₁ : List ℕ}
+module _ {f : List ℕ} {T : Tables} {l : ℕ} {m rs fw ps log own : List ℕ} {p : Point} {r : Result ConditionStep Stop} {c : Counts} {m₁ rs₁ fw₁ log₁ : List ℕ}
     (K : Took f T l m rs fw ps log own p r c m₁ rs₁ fw₁ log₁) (y : p.condition.at ≡ 0 → ⊥) where
   kept_here : Inside log p.heap m rs fw ps p.state p.condition.logged (open_words K.stands y K.low)
   kept_here = (at_open K.stands y K.low).kept
 
-  pub took_on : (g : Heap) (a k : ℕ) → r ≡ StepOn g a k → (a ≡ 0 → ⊥) → (t : Point) → t ≡ opened_to f p g a k c → Moves f T l m rs fw ps p m₁ rs₁ fw₁ ps log₁ own (On t)
+  pub took_on : (g : Heap) (a k : ℕ) → r ≡ Ok (StepOn g a k) → (a ≡ 0 → ⊥) → (t : Point) → t ≡ opened_to f p g a k c → Moves f T l m rs fw ps p m₁ rs₁ fw₁ ps log₁ own (Continue t)
   took_on g a k e na t et =
       rw et
       (goes_inside K.stands y K.low (K.goes.on g a k e ps _ kept_here) K.cells K.regions K.frames na (K.goes.limits g a k e).1 c K.counts)
 
-  pub took_last : (g : Heap) (a k : ℕ) → r ≡ StepOn g a k → a ≡ 0 → (m₂ rs₂ fy : List ℕ) (t : Point) → Leaves f T p g k c log₁ m₁ rs₁ fw₁ m₂ rs₂ fy t
-      → length m₂ ≡ length m₁ → length rs₂ ≡ length rs₁ → length fy ≡ length fw₁ → Moves f T l m rs fw ps p m₂ rs₂ fy ps log₁ own (On t)
+  pub took_last : (g : Heap) (a k : ℕ) → r ≡ Ok (StepOn g a k) → a ≡ 0 → (m₂ rs₂ fy : List ℕ) (t : Point) → Leaves f T p g k c log₁ m₁ rs₁ fw₁ m₂ rs₂ fy t
+      → length m₂ ≡ length m₁ → length rs₂ ≡ length rs₁ → length fy ≡ length fw₁ → Moves f T l m rs fw ps p m₂ rs₂ fy ps log₁ own (Continue t)
   took_last g a k e ea m₂ rs₂ fy t L lm lr lf =
       ends_inside K.stands y K.low (K.goes.on g a k e ps _ kept_here) K.cells K.regions K.frames ea L.frees (K.goes.passes g a k e ps) c t fy K.counts
       refl L.behind (lm ∙ K.cells) (lr ∙ K.regions) (lf ∙ K.frames)
 
-  pub took_lacks : (q : Stop) → r ≡ Lacks q → (m₂ rs₂ fy log₂ own₂ : List ℕ) → Moves f T l m rs fw ps p m₂ rs₂ fy ps log₂ own₂ (Ended (Stopped q))
+  pub took_lacks : (q : Stop) → r ≡ Err q → (m₂ rs₂ fy log₂ own₂ : List ℕ) → Moves f T l m rs fw ps p m₂ rs₂ fy ps log₂ own₂ (Break (Stopped q))
   took_lacks q e m₂ rs₂ fy log₂ own₂ = ends (stops_inside K.stands y K.low q (K.goes.lacks q e ps _ kept_here))
 
   -- the words are as before the test
-  back_as : r ≡ Fails → {m₂ rs₂ fy : List ℕ} {t : Point} → GoesBack f T p log₁ own m₁ rs₁ fw₁ m₂ rs₂ fy t → GoesBack f T p log own m rs fw m₂ rs₂ fy t
+  back_as : r ≡ Ok Fails → {m₂ rs₂ fy : List ℕ} {t : Point} → GoesBack f T p log₁ own m₁ rs₁ fw₁ m₂ rs₂ fy t → GoesBack f T p log own m rs fw m₂ rs₂ fy t
   back_as e D = let u = K.goes.undoes e in rw (u.0, u.1, u.2, u.3) at D
 
-  pub took_fails : r ≡ Fails → (m₂ rs₂ fy : List ℕ) (t : Point) → GoesBack f T p log₁ own m₁ rs₁ fw₁ m₂ rs₂ fy t
-      → length m₂ ≡ length m₁ → length rs₂ ≡ length rs₁ → length fy ≡ length fw₁ → Moves f T l m rs fw ps p m₂ rs₂ fy ps log₁ own (On t)
+  pub took_fails : r ≡ Ok Fails → (m₂ rs₂ fy : List ℕ) (t : Point) → GoesBack f T p log₁ own m₁ rs₁ fw₁ m₂ rs₂ fy t
+      → length m₂ ≡ length m₁ → length rs₂ ≡ length rs₁ → length fy ≡ length fw₁ → Moves f T l m rs fw ps p m₂ rs₂ fy ps log₁ own (Continue t)
   took_fails e m₂ rs₂ fy t D lm lr lf =
       let u = K.goes.undoes e in
       let G = back_as e D in

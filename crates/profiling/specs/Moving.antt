@@ -1,6 +1,6 @@
 -- A step from where a run stands.
 use Rattle.std.specs.Prelude.{ℕ, suc, ◌+◌, ◌≤◌, ◌<◌, List, length, get_or}
-use Rattle.std.proofs.Common.{arith, ◌∙◌}
+use Rattle.std.proofs.Common.{arith, ◌∙◌, ControlFlow, Continue, Break}
 use Rattle.std.proofs.Math.Path.{◌≡◌, refl, sym, ap}
 use Rattle.language.specs.declared.Stop.{Stop}
 use Rattle.language.specs.declared.Ending.{Ending}
@@ -19,8 +19,6 @@ use Rattle.machine.specs.Entries.{log_words}
 use Rattle.machine.specs.Trying.{count_end, Inside}
 use Rattle.profiling.specs.declared.Counts.{Counts}
 use Rattle.profiling.specs.declared.Point.{Point}
-use Rattle.profiling.specs.declared.Moved.{Moved}
-use Rattle.profiling.specs.declared.Moved.TheVariants.{On, Ended}
 use Rattle.profiling.specs.Tallying.{Tally, alike}
 use Rattle.profiling.specs.Standing.{Stand, outside, inside, words_in, StandsAfter, at_as, goal_low}
 use Rattle.profiling.specs.Beginning.{Few, few_held}
@@ -67,16 +65,16 @@ pub record StepOnward (f : List ℕ) (T : Tables) (l : ℕ) (p : Point) (m rs fw
   pub stands : RunStands f T l m rs fw ps log own q
 
 -- from point p a step leads to another, or the run ends there; the words with ₁ are those afterwards
-pub data Moves (f : List ℕ) (T : Tables) (l : ℕ) (m rs fw ps : List ℕ) (p : Point) (m₁ rs₁ fw₁ ps₁ log₁ own₁ : List ℕ) : Moved → Type 0 where
-  moves_to : {q : Point} → StepOnward f T l p m₁ rs₁ fw₁ ps₁ log₁ own₁ q → Moves f T l m rs fw ps p m₁ rs₁ fw₁ ps₁ log₁ own₁ (On q)
-  ends : {e : Ending} → EndsAfter f (lent_words m rs fw ps l) e p.done → Moves f T l m rs fw ps p m₁ rs₁ fw₁ ps₁ log₁ own₁ (Ended e)
+pub data Moves (f : List ℕ) (T : Tables) (l : ℕ) (m rs fw ps : List ℕ) (p : Point) (m₁ rs₁ fw₁ ps₁ log₁ own₁ : List ℕ) : ControlFlow Ending Point → Type 0 where
+  moves_to : {q : Point} → StepOnward f T l p m₁ rs₁ fw₁ ps₁ log₁ own₁ q → Moves f T l m rs fw ps p m₁ rs₁ fw₁ ps₁ log₁ own₁ (Continue q)
+  ends : {e : Ending} → EndsAfter f (lent_words m rs fw ps l) e p.done → Moves f T l m rs fw ps p m₁ rs₁ fw₁ ps₁ log₁ own₁ (Break e)
 
 module _ {f : List ℕ} {T : Tables} {l : ℕ} {m rs fw ps : List ℕ} {p : Point} {m₁ rs₁ fw₁ ps₁ log₁ own₁ : List ℕ} where
-  pub moved_on : {r : Moved} {q : Point} → Moves f T l m rs fw ps p m₁ rs₁ fw₁ ps₁ log₁ own₁ r → r ≡ On q → StepOnward f T l p m₁ rs₁ fw₁ ps₁ log₁ own₁ q
+  pub moved_on : {r : ControlFlow Ending Point} {q : Point} → Moves f T l m rs fw ps p m₁ rs₁ fw₁ ps₁ log₁ own₁ r → r ≡ Continue q → StepOnward f T l p m₁ rs₁ fw₁ ps₁ log₁ own₁ q
   moved_on {q = q} (moves_to {q = x} o) z = let a : x ≡ q = cc in rw a at o
   moved_on (ends e) z = let x : ◌≡◌ {A = ℕ} 0 1 = cc in absurd (omega arith)
 
-  pub moved_ended : {r : Moved} {e : Ending} → Moves f T l m rs fw ps p m₁ rs₁ fw₁ ps₁ log₁ own₁ r → r ≡ Ended e → EndsAfter f (lent_words m rs fw ps l) e p.done
+  pub moved_ended : {r : ControlFlow Ending Point} {e : Ending} → Moves f T l m rs fw ps p m₁ rs₁ fw₁ ps₁ log₁ own₁ r → r ≡ Break e → EndsAfter f (lent_words m rs fw ps l) e p.done
   moved_ended (moves_to o) z = let x : ◌≡◌ {A = ℕ} 0 1 = cc in absurd (omega arith)
   moved_ended {e = e} (ends {e = d} k) z = let a : d ≡ e = cc in rw a at k
 

@@ -8,9 +8,10 @@ ghost use Rattle.profiling.specs.Advancing.{Advances};
 use crate::moving::forward;
 use crate::noting::note;
 use crate::text::LINE_BYTES;
-use crate::{Moved, Part, Point};
+use crate::{Part, Point};
 use machine::{LOG_WORDS, SAVED_WORDS};
 use plans::{CALLEES, PLAN};
+use std::ops::ControlFlow;
 
 // Steps from where the run stands until there may be no room for one more line, or until the run has ended. The lines of these steps stand at the
 // front of `out`.
@@ -44,11 +45,11 @@ pub fn advance(
             file, plan, images, callees, here, cells, regions, frames, prints, log, own, steps,
         );
         match moved {
-            Moved::On(next) => {
+            ControlFlow::Continue(next) => {
                 at = note(out, at, here, next);
                 here = next;
             }
-            Moved::Ended(ending) => return Part::Last(at, ending, here.done),
+            ControlFlow::Break(ending) => return Part::Last(at, ending, here.done),
         }
     }
     Part::More(at, here)

@@ -13,7 +13,7 @@ mod walking;
 
 pub use advancing::advance;
 pub use beginning::{begin, log_words, put_entry, saved_words};
-use language::{Ending, Stop};
+use language::Ending;
 use machine::State;
 use memory::Heap;
 pub use text::LINE_BYTES;
@@ -41,11 +41,10 @@ pub struct Line {
     pub goal: u64,
 }
 
-// What a step outside conditions comes to. A try's is told, not done.
+// What a step outside conditions comes to that doesn't stop the run. A try's is told, not done. No Option: a None wouldn't say "a try".
 #[derive(Clone, Copy)]
 pub enum Turn {
     On(State, Heap),
-    Lacks(Stop),
     Tries,
 }
 
@@ -69,14 +68,8 @@ pub struct Point {
     pub condition: Open,
 }
 
-// Where the run stands one step later, or how it ended.
-#[derive(Clone, Copy)]
-pub enum Moved {
-    On(Point),
-    Ended(Ending),
-}
-
-// The bytes of a part, and where the run stands behind it; or the last part, how the run ended, and after how many steps.
+// The bytes of a part, and where the run stands behind it; or the last part, how the run ended, and after how many steps. Both ways have bytes, so it is
+// no Result.
 #[derive(Clone, Copy)]
 pub enum Part {
     More(usize, Point),

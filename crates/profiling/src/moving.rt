@@ -8,10 +8,11 @@ use crate::beginning::closed;
 use crate::counting::count;
 use crate::trying::{enter, inside};
 use crate::turning::step;
-use crate::{Moved, Point, Turn};
+use crate::{Point, Turn};
 use language::{Ending, Stop};
 use machine::{LOG_WORDS, SAVED_WORDS};
 use plans::{CALLEES, PLAN};
+use std::ops::ControlFlow;
 
 // One step outside conditions.
 fn outside(
@@ -25,7 +26,7 @@ fn outside(
     frames: &mut [u32],
     prints: &mut [u32],
     own: &mut [u32; SAVED_WORDS],
-) -> Moved
+) -> ControlFlow<Ending, Point>
     requires formed { Formed file.now × Narrow plan.now images.now × Numbered file.now plan.now }
     requires ready { Ready file.now point (length frames.old) }
     ensures { (l : ℕ) (log : List ℕ) → RunStands file.now (tables_in plan.now images.now callees.now) l
@@ -51,15 +52,17 @@ fn outside(
         file, plan, images, callees, state, heap, cells, regions, frames, prints,
     );
     match turn {
-        Turn::On(next, left) => Moved::On(Point {
+        Ok(Turn::On(next, left)) => ControlFlow::Continue(Point {
             state: next,
             heap: left,
             counts,
             done: point.done + 1,
             condition: closed(),
         }),
-        Turn::Lacks(stop) => Moved::Ended(Ending::Stopped(stop)),
-        Turn::Tries => Moved::On(enter(file, plan, images, callees, point, frames, own)),
+        Err(stop) => ControlFlow::Break(Ending::Stopped(stop)),
+        Ok(Turn::Tries) => ControlFlow::Continue(enter(
+            file, plan, images, callees, point, frames, own,
+        )),
     }
 }
 
@@ -77,7 +80,7 @@ pub fn forward(
     log: &mut [u32; LOG_WORDS],
     own: &mut [u32; SAVED_WORDS],
     steps: usize,
-) -> Moved
+) -> ControlFlow<Ending, Point>
     requires narrow { Narrow plan.now images.now × Numbered file.now plan.now }
     requires run_stands { RunStands file.now (tables_in plan.now images.now callees.now) steps cells.old regions.old frames.old prints.old
         log.old own.old point }
@@ -87,10 +90,10 @@ pub fn forward(
 {
     let state = point.state;
     if state.goal == 0 {
-        return Moved::Ended(Ending::Finished);
+        return ControlFlow::Break(Ending::Finished);
     }
     if steps <= point.done {
-        return Moved::Ended(Ending::Stopped(Stop::Steps));
+        return ControlFlow::Break(Ending::Stopped(Stop::Steps));
     }
     let open = point.condition;
     if open.at == 0 {

@@ -6,15 +6,15 @@ ghost use Rattle.chains.specs.Shapes.{IsTry};
 ghost use Rattle.plans.specs.Plan.{tables_in, Narrow, Numbered};
 ghost use Rattle.machine.specs.Words.{FramePlaced};
 ghost use Rattle.machine.specs.Trying.{count_end};
-ghost use Rattle.profiling.specs.declared.Moved.TheVariants.{On};
+ghost use Rattle.std.proofs.Common.{Continue};
 ghost use Rattle.profiling.specs.Moving.{RunStands, Moves, Ready, ReadyIn};
 ghost use Rattle.profiling.specs.Behind.{opened_to, Behind, Leaves, GoesBack, Took};
 
 use crate::beginning::closed;
 use crate::counting::{count, count_made};
-use crate::{Counts, Moved, Open, Point};
-use language::Ending;
+use crate::{Counts, Open, Point};
 use language::format::TRY_CONDITION;
+use language::{Ending, Stop};
 use machine::{
     ConditionStep, LOG_WORDS, SAVED_WORDS, else_goal, free_log, onward, save_frame, settle,
     step_in, take_back_all, then_goal,
@@ -22,6 +22,7 @@ use machine::{
 use memory::Heap;
 use plans::{CALLEES, PLAN};
 use records::word_in;
+use std::ops::ControlFlow;
 
 // Where the frame's words are saved.
 const SAVED_FROM: usize = 1;
@@ -71,7 +72,7 @@ pub fn enter(
         m rs frames.old ps log own.old point
         → point.condition.at ≡ 0 → point.done < l → IsTry file.now point.state.goal
         → Moves file.now (tables_in plan.now images.now callees.now) l
-        m rs frames.old ps point m rs frames.new ps log own.new (On result) }
+        m rs frames.old ps point m rs frames.new ps log own.new (Continue result) }
 {
     let state = point.state;
     let heap = point.heap;
@@ -198,14 +199,14 @@ fn after(
     images: &[u8],
     callees: &[u64; CALLEES],
     point: Point,
-    stepped: ConditionStep,
+    stepped: Result<ConditionStep, Stop>,
     left: Counts,
     cells: &mut [u32],
     regions: &mut [u32],
     frames: &mut [u32],
     log: &[u32; LOG_WORDS],
     own: &[u32; SAVED_WORDS],
-) -> Moved
+) -> ControlFlow<Ending, Point>
     requires formed { Formed file.now × Narrow plan.now images.now }
     requires ready_in { ReadyIn file.now point (length frames.old) }
     ensures { (l : ℕ) (m rs fw ps before : List ℕ)
@@ -215,18 +216,18 @@ fn after(
         m rs fw ps point cells.new regions.new frames.new ps log.now own.now result }
 {
     match stepped {
-        ConditionStep::On(heap, goal, logged) => {
+        Ok(ConditionStep::On(heap, goal, logged)) => {
             if goal != 0 {
-                return Moved::On(opened(file, point, heap, goal, logged, left));
+                return ControlFlow::Continue(opened(file, point, heap, goal, logged, left));
             }
-            Moved::On(leave(
+            ControlFlow::Continue(leave(
                 file, plan, images, callees, point, heap, logged, left, cells, regions, frames, log,
             ))
         }
-        ConditionStep::Fails => Moved::On(go_back(
+        Ok(ConditionStep::Fails) => ControlFlow::Continue(go_back(
             file, plan, images, callees, point, cells, regions, frames, log, own,
         )),
-        ConditionStep::Lacks(stop) => Moved::Ended(Ending::Stopped(stop)),
+        Err(stop) => ControlFlow::Break(Ending::Stopped(stop)),
     }
 }
 
@@ -242,7 +243,7 @@ pub fn inside(
     frames: &mut [u32],
     log: &mut [u32; LOG_WORDS],
     own: &[u32; SAVED_WORDS],
-) -> Moved
+) -> ControlFlow<Ending, Point>
     requires formed { Formed file.now × Narrow plan.now images.now × Numbered file.now plan.now }
     requires ready_in { ReadyIn file.now point (length frames.old) }
     ensures { (l : ℕ) (ps : List ℕ) → RunStands file.now (tables_in plan.now images.now callees.now) l

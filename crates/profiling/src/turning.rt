@@ -7,8 +7,9 @@ ghost use Rattle.machine.specs.Words.{FramePlaced};
 ghost use Rattle.profiling.specs.Turning.{Turns};
 
 use crate::Turn;
+use language::Stop;
 use language::format::KIND;
-use machine::{HeapStep, State, Step, change_heap, changes_heap, go, onward, settle, successor};
+use machine::{State, Step, change_heap, changes_heap, go, onward, settle, successor};
 use memory::Heap;
 use plans::{CALLEES, PLAN};
 use records::word_in;
@@ -25,7 +26,7 @@ pub fn step(
     regions: &mut [u32],
     frames: &mut [u32],
     prints: &mut [u32],
-) -> Turn
+) -> Result<Turn, Stop>
     requires formed { Formed file.now }
     requires narrow { Narrow plan.now images.now × Numbered file.now plan.now }
     requires goal_bound { (state.goal < record_count file.now) × FramePlaced state (length frames.old) }
@@ -35,14 +36,9 @@ pub fn step(
 {
     let i = state.goal;
     if changes_heap(word_in(file, i, KIND)) {
-        let stepped = change_heap(file, plan, state, heap, cells, regions, frames);
-        match stepped {
-            HeapStep::Left(left) => {
-                let next = onward(state, successor(plan, i));
-                return Turn::On(settle(file, plan, images, callees, next, frames), left);
-            }
-            HeapStep::Lacks(stop) => return Turn::Lacks(stop),
-        }
+        let left = change_heap(file, plan, state, heap, cells, regions, frames)?;
+        let next = onward(state, successor(plan, i));
+        return Ok(Turn::On(settle(file, plan, images, callees, next, frames), left));
     }
     let went = go(
         file,
@@ -53,10 +49,9 @@ pub fn step(
         &cells[..],
         frames,
         prints,
-    );
+    )?;
     match went {
-        Step::Went(next) => Turn::On(settle(file, plan, images, callees, next, frames), heap),
-        Step::Stops(stop) => Turn::Lacks(stop),
-        Step::Tries => Turn::Tries,
+        Step::Went(next) => Ok(Turn::On(settle(file, plan, images, callees, next, frames), heap)),
+        Step::Tries => Ok(Turn::Tries),
     }
 }

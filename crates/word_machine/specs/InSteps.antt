@@ -1,5 +1,5 @@
 -- The goals of an open condition, as the words do them and as the definition does: both stop, for the same cause, or both go on, in the condition or behind it.
-use Rattle.std.specs.Prelude.{ℕ, suc, ◌+◌, ◌*◌, ◌≤◌, ◌<◌, ◌≡◌, Bool, ltb, length, set}
+use Rattle.std.specs.Prelude.{ℕ, suc, ◌+◌, ◌*◌, ◌≤◌, ◌<◌, ◌≡◌, Bool, ltb, length, set, Option, Some, None}
 use native.Mathlib.Omega.{arith}
 use Rattle.std.proofs.Math.Path.{refl, sym}
 use Rattle.std.proofs.Common.{◌∙◌, inl, inr, to_z}
@@ -29,8 +29,6 @@ use Rattle.records.specs.declared.Record.TheVariants.{Switch}
 use Rattle.safety.specs.Premises.{Accepted, laws}
 use Rattle.region_graph.specs.Shared.{variable_top, region_top}
 use Rattle.memory.specs.declared.Contents.{Contents}
-use Rattle.memory.specs.declared.Made.{Made}
-use Rattle.memory.specs.declared.Made.TheVariants.{At, NoRoom}
 use Rattle.memory.specs.Memory.{constants_from, built, built_cells, built_regions, created, created_regions}
 use Rattle.memory.specs.declared.Heap.{Heap}
 use Rattle.memory.specs.Log.{built_in, made_at, entry, stored}
@@ -312,11 +310,11 @@ module _ {f : List ℕ} {T : Tables} (B : Tabled f T) (A : Accepted (program f))
         made_name : (p : ℕ) → Names (where_in (with_region m) (put ρ (suc m.made) p) χ) p (suc m.made)
         made_name p z = (omega arith, sym (put_same ρ (suc m.made) p))
 
-    create_by : (c : Made) (rs : List ℕ) → CreatesIn J.inside.memory (log_fits _ is) a e c rs
+    create_by : (c : Option (ℕ × Heap)) (rs : List ℕ) → CreatesIn J.inside.memory (log_fits _ is) a e c rs
         → After B A F K qs k (step (create r)) u fs m (room_or (ltb (regions_held (counted_in k m)) K.regions) Places) (created_in v r (T.successor i) rs c)
     unfolding room_or created_in Run.take stored_in
-    create_by NoRoom rs (C.stops d) = rw d halts
-    create_by (At p h) rs (C.makes d E) = rw d (entering B A F K qs (opening_created p h rs E) refl)
+    create_by None rs (C.stops d) = rw d halts
+    create_by (Some (p, h)) rs (C.makes d E) = rw d (entering B A F K qs (opening_created p h rs E) refl)
 
     pub create_in : After B A F K qs k (step (create r)) u fs m (room_or (ltb (regions_held (counted_in k m)) K.regions) Places) (makes_region_in v r (T.successor i))
     unfolding makes_region_in stored_in
@@ -380,12 +378,12 @@ module _ {f : List ℕ} {T : Tables} (B : Tabled f T) (A : Accepted (program f))
     unfolding Run.take build_in built_value with_built arguments_of trimmed trim_onto four_words cell_for
     built_taken = refl
 
-    construct_by : (h : Made) (ms rs : List ℕ) → BuildsIn J.inside.memory (log_fits _ is) a e (region_for (program f) u x) new h ms rs
+    construct_by : (h : Option (ℕ × Heap)) (ms rs : List ℕ) → BuildsIn J.inside.memory (log_fits _ is) a e (region_for (program f) u x) new h ms rs
         → After B A F K qs k (step (construct x j (four (suc y) b c d))) u fs m
         (room_or (ltb (cells_held (counted_in k m).alive (counted_in k m).cells) K.cells) Cells) (constructed_in v x (T.successor i) place ms rs h)
     unfolding room_or constructed_in
-    construct_by NoRoom ms rs (C.stops z) = rw z halts
-    construct_by (At p h) ms rs (C.makes z E) = rw z (entering B A F K qs (opening_built p h ms rs E) built_taken)
+    construct_by None ms rs (C.stops z) = rw z halts
+    construct_by (Some (p, h)) ms rs (C.makes z E) = rw z (entering B A F K qs (opening_built p h ms rs E) built_taken)
 
     pub construct_in : After B A F K qs k (step (construct x j (four (suc y) b c d))) u fs m
         (room_or (is_none (arguments_of (four (suc y) b c d)) or ltb (cells_held (counted_in k m).alive (counted_in k m).cells) K.cells) Cells)

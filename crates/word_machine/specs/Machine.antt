@@ -5,7 +5,7 @@
 --
 -- In an open condition (C-20) the run also keeps a log of what the condition did to cells and regions, the frame's 128 words as they were, and where the then and
 -- the else part begin. A removal only goes into the log; its region goes when the condition has ended.
-use Rattle.std.specs.Prelude.{ℕ, zero, suc, ◌+◌, ◌-◌, ◌*◌, Bool, true, false, List, [], ◌∷◌, eqb, ltb, ℤ, length, get_or, set, replicate}
+use Rattle.std.specs.Prelude.{ℕ, zero, suc, ◌+◌, ◌-◌, ◌*◌, Bool, true, false, List, [], ◌∷◌, eqb, ltb, ℤ, length, get_or, set, replicate, Option, Some, None}
 use Rattle.std.specs.Int.{w32}
 use Rattle.std.proofs.Common.{to_z}
 use Rattle.sets.specs.Members.{members}
@@ -25,8 +25,6 @@ use Rattle.records.specs.declared.Record.TheVariants.{Header, «Type» as TypeOf
 use Rattle.chains.specs.Records.{chain_records}
 use Rattle.memory.specs.declared.Contents.{Contents}
 use Rattle.memory.specs.declared.Heap.{Heap}
-use Rattle.memory.specs.declared.Made.{Made}
-use Rattle.memory.specs.declared.Made.TheVariants.{At, NoRoom}
 use Rattle.memory.specs.Memory.{cell_words, region_words, constants_from, cell_word, empty_heap, created, created_regions, built, built_cells, built_regions, removed, removed_cells, removed_regions}
 use Rattle.memory.specs.Log.{built_in, made_at, removed_at, entry, Stored, stored, undone, freed}
 use Rattle.memory.specs.Moved.{moved}
@@ -215,10 +213,10 @@ term_of value old k (suc a) (suc b) (suc c) (suc d) =
 unfoldable pub contents_of : MachineWords → ℕ → ℕ → ℕ → ℕ → ℕ → Contents
 contents_of w k a b c d = term_of (value_of w) (λ n. cell_word w.cells w.heap.cells.head n) k a b c d
 
-unfoldable pub constructed_by : MachineWords → ℕ → ℕ → List ℕ → List ℕ → Made → Went
-constructed_by w x i m rs (At y h) =
+unfoldable pub constructed_by : MachineWords → ℕ → ℕ → List ℕ → List ℕ → Option (ℕ × Heap) → Went
+constructed_by w x i m rs (Some (y, h)) =
     went (record { heap = h; cells = m; regions = rs; frames = set w.frames (value_place w.top x) y; prints = w.prints; top = w.top; goal = i; printed = w.printed })
-constructed_by w x i m rs NoRoom = stops Cells
+constructed_by w x i m rs None = stops Cells
 
 -- X gets a new cell in the region at place r, and record i is next
 unfoldable pub constructed : MachineWords → ℕ → ℕ → ℕ → Contents → Went
@@ -230,19 +228,19 @@ unfoldable pub constructs : MachineWords → ℕ → ℕ → ℕ → ℕ → ℕ
 constructs w x i r t zero b c d = went (given w x (constants_from + t) i)
 constructs w x i r t (suc a) b c d = constructed w x i (region_for w r) (contents_of w t (suc a) b c d)
 
-unfoldable pub created_by : MachineWords → ℕ → ℕ → List ℕ → Made → Went
-created_by w r i rs (At p h) =
+unfoldable pub created_by : MachineWords → ℕ → ℕ → List ℕ → Option (ℕ × Heap) → Went
+created_by w r i rs (Some (p, h)) =
     went (record { heap = h; cells = w.cells; regions = rs; frames = set w.frames (region_place w.top r) p; prints = w.prints; top = w.top; goal = i; printed = w.printed })
-created_by w r i rs NoRoom = stops Places
+created_by w r i rs None = stops Places
 
 unfoldable pub makes_region : MachineWords → ℕ → ℕ → Went
 makes_region w r i = created_by w r i (created_regions w.heap w.regions) (created w.heap w.regions)
 
 -- .. in a condition
-unfoldable pub constructed_in : ConditionWords → ℕ → ℕ → ℕ → List ℕ → List ℕ → Made → Went
-constructed_in v x i p m rs (At y h) =
+unfoldable pub constructed_in : ConditionWords → ℕ → ℕ → ℕ → List ℕ → List ℕ → Option (ℕ × Heap) → Went
+constructed_in v x i p m rs (Some (y, h)) =
     enters (logged v (with_stored v.words (stored h m rs) (set v.words.frames (value_place v.words.top x) y) i) (entry p built_in))
-constructed_in v x i p m rs NoRoom = stops Cells
+constructed_in v x i p m rs None = stops Cells
 
 unfoldable pub constructs_in : ConditionWords → ℕ → ℕ → ℕ → ℕ → ℕ → ℕ → ℕ → ℕ → Went
 constructs_in v x i r t zero b c d = enters (in_words v (given v.words x (constants_from + t) i))
@@ -252,10 +250,10 @@ constructs_in v x i r t (suc a) b c d =
     (built_regions v.words.heap v.words.cells v.words.regions (region_for v.words r))
     (built v.words.heap v.words.cells)
 
-unfoldable pub created_in : ConditionWords → ℕ → ℕ → List ℕ → Made → Went
-created_in v r i rs (At p h) =
+unfoldable pub created_in : ConditionWords → ℕ → ℕ → List ℕ → Option (ℕ × Heap) → Went
+created_in v r i rs (Some (p, h)) =
     enters (logged v (with_stored v.words (stored h v.words.cells rs) (set v.words.frames (region_place v.words.top r) p) i) (entry p made_at))
-created_in v r i rs NoRoom = stops Places
+created_in v r i rs None = stops Places
 
 unfoldable pub makes_region_in : ConditionWords → ℕ → ℕ → Went
 makes_region_in v r i = created_in v r i (created_regions v.words.heap v.words.regions) (created v.words.heap v.words.regions)

@@ -1,5 +1,5 @@
 -- Prints, creates, removes and constructs: the goals that change the memory.
-use Rattle.std.specs.Prelude.{ℕ, suc, ◌+◌, ◌≡◌, Bool, ltb, length}
+use Rattle.std.specs.Prelude.{ℕ, suc, ◌+◌, ◌≡◌, Bool, ltb, length, Option, Some, None}
 use native.Mathlib.Omega.{arith}
 use Rattle.std.proofs.Math.Path.{refl, sym}
 use Rattle.std.proofs.Math.Bool.{true, false}
@@ -22,8 +22,6 @@ use Rattle.chains.specs.Formed.{Formed}
 use Rattle.safety.specs.Premises.{Accepted, laws}
 use Rattle.region_graph.specs.Shared.{variable_top, region_top}
 use Rattle.memory.specs.declared.Contents.{Contents}
-use Rattle.memory.specs.declared.Made.{Made}
-use Rattle.memory.specs.declared.Made.TheVariants.{At, NoRoom}
 use Rattle.memory.specs.Memory.{constants_from, built, built_cells, built_regions, created, created_regions}
 use Rattle.heap.specs.Words.{words_of}
 use Rattle.heap.specs.Standing.{StandsFor, StandEach, stands_new, each_argument}
@@ -41,6 +39,7 @@ use Rattle.word_machine.specs.Premises.{Number}
 use Rattle.word_machine.specs.Relation.{where_in, Later, Names, sig, FrameOk, Waiting, MemoryStored}
 use Rattle.word_machine.specs.Stepping.{frame_more, waiting_more, set_frame, set_waiting, name_frame, name_waiting}
 use Rattle.word_machine.specs.Steps.{After, onward, halts, stored_given, given_running, value_means, value_word}
+use Rattle.memory.specs.declared.Heap.{Heap}
 
 module _ {f : List ℕ} {T : Tables} (B : Tabled f T) (A : Accepted (program f)) (F : Formed f) (K : Room) (qs : List ℕ) (w : MachineWords) (u : RegionFrame)
     (fs : List RegionFrame) (m : Memory) (ρ χ : ℕ → ℕ) (i : ℕ) (G : FrameOk B w.frames w.top (where_in m ρ χ) (T.successor i) u)
@@ -77,11 +76,11 @@ module _ {f : List ℕ} {T : Tables} (B : Tabled f T) (A : Accepted (program f))
     more_regions = omega arith;
   }
 
-  create_by : (r : ℕ) → is_region (sig f u.frame.procedure) r ≡ true → (o : Made) (rs : List ℕ) → Creates K w.cells w.regions m ρ χ o rs
+  create_by : (r : ℕ) → is_region (sig f u.frame.procedure) r ≡ true → (o : Option (ℕ × Heap)) (rs : List ℕ) → Creates K w.cells w.regions m ρ χ o rs
       → After B A F K qs closed (step (create r)) u fs m (room_or (ltb (regions_held m) K.regions) Places) (created_by w r (T.successor i) rs o)
   unfolding room_or created_by Run.take state_in within with_region
-  create_by r v NoRoom rs (stops_12 e) = rw e halts
-  create_by r v (At p h) rs (creates e R) =
+  create_by r v None rs (stops_12 e) = rw e halts
+  create_by r v (Some (p, h)) rs (creates e R) =
       let t = later_region p in
       let G' = frame_more B A t G in
       rw e (onward refl (record { newest = name_frame B A G' r v p (suc m.made) named; waiting = name_waiting B A G' r v p (waiting_more B A t W) })
@@ -156,12 +155,12 @@ module _ {f : List ℕ} {T : Tables} (B : Tabled f T) (A : Accepted (program f))
       more_regions = omega arith;
     }
 
-    construct_by : (h : Made) (ms rs : List ℕ) → Builds K w.cells w.regions m ρ χ (region_for (program f) u x) (cell_for u.frame k (arguments_of (four (suc a) b c d))) h ms rs
+    construct_by : (h : Option (ℕ × Heap)) (ms rs : List ℕ) → Builds K w.cells w.regions m ρ χ (region_for (program f) u x) (cell_for u.frame k (arguments_of (four (suc a) b c d))) h ms rs
         → After B A F K qs closed (step (construct x k (four (suc a) b c d))) u fs m (room_or (ltb (cells_held m.alive m.cells) K.cells) Cells)
         (constructed_by w x (T.successor i) ms rs h)
     unfolding room_or constructed_by Run.take state_in within build_in built_value with_built arguments_of trimmed trim_onto four_words with_frame giving with_cell
-    construct_by NoRoom ms rs (stops_11 e) = rw e halts
-    construct_by (At p h) ms rs (builds e R) =
+    construct_by None ms rs (stops_11 e) = rw e halts
+    construct_by (Some (p, h)) ms rs (builds e R) =
         let t = later_cell p in
         let G' = frame_more B A t G in
         rw e (onward refl

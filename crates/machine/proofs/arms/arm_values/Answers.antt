@@ -14,9 +14,6 @@ returns-then-x-eq0 c = give_stop _ _ _ _ _ _ _ c.loop-n-test.true c.word_in-x.en
 pub give-requires : goal.give-requires
 give-requires c = (rw c.word_in-x.ensures.0 (c.requires.low_if_any.0 (any_yet _ _ _ _ c.word_in-x.ensures.0 c.if-x-eq0.false c.loop-n.invariant.2) _ c.loop-n-test.true), omega (arith, c.loop-n.invariant.1, c.requires.record_bytes_in_bounds.1))
 
-pub loop-n-smaller : goal.loop-n-smaller
-loop-n-smaller c = omega (arith, c.loop-n-test.true)
-
 pub loop-n-preserved : goal.loop-n-preserved
 loop-n-preserved c = (
   give_on _ _ _ _ _ _ _ c.loop-n-test.true c.word_in-x.ensures.0 _ _ _ c.if-x-eq0.false refl c.give.ensures ∙ c.loop-n.invariant.0,

@@ -17,9 +17,6 @@ value-requires c = (rw c.word_in-x.ensures.0 (c.requires.low.0 _ c.loop-n-test.t
 pub store-requires-in-loop-n : goal.store-requires-in-loop-n
 store-requires-in-loop-n c = omega (arith, c.loop-n-test.true, c.loop-n.invariant.1, simp length-set at (ap length c.store.ensures), c.requires.low.1)
 
-pub loop-n-smaller : goal.loop-n-smaller
-loop-n-smaller c = omega (arith, c.loop-n-test.true)
-
 pub loop-n-preserved : goal.loop-n-preserved
 loop-n-preserved c = (
   pour_on _ _ _ _ _ _ _ c.loop-n-test.true c.word_in-x.ensures.0 _ _ _ c.if-x-eq0.false c.value.ensures c.store-in-loop-n.ensures ∙ c.loop-n.invariant.0,

@@ -1,5 +1,4 @@
 -- What is still to be put into the cell is what the arguments from the next one on say.
-use Rattle.std.proofs.Common.{arith}
 use mathlib.Core.Path.{refl, ap, ◌∙◌}
 use lib.ListN.{length, length-set}
 use Rattle.machine.proofs.Terms.{pour_first, pour_end, pour_stop, pour_on}
@@ -13,9 +12,6 @@ returns-then-x-eq0 c = pour_stop _ _ _ _ _ _ _ c.loop-n-test.true c.word_in-x.en
 
 pub value-requires : goal.value-requires
 value-requires c = (rw c.word_in-x.ensures.0 (c.requires.low _ c.loop-n-test.true), c.requires.record_bytes_in_bounds.1)
-
-pub loop-n-smaller : goal.loop-n-smaller
-loop-n-smaller c = omega (arith, c.loop-n-test.true)
 
 pub loop-n-preserved : goal.loop-n-preserved
 loop-n-preserved c = (

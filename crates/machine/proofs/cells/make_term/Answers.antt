@@ -7,11 +7,11 @@ use Rattle.machine.proofs.cells.make_term.Goals as goal
 pub returns-then-word_in-eq-NO_ARGUMENT : goal.returns-then-word_in-eq-NO_ARGUMENT
 returns-then-word_in-eq-NO_ARGUMENT c = make_constant _ _ _ _ _ _ _ _ _ _ c.word_in.ensures.0 c.if-word_in-eq-NO_ARGUMENT.true c.word_in-then-word_in-eq-NO_ARGUMENT.ensures.0
 
-pub returns-in_default : goal.returns-in_default
-returns-in_default c = make_none _ _ _ _ _ _ _ _ _ c.word_in.ensures.0 c.if-word_in-eq-NO_ARGUMENT.false _ c.take_cell.ensures c.in_default.is
+pub returns-in_err-cell : goal.returns-in_err-cell
+returns-in_err-cell c = rw c.from_residual.ensures (make_none _ _ _ _ _ _ _ _ _ c.word_in.ensures.0 c.if-word_in-eq-NO_ARGUMENT.false _ c.take_cell.ensures c.in_err-cell.was)
 
 pub fill_cell-requires : goal.fill_cell-requires
 fill_cell-requires c = search rules
 
 pub returns : goal.returns
-returns c = make_cell _ _ _ _ _ _ _ _ _ c.word_in.ensures.0 c.if-word_in-eq-NO_ARGUMENT.false _ _ _ c.take_cell.ensures c.in-At.is _ _ _ _ _ c.fill_cell.ensures (home_as _ _ _ _ _ _ c.region-home.ensures refl) refl c.hang_cell.ensures.0 c.hang_cell.ensures.1
+returns c = make_cell _ _ _ _ _ _ _ _ _ c.word_in.ensures.0 c.if-word_in-eq-NO_ARGUMENT.false _ _ _ c.take_cell.ensures c.in_ok-cell.was _ _ _ _ _ c.fill_cell.ensures (home_as _ _ _ _ _ _ c.region-home.ensures refl) refl c.hang_cell.ensures.0 c.hang_cell.ensures.1

@@ -10,6 +10,3 @@ abbrev pub invariant-loop-i : goal.invariant-loop-i
 invariant-loop-i l =
     ((told : List ℕ) → Logs l.log told l.count → undone told l.i (stored l.left l.cells l.regions) ≡ undone told l.count (stored l.initial.left l.initial.cells l.initial.regions))
     × (l.i ≤ l.count) × (length l.cells ≡ length l.initial.cells) × (length l.regions ≡ length l.initial.regions)
-
-abbrev pub decreases-loop-i : goal.decreases-loop-i
-decreases-loop-i l = l.i

@@ -1,9 +1,10 @@
+use Rattle.std.proofs.lemmas.Result.{err_from_is_err_and}
 use Rattle.std.proofs.Common.{arith, rules}
 use mathlib.Core.Path.{refl}
 use Rattle.frames.specs.Strays.{whole}
 use Rattle.machine.specs.Calls.{successor_as}
 use Rattle.machine.proofs.Numbers.{create_low}
-use Rattle.machine.proofs.HeapsLaws.{create_changes, create_lacks}
+use Rattle.machine.proofs.HeapsLaws.{lacked, create_changes, create_lacks}
 use Rattle.machine.proofs.LimitsLaws.{created_limits}
 use Rattle.machine.proofs.TryingLaws.{create_in, create_lacks_in}
 use Rattle.machine.proofs.opened.create_in.Goals as goal
@@ -14,8 +15,11 @@ make_region-made-requires c = record {
   lifetime_region_bound = create_low c.requires.formed.1 _ refl c.requires.goal_bound.1;
 }
 
-pub returns-in_default : goal.returns-in_default
-returns-in_default c = λ images callees m. create_lacks_in _ _ _ _ _ _ _ _ _ _ _ c.requires.goal_bound.2.place _ refl c.requires.goal_bound.1 _ c.make_region-made.ensures.value _ _ _ (create_lacks _ _ _ _ _ _ _ _ _ c.requires.goal_bound.2.place _ refl _ _ _ c.requires.goal_bound.1 c.make_region-made.ensures.value c.make_region-made.ensures.regions_after c.make_region-made.ensures.frames_after c.in_default.is)
+pub returns-in_err-place : goal.returns-in_err-place
+returns-in_err-place c =
+    let p = err_from_is_err_and c.from_residual.result c.from_residual.ensures.1 in
+    let n = lacked _ _ _ _ c.ok_or.ensures.value c.in_err-place.was in
+    rw (p.1, p.2, ← n.1) (λ images callees m. create_lacks_in _ _ _ _ _ _ _ _ _ _ _ c.requires.goal_bound.2.place _ refl c.requires.goal_bound.1 _ c.make_region-made.ensures.value _ _ _ (create_lacks _ _ _ _ _ _ _ _ _ c.requires.goal_bound.2.place _ refl _ _ _ c.requires.goal_bound.1 c.make_region-made.ensures.value c.make_region-made.ensures.regions_after c.make_region-made.ensures.frames_after n.0))
 
 pub note-requires : goal.note-requires
 note-requires c = search rules
@@ -27,4 +31,4 @@ pub overflow_add-result : goal.overflow_add-result
 overflow_add-result c = omega (arith, c.requires.formed.2)
 
 pub returns : goal.returns
-returns c = λ images callees m. create_in _ _ _ _ _ _ _ _ _ _ _ c.requires.goal_bound.2.place _ refl c.requires.goal_bound.1 _ c.make_region-made.ensures.value _ _ c.in-At.is _ _ (create_changes _ _ _ _ _ _ _ _ _ c.requires.goal_bound.2.place _ refl _ _ _ c.requires.goal_bound.1 c.make_region-made.ensures.value c.make_region-made.ensures.regions_after c.make_region-made.ensures.frames_after _ _ c.in-At.is) _ (successor_as _ _ _ _ _ c.successor.ensures) (created_limits _ _ _ _ _ c.make_region-made.ensures.value c.in-At.is) _ _ c.note.ensures (omega arith)
+returns c = λ images callees m. create_in _ _ _ _ _ _ _ _ _ _ _ c.requires.goal_bound.2.place _ refl c.requires.goal_bound.1 _ c.make_region-made.ensures.value _ _ (rw c.in_ok-place.was at c.ok_or.ensures.ok_part) _ _ (create_changes _ _ _ _ _ _ _ _ _ c.requires.goal_bound.2.place _ refl _ _ _ c.requires.goal_bound.1 c.make_region-made.ensures.value c.make_region-made.ensures.regions_after c.make_region-made.ensures.frames_after _ _ (rw c.in_ok-place.was at c.ok_or.ensures.ok_part)) _ (successor_as _ _ _ _ _ c.successor.ensures) (created_limits _ _ _ _ _ c.make_region-made.ensures.value (rw c.in_ok-place.was at c.ok_or.ensures.ok_part)) _ _ c.note.ensures (omega arith)

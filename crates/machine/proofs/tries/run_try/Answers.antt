@@ -3,7 +3,7 @@ use mathlib.Core.List.{[]}
 use Rattle.std.proofs.Common.{arith, rules}
 use mathlib.Core.Path.{◌∙◌}
 use Rattle.frames.specs.Strays.{whole, in_length, past_length}
-use Rattle.machine.proofs.TriesLaws.{along_start, along_leaves, along_spent, along_past, along_on, along_lacks, along_fails, count_low, tried_as, goal_as}
+use Rattle.machine.proofs.TriesLaws.{step_is, along_start, along_leaves, along_spent, along_past, along_on, along_lacks, along_fails, count_low, tried_as, goal_as}
 use Rattle.machine.proofs.tries.run_try.Goals as goal
 
 pub log_length-requires : goal.log_length-requires
@@ -69,17 +69,17 @@ step_in-stepped-requires c = record {
   goal_bound = (in_length c.requires.formed.0 _ c.if-file-here.false, c.if-here-eq0.false, (c.loop-here.invariant [] []).placed);
 }
 
-pub onward-here-requires-in-On : goal.onward-here-requires-in-On
-onward-here-requires-in-On c = search rules
+pub onward-here-requires-in-Ok-On : goal.onward-here-requires-in-Ok-On
+onward-here-requires-in-Ok-On c = search rules
 
-pub overflow_sub-left-in-On : goal.overflow_sub-left-in-On
-overflow_sub-left-in-On c = omega (arith, c.if-left-eq0.false)
+pub overflow_sub-left-in-Ok-On : goal.overflow_sub-left-in-Ok-On
+overflow_sub-left-in-Ok-On c = omega (arith, c.if-left-eq0.false)
 
 pub loop-here-smaller : goal.loop-here-smaller
 loop-here-smaller c = omega (arith, c.if-left-eq0.false)
 
 pub loop-here-preserved : goal.loop-here-preserved
-loop-here-preserved c = λ images callees. along_on _ _ _ _ _ _ _ _ _ _ (c.loop-here.invariant images callees) c.if-here-eq0.false (omega (arith, c.if-left-eq0.false)) (c.step_in-stepped.ensures images callees) _ _ _ _ c.in-On.is c.onward-here-in-On.ensures c.step_in-stepped.auto.cells c.step_in-stepped.auto.regions c.step_in-stepped.auto.frames
+loop-here-preserved c = λ images callees. along_on _ _ _ _ _ _ _ _ _ _ (c.loop-here.invariant images callees) c.if-here-eq0.false (omega (arith, c.if-left-eq0.false)) (c.step_in-stepped.ensures images callees) _ _ _ _ (step_is _ _ _ c.in-Ok-On.is (rw c.in-Ok-On.is at c.in-Ok-On.field-0-is)) c.onward-here-in-Ok-On.ensures c.step_in-stepped.auto.cells c.step_in-stepped.auto.regions c.step_in-stepped.auto.frames
 
 pub take_back_all-back-requires : goal.take_back_all-back-requires
 take_back_all-back-requires c = (omega (arith, (c.loop-here.invariant [] []).placed.fits, c.step_in-stepped.auto.frames), c.requires.formed.2)
@@ -90,26 +90,26 @@ else_goal-requires c = let w = whole c.requires.formed.0 _ c.requires.goal_bound
 pub overflow_sub-result : goal.overflow_sub-result
 overflow_sub-result c = omega (arith, c.if-left-eq0.false)
 
-pub shape_of-cells-in-Fails : goal.shape_of-cells-in-Fails
-shape_of-cells-in-Fails c = omega (arith, c.take_back_all-back.auto, c.step_in-stepped.auto.cells, (c.loop-here.invariant [] []).cells)
+pub shape_of-cells-in-Ok-Fails : goal.shape_of-cells-in-Ok-Fails
+shape_of-cells-in-Ok-Fails c = omega (arith, c.take_back_all-back.auto, c.step_in-stepped.auto.cells, (c.loop-here.invariant [] []).cells)
 
-pub shape_of-regions-in-Fails : goal.shape_of-regions-in-Fails
-shape_of-regions-in-Fails c = omega (arith, c.take_back_all-back.auto, c.step_in-stepped.auto.regions, (c.loop-here.invariant [] []).regions)
+pub shape_of-regions-in-Ok-Fails : goal.shape_of-regions-in-Ok-Fails
+shape_of-regions-in-Ok-Fails c = omega (arith, c.take_back_all-back.auto, c.step_in-stepped.auto.regions, (c.loop-here.invariant [] []).regions)
 
-pub shape_of-frames-in-Fails : goal.shape_of-frames-in-Fails
-shape_of-frames-in-Fails c = omega (arith, c.take_back_all-back.auto, c.step_in-stepped.auto.frames, (c.loop-here.invariant [] []).frames)
+pub shape_of-frames-in-Ok-Fails : goal.shape_of-frames-in-Ok-Fails
+shape_of-frames-in-Ok-Fails c = omega (arith, c.take_back_all-back.auto, c.step_in-stepped.auto.frames, (c.loop-here.invariant [] []).frames)
 
-pub returns-in-Fails : goal.returns-in-Fails
-returns-in-Fails c = λ images callees. tried_as _ _ _ _ _ c.onward-here.ensures _ _ _ _ _ _ _ _ _ (along_fails _ _ _ _ _ _ _ _ _ _ (c.loop-here.invariant images callees) c.if-here-eq0.false (omega (arith, c.if-left-eq0.false)) (c.step_in-stepped.ensures images callees) c.in-Fails.is _ _ _ _ _ c.take_back_all-back.ensures.by_index c.take_back_all-back.ensures.frames_after (goal_as _ _ _ _ _ _ c.else_goal.ensures))
+pub returns-in-Ok-Fails : goal.returns-in-Ok-Fails
+returns-in-Ok-Fails c = λ images callees. tried_as _ _ _ _ _ c.onward-here.ensures _ _ _ _ _ _ _ _ _ (along_fails _ _ _ _ _ _ _ _ _ _ (c.loop-here.invariant images callees) c.if-here-eq0.false (omega (arith, c.if-left-eq0.false)) (c.step_in-stepped.ensures images callees) (step_is _ _ _ c.in-Ok-Fails.is (rw c.in-Ok-Fails.is at c.in-Ok-Fails.field-0-is)) _ _ _ _ _ c.take_back_all-back.ensures.by_index c.take_back_all-back.ensures.frames_after (goal_as _ _ _ _ _ _ c.else_goal.ensures))
 
-pub shape_of-cells-in-Lacks : goal.shape_of-cells-in-Lacks
-shape_of-cells-in-Lacks c = c.step_in-stepped.auto.cells ∙ (c.loop-here.invariant [] []).cells
+pub shape_of-cells-in-Err : goal.shape_of-cells-in-Err
+shape_of-cells-in-Err c = c.step_in-stepped.auto.cells ∙ (c.loop-here.invariant [] []).cells
 
-pub shape_of-regions-in-Lacks : goal.shape_of-regions-in-Lacks
-shape_of-regions-in-Lacks c = c.step_in-stepped.auto.regions ∙ (c.loop-here.invariant [] []).regions
+pub shape_of-regions-in-Err : goal.shape_of-regions-in-Err
+shape_of-regions-in-Err c = c.step_in-stepped.auto.regions ∙ (c.loop-here.invariant [] []).regions
 
-pub shape_of-frames-in-Lacks : goal.shape_of-frames-in-Lacks
-shape_of-frames-in-Lacks c = c.step_in-stepped.auto.frames ∙ (c.loop-here.invariant [] []).frames
+pub shape_of-frames-in-Err : goal.shape_of-frames-in-Err
+shape_of-frames-in-Err c = c.step_in-stepped.auto.frames ∙ (c.loop-here.invariant [] []).frames
 
-pub returns-in-Lacks : goal.returns-in-Lacks
-returns-in-Lacks c = λ images callees. tried_as _ _ _ _ _ c.onward-here.ensures _ _ _ _ _ _ _ _ _ (along_lacks _ _ _ _ _ _ _ _ _ _ (c.loop-here.invariant images callees) c.if-here-eq0.false (omega (arith, c.if-left-eq0.false)) (c.step_in-stepped.ensures images callees) _ c.in-Lacks.is)
+pub returns-in-Err : goal.returns-in-Err
+returns-in-Err c = λ images callees. tried_as _ _ _ _ _ c.onward-here.ensures _ _ _ _ _ _ _ _ _ (along_lacks _ _ _ _ _ _ _ _ _ _ (c.loop-here.invariant images callees) c.if-here-eq0.false (omega (arith, c.if-left-eq0.false)) (c.step_in-stepped.ensures images callees) _ c.in-Err.is)

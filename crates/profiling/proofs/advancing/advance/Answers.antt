@@ -20,30 +20,30 @@ pub note-at-requires : goal.note-at-requires
 note-at-requires c = omega (arith, c.loop-out.invariant.fits, c.loop-out-test.true)
 
 pub loop-out-smaller : goal.loop-out-smaller
-loop-out-smaller c = let m = moved_on c.forward-moved.ensures c.in-On.is in omega (arith, m.next, m.low)
+loop-out-smaller c = let m = moved_on c.forward-moved.ensures c.in-Continue.is in omega (arith, m.next, m.low)
 
 pub loop-out-preserved : goal.loop-out-preserved
 loop-out-preserved c =
     under_next c.loop-out.invariant c.forward-moved.auto.cells c.forward-moved.auto.regions c.forward-moved.auto.frames c.forward-moved.auto.prints
-    (moved_on c.forward-moved.ensures c.in-On.is) c.note-at.ensures.notes c.note-at.auto.out c.note-at.ensures.upper_bound
+    (moved_on c.forward-moved.ensures c.in-Continue.is) c.note-at.ensures.notes c.note-at.auto.out c.note-at.ensures.upper_bound
 
-pub shape_of-cells-in-Ended : goal.shape_of-cells-in-Ended
-shape_of-cells-in-Ended c = c.forward-moved.auto.cells ∙ c.loop-out.invariant.cells
+pub shape_of-cells-in-Break : goal.shape_of-cells-in-Break
+shape_of-cells-in-Break c = c.forward-moved.auto.cells ∙ c.loop-out.invariant.cells
 
-pub shape_of-regions-in-Ended : goal.shape_of-regions-in-Ended
-shape_of-regions-in-Ended c = c.forward-moved.auto.regions ∙ c.loop-out.invariant.regions
+pub shape_of-regions-in-Break : goal.shape_of-regions-in-Break
+shape_of-regions-in-Break c = c.forward-moved.auto.regions ∙ c.loop-out.invariant.regions
 
-pub shape_of-frames-in-Ended : goal.shape_of-frames-in-Ended
-shape_of-frames-in-Ended c = c.forward-moved.auto.frames ∙ c.loop-out.invariant.frames
+pub shape_of-frames-in-Break : goal.shape_of-frames-in-Break
+shape_of-frames-in-Break c = c.forward-moved.auto.frames ∙ c.loop-out.invariant.frames
 
-pub shape_of-prints-in-Ended : goal.shape_of-prints-in-Ended
-shape_of-prints-in-Ended c = c.forward-moved.auto.prints ∙ c.loop-out.invariant.prints
+pub shape_of-prints-in-Break : goal.shape_of-prints-in-Break
+shape_of-prints-in-Break c = c.forward-moved.auto.prints ∙ c.loop-out.invariant.prints
 
-pub shape_of-out-in-Ended : goal.shape_of-out-in-Ended
-shape_of-out-in-Ended c = c.loop-out.invariant.size
+pub shape_of-out-in-Break : goal.shape_of-out-in-Break
+shape_of-out-in-Break c = c.loop-out.invariant.size
 
-pub returns-in-Ended : goal.returns-in-Ended
-returns-in-Ended c = under_last c.loop-out.invariant _ _ _ _ _ _ _ (moved_ended c.forward-moved.ensures c.in-Ended.is)
+pub returns-in-Break : goal.returns-in-Break
+returns-in-Break c = under_last c.loop-out.invariant _ _ _ _ _ _ _ (moved_ended c.forward-moved.ensures c.in-Break.is)
 
 pub shape_of-cells : goal.shape_of-cells
 shape_of-cells c = c.loop-out.invariant.cells
