@@ -2,9 +2,11 @@
 #![tactic(auto)]
 
 mod entries;
+mod kinds;
 mod lists;
 mod words;
 
 pub use entries::{entry, field};
+pub use kinds::{goal, kind};
 pub use lists::chain_length;
 pub use words::{record_count, word};

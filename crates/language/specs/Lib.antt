@@ -1,4 +1,5 @@
 pub mod Format
+pub mod Kinds
 pub mod Lists
 pub mod Numbers
 pub mod File

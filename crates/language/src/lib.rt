@@ -2,6 +2,9 @@
 #![tactic(auto)]
 
 pub mod format;
+mod kind;
+
+pub use kind::{Goal, Kind, NoKind};
 
 // The cause of a refusal, in the order in which they are looked at: numbers 1 to 5, 17 (C-18), 6 to 9.
 #[derive(Clone, Copy)]

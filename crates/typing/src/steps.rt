@@ -10,11 +10,12 @@ ghost use Rattle.typing.specs.Settings.{NumberTested, GoalTested};
 
 use crate::calls::call_ok;
 use crate::constructs::construct_ok;
-use chains::word;
+use chains::{goal, word};
 use declarations::{FILE_PLACES, OWN_PLACES, has_type, region, variable};
+use language::Goal;
 use language::format::{
-    ASSIGN, ASSIGN_Y, CALL, CONSTRUCT, CREATE, GOAL_X, KIND, LIFETIME_REGION, LITERAL, PRINT,
-    PRINT_Y, REMOVE, SUM, SUM_OPERATION, SUM_Y, SUM_Z, TEST, TEST_Y, TEST_Z, VARIABLE_TYPE,
+    ASSIGN_Y, GOAL_X, LIFETIME_REGION, PRINT_Y, SUM_OPERATION, SUM_Y, SUM_Z, TEST_Y, TEST_Z,
+    VARIABLE_TYPE,
 };
 
 // Whether word k of record i is a variable of type 0.
@@ -83,16 +84,15 @@ pub fn step_ok(file: &[u8], table: &[u16; FILE_PLACES], own: &[u16; OWN_PLACES],
     requires fact { (IsSwitch file.now i → ⊥) × (IsIf file.now i → ⊥) × (IsTry file.now i → ⊥) }
     ensures { GoalTested file.now own.now i result }
 {
-    match word(file, i, KIND) {
-        LITERAL => is_number(file, own, i, GOAL_X),
-        SUM => sum_ok(file, own, i),
-        ASSIGN => assign_ok(file, own, i),
-        CONSTRUCT => construct_ok(file, table, own, i),
-        CALL => call_ok(file, table, own, i),
-        PRINT => is_number(file, own, i, PRINT_Y),
-        CREATE => lifetime_ok(file, own, i),
-        REMOVE => lifetime_ok(file, own, i),
-        TEST => test_ok(file, own, i),
-        _ => false,
+    match goal(file, i) {
+        Goal::Literal => is_number(file, own, i, GOAL_X),
+        Goal::Sum => sum_ok(file, own, i),
+        Goal::Assign => assign_ok(file, own, i),
+        Goal::Construct => construct_ok(file, table, own, i),
+        Goal::Call => call_ok(file, table, own, i),
+        Goal::Print => is_number(file, own, i, PRINT_Y),
+        Goal::Create | Goal::Remove => lifetime_ok(file, own, i),
+        Goal::Test => test_ok(file, own, i),
+        Goal::Switch | Goal::If | Goal::Try => false,
     }
 }

@@ -11,9 +11,10 @@ use crate::constructs::arm_fits;
 use crate::steps::{is_number, step_ok};
 use chains::word;
 use declarations::{FILE_PLACES, OWN_PLACES, functor, variable};
+use language::Goal;
 use language::format::{
-    ARM_GOALS, GOAL_X, IF, IF_ELSE, IF_THEN, IF_Y, IF_Z, KIND, NEXT, SWITCH, SWITCH_ARMS, TRY,
-    TRY_CONDITION, TRY_ELSE, TRY_THEN, VARIABLE_TYPE,
+    ARM_GOALS, GOAL_X, IF_ELSE, IF_THEN, IF_Y, IF_Z, NEXT, SWITCH_ARMS, TRY_CONDITION, TRY_ELSE,
+    TRY_THEN, VARIABLE_TYPE,
 };
 
 // The goals from record start on.
@@ -40,10 +41,10 @@ fn goal(file: &[u8], table: &[u16; FILE_PLACES], own: &[u16; OWN_PLACES], i: usi
     requires stands { Stands file.now goals i × (i ≡ 0 → ⊥) }
     ensures { GoalTested file.now own.now i result }
 {
-    match word(file, i, KIND) {
-        SWITCH => switch(file, table, own, i),
-        IF => branches(file, table, own, i),
-        TRY => attempt(file, table, own, i),
+    match chains::goal(file, i) {
+        Goal::Switch => switch(file, table, own, i),
+        Goal::If => branches(file, table, own, i),
+        Goal::Try => attempt(file, table, own, i),
         _ => step_ok(file, table, own, i),
     }
 }

@@ -156,40 +156,6 @@ branches-goals-requires-2 t c = let o = to_else c.requires.declares.0.formed c.r
 pub branches-returns : goal.branches-returns
 branches-returns t c = if_else_law c.requires.declares.0.formed _ _ c.requires.fact.0 c.is_number.ensures c.if-not-is_number.false c.is_number-2.ensures c.if-not-is_number-2.false c.word.ensures.0 c.goals.ensures c.if-not-goals.false c.word-second.ensures.0 c.goals-2.ensures
 
-pub goal-word-requires : goal.goal-word-requires
-goal-word-requires t c = record {
-  formed = c.requires.declares.0.formed;
-  k_lt_record_words = (omega arith, c.requires.stands.0.below);
-}
-
-pub goal-switch-requires : goal.goal-switch-requires
-goal-switch-requires t c = (omega (arith, c.decreases), (c.requires.declares, (sym c.word.ensures.0 ∙ c.in-12.is, c.requires.stands.0.below)))
-
-pub goal-branches-requires : goal.goal-branches-requires
-goal-branches-requires t c = (omega (arith, c.decreases), (c.requires.declares, (sym c.word.ensures.0 ∙ c.in-14.is, c.requires.stands.0.below)))
-
-pub goal-attempt-requires : goal.goal-attempt-requires
-goal-attempt-requires t c = (omega (arith, c.decreases), (c.requires.declares, (sym c.word.ensures.0 ∙ c.in-20.is, c.requires.stands.0.below)))
-
-pub goal-step_ok-requires : goal.goal-step_ok-requires
-goal-step_ok-requires t c = let e = c.word.ensures.0 in record {
-  declares = c.requires.declares;
-  stands = c.requires.stands;
-  fact = (λ k. c.in_default.in_default-own.rest.0.0.1 (e ∙ k), λ k. c.in_default.in_default-own.rest.0.1 (e ∙ k), λ k. c.in_default.in_default-own.rest.1 (e ∙ k));
-}
-
-pub goal-returns-in-12 : goal.goal-returns-in-12
-goal-returns-in-12 t c = c.switch.ensures
-
-pub goal-returns-in-14 : goal.goal-returns-in-14
-goal-returns-in-14 t c = c.branches.ensures
-
-pub goal-returns-in-20 : goal.goal-returns-in-20
-goal-returns-in-20 t c = c.attempt.ensures
-
-pub goal-returns-in_default : goal.goal-returns-in_default
-goal-returns-in_default t c = c.step_ok.ensures
-
 pub goals-loop-i-init : goal.goals-loop-i-init
 goals-loop-i-init t c = (c.requires.stands, omega arith, refl)
 
