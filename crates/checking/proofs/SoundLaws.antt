@@ -1,14 +1,11 @@
--- Which variables are sound: as members are taken off a set, those kept so far, with those kept of the rest, are all that are kept.
-use Prim.Native.Nat.{ℕ, ◌<◌}
-use mathlib.Core.Bool.{Bool, true, false, not}
-use borrow.Author.Tests.{not-true, not-false}
+-- Which variables are sound: as the members of a set are gone through, those kept so far, with those kept of the rest, are all that are kept.
+use Prim.Native.Nat.{ℕ}
+use mathlib.Core.Bool.{Bool, true, false}
 use mathlib.Core.Path.{◌≡◌, sym, ap, ap₂, ◌∙◌, fun_ext}
-use mathlib.Core.List.{List}
+use mathlib.Core.List.{List, [], ◌∷◌}
 use Rattle.sets.specs.Sets.{member_empty, empty_set, single, ◌∪◌, ◌∩◌, ◌∖◌, same_set, same_eq, subset, apart, Small}
-use Rattle.sets.specs.SetLaws.{union_empty, empty_union, union_assoc, apart_mk, small_difference}
-use Rattle.sets.specs.Members.{next_member, keep}
-use Rattle.sets.specs.Lowest.{lowest_falls, keep_empty, keep_take, keep_skip}
-use Rattle.sets.specs.Size.{size}
+use Rattle.sets.specs.SetLaws.{union_empty, empty_union, union_assoc, apart_mk}
+use Rattle.sets.specs.Members.{cons_if, members, set_of, filtered, keep}
 use Rattle.sets.specs.declared.Set.{Set}
 use Rattle.laws.specs.MoreSets.{keep_all}
 use Rattle.language.specs.Program.{Signature}
@@ -17,41 +14,34 @@ use Rattle.language.specs.Checking.{sound_given, sound_without}
 use Rattle.tables.specs.Window.{reach_in}
 use Rattle.checking.specs.Sound.{ReachesAll}
 
--- members of s are taken off, the least first, and left are those still to be looked at
-pub record Keeping (p : ℕ → Bool) (s found left : Set) : Type 0 where
-  pub small : Small left
-  pub whole : found ∪ keep p left ≡ keep p s
+-- the members of s that are left are still to be looked at
+pub record Keeping (p : ℕ → Bool) (s found : Set) (left : List ℕ) : Type 0 where
+  pub whole : found ∪ set_of (filtered p left) ≡ keep p s
 
 module _ (p : ℕ → Bool) (s : Set) where
-  pub keep_first : Small s → Keeping p s empty_set s
-  keep_first S = record { small = S; whole = empty_union _ }
+  pub keep_first : {left : List ℕ} → left ≡ members s → Keeping p s empty_set left
+  unfolding keep
+  keep_first e = record { whole = empty_union _ ∙ ap (λ xs. set_of (filtered p xs)) e }
 
-  -- as the code finds that some are left, or none
-  module _ {found left : Set} (h : Keeping p s found left) {b : Bool} (e : b ≡ same_set left empty_set) where
-    pub keep_last : not b ≡ false → found ≡ keep p s
-    keep_last n = sym (union_empty found) ∙ ap (λ (y : Set). found ∪ y) (sym (keep_empty p left (sym e ∙ not-false b n))) ∙ h.whole
+  module _ {found : Set} {left : List ℕ} (h : Keeping p s found left) where
+    pub keep_last : left ≡ [] → found ≡ keep p s
+    unfolding filtered set_of
+    keep_last e = sym (union_empty found) ∙ ap (λ xs. found ∪ set_of (filtered p xs)) (sym e) ∙ h.whole
 
-    module _ (n : not b ≡ true) where
-      pub some_left : same_set left empty_set ≡ false
-      some_left = sym e ∙ not-true b n
+    module _ {x : ℕ} {rest : List ℕ} (e : left ≡ x ∷ rest) where
+      pub keep_one : {u found' : Set} → p x ≡ true → u ≡ single x → found' ≡ found ∪ u → Keeping p s found' rest
+      unfolding filtered cons_if set_of
+      keep_one t eu g =
+          let r : set_of (filtered p left) ≡ single x ∪ set_of (filtered p rest) =
+          ap (λ xs. set_of (filtered p xs)) e ∙ ap (λ (b : Bool). set_of (cons_if b x (filtered p rest))) t in
+          record { whole = rw (g, eu) (union_assoc found (single x) _ ∙ ap (λ (y : Set). found ∪ y) (sym r) ∙ h.whole) }
 
-      module _ {rest : Set} (er : rest ≡ left ∖ single (next_member left 0)) where
-        pub keep_falls : size rest < size left
-        keep_falls = rw er (lowest_falls left h.small some_left)
-
-        small_rest : Small rest
-        small_rest = rw er (small_difference (single (next_member left 0)) h.small)
-
-        module _ {x : ℕ} (ex : x ≡ next_member left 0) where
-          pub keep_one : {u found' : Set} → p x ≡ true → u ≡ single x → found' ≡ found ∪ u → Keeping p s found' rest
-          keep_one t eu g =
-              let r = keep_take p left h.small some_left (rw ex at t) in
-              record { small = small_rest; whole = rw (g, eu, ex, er) (union_assoc found (single (next_member left 0)) _ ∙ ap (λ (y : Set). found ∪ y) (sym r) ∙ h.whole) }
-
-          pub keep_none : p x ≡ false → Keeping p s found rest
-          keep_none t =
-              let r = keep_skip p left h.small some_left (rw ex at t) in
-              record { small = small_rest; whole = rw er (ap (λ (y : Set). found ∪ y) (sym r) ∙ h.whole) }
+      pub keep_none : p x ≡ false → Keeping p s found rest
+      unfolding filtered cons_if
+      keep_none t =
+          let r : set_of (filtered p left) ≡ set_of (filtered p rest) =
+          ap (λ xs. set_of (filtered p xs)) e ∙ ap (λ (b : Bool). set_of (cons_if b x (filtered p rest))) t in
+          record { whole = ap (λ (y : Set). found ∪ y) (sym r) ∙ h.whole }
 
 -- ---- the checker's two tests of a variable, by the window
 module _ (t : List ℕ) where

@@ -1,5 +1,7 @@
 // Which variables are sound, by the window of their procedure.
-ghost use Rattle.std.specs.Prelude.{◌≡◌};
+ghost use Rattle.std.specs.Prelude.{◌≡◌, ℕ, ◌<◌, Bool};
+ghost use Rattle.sets.specs.Members.{keep};
+ghost use Rattle.language.specs.Format.{places};
 ghost use Rattle.language.specs.Program.{Signature};
 ghost use Rattle.language.specs.Checking.{sound_given, sound_without};
 ghost use Rattle.checking.specs.Sound.{ReachesAll};
@@ -7,19 +9,25 @@ ghost use Rattle.checking.specs.Sound.{ReachesAll};
 use sets::Set;
 use tables::reach;
 
+// Those of the variables that pass the test.
+fn kept<F: Fn(usize) -> bool>(variables: Set, passes: F) -> Set
+    requires { F.IsAlwaysCallable passes }
+    ensures { (p : ℕ → Bool) → ((x : ℕ) (b : Bool) → x < places → F.post passes x b → b ≡ p x) → result ≡ keep p variables }
+{
+    let mut found = Set::EMPTY;
+    for x in variables.members() {
+        if passes(x) {
+            found = found.union(Set::of(x));
+        }
+    }
+    found
+}
+
 // "A variable given a value is sound if its whole reach is then held."
 pub fn sound_given(own: &[u64], given: Set, held: Set, sound: Set) -> Set
     ensures { (S : Signature) → ReachesAll S own.now → result ≡ sound_given S given held sound }
 {
-    let mut found = Set::EMPTY;
-    let mut left = given;
-    while !left.is_empty() {
-        let x = left.lowest();
-        if reach(own, x).is_subset(held) {
-            found = found.union(Set::of(x));
-        }
-        left = left.without_lowest();
-    }
+    let found = kept(given, |x| reach(own, x).is_subset(held));
     sound.difference(given).union(found)
 }
 
@@ -27,23 +35,8 @@ pub fn sound_given(own: &[u64], given: Set, held: Set, sound: Set) -> Set
 pub fn sound_without(own: &[u64], gone: Set, sound: Set) -> Set
     ensures { (S : Signature) → ReachesAll S own.now → result ≡ sound_without S gone sound }
 {
-    if gone.same(Set::EMPTY) {
+    if gone.is_empty() {
         return sound;
     }
-    without_some(own, gone, sound)
-}
-
-fn without_some(own: &[u64], gone: Set, sound: Set) -> Set
-    ensures { (S : Signature) → ReachesAll S own.now → result ≡ sound_without S gone sound }
-{
-    let mut found = Set::EMPTY;
-    let mut left = sound;
-    while !left.is_empty() {
-        let x = left.lowest();
-        if reach(own, x).intersection(gone).same(Set::EMPTY) {
-            found = found.union(Set::of(x));
-        }
-        left = left.without_lowest();
-    }
-    found
+    kept(sound, |x| reach(own, x).intersection(gone).is_empty())
 }

@@ -1,11 +1,11 @@
 -- Laws of `specs/Whole` that only proofs cite.
-use Prim.Native.Nat.{ℕ, zero, suc, ◌+◌, ◌*◌, ◌≤◌, ◌<◌}
+use Prim.Native.Nat.{ℕ, suc, ◌+◌, ◌*◌, ◌≤◌, ◌<◌}
 use native.Mathlib.Omega.{arith}
 use native.Mathlib.Decide.{dec_lt}
-use native.Mathlib.Numerals.{add-one}
+use lib.Seq.{length-take-le}
 use mathlib.Core.List.{List, ◌∷◌, ◌++◌, []}
 use mathlib.Core.Path.{◌≡◌, refl, ap, ap₂, sym, ◌∙◌}
-use lib.ListN.{length, get_or, take, drop, set}
+use lib.ListN.{length, get_or, take, drop}
 use Rattle.language.specs.Format.{record_bytes, max_records, max_bytes, header_kind, header_types}
 use Rattle.language.specs.Lists.{front_written}
 use Rattle.language.specs.File.{k_type, word, record_count}
@@ -105,23 +105,6 @@ file_front f {a} {b} {r} B n L h =
     ap (take (record_bytes * r)) (file_written f B l (omega arith) L) ∙ take_front (file_of P) (drop (length (file_of P)) a) m
 
 -- ---- a copy of the front part
-copied_one : (l o : List ℕ) (k : ℕ) → k < length l → k < length o → set (take k l ++ drop k o) k (get_or l k 0) ≡ take (suc k) l ++ drop (suc k) o
-copied_one [] o k p q = absurd (omega arith)
-copied_one (x ∷ l) [] k p q = absurd (omega arith)
-copied_one (x ∷ l) (y ∷ o) zero p q = refl
-copied_one (x ∷ l) (y ∷ o) (suc k) p q = ap (λ r. x ∷ r) (copied_one l o k (omega arith) (omega arith))
-
-pub copied_more : (l o : List ℕ) {m : List ℕ} (k : ℕ) {x : ℕ} → k < length l → k < length o → m ≡ take k l ++ drop k o → x ≡ get_or l k 0
-    → set m k x ≡ take (k + 1) l ++ drop (k + 1) o
-copied_more l o k p q e n = rw (e, n, add-one k) (copied_one l o k p q)
-
-front_length : (n : ℕ) (l : List ℕ) → n ≤ length l → length (take n l) ≡ n
-front_length zero l h = refl
-front_length (suc n) [] h = absurd (omega arith)
-front_length (suc n) (x ∷ l) h = ap suc (front_length n l (omega arith))
-
-pub copied_all : (l o : List ℕ) {m : List ℕ} (n k : ℕ) → n ≤ length l → k ≤ n → n ≤ k → m ≡ take k l ++ drop k o → m ≡ front_written (take n l) o
+pub front_copied : (l o : List ℕ) {front : List ℕ} (n : ℕ) → n ≤ length l → front ≡ take n l → front ++ drop n o ≡ front_written (take n l) o
 unfolding front_written
-copied_all l o n k h p q e =
-    let z : k ≡ n = omega arith in
-    e ∙ rw z (ap (λ j. take n l ++ drop j o) (sym (front_length n l h)))
+front_copied l o n h e = rw e (ap (λ k. take n l ++ drop k o) (sym (length-take-le n l h)))

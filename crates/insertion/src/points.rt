@@ -25,11 +25,9 @@ pub fn list_wanted(own: &[u64], points: &mut [u64; POINTS], start: usize)
     requires start_le_point_words { start ≤ point_words }
     ensures { Turned own.now points.old points.new start point_words }
 {
-    let mut at = start;
-    while at < POINTS {
+    for at in start..POINTS {
         let wanted = wanted_in(own, Set::loaded(points[at]));
         points[at] = wanted.stored();
-        at += 1;
     }
 }
 

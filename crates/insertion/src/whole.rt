@@ -94,9 +94,5 @@ pub fn write(laid: &[u8; MAX_BYTES], bytes: usize, out: &mut [u8])
     requires bytes_in_bounds { bytes ≤ length out.old }
     ensures { out.new ≡ front_written (take bytes laid.now) out.old }
 {
-    let mut k = 0;
-    while k < bytes {
-        out[k] = laid[k];
-        k += 1;
-    }
+    out[..bytes].copy_from_slice(&laid[..bytes]);
 }

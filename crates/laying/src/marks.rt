@@ -32,14 +32,12 @@ pub fn lay_marks(out: &mut [u8], kind: usize, s: Set, on: usize, first: usize) -
     ensures { Lays out.old out.new first result (marks kind (members s) on first) }
 {
     let mut at = first;
-    let mut r = s.after(0);
-    while r < PLACES {
+    for r in s.members() {
         let next = s.after(r);
         let end = behind(at);
         let w = refer(more(next, on), end);
         store(out, at, kind, w, r, 0, 0, 0, 0, 0);
         at = end;
-        r = next;
     }
     at
 }

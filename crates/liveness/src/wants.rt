@@ -14,10 +14,8 @@ pub fn list_wants(own: &[u64], carried: &mut [u64])
     requires { carried_words ≤ length carried.old }
     ensures { Listed own.now carried.old carried.new }
 {
-    let mut x = 0;
-    while x < PLACES {
+    for x in 0..PLACES {
         carried[REACHES + x] = reach(own, x).stored();
-        x += 1;
     }
     carried[WANTS_KEPT] = set_at(own, KEPT).stored();
 }
@@ -27,10 +25,8 @@ fn wanted(carried: &[u64; CARRIED], live: Set) -> Set
     ensures { result ≡ wanted_in (wants_of carried.now) live }
 {
     let mut found = Set::EMPTY;
-    let mut x = live.after(0);
-    while x < PLACES {
+    for x in live.members() {
         found = found.union(Set::loaded(carried[REACHES + x]));
-        x = live.after(x);
     }
     Set::loaded(carried[WANTS_KEPT]).union(found)
 }
@@ -39,8 +35,8 @@ fn wanted(carried: &[u64; CARRIED], live: Set) -> Set
 pub fn unwanted(carried: &[u64; CARRIED], rs: Set, live: Set) -> bool
     ensures { result ≡ apart rs (wanted_in (wants_of carried.now) live) }
 {
-    if rs.same(Set::EMPTY) {
+    if rs.is_empty() {
         return true;
     }
-    rs.intersection(wanted(carried, live)).same(Set::EMPTY)
+    rs.intersection(wanted(carried, live)).is_empty()
 }

@@ -1,10 +1,5 @@
-use Prim.Native.Nat.{◌-◌}
-use Rattle.language.specs.Format.{places}
 use Rattle.liveness.proofs.WantsLaws.{Copying}
 use Rattle.liveness.proofs.wants.list_wants.Given as goal
 
 abbrev pub invariant-loop-x : goal.invariant-loop-x
 invariant-loop-x l = Copying l.own l.initial.carried l.carried l.x
-
-abbrev pub decreases-loop-x : goal.decreases-loop-x
-decreases-loop-x l = places - l.x
