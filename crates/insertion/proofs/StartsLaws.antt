@@ -1,7 +1,7 @@
 -- Laws of `specs/Starts` that only proofs cite.
 use Prim.Native.Nat.{ℕ, zero, suc}
 use mathlib.Core.List.{List}
-use mathlib.Core.Path.{◌≡◌, refl, sym, ◌∙◌}
+use mathlib.Core.Path.{◌≡◌, refl}
 use Rattle.sets.specs.Sets.{◌∖◌}
 use Rattle.sets.specs.Members.{members}
 use Rattle.sets.specs.declared.Set.{Set}
@@ -9,7 +9,7 @@ use Rattle.language.specs.Format.{remove_kind}
 use Rattle.liveness.specs.Table.{before_at, after_at}
 use Rattle.laying.specs.Lays.{Lays}
 use Rattle.laying.specs.Marks.{marks}
-use Rattle.insertion.specs.Cursor.{record_in, point_in, CursorAt}
+use Rattle.insertion.specs.declared.Cursor.{Cursor}
 use Rattle.insertion.specs.Starts.{first_of, LaysStart}
 
 pub first_none : {x : ℕ} (y : ℕ) → x ≡ 0 → y ≡ first_of x y
@@ -21,8 +21,7 @@ unfolding first_of
 first_some zero y z = absurd (z refl)
 first_some (suc x) y z = refl
 
-pub lays_start : (t : List ℕ) (whole first on : ℕ) {a b c d : List ℕ} {p m n : ℕ} {rs : Set} → p ≡ point_in c → (first ≡ 0 → rs ≡ before_at t whole ∖ after_at t whole)
-    → ((first ≡ 0 → ⊥) → rs ≡ before_at t whole ∖ before_at t p) → m ≡ record_in c → Lays a b m n (marks remove_kind (members rs) on m) → CursorAt d n p
-    → LaysStart t whole first on a b c d
-lays_start t whole first on ep x y em L C =
-    record { point_is = C.point_is ∙ ep; laid = rw (sym ep, sym em, C.record_is) (record { removed = _; last = x; more = y; laid = L }) }
+pub lays_start : (t : List ℕ) (whole first on : ℕ) {a b : List ℕ} {c : Cursor} {n : ℕ} {rs : Set} → (first ≡ 0 → rs ≡ before_at t whole ∖ after_at t whole)
+    → ((first ≡ 0 → ⊥) → rs ≡ before_at t whole ∖ before_at t c.point) → Lays a b c.next n (marks remove_kind (members rs) on c.next)
+    → LaysStart t whole first on a b c (record c { next = n })
+lays_start t whole first on x y L = record { point_is = refl; laid = record { removed = _; last = x; more = y; laid = L } }

@@ -1,5 +1,5 @@
 -- Laws of `specs/Steps` and `specs/Cursor` that only proofs cite.
-use Prim.Native.Nat.{ℕ, ◌+◌, ◌<◌, ◌≤◌}
+use Prim.Native.Nat.{ℕ, ◌+◌, ◌<◌}
 use native.Mathlib.Omega.{arith}
 use mathlib.Core.List.{List}
 use mathlib.Core.Path.{◌≡◌, refl, ap, sym, ◌∙◌}
@@ -27,9 +27,6 @@ use Rattle.insertion.proofs.ChainsLaws.{fronts_copy, fronts_step}
 use Rattle.insertion.proofs.WantsLaws.{goal_wants}
 use Rattle.insertion.specs.Done.{GoalLaid}
 use Rattle.insertion.specs.Steps.{created_in, removed_in}
-use lib.ListN.{length, set, length-set}
-use lib.Seq.{get_or-set_same, get_or-set_other}
-use Rattle.insertion.specs.Cursor.{CursorAt, cursor_words, point_in, point_place, record_in, record_place}
 
 module _ (rows t : List ℕ) (i at : ℕ) {b a n r s : Set} (eb : b ≡ before_at t at) (ea : a ≡ after_at t at) where
   pub created_is : n ≡ needs_in rows i → r ≡ bears_in rows i → s ≡ ((n ∪ a) ∖ b) ∖ r → s ≡ created_in rows t i at
@@ -66,10 +63,3 @@ module _ {f : List ℕ} (rows t : List ℕ) {i : ℕ} (at : ℕ) (F : Formed f) 
         er ∙ rw (fc, E.ends i s at_step_law, E.bears i s at_step_law, g, X.before_is, X.after_is) refl in
         (rw (view, sym en) (fronts_step P S s after fc fr em k (fronts_copy F st z mid H.view l) o), h X.short ∙ rw (step_count view) (omega arith)),
   )
-
-pub at_put : (c : List ℕ) → cursor_words ≤ length c → (r p : ℕ) → CursorAt (set (set c record_place r) point_place p) r p
-unfolding record_in point_in
-at_put c l r p = record {
-  record_is = get_or-set_other (set c record_place r) point_place record_place p 0 (λ z. omega arith) ∙ get_or-set_same c record_place r 0 (omega arith);
-  point_is = get_or-set_same (set c record_place r) point_place p 0 (omega (arith, length-set c record_place r));
-}

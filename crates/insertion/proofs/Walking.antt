@@ -30,7 +30,7 @@ use Rattle.insertion.proofs.ChainsLaws.{fronts_head, chain_goes, lays_part}
 use Rattle.insertion.specs.Wants.{WantedFrom}
 use Rattle.insertion.proofs.WantsLaws.{goal_wants, start_wants, switch_wants, branches_want, try_wants, arms_want}
 use Rattle.laying.specs.Heads.{SwitchStored, IfStored, TryStored, ArmStored, switch_head, if_head, try_head, arm_front}
-use Rattle.insertion.specs.Cursor.{record_in, point_in}
+use Rattle.insertion.specs.declared.Cursor.{Cursor}
 use Rattle.insertion.specs.Along.{LaidAlong}
 use Rattle.insertion.proofs.AlongLaws.{along_next, along_on}
 use Rattle.insertion.specs.Starts.{first_of, StartLaid}
@@ -43,8 +43,8 @@ module _ {f rows t : List ℕ} {start at₀ : ℕ} {a b e g : List ℕ} {first i
       → LaidAlong f rows t start at₀ a g first j p s
   along_turn F z n H m = along_on (along_next G F z m n) H
 
-pub goal_moved : {f rows : List ℕ} (t : List ℕ) {i : ℕ} (at : ℕ) {a b g d h : List ℕ} {c : ℕ} → b ≡ g → d ≡ h → GoalLaid f rows t i at a g c (record_in h) (point_in h)
-    → GoalLaid f rows t i at a b c (record_in d) (point_in d)
+pub goal_moved : {f rows : List ℕ} (t : List ℕ) {i : ℕ} (at : ℕ) {a b g : List ℕ} {d h : Cursor} {c : ℕ} → b ≡ g → d ≡ h → GoalLaid f rows t i at a g c h.next h.point
+    → GoalLaid f rows t i at a b c d.next d.point
 goal_moved t at p q m = rw (p, q) m
 
 -- ---- a part

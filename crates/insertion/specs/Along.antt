@@ -13,7 +13,7 @@ use Rattle.liveness.specs.Points.{points}
 use Rattle.liveness.specs.Counts.{goals_count}
 use Rattle.tables.specs.Filled.{Owned, Belongs}
 use Rattle.laying.specs.Lays.{Lays}
-use Rattle.insertion.specs.Cursor.{record_in, point_in}
+use Rattle.insertion.specs.declared.Cursor.{Cursor}
 use Rattle.insertion.specs.Wants.{WantedFrom}
 
 -- the goal at record i has parts, where there is one
@@ -37,5 +37,5 @@ module _ (f rows t : List ℕ) (start at₀ : ℕ) (a b : List ℕ) (first i at 
         → WantedFrom (signature_of (program f) q) t at₀ (points (program f) (goals_at f start) after) → Left o q after
 
 -- the same as the contract says it, where the walk stands at `c` before and at `d` behind
-abbrev pub LaysAlong : (f rows t : List ℕ) (start i : ℕ) (a b c d : List ℕ) → Type 0
-LaysAlong f rows t start i a b c d = LaidAlong f rows t start (point_in c) a b (record_in c) i (point_in d) (record_in d)
+abbrev pub LaysAlong : (f rows t : List ℕ) (start i : ℕ) (a b : List ℕ) (c d : Cursor) → Type 0
+LaysAlong f rows t start i a b c d = LaidAlong f rows t start c.point a b c.next i d.point d.next

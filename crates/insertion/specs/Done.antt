@@ -16,7 +16,7 @@ use Rattle.liveness.specs.Table.{before_at, after_at}
 use Rattle.tables.specs.Filled.{Owned, Belongs}
 use Rattle.laying.specs.Lays.{Lays}
 use Rattle.insertion.specs.Chains.{Fronts}
-use Rattle.insertion.specs.Cursor.{record_in, point_in}
+use Rattle.insertion.specs.declared.Cursor.{Cursor}
 use Rattle.insertion.specs.Wants.{WantedFrom}
 
 -- a part of the goal whose point is at `whole`: the removes at its start, then its goals
@@ -58,15 +58,15 @@ module _ (f rows t : List ℕ) (i at : ℕ) (a b : List ℕ) (c r p : ℕ) where
       × (p ≡ at + 2 * arms_count (arms_at f i)))
 
 -- the same as the contracts say it, where the walk stands at `c` before and at `d` behind
-module _ (f rows t : List ℕ) (i : ℕ) (a b c d : List ℕ) where
+module _ (f rows t : List ℕ) (i : ℕ) (a b : List ℕ) (c d : Cursor) where
   abbrev pub LaysGoals : Type 0
-  LaysGoals = GoalsLaid f rows t i (point_in c) a b (record_in c) (record_in d) (point_in d)
+  LaysGoals = GoalsLaid f rows t i c.point a b c.next d.next d.point
 
   abbrev pub LaysGoal : Type 0
-  LaysGoal = GoalLaid f rows t i (point_in c) a b (record_in c) (record_in d) (point_in d)
+  LaysGoal = GoalLaid f rows t i c.point a b c.next d.next d.point
 
   abbrev pub LaysPart : ℕ → Type 0
-  LaysPart whole = PartLaid f rows t i (point_in c) a b (record_in c) (record_in d) (point_in d) whole
+  LaysPart whole = PartLaid f rows t i c.point a b c.next d.next d.point whole
 
   abbrev pub LaysArms : ℕ → Type 0
-  LaysArms whole = ArmsLaid f rows t i (point_in c) a b (record_in c) (record_in d) (point_in d) whole
+  LaysArms whole = ArmsLaid f rows t i c.point a b c.next d.next d.point whole

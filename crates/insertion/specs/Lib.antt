@@ -1,6 +1,5 @@
 pub mod Chains
 pub mod Wants
-pub mod Cursor
 pub mod Done
 pub mod Along
 pub mod Steps

@@ -7,7 +7,7 @@ use Rattle.language.specs.Format.{remove_kind}
 use Rattle.liveness.specs.Table.{before_at, after_at}
 use Rattle.laying.specs.Lays.{Lays}
 use Rattle.laying.specs.Marks.{marks}
-use Rattle.insertion.specs.Cursor.{record_in, point_in}
+use Rattle.insertion.specs.declared.Cursor.{Cursor}
 
 -- the first goal of a condition and its then part in turn; 0 where both have none
 unfoldable pub first_of : ℕ → ℕ → ℕ
@@ -23,6 +23,6 @@ pub record StartLaid (t : List ℕ) (whole first on at : ℕ) (a b : List ℕ) (
   pub laid : Lays a b c r (marks remove_kind (members removed) on c)
 
 -- the same as the contract says it, where the walk stands at `c` before and at `d` behind
-pub record LaysStart (t : List ℕ) (whole first on : ℕ) (a b c d : List ℕ) : Type 0 where
-  pub point_is : point_in d ≡ point_in c
-  pub laid : StartLaid t whole first on (point_in c) a b (record_in c) (record_in d)
+pub record LaysStart (t : List ℕ) (whole first on : ℕ) (a b : List ℕ) (c d : Cursor) : Type 0 where
+  pub point_is : d.point ≡ c.point
+  pub laid : StartLaid t whole first on c.point a b c.next d.next

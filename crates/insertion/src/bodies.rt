@@ -10,7 +10,7 @@ ghost use Rattle.tables.specs.Filled.{Accessed};
 ghost use Rattle.liveness.specs.Points.{point_words};
 ghost use Rattle.insertion.specs.Bodies.{PointsFilled, BodyLaid};
 
-use crate::cursor::{cursor, record_in};
+use crate::Cursor;
 use crate::points::list_wanted;
 use crate::step::steps;
 use crate::walk::goals;
@@ -66,9 +66,11 @@ pub fn lay_body(
     let removed = start_removed(own, live);
     let body = word_at(own, BODY);
     let record = lay_marks(out, REMOVE, removed, body, first);
-    let start = filled.start;
-    let mut at = cursor(record, start);
+    let mut at = Cursor {
+        next: record,
+        point: filled.start,
+    };
     let i = steps(&file, rows, points, out, &mut at, body);
     goals(&file, rows, points, out, &mut at, i);
-    record_in(&at)
+    at.next
 }

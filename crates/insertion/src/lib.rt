@@ -2,7 +2,6 @@
 #![tactic(auto)]
 
 mod bodies;
-mod cursor;
 mod placed;
 mod points;
 mod procedures;
@@ -14,9 +13,10 @@ mod whole;
 
 pub use whole::{blank_laid, lay_annotated, write};
 
-// Words of where the walk stands: the next record to lay, and the point of the next goal.
-pub const CURSOR: usize = 2;
-
-pub const RECORD: usize = 0;
-
-pub const POINT: usize = 1;
+// Where the walk stands: the next record to lay, and the point of the next goal. It is lent on by one word, so that a level of the walk takes little of the
+// stack.
+#[derive(Clone, Copy)]
+pub struct Cursor {
+    pub next: usize,
+    pub point: usize,
+}

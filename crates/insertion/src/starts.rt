@@ -2,8 +2,7 @@
 ghost use Rattle.std.specs.Prelude.{◌≡◌};
 ghost use Rattle.insertion.specs.Starts.{first_of, LaysStart};
 
-use crate::CURSOR;
-use crate::cursor::{point_in, put, record_in};
+use crate::Cursor;
 use crate::points::left_over;
 use language::format::{MAX_BYTES, REMOVE};
 use laying::lay_marks;
@@ -21,15 +20,15 @@ pub fn either(condition: usize, then: usize) -> usize
 pub fn start_part(
     points: &[u64; POINTS],
     out: &mut [u8; MAX_BYTES],
-    at: &mut [usize; CURSOR],
+    at: &mut Cursor,
     whole: usize,
     first: usize,
     on: usize,
 )
     ensures { LaysStart points.now whole first on out.old out.new at.old at.new }
 {
-    let point = point_in(at);
+    let point = at.point;
     let removed = left_over(points, whole, first, point);
-    let record = lay_marks(out, REMOVE, removed, on, record_in(at));
-    put(at, record, point);
+    let record = lay_marks(out, REMOVE, removed, on, at.next);
+    at.next = record;
 }

@@ -7,8 +7,7 @@ ghost use Rattle.insertion.specs.Done.{LaysGoal};
 ghost use Rattle.insertion.specs.Along.{LaysAlong, HasParts};
 ghost use Rattle.insertion.specs.Steps.{created_in, removed_in};
 
-use crate::CURSOR;
-use crate::cursor::{point_in, put, record_in};
+use crate::Cursor;
 use crate::placed::{created_for, removed_after};
 use crate::points::past;
 use chains::word;
@@ -48,7 +47,7 @@ fn step(
     rows: &[u64; ROWS],
     points: &[u64; POINTS],
     out: &mut [u8; MAX_BYTES],
-    at: &mut [usize; CURSOR],
+    at: &mut Cursor,
     i: usize,
 )
     requires formed { Formed file.now.now }
@@ -56,14 +55,17 @@ fn step(
     requires fact { (IsSwitch file.now.now i → ⊥) × ((IsIf file.now.now i → ⊥) × (IsTry file.now.now i → ⊥)) }
     ensures { LaysGoal file.now.now rows.now points.now i out.old out.new at.old at.new }
 {
-    let point = point_in(at);
+    let point = at.point;
     let created = created_at(rows, points, i, point);
     let removed = removed_at(rows, points, i, point, created);
     let next = word(*file, i, NEXT);
-    let start = lay_marks(out, CREATE, created, 1, record_in(at));
+    let start = lay_marks(out, CREATE, created, 1, at.next);
     let end = lay_record(*file, out, i, follows(removed, next), start);
     let record = lay_marks(out, REMOVE, removed, next, end);
-    put(at, record, past(point));
+    *at = Cursor {
+        next: record,
+        point: past(point),
+    };
 }
 
 // The steps from record start on, up to the first goal with parts, which is answered; 0 where the chain has none.
@@ -72,7 +74,7 @@ pub fn steps(
     rows: &[u64; ROWS],
     points: &[u64; POINTS],
     out: &mut [u8; MAX_BYTES],
-    at: &mut [usize; CURSOR],
+    at: &mut Cursor,
     start: usize,
 ) -> usize
     requires formed { Formed file.now.now }

@@ -6,8 +6,7 @@ ghost use Rattle.chains.specs.Shapes.{IsSwitch, IsIf, IsTry};
 ghost use Rattle.insertion.specs.Done.{LaysGoals, LaysGoal, LaysPart, LaysArms};
 ghost use Rattle.insertion.specs.Along.{HasParts};
 
-use crate::CURSOR;
-use crate::cursor::{point_in, put, record_in};
+use crate::Cursor;
 use crate::points::past;
 use crate::starts::{either, start_part};
 use crate::step::steps;
@@ -28,7 +27,7 @@ pub fn goals(
     rows: &[u64; ROWS],
     points: &[u64; POINTS],
     out: &mut [u8; MAX_BYTES],
-    at: &mut [usize; CURSOR],
+    at: &mut Cursor,
     start: usize,
 )
     requires formed { Formed file.now.now }
@@ -54,20 +53,23 @@ fn switch(
     rows: &[u64; ROWS],
     points: &[u64; POINTS],
     out: &mut [u8; MAX_BYTES],
-    at: &mut [usize; CURSOR],
+    at: &mut Cursor,
     i: usize,
 )
     requires formed { Formed file.now.now }
     requires switch { IsSwitch file.now.now i }
     ensures { LaysGoal file.now.now rows.now points.now i out.old out.new at.old at.new }
 {
-    let first = record_in(at);
-    let whole = point_in(at);
+    let first = at.next;
+    let whole = at.point;
     let start = behind(first);
-    put(at, start, past(whole));
+    *at = Cursor {
+        next: start,
+        point: past(whole),
+    };
     let cases = word(*file, i, SWITCH_ARMS);
     arms(file, rows, points, out, at, cases, whole);
-    store_switch(*file, out, i, first, start, record_in(at));
+    store_switch(*file, out, i, first, start, at.next);
 }
 
 // An if: its first part, its second, then its own record in front of them.
@@ -77,23 +79,26 @@ fn branches(
     rows: &[u64; ROWS],
     points: &[u64; POINTS],
     out: &mut [u8; MAX_BYTES],
-    at: &mut [usize; CURSOR],
+    at: &mut Cursor,
     i: usize,
 )
     requires formed { Formed file.now.now }
     requires fact { IsIf file.now.now i }
     ensures { LaysGoal file.now.now rows.now points.now i out.old out.new at.old at.new }
 {
-    let first = record_in(at);
-    let whole = point_in(at);
+    let first = at.next;
+    let whole = at.point;
     let start = behind(first);
-    put(at, start, past(whole));
+    *at = Cursor {
+        next: start,
+        point: past(whole),
+    };
     let yes = word(*file, i, IF_THEN);
     part(file, rows, points, out, at, yes, whole);
-    let middle = record_in(at);
+    let middle = at.next;
     let no = word(*file, i, IF_ELSE);
     part(file, rows, points, out, at, no, whole);
-    store_if(*file, out, i, first, start, middle, record_in(at));
+    store_if(*file, out, i, first, start, middle, at.next);
 }
 
 // A try: its condition, its then part, its else part, then its own record in front of them. The condition starts with the removes of what only the
@@ -104,27 +109,30 @@ fn attempt(
     rows: &[u64; ROWS],
     points: &[u64; POINTS],
     out: &mut [u8; MAX_BYTES],
-    at: &mut [usize; CURSOR],
+    at: &mut Cursor,
     i: usize,
 )
     requires formed { Formed file.now.now }
     requires fact { IsTry file.now.now i }
     ensures { LaysGoal file.now.now rows.now points.now i out.old out.new at.old at.new }
 {
-    let first = record_in(at);
-    let whole = point_in(at);
+    let first = at.next;
+    let whole = at.point;
     let start = behind(first);
-    put(at, start, past(whole));
+    *at = Cursor {
+        next: start,
+        point: past(whole),
+    };
     let condition = word(*file, i, TRY_CONDITION);
     let then = word(*file, i, TRY_THEN);
     start_part(points, out, at, whole, either(condition, then), condition);
     chain(file, rows, points, out, at, condition);
-    let yes = record_in(at);
+    let yes = at.next;
     chain(file, rows, points, out, at, then);
-    let no = record_in(at);
+    let no = at.next;
     let other = word(*file, i, TRY_ELSE);
     part(file, rows, points, out, at, other, whole);
-    store_try(*file, out, i, first, start, yes, no, record_in(at));
+    store_try(*file, out, i, first, start, yes, no, at.next);
 }
 
 // A part of the goal whose point is at `whole`: removes, then the goals from record start on. (They are laid as `chain` lays them, and not by it: a
@@ -135,7 +143,7 @@ fn part(
     rows: &[u64; ROWS],
     points: &[u64; POINTS],
     out: &mut [u8; MAX_BYTES],
-    at: &mut [usize; CURSOR],
+    at: &mut Cursor,
     start: usize,
     whole: usize,
 )
@@ -157,7 +165,7 @@ fn chain(
     rows: &[u64; ROWS],
     points: &[u64; POINTS],
     out: &mut [u8; MAX_BYTES],
-    at: &mut [usize; CURSOR],
+    at: &mut Cursor,
     start: usize,
 )
     requires formed { Formed file.now.now }
@@ -177,7 +185,7 @@ fn arms(
     rows: &[u64; ROWS],
     points: &[u64; POINTS],
     out: &mut [u8; MAX_BYTES],
-    at: &mut [usize; CURSOR],
+    at: &mut Cursor,
     i: usize,
     whole: usize,
 )
@@ -188,13 +196,16 @@ fn arms(
     if i == 0 {
         return;
     }
-    let first = record_in(at);
+    let first = at.next;
     let start = behind(first);
-    let point = point_in(at);
-    put(at, start, point);
+    let point = at.point;
+    *at = Cursor {
+        next: start,
+        point: point,
+    };
     let inside = word(*file, i, ARM_GOALS);
     part(file, rows, points, out, at, inside, whole);
-    let end = record_in(at);
+    let end = at.next;
     let next = word(*file, i, NEXT);
     arms(file, rows, points, out, at, next, whole);
     store_arm(*file, out, i, first, start, end);

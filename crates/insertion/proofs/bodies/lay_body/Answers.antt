@@ -1,4 +1,3 @@
-use mathlib.Core.Path.{sym}
 use Rattle.insertion.proofs.AlongLaws.{along_rest}
 use Rattle.insertion.proofs.BodiesLaws.{body_laid}
 use Rattle.std.proofs.Common.{rules}
@@ -20,8 +19,8 @@ goals-requires c = let e = c.steps-i.ensures in record {
 }
 
 pub returns : goal.returns
-returns c = let e = c.cursor-at.ensures in let g = c.fill_points-filled.ensures in record {
+returns c = let g = c.fill_points-filled.ensures in record {
   points_len_2 = g.0;
   body_laid = body_laid _ _ c.requires.formed c.requires.stands _ _ _ _ _ g c.start_removed-removed.ensures c.word_at-body.ensures c.lay_marks-record.ensures
-      (rw (e.record_is, e.point_is, sym c.record_in.ensures) at (along_rest c.steps-i.ensures.lays_along c.goals.ensures));
+      (along_rest c.steps-i.ensures.lays_along c.goals.ensures);
 }

@@ -1,4 +1,3 @@
-use mathlib.Core.Path.{sym}
 use Rattle.insertion.proofs.StepsLaws.{step_laid}
 use Rattle.std.proofs.Common.{rules}
 use Rattle.insertion.proofs.step.step.Goals as goal
@@ -14,8 +13,4 @@ lay_record-end-requires c = record {
 
 pub returns : goal.returns
 returns c =
-    let e = c.put.ensures in
-    let ep = c.point_in-point.ensures in
-    let er = c.record_in.ensures in
-    rw (sym ep, sym er, e.record_is, e.point_is)
-    (step_laid _ _ _ c.requires.formed c.requires.stands.0 c.requires.stands.1 c.requires.fact.0 c.requires.fact.1.0 c.requires.fact.1.1 c.created_at-created.ensures c.removed_at-removed.ensures c.word-next.ensures.0 c.lay_marks-start.ensures c.follows.ensures c.lay_record-end.ensures c.lay_marks-record.ensures c.past.ensures)
+    step_laid _ _ _ c.requires.formed c.requires.stands.0 c.requires.stands.1 c.requires.fact.0 c.requires.fact.1.0 c.requires.fact.1.1 c.created_at-created.ensures c.removed_at-removed.ensures c.word-next.ensures.0 c.lay_marks-start.ensures c.follows.ensures c.lay_record-end.ensures c.lay_marks-record.ensures c.past.ensures

@@ -41,9 +41,7 @@ arms-store_arm-requires t c = record {
 
 pub arms-returns : goal.arms-returns
 arms-returns t c =
-    let e = c.put.ensures in
-    rw (sym c.point_in-point.ensures, sym c.record_in-first.ensures)
-    (arms_laid _ _ _ _ c.requires.formed c.requires.stands c.if-i-eq0.false c.behind-start.ensures c.word-inside.ensures.0 (rw (e.record_is, e.point_is, sym c.record_in-end.ensures) at c.part.ensures) c.word-next.ensures.0 (rw (sym c.record_in-end.ensures) at c.arms.ensures) c.store_arm.ensures)
+    arms_laid _ _ _ _ c.requires.formed c.requires.stands c.if-i-eq0.false c.behind-start.ensures c.word-inside.ensures.0 c.part.ensures c.word-next.ensures.0 c.arms.ensures c.store_arm.ensures
 
 pub attempt-word-condition-requires : goal.attempt-word-condition-requires
 attempt-word-condition-requires t c = record {
@@ -86,15 +84,9 @@ attempt-store_try-requires t c = record {
 
 pub attempt-returns : goal.attempt-returns
 attempt-returns t c =
-    let e = c.put.ensures in
     let o = c.start_part.ensures in
-    let yes = sym c.record_in-yes.ensures in
-    let no = sym c.record_in-no.ensures in
-    let end = sym c.record_in.ensures in
-    rw (sym c.point_in-whole.ensures, sym c.record_in-first.ensures, end)
-    (try_laid _ _ _ _ c.requires.formed c.requires.fact c.behind-start.ensures c.word-condition.ensures.0 c.word-then.ensures.0 c.either.ensures
-    c.past.ensures (rw (e.record_is, e.point_is) at o.laid) (rw (o.point_is, e.point_is, yes) at c.chain.ensures)
-    (rw (yes, no) at c.chain-2.ensures) c.word-other.ensures.0 (rw (no, end) at c.part.ensures) c.store_try.ensures)
+    try_laid _ _ _ _ c.requires.formed c.requires.fact c.behind-start.ensures c.word-condition.ensures.0 c.word-then.ensures.0 c.either.ensures
+    c.past.ensures o.laid (rw o.point_is at c.chain.ensures) c.chain-2.ensures c.word-other.ensures.0 c.part.ensures c.store_try.ensures
 
 pub branches-word-yes-requires : goal.branches-word-yes-requires
 branches-word-yes-requires t c = record {
@@ -126,9 +118,7 @@ branches-store_if-requires t c = record {
 
 pub branches-returns : goal.branches-returns
 branches-returns t c =
-    let e = c.put.ensures in
-    rw (sym c.point_in-whole.ensures, sym c.record_in-first.ensures, sym c.record_in.ensures)
-    (if_laid _ _ _ _ c.requires.formed c.requires.fact c.behind-start.ensures c.word-yes.ensures.0 c.past.ensures (rw (e.record_is, e.point_is, sym c.record_in-middle.ensures) at c.part.ensures) c.word-no.ensures.0 (rw (sym c.record_in-middle.ensures, sym c.record_in.ensures) at c.part-2.ensures) c.store_if.ensures)
+    if_laid _ _ _ _ c.requires.formed c.requires.fact c.behind-start.ensures c.word-yes.ensures.0 c.past.ensures c.part.ensures c.word-no.ensures.0 c.part-2.ensures c.store_if.ensures
 
 pub chain-steps-i-requires : goal.chain-steps-i-requires
 chain-steps-i-requires t c =
@@ -245,6 +235,4 @@ switch-store_switch-requires t c = record {
 
 pub switch-returns : goal.switch-returns
 switch-returns t c =
-    let e = c.put.ensures in
-    rw (sym c.point_in-whole.ensures, sym c.record_in-first.ensures, sym c.record_in.ensures)
-    (switch_laid _ _ _ _ c.requires.formed c.requires.switch c.behind-start.ensures c.word-cases.ensures.0 c.past.ensures (rw (e.record_is, e.point_is, sym c.record_in.ensures) at c.arms.ensures) c.store_switch.ensures)
+    switch_laid _ _ _ _ c.requires.formed c.requires.switch c.behind-start.ensures c.word-cases.ensures.0 c.past.ensures c.arms.ensures c.store_switch.ensures

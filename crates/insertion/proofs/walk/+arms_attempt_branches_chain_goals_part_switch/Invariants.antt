@@ -1,7 +1,6 @@
 -- The walk over goals: one law of Walking for each way through it. The records ahead fall.
 use Prim.Native.Nat.{◌+◌, ◌*◌}
 use Rattle.chains.specs.Formed.{ahead}
-use Rattle.insertion.specs.Cursor.{record_in, point_in}
 use Rattle.insertion.specs.Along.{LaidAlong, HasParts}
 use Rattle.insertion.proofs.walk.+arms_attempt_branches_chain_goals_part_switch.Given as goal
 
@@ -27,7 +26,7 @@ decreases-goals l =
 
 abbrev pub invariant-goals-loop-i : goal.invariant-goals-loop-i
 invariant-goals-loop-i l =
-    LaidAlong l.file.now l.rows l.points l.start (point_in l.initial.at) l.initial.out l.out (record_in l.initial.at) l.i (point_in l.at) (record_in l.at) × HasParts l.file.now l.i
+    LaidAlong l.file.now l.rows l.points l.start l.initial.at.point l.initial.out l.out l.initial.at.next l.i l.at.point l.at.next × HasParts l.file.now l.i
 
 abbrev pub decreases-goals-loop-i : goal.decreases-goals-loop-i
 decreases-goals-loop-i l =
