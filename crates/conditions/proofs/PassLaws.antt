@@ -9,20 +9,19 @@ use mathlib.Core.List.{List, ◌∷◌}
 use mathlib.Core.Path.{◌≡◌, refl, sym, ap, ◌∙◌}
 use borrow.Author.Tests.{eq-eqb, ne_eqb, lt-ltb, le-ltb}
 use lib.Dec.{eqb, leb, ltb}
-use lib.ListN.{length, get_or, set, replicate, length-replicate, get_or-replicate}
+use lib.ListN.{length, get_or, replicate, length-replicate, get_or-replicate}
 use Rattle.sets.specs.Tests.{◌&◌, ◌or◌, neg}
 use Rattle.language.specs.Lists.{choose, all, up_from}
 use Rattle.language.specs.File.{k_header, word, record_count}
-use Rattle.language.specs.Format.{kind_word, next_word, try_condition, try_then, try_else, if_kind, call_kind, print_kind, try_kind, test_kind, max_records}
+use Rattle.language.specs.Format.{kind_word, try_condition, if_kind, call_kind, print_kind, try_kind, test_kind, max_records}
 use Rattle.language.specs.Conditions.{conditions_ok}
 use Rattle.language.specs.Answers.{program}
 use Rattle.records.specs.Lists.{from_here, from_end}
 use Rattle.chains.specs.Layout.{all_rows, header_kind_law}
 use Rattle.chains.specs.Formed.{Formed, counted}
-use Rattle.chains.specs.Shapes.{IsTry, kind_number}
-use Rattle.owners.specs.Handed.{next_and, hand_to, words_of, given, hand_down, handed_up_to}
-use Rattle.owners.specs.Handing.{to_same, handed_none, known, settled, up_to_length}
-use Rattle.owners.specs.TryWords.{try_handed}
+use Rattle.chains.specs.Shapes.{kind_number}
+use Rattle.owners.specs.Handed.{hand_down, handed_up_to}
+use Rattle.owners.specs.Handing.{handed_none, known, settled, up_to_length}
 use Rattle.conditions.specs.Inside.{inside_by, insides, inside_at}
 use Rattle.conditions.specs.Standing.{may_stand, conditions_records}
 use Rattle.conditions.specs.Without.{any_condition}
@@ -41,26 +40,23 @@ module _ (v n : ℕ) where
   outside e = rw (ne_eqb v 1 e) refl
 
 -- ---- values handed down
-both : (b : Bool) (v : ℕ) → choose b v v ≡ v
-unfolding choose
-both true v = refl
-both false v = refl
+neither : (b : Bool) (v : ℕ) → v ≡ choose (b & false) 1 v
+unfolding choose ◌&◌
+neither true v = refl
+neither false v = refl
 
-module _ (f : List ℕ) (i : ℕ) (t : List ℕ) where
-  pub down_other : {k : ℕ} {u : List ℕ} → k ≡ word f i kind_word → (k ≡ try_kind → ⊥)
-      → u ≡ hand_to (next_and (get_or t i 0) (get_or t i 0)) (word f i) (words_of f i) t → u ≡ hand_down inside_by f i t
-  unfolding hand_down next_and given inside_by choose ◌&◌
-  down_other {k} e n h =
-      h ∙ to_same (next_and (get_or t i 0) (get_or t i 0)) (given inside_by f i (get_or t i 0)) (word f i) same (words_of f i) t
-    where
-      same : (j : ℕ) → next_and (get_or t i 0) (get_or t i 0) j ≡ given inside_by f i (get_or t i 0) j
-      same j = both (eqb j next_word) (get_or t i 0) ∙ rw (ne_eqb (word f i kind_word) try_kind (λ z. n (e ∙ z))) refl
+module _ (k i w own : ℕ) where
+  pub mark_condition : k ≡ try_kind → w ≡ try_condition → 1 ≡ inside_by k i w own
+  unfolding inside_by choose ◌&◌
+  mark_condition e g = rw (eq-eqb k try_kind e, eq-eqb w try_condition g)
 
-  -- .. of a try
-  pub tries_down : {own a b c d : ℕ} → IsTry f i → own ≡ get_or t i 0 → a ≡ word f i next_word → b ≡ word f i try_condition → c ≡ word f i try_then
-      → d ≡ word f i try_else → set (set (set (set t a own) b 1) c own) d own ≡ hand_down inside_by f i t
-  unfolding given inside_by choose ◌&◌
-  tries_down e o p q r s = try_handed inside_by f i t e p q r s (rw (e, o) refl) (rw e refl) (rw (e, o) refl) (rw (e, o) refl)
+  pub mark_kind : (k ≡ try_kind → ⊥) → own ≡ inside_by k i w own
+  unfolding inside_by choose ◌&◌
+  mark_kind e = rw (ne_eqb k try_kind e)
+
+  pub mark_word : (w ≡ try_condition → ⊥) → own ≡ inside_by k i w own
+  unfolding inside_by
+  mark_word e = rw (ne_eqb w try_condition e) (neither (eqb k try_kind) own)
 
 -- ---- the loop that looks for a try or a test: b says that one of the first i records is
 not_below : (k w : ℕ) → neg (leb k w) ≡ ltb w k

@@ -3,18 +3,18 @@ use Prim.Native.Nat.{ℕ, suc, ◌+◌, ◌≤◌, ◌<◌}
 use native.Mathlib.Omega.{arith}
 use native.Mathlib.Numerals.{add-one}
 use mathlib.Core.Bool.{Bool, true, false}
-use mathlib.Core.Path.{◌≡◌, refl, sym, ap, ◌∙◌}
+use mathlib.Core.Path.{◌≡◌, refl, ap, ◌∙◌}
 use mathlib.Core.List.{List, ◌++◌}
 use borrow.Author.Tests.{eq-eqb, ne_eqb}
 use lib.Dec.{eqb}
 use lib.ListN.{length, get_or, set, take, drop, replicate, length-replicate, length-append, length-take, length-drop, get_or-append}
 use Rattle.language.specs.Lists.{choose}
-use Rattle.language.specs.File.{word, record_count}
-use Rattle.language.specs.Format.{kind_word, procedure_kind}
+use Rattle.language.specs.File.{record_count}
+use Rattle.language.specs.Format.{next_word, procedure_kind}
 use Rattle.records.specs.Sizes.{word_end}
 use Rattle.records.specs.Blank.{blank_zero}
 use Rattle.chains.specs.Formed.{Formed, counted}
-use Rattle.owners.specs.Handed.{next_and, hand_to, words_of, given, hand_down, handed_up_to, handed}
+use Rattle.owners.specs.Handed.{next_and, hand_down, handed_up_to, handed}
 use Rattle.owners.specs.Handing.{up_to_length, up_to_keeps, up_to_append, handed_append}
 use Rattle.owners.specs.Owner.{owner_by, owners_of}
 
@@ -27,20 +27,24 @@ cleared n d l e =
 pub cleared_length : (n : ℕ) (d : List ℕ) {t : List ℕ} → n ≤ length d → t ≡ replicate (length (take n d)) 0 → length (t ++ drop n d) ≡ length d
 cleared_length n d l e = ap length (cleared n d l e) ∙ simp (length-append, length-drop, length-replicate) (omega arith)
 
--- ---- one record
-module _ (f : List ℕ) (i : ℕ) (t : List ℕ) {k : ℕ} (g : k ≡ word f i kind_word) where
-  down_by : (b : Bool) → eqb (word f i kind_word) procedure_kind ≡ b
-      → hand_to (next_and (choose b (get_or t i 0 + 1) (get_or t i 0)) (get_or t i 0)) (word f i) (words_of f i) t ≡ hand_down owner_by f i t
-  unfolding hand_down given owner_by
-  down_by b e = rw (← e) refl
+-- ---- one word
+either : (b : Bool) (v : ℕ) → v ≡ choose b v v
+unfolding choose
+either true v = refl
+either false v = refl
 
-  pub down_procedure : {u : List ℕ} → k ≡ procedure_kind → u ≡ hand_to (next_and (get_or t i 0 + 1) (get_or t i 0)) (word f i) (words_of f i) t → u ≡ hand_down owner_by f i t
-  unfolding choose
-  down_procedure e h = h ∙ down_by true (eq-eqb _ _ (sym g ∙ e))
+module _ (k i w own : ℕ) where
+  pub number_next : k ≡ procedure_kind → w ≡ next_word → own + 1 ≡ owner_by k i w own
+  unfolding owner_by next_and choose
+  number_next e g = rw (eq-eqb k _ e, eq-eqb w _ g)
 
-  pub down_other : {u : List ℕ} → (k ≡ procedure_kind → ⊥) → u ≡ hand_to (next_and (get_or t i 0) (get_or t i 0)) (word f i) (words_of f i) t → u ≡ hand_down owner_by f i t
-  unfolding choose
-  down_other e h = h ∙ down_by false (ne_eqb _ _ (λ z. e (g ∙ z)))
+  pub number_kind : (k ≡ procedure_kind → ⊥) → own ≡ owner_by k i w own
+  unfolding owner_by next_and choose
+  number_kind e = rw (ne_eqb k _ e) (either (eqb w next_word) own)
+
+  pub number_word : (w ≡ next_word → ⊥) → own ≡ owner_by k i w own
+  unfolding owner_by next_and choose
+  number_word e = rw (ne_eqb w _ e)
 
 -- ---- the loop: the first i records have handed down, from a table with n zeros in front
 few_more : (a b : Bool) (own m : ℕ) → own ≤ m → choose a (choose b (own + 1) own) own ≤ suc m

@@ -2,7 +2,6 @@
 use Rattle.std.specs.Prelude.{ℕ, zero, suc, ◌+◌, ◌*◌, ◌/◌, ◌%◌, ◌≤◌, ◌<◌, true, ◌≡◌, length, get_or, set}
 use native.Mathlib.Omega.{arith}
 use Rattle.std.proofs.Math.Decide.{dec_lt}
-use Rattle.std.proofs.lemmas.Bool.{false≢true}
 use mathlib.Core.List.{List, [], ◌∷◌, map}
 use Rattle.std.proofs.Common.{inl, inr, sym, ◌∙◌}
 use Rattle.std.proofs.Math.Path.{refl, ap}
@@ -50,7 +49,7 @@ words_from_law (first c ∷ us) b k i = elim (cons_in k b (leading_words (suc b)
   | inr m ↦ (let h = words_from_law us (suc b) k m in (omega arith, omega arith))
 ]
 
-part_range : (K : Kind) (k : ℕ) → in_list k (part_words K) ≡ true → (2 ≤ k) × (k < record_words)
+pub part_range : (K : Kind) (k : ℕ) → in_list k (part_words K) ≡ true → (2 ≤ k) × (k < record_words)
 unfolding part_words
 part_range K k i = let h = words_from_law (row K).words 2 k i in (h.0, omega (arith, row_length K))
 
@@ -94,20 +93,20 @@ unfolding words_of reference_words hand_to next_and choose
 next_done f i on x t e = rw e refl
 
 -- ---- digits
-digits_none : digits [] ≡ 0
+pub digits_none : digits [] ≡ 0
 unfolding digits
 digits_none = refl
 
 module _ (k : ℕ) (ks : List ℕ) (some : 2 ≤ k) (small : k < record_words) where
-  digits_some : digits (k ∷ ks) ≡ 0 → ⊥
+  pub digits_some : digits (k ∷ ks) ≡ 0 → ⊥
   unfolding digits
   digits_some e = omega arith
 
-  digits_first : digits (k ∷ ks) % digit_end ≡ k
+  pub digits_first : digits (k ∷ ks) % digit_end ≡ k
   unfolding digits
   digits_first = omega arith
 
-  digits_rest : digits (k ∷ ks) / digit_end ≡ digits ks
+  pub digits_rest : digits (k ∷ ks) / digit_end ≡ digits ks
   unfolding digits
   digits_rest = omega arith
 

@@ -5,6 +5,7 @@ pub mod Handed
 pub mod Handing
 pub mod TryWords
 pub mod Digits
+pub mod Gives
 pub mod Owner
 pub mod Owners
 pub mod Everywhere

@@ -1,11 +1,12 @@
 // The procedure that each record belongs to, in one pass: a record hands it down to the records that it refers to, which stand behind it.
-ghost use Rattle.std.specs.Prelude.{◌≡◌, ◌++◌, ◌+◌, ◌≤◌, ◌<◌, length, get_or, drop, replicate};
+ghost use Rattle.std.specs.Prelude.{◌≡◌, ℕ, ◌++◌, ◌+◌, ◌≤◌, ◌<◌, length, get_or, drop};
 ghost use Rattle.language.specs.File.{word, record_count};
-ghost use Rattle.records.specs.Sizes.{word_end};
+ghost use Rattle.language.specs.Format.{kind_word};
+ghost use Rattle.records.specs.Sizes.{record_words, word_end};
 ghost use Rattle.records.specs.Table.{table_of};
 ghost use Rattle.chains.specs.Formed.{Formed};
-ghost use Rattle.owners.specs.Handed.{part_digits, next_and, hand_to, words_of, hand_down};
-ghost use Rattle.owners.specs.Digits.{Hander};
+ghost use Rattle.owners.specs.Handed.{Attribute, part_digits, hand_down};
+ghost use Rattle.owners.specs.Gives.{Gives};
 ghost use Rattle.owners.specs.Owner.{owner_by, owners_of};
 
 use crate::words::part_words;
@@ -24,40 +25,46 @@ pub fn list_owners(file: &[u8], owners: &mut [u16])
     owners[..n].fill(0);
     let parts = part_words();
     for i in 0..n {
-        hand_down(&parts, file, i, owners);
+        hand_down(&parts, file, i, owners, next_owner);
     }
     owners[0] = 0;
 }
 
-// Hands down the entry of record i: the next procedure has the next number.
-fn hand_down(parts: &[usize; KINDS_END], file: &[u8], i: usize, owners: &mut [u16])
-    requires formed { Formed file.now }
-    requires parts_value { parts.now ≡ table_of part_digits }
-    requires i_bound { (i < record_count file.now) × (record_count file.now ≤ length owners.old) }
-    requires i_bound_2 { get_or owners.old i 0 + 1 < word_end }
-    ensures { owners.new ≡ hand_down owner_by file.now i owners.old }
+// What a record hands down by a word: the next procedure has the next number.
+fn next_owner(kind: usize, word: usize, own: u16) -> u16
+    requires { own + 1 < word_end }
+    ensures { (i : ℕ) → result ≡ owner_by kind i word own }
 {
-    let own = owners[i];
-    let kind = word_in(file, i, format::KIND);
-    let words = parts[kind];
-    if kind == format::PROCEDURE {
-        hand_to(file, i, words, own + 1, own, owners);
+    if kind == format::PROCEDURE && word == format::NEXT {
+        own + 1
     } else {
-        hand_to(file, i, words, own, own, owners);
+        own
     }
 }
 
-// Hands `on` to the next record of the chain of record i, and x to what its other words lead to, which `words` lists.
-pub fn hand_to(file: &[u8], i: usize, words: usize, on: u16, x: u16, owners: &mut [u16])
-    requires { Hander file.now i words owners.old }
-    ensures { owners.new ≡ hand_to (next_and on x) (word file.now i) (words_of file.now i) owners.old }
+// Hands down the entry of record i: each record that its words lead to gets what `by` gives for the record's kind, the word and the entry.
+pub fn hand_down<F: Fn(usize, usize, u16) -> u16>(
+    parts: &[usize; KINDS_END],
+    file: &[u8],
+    i: usize,
+    table: &mut [u16],
+    by: F,
+)
+    requires formed { Formed file.now }
+    requires parts_value { parts.now ≡ table_of part_digits }
+    requires i_bound { (i < record_count file.now) × (record_count file.now ≤ length table.old) }
+    requires may_give { (k : ℕ) → k < record_words → F.pre by (word file.now i kind_word) k (get_or table.old i 0) }
+    ensures { (A : Attribute) → Gives A file.now i (get_or table.old i 0) (F.post by (word file.now i kind_word)) → table.new ≡ hand_down A file.now i table.old }
 {
+    let own = table[i];
+    let kind = word_in(file, i, format::KIND);
     let next = word_in(file, i, format::NEXT);
-    owners[next] = on;
-    let mut left = words;
+    table[next] = by(kind, format::NEXT, own);
+    let mut left = parts[kind];
     while left != 0 {
-        let w = word_in(file, i, left % DIGIT_END);
-        owners[w] = x;
-        left = left / DIGIT_END;
+        let part = left % DIGIT_END;
+        let w = word_in(file, i, part);
+        table[w] = by(kind, part, own);
+        left /= DIGIT_END;
     }
 }

@@ -2,7 +2,9 @@
 use mathlib.Core.Path.{refl, sym, ◌∙◌}
 use Rattle.std.proofs.Common.{arith, rules}
 use Rattle.chains.specs.Formed.{counted}
+use Rattle.owners.specs.Handed.{given}
 use Rattle.owners.specs.Digits.{record_room}
+use Rattle.conditions.specs.Inside.{inside_by}
 use Rattle.conditions.specs.Without.{without_conditions}
 use Rattle.conditions.proofs.PassLaws.{passed_first, passed_stop, passed_next, passed_length, passed_last}
 use Rattle.conditions.proofs.pass.conditions_ok.Goals as goal
@@ -46,12 +48,14 @@ hand_down-requires c = let F = c.requires in record {
   formed = F;
   parts_value = c.part_words-parts.ensures;
   i_bound = (omega (arith, c.loop-i.invariant.count, c.loop-i-test.true), omega (arith, passed_length F c.loop-i.invariant, (counted F).most));
+  may_give = λ k b. tt;
 }
 
 pub loop-i-preserved : goal.loop-i-preserved
+unfolding given
 loop-i-preserved c =
     passed_next c.requires c.loop-i.invariant c.loop-i-test.true refl c.word_in.ensures.0 c.may_stand.ensures c.if-not-may_stand.false
-    c.hand_down.ensures
+    (c.hand_down.ensures inside_by (λ k r b p. p c.loop-i.i))
 
 pub returns : goal.returns
 returns c = passed_last c.requires c.loop-i.invariant c.loop-i-test.false

@@ -4,7 +4,8 @@ use mathlib.Core.Path.{refl, ◌∙◌}
 use Rattle.std.proofs.Common.{arith, rules}
 use lib.ListN.{length, length-set}
 use Rattle.chains.specs.Formed.{counted}
-use Rattle.owners.specs.Handed.{handed_up_to}
+use Rattle.owners.specs.Handed.{given, handed_up_to}
+use Rattle.owners.specs.Owner.{owner_by}
 use Rattle.owners.proofs.Filling.{cleared, cleared_length, fits_more, next, last}
 use Rattle.owners.proofs.pass.list_owners.Goals as goal
 
@@ -25,11 +26,12 @@ hand_down-requires c = let l = c.loop-i in let n = c.record_count-n.ensures in
       formed = c.requires.formed;
       parts_value = c.part_words-parts.ensures;
       i_bound = (omega (arith, n, c.loop-i-test.true), omega (arith, c.requires.file_in_bounds, l.auto.owners, cleared_length _ c.args.owners.now room z));
-      i_bound_2 = fits_more c.requires.formed c.args.owners.now n (cleared _ c.args.owners.now room z) l.i l.invariant c.loop-i-test.true;
+      may_give = λ k b. let h = fits_more c.requires.formed c.args.owners.now n (cleared _ c.args.owners.now room z) l.i l.invariant c.loop-i-test.true in search rules;
     }
 
 pub loop-i-preserved : goal.loop-i-preserved
-loop-i-preserved c = next _ _ c.loop-i.i c.loop-i.invariant c.hand_down.ensures
+unfolding given
+loop-i-preserved c = next _ _ c.loop-i.i c.loop-i.invariant (c.hand_down.ensures owner_by (λ k r b p. p c.loop-i.i))
 
 pub bounds-owners-0 : goal.bounds-owners-0
 bounds-owners-0 c =
