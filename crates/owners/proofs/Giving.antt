@@ -1,4 +1,4 @@
--- The loop of `hand_down` over the digits of a record's words, whatever the code gives by each.
+-- The loop of `hand_to` over the digits of a record's words, whatever the code gives by each.
 use Prim.Native.Nat.{ℕ, ◌/◌, ◌%◌, ◌<◌}
 use native.Mathlib.Omega.{arith}
 use mathlib.Core.Bool.{true}
@@ -9,42 +9,50 @@ use Rattle.sets.specs.Members.{in_list, cons_here, cons_later}
 use Rattle.language.specs.Format.{kind_word, next_word}
 use Rattle.language.specs.File.{kind_of, word, record_count}
 use Rattle.records.specs.Sizes.{record_words, digit_end}
+use Rattle.records.specs.Table.{table_of}
 use Rattle.chains.specs.Formed.{Formed}
-use Rattle.owners.specs.Handed.{Attribute, part_words, digits, part_digits, given, hand_to, words_of, reference_words, hand_down}
+use Rattle.owners.specs.Handed.{part_words, digits, part_digits, words_of, reference_words}
 use Rattle.owners.specs.Handing.{word_below}
-use Rattle.owners.specs.Digits.{part_range, digits_none, digits_some, digits_first, digits_rest}
-use Rattle.owners.specs.Gives.{Gives}
+use Rattle.owners.specs.Digits.{table_kind, kind_low, part_range, digits_none, digits_some, digits_first, digits_rest}
+use Rattle.owners.specs.Gives.{Gives, hand_words}
 
+-- ---- what the code reads of record i
+module _ {f : List ℕ} (F : Formed f) {i : ℕ} (q : i < record_count f) where
+  pub row_listed : {p : List ℕ} {k : ℕ} → p ≡ table_of part_digits → k ≡ word f i kind_word → get_or p k 0 ≡ part_digits (kind_of (word f i kind_word))
+  row_listed {p} e g = ap (λ n. get_or p n 0) g ∙ table_kind part_digits e (kind_low F i q)
+
+  pub next_below : word f i next_word < record_count f
+  unfolding words_of reference_words
+  next_below = word_below F i q next_word (cons_here next_word next_word _ refl)
+
+-- ---- the loop
 -- record i, the table t₀ before, and what the code may give
-module _ (f : List ℕ) (i : ℕ) (t₀ : List ℕ) (results : ℕ → ℕ → ℕ → Type 0) where
-  abbrev own : ℕ
-  own = get_or t₀ i 0
-
+module _ {X : Type 0} (f : List ℕ) (i : ℕ) (t₀ : List X) (results : ℕ → X → Type 0) where
   -- the words that are still to come, as digits; t is the table
-  pub record Giving (left : ℕ) (t : List ℕ) : Type 0 where
+  pub record Giving (left : ℕ) (t : List X) : Type 0 where
     pub words : List ℕ
     pub listed : left ≡ digits words
     pub among : (k : ℕ) → in_list k words ≡ true → in_list k (part_words (kind_of (word f i kind_word))) ≡ true
-    pub rest : (A : Attribute) → Gives A f i own results → hand_to (given A f i own) (word f i) words t ≡ hand_down A f i t₀
+    pub rest : (g : ℕ → X) → Gives g results → hand_words g (word f i) words t ≡ hand_words g (word f i) (words_of f i) t₀
 
-  pub giving_first : {left w r : ℕ} → left ≡ part_digits (kind_of (word f i kind_word)) → w ≡ word f i next_word → results next_word own r → Giving left (set t₀ w r)
-  unfolding part_digits hand_down words_of reference_words hand_to
+  pub giving_first : {left w : ℕ} {r : X} → left ≡ part_digits (kind_of (word f i kind_word)) → w ≡ word f i next_word → results next_word r → Giving left (set t₀ w r)
+  unfolding part_digits words_of reference_words hand_words
   giving_first {left} {w} {r} l e p = record {
     words = part_words (kind_of (word f i kind_word));
     listed = l;
     among = λ k m. m;
-    rest = λ A G. rw (e, G next_word r (omega arith) p) refl;
+    rest = λ g G. rw (e, G next_word r (omega arith) p) refl;
   }
 
-  module _ {left : ℕ} {t : List ℕ} (P : Giving left t) where
+  module _ {left : ℕ} {t : List X} (P : Giving left t) where
     -- the word that is next
     pub record GivingNext : Type 0 where
       pub small : left % digit_end < record_words
       pub names : Formed f → i < record_count f → word f i (left % digit_end) < record_count f
-      pub after : {w r : ℕ} → w ≡ word f i (left % digit_end) → results (left % digit_end) own r → Giving (left / digit_end) (set t w r)
+      pub after : {w : ℕ} {r : X} → w ≡ word f i (left % digit_end) → results (left % digit_end) r → Giving (left / digit_end) (set t w r)
 
     next_by : (k : ℕ) (ks : List ℕ) → P.words ≡ k ∷ ks → GivingNext
-    unfolding words_of reference_words hand_to
+    unfolding words_of reference_words hand_words
     next_by k ks e =
         let m = P.among k (rw e (cons_here k k ks refl)) in
         let s = part_range (kind_of (word f i kind_word)) k m in
@@ -57,9 +65,9 @@ module _ (f : List ℕ) (i : ℕ) (t₀ : List ℕ) (results : ℕ → ℕ → �
             words = ks;
             listed = ap (λ n. n / digit_end) d ∙ digits_rest k ks s.0 s.1;
             among = λ j n. P.among j (rw e (cons_later j k ks n));
-            rest = λ A G.
-                let h : r ≡ given A f i own k = G _ r (omega (arith, a, s.1)) p ∙ ap (given A f i own) a in
-                let v = rw e at P.rest A G in
+            rest = λ give G.
+                let h : r ≡ give k = G _ r (omega (arith, a, s.1)) p ∙ ap give a in
+                let v = rw e at P.rest give G in
                 rw (g, a, h) v;
           };
         }
@@ -71,12 +79,12 @@ module _ (f : List ℕ) (i : ℕ) (t₀ : List ℕ) (results : ℕ → ℕ → �
         go [] e = absurd (z (P.listed ∙ ap digits e ∙ digits_none))
         go (k ∷ ks) e = next_by k ks e
 
-    done_by : (ks : List ℕ) → P.words ≡ ks → left ≡ 0 → (A : Attribute) → Gives A f i own results → t ≡ hand_down A f i t₀
-    unfolding hand_to
-    done_by [] e z A G = rw e at P.rest A G
-    done_by (k ∷ ks) e z A G =
+    done_by : (ks : List ℕ) → P.words ≡ ks → left ≡ 0 → (g : ℕ → X) → Gives g results → t ≡ hand_words g (word f i) (words_of f i) t₀
+    unfolding hand_words
+    done_by [] e z g G = rw e at P.rest g G
+    done_by (k ∷ ks) e z g G =
         let s = part_range (kind_of (word f i kind_word)) k (P.among k (rw e (cons_here k k ks refl))) in
         absurd (digits_some k ks s.0 s.1 (sym (P.listed ∙ ap digits e) ∙ z))
 
-    pub giving_last : left ≡ 0 → (A : Attribute) → Gives A f i own results → t ≡ hand_down A f i t₀
+    pub giving_last : left ≡ 0 → (g : ℕ → X) → Gives g results → t ≡ hand_words g (word f i) (words_of f i) t₀
     giving_last z = done_by P.words refl z

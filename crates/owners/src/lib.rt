@@ -5,6 +5,6 @@ mod pass;
 mod plain;
 mod words;
 
-pub use pass::{hand_down, list_owners};
+pub use pass::{hand_to, list_owners};
 pub use plain::is_unannotated;
 pub use words::part_words;

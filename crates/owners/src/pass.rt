@@ -1,12 +1,11 @@
 // The procedure that each record belongs to, in one pass: a record hands it down to the records that it refers to, which stand behind it.
-ghost use Rattle.std.specs.Prelude.{◌≡◌, ℕ, ◌++◌, ◌+◌, ◌≤◌, ◌<◌, length, get_or, drop};
+ghost use Rattle.std.specs.Prelude.{◌≡◌, ℕ, ◌++◌, ◌+◌, ◌≤◌, ◌<◌, length, drop};
 ghost use Rattle.language.specs.File.{word, record_count};
-ghost use Rattle.language.specs.Format.{kind_word};
 ghost use Rattle.records.specs.Sizes.{record_words, word_end};
 ghost use Rattle.records.specs.Table.{table_of};
 ghost use Rattle.chains.specs.Formed.{Formed};
-ghost use Rattle.owners.specs.Handed.{Attribute, part_digits, hand_down};
-ghost use Rattle.owners.specs.Gives.{Gives};
+ghost use Rattle.owners.specs.Handed.{part_digits, words_of};
+ghost use Rattle.owners.specs.Gives.{Gives, hand_words};
 ghost use Rattle.owners.specs.Owner.{owner_by, owners_of};
 
 use crate::words::part_words;
@@ -25,7 +24,9 @@ pub fn list_owners(file: &[u8], owners: &mut [u16])
     owners[..n].fill(0);
     let parts = part_words();
     for i in 0..n {
-        hand_down(&parts, file, i, owners, next_owner);
+        let own = owners[i];
+        let kind = word_in(file, i, format::KIND);
+        hand_to(&parts, file, i, owners, |k| next_owner(kind, k, own));
     }
     owners[0] = 0;
 }
@@ -42,29 +43,27 @@ fn next_owner(kind: usize, word: usize, own: u16) -> u16
     }
 }
 
-// Hands down the entry of record i: each record that its words lead to gets what `by` gives for the record's kind, the word and the entry.
-pub fn hand_down<F: Fn(usize, usize, u16) -> u16>(
+// Gives each record that the words of record i lead to what `by` says of the word.
+pub fn hand_to<T: Copy, F: Fn(usize) -> T>(
     parts: &[usize; KINDS_END],
     file: &[u8],
     i: usize,
-    table: &mut [u16],
+    table: &mut [T],
     by: F,
 )
     requires formed { Formed file.now }
     requires parts_value { parts.now ≡ table_of part_digits }
     requires i_bound { (i < record_count file.now) × (record_count file.now ≤ length table.old) }
-    requires may_give { (k : ℕ) → k < record_words → F.pre by (word file.now i kind_word) k (get_or table.old i 0) }
-    ensures { (A : Attribute) → Gives A file.now i (get_or table.old i 0) (F.post by (word file.now i kind_word)) → table.new ≡ hand_down A file.now i table.old }
+    requires may_give { (k : ℕ) → k < record_words → F.pre by k }
+    ensures { (g : ℕ → T) → Gives g (F.post by) → table.new ≡ hand_words g (word file.now i) (words_of file.now i) table.old }
 {
-    let own = table[i];
-    let kind = word_in(file, i, format::KIND);
     let next = word_in(file, i, format::NEXT);
-    table[next] = by(kind, format::NEXT, own);
-    let mut left = parts[kind];
+    table[next] = by(format::NEXT);
+    let mut left = parts[word_in(file, i, format::KIND)];
     while left != 0 {
         let part = left % DIGIT_END;
         let w = word_in(file, i, part);
-        table[w] = by(kind, part, own);
+        table[w] = by(part);
         left /= DIGIT_END;
     }
 }

@@ -1,8 +1,10 @@
 -- The first i records have handed down, and stand where they may.
-use mathlib.Core.Path.{refl, sym, ◌∙◌}
+use lib.ListN.{get_or}
+use mathlib.Core.Path.{◌≡◌, refl, sym, ◌∙◌}
 use Rattle.std.proofs.Common.{arith, rules}
 use Rattle.chains.specs.Formed.{counted}
 use Rattle.owners.specs.Handed.{given}
+use Rattle.owners.specs.Gives.{down_by_words}
 use Rattle.owners.specs.Digits.{record_room}
 use Rattle.conditions.specs.Inside.{inside_by}
 use Rattle.conditions.specs.Without.{without_conditions}
@@ -30,32 +32,35 @@ offset_bounds-inside-i c = omega (arith, c.loop-i.invariant.count, (counted c.re
 pub bounds-inside-i : goal.bounds-inside-i
 bounds-inside-i c = omega (arith, c.loop-i.invariant.count, (counted c.requires).most)
 
-pub word_in-requires : goal.word_in-requires
-word_in-requires c = (omega arith, record_room c.requires _ (omega (arith, c.loop-i.invariant.count)))
+pub word_in-kind-requires : goal.word_in-kind-requires
+word_in-kind-requires c = (omega arith, record_room c.requires _ (omega (arith, c.loop-i.invariant.count)))
 
 pub may_stand-requires : goal.may_stand-requires
 may_stand-requires c = search rules
 
 pub returns-then-not-may_stand : goal.returns-then-not-may_stand
 returns-then-not-may_stand c =
-    passed_stop c.requires c.loop-i.invariant c.loop-i-test.true refl c.word_in.ensures.0 c.may_stand.ensures c.if-not-may_stand.true
+    passed_stop c.requires c.loop-i.invariant c.loop-i-test.true refl c.word_in-kind.ensures.0 c.may_stand.ensures c.if-not-may_stand.true
 
-pub slice_bounds-hand_down-end : goal.slice_bounds-hand_down-end
-slice_bounds-hand_down-end c = sym (passed_length c.requires c.loop-i.invariant)
+pub slice_bounds-hand_to-end : goal.slice_bounds-hand_to-end
+slice_bounds-hand_to-end c = sym (passed_length c.requires c.loop-i.invariant)
 
-pub hand_down-requires : goal.hand_down-requires
-hand_down-requires c = let F = c.requires in record {
+pub hand_to-requires : goal.hand_to-requires
+hand_to-requires c = let F = c.requires in record {
   formed = F;
   parts_value = c.part_words-parts.ensures;
   i_bound = (omega (arith, c.loop-i.invariant.count, c.loop-i-test.true), omega (arith, passed_length F c.loop-i.invariant, (counted F).most));
-  may_give = λ k b. tt;
+  may_give = λ k b. search rules;
 }
 
 pub loop-i-preserved : goal.loop-i-preserved
 unfolding given
 loop-i-preserved c =
-    passed_next c.requires c.loop-i.invariant c.loop-i-test.true refl c.word_in.ensures.0 c.may_stand.ensures c.if-not-may_stand.false
-    (c.hand_down.ensures inside_by (λ k r b p. p c.loop-i.i))
+    passed_next c.requires c.loop-i.invariant c.loop-i-test.true refl c.word_in-kind.ensures.0 c.may_stand.ensures c.if-not-may_stand.false
+    (down_by_words inside_by _ _ _
+    (c.hand_to.ensures _ (λ k r b p.
+    let q : r ≡ inside_by c.word_in-kind.result c.loop-i.i k (get_or c.loop-i.inside c.loop-i.i 0) = search rules in
+    rw c.word_in-kind.ensures.0 at q)))
 
 pub returns : goal.returns
 returns c = passed_last c.requires c.loop-i.invariant c.loop-i-test.false

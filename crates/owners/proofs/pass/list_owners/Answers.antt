@@ -1,10 +1,12 @@
 -- After i turns the first i records have handed down.
 use Prim.Native.Nat.{◌≤◌}
-use mathlib.Core.Path.{refl, ◌∙◌}
+use mathlib.Core.Path.{◌≡◌, refl, ◌∙◌}
 use Rattle.std.proofs.Common.{arith, rules}
-use lib.ListN.{length, length-set}
+use lib.ListN.{length, get_or, length-set}
 use Rattle.chains.specs.Formed.{counted}
 use Rattle.owners.specs.Handed.{given, handed_up_to}
+use Rattle.owners.specs.Digits.{record_room}
+use Rattle.owners.specs.Gives.{down_by_words}
 use Rattle.owners.specs.Owner.{owner_by}
 use Rattle.owners.proofs.Filling.{cleared, cleared_length, fits_more, next, last}
 use Rattle.owners.proofs.pass.list_owners.Goals as goal
@@ -19,8 +21,17 @@ pub loop-i-init : goal.loop-i-init
 unfolding handed_up_to
 loop-i-init c = refl
 
-pub hand_down-requires : goal.hand_down-requires
-hand_down-requires c = let l = c.loop-i in let n = c.record_count-n.ensures in
+pub bounds-owners-i : goal.bounds-owners-i
+bounds-owners-i c =
+    let n = c.record_count-n.ensures in
+    let room : c.record_count-n.result ≤ length c.args.owners.now = omega (arith, n, c.requires.file_in_bounds) in
+    omega (arith, c.requires.file_in_bounds, c.loop-i.auto.owners, cleared_length _ c.args.owners.now room (c.fill.ensures.after (λ y e. e)))
+
+pub word_in-kind-requires : goal.word_in-kind-requires
+word_in-kind-requires c = (omega arith, record_room c.requires.formed _ (omega (arith, c.record_count-n.ensures, c.loop-i-test.true)))
+
+pub hand_to-requires : goal.hand_to-requires
+hand_to-requires c = let l = c.loop-i in let n = c.record_count-n.ensures in
     let z = c.fill.ensures.after (λ y e. e) in
     let room : c.record_count-n.result ≤ length c.args.owners.now = omega (arith, n, c.requires.file_in_bounds) in record {
       formed = c.requires.formed;
@@ -31,7 +42,12 @@ hand_down-requires c = let l = c.loop-i in let n = c.record_count-n.ensures in
 
 pub loop-i-preserved : goal.loop-i-preserved
 unfolding given
-loop-i-preserved c = next _ _ c.loop-i.i c.loop-i.invariant (c.hand_down.ensures owner_by (λ k r b p. p c.loop-i.i))
+loop-i-preserved c =
+    next _ _ c.loop-i.i c.loop-i.invariant
+    (down_by_words owner_by _ _ _
+    (c.hand_to.ensures _ (λ k r b p.
+    let q : r ≡ owner_by c.word_in-kind.result c.loop-i.i k (get_or c.loop-i.owners c.loop-i.i 0) = search rules in
+    rw c.word_in-kind.ensures.0 at q)))
 
 pub bounds-owners-0 : goal.bounds-owners-0
 bounds-owners-0 c =
