@@ -10,7 +10,7 @@ ghost use Rattle.conditions.specs.Without.{any_condition};
 use chains::record_count;
 use language::format;
 use language::format::MAX_RECORDS;
-use owners::{hand_to, part_words};
+use owners::hand_to;
 use records::word_in;
 
 // Whether every record stands where its kind may, in a condition or outside.
@@ -21,16 +21,14 @@ pub fn conditions_ok(file: &[u8]) -> bool
     if !any_condition(file) {
         return true;
     }
-    let n = record_count(file);
-    let parts = part_words();
     let mut inside = [0; MAX_RECORDS];
-    for i in 0..n {
+    for i in 0..record_count(file) {
         let own = inside[i];
         let kind = word_in(file, i, format::KIND);
         if !may_stand(own, kind) {
             return false;
         }
-        hand_to(&parts, file, i, &mut inside, |k| next_mark(kind, k, own));
+        hand_to(file, i, &mut inside, |k| next_mark(kind, k, own));
     }
     true
 }

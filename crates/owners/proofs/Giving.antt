@@ -4,23 +4,19 @@ use native.Mathlib.Omega.{arith}
 use mathlib.Core.Bool.{true}
 use mathlib.Core.List.{List, [], ◌∷◌}
 use mathlib.Core.Path.{◌≡◌, refl, sym, ap, ◌∙◌}
-use lib.ListN.{get_or, set}
+use lib.ListN.{set}
 use Rattle.sets.specs.Members.{in_list, cons_here, cons_later}
 use Rattle.language.specs.Format.{kind_word, next_word}
 use Rattle.language.specs.File.{kind_of, word, record_count}
 use Rattle.records.specs.Sizes.{record_words, digit_end}
-use Rattle.records.specs.Table.{table_of}
 use Rattle.chains.specs.Formed.{Formed}
 use Rattle.owners.specs.Handed.{part_words, digits, part_digits, words_of, reference_words}
 use Rattle.owners.specs.Handing.{word_below}
-use Rattle.owners.specs.Digits.{table_kind, kind_low, part_range, digits_none, digits_some, digits_first, digits_rest}
+use Rattle.owners.specs.Digits.{part_range, digits_none, digits_some, digits_first, digits_rest}
 use Rattle.owners.specs.Gives.{Gives, hand_words}
 
--- ---- what the code reads of record i
+-- ---- the next record of a chain
 module _ {f : List ℕ} (F : Formed f) {i : ℕ} (q : i < record_count f) where
-  pub row_listed : {p : List ℕ} {k : ℕ} → p ≡ table_of part_digits → k ≡ word f i kind_word → get_or p k 0 ≡ part_digits (kind_of (word f i kind_word))
-  row_listed {p} e g = ap (λ n. get_or p n 0) g ∙ table_kind part_digits e (kind_low F i q)
-
   pub next_below : word f i next_word < record_count f
   unfolding words_of reference_words
   next_below = word_below F i q next_word (cons_here next_word next_word _ refl)

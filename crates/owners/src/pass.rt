@@ -2,16 +2,15 @@
 ghost use Rattle.std.specs.Prelude.{◌≡◌, ℕ, ◌++◌, ◌+◌, ◌≤◌, ◌<◌, length, drop};
 ghost use Rattle.language.specs.File.{word, record_count};
 ghost use Rattle.records.specs.Sizes.{record_words, word_end};
-ghost use Rattle.records.specs.Table.{table_of};
 ghost use Rattle.chains.specs.Formed.{Formed};
-ghost use Rattle.owners.specs.Handed.{part_digits, words_of};
+ghost use Rattle.owners.specs.Handed.{words_of};
 ghost use Rattle.owners.specs.Gives.{Gives, hand_words};
 ghost use Rattle.owners.specs.Owner.{owner_by, owners_of};
 
-use crate::words::part_words;
+use crate::words::part_digits;
 use chains::record_count;
 use language::format;
-use records::sizes::{DIGIT_END, KINDS_END};
+use records::sizes::DIGIT_END;
 use records::word_in;
 
 // Writes, for each record of the file, the number of the procedure that it belongs to. Places behind stay as they are.
@@ -22,11 +21,10 @@ pub fn list_owners(file: &[u8], owners: &mut [u16])
 {
     let n = record_count(file);
     owners[..n].fill(0);
-    let parts = part_words();
     for i in 0..n {
         let own = owners[i];
         let kind = word_in(file, i, format::KIND);
-        hand_to(&parts, file, i, owners, |k| next_owner(kind, k, own));
+        hand_to(file, i, owners, |k| next_owner(kind, k, own));
     }
     owners[0] = 0;
 }
@@ -44,22 +42,15 @@ fn next_owner(kind: usize, word: usize, own: u16) -> u16
 }
 
 // Gives each record that the words of record i lead to what `by` says of the word.
-pub fn hand_to<T: Copy, F: Fn(usize) -> T>(
-    parts: &[usize; KINDS_END],
-    file: &[u8],
-    i: usize,
-    table: &mut [T],
-    by: F,
-)
+pub fn hand_to<T: Copy, F: Fn(usize) -> T>(file: &[u8], i: usize, table: &mut [T], by: F)
     requires formed { Formed file.now }
-    requires parts_value { parts.now ≡ table_of part_digits }
     requires i_bound { (i < record_count file.now) × (record_count file.now ≤ length table.old) }
     requires may_give { (k : ℕ) → k < record_words → F.pre by k }
     ensures { (g : ℕ → T) → Gives g (F.post by) → table.new ≡ hand_words g (word file.now i) (words_of file.now i) table.old }
 {
     let next = word_in(file, i, format::NEXT);
     table[next] = by(format::NEXT);
-    let mut left = parts[word_in(file, i, format::KIND)];
+    let mut left = part_digits(word_in(file, i, format::KIND));
     while left != 0 {
         let part = left % DIGIT_END;
         let w = word_in(file, i, part);

@@ -1,12 +1,14 @@
 // The record table as the passes read it.
-ghost use Rattle.std.specs.Prelude.{◌≡◌};
+ghost use Rattle.std.specs.Prelude.{◌≡◌, ◌<◌};
+ghost use Rattle.language.specs.File.{kind_of};
+ghost use Rattle.records.specs.Sizes.{kinds_end};
 ghost use Rattle.records.specs.Table.{table_of};
 ghost use Rattle.owners.specs.Handed.{part_digits};
 
 use records::sizes::KINDS_END;
 
 // The words beside w1 by which a record refers, a row for each kind's number: one hex digit a word, the first one lowest.
-const PART_WORDS: [usize; KINDS_END] = [
+static PART_WORDS: [usize; KINDS_END] = [
     0, // no kind
     0x2, // header
     0x2, // type
@@ -31,7 +33,15 @@ const PART_WORDS: [usize; KINDS_END] = [
     0, // test
 ];
 
-// The table in memory, to be lent.
+// The row of a kind.
+pub(crate) fn part_digits(kind: usize) -> usize
+    requires { kind < kinds_end }
+    ensures { result ≡ part_digits (kind_of kind) }
+{
+    PART_WORDS[kind]
+}
+
+// The whole table, to be lent.
 pub fn part_words() -> [usize; KINDS_END]
     ensures { result ≡ table_of part_digits }
 {

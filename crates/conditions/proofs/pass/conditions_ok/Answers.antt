@@ -17,14 +17,11 @@ any_condition-requires c = search rules
 pub returns-then-not-any_condition : goal.returns-then-not-any_condition
 returns-then-not-any_condition c = without_conditions c.requires (sym c.any_condition.ensures ∙ c.if-not-any_condition.true)
 
-pub record_count-n-requires : goal.record_count-n-requires
-record_count-n-requires c = search rules
-
-pub part_words-parts-requires : goal.part_words-parts-requires
-part_words-parts-requires c = search rules
+pub record_count-i-end-requires : goal.record_count-i-end-requires
+record_count-i-end-requires c = search rules
 
 pub loop-i-init : goal.loop-i-init
-loop-i-init c = passed_first c.requires c.record_count-n.ensures refl
+loop-i-init c = passed_first c.requires c.record_count-i-end.ensures refl
 
 pub offset_bounds-inside-i : goal.offset_bounds-inside-i
 offset_bounds-inside-i c = omega (arith, c.loop-i.invariant.count, (counted c.requires).most)
@@ -48,7 +45,6 @@ slice_bounds-hand_to-end c = sym (passed_length c.requires c.loop-i.invariant)
 pub hand_to-requires : goal.hand_to-requires
 hand_to-requires c = let F = c.requires in record {
   formed = F;
-  parts_value = c.part_words-parts.ensures;
   i_bound = (omega (arith, c.loop-i.invariant.count, c.loop-i-test.true), omega (arith, passed_length F c.loop-i.invariant, (counted F).most));
   may_give = λ k b. search rules;
 }

@@ -1,9 +1,11 @@
 -- The words still to come are in the digits that are left: the invariant and its laws are in Giving.
-use Rattle.std.proofs.Common.{arith, rules, ◌%◌}
+use Rattle.std.proofs.Common.{arith, rules, ◌%◌, ap, ◌∙◌}
 use Prim.Native.Nat.{◌<◌}
 use lib.ListN.{length, length-set}
+use Rattle.language.specs.File.{kind_of}
+use Rattle.owners.specs.Handed.{part_digits}
 use Rattle.owners.specs.Digits.{record_room, kind_low}
-use Rattle.owners.proofs.Giving.{row_listed, next_below, giving_first, giving_next, giving_last}
+use Rattle.owners.proofs.Giving.{next_below, giving_first, giving_next, giving_last}
 use Rattle.owners.proofs.pass.hand_to.Goals as goal
 
 pub word_in-next-requires : goal.word_in-next-requires
@@ -20,12 +22,12 @@ bounds-table-next g c = omega (arith, next_below c.requires.formed c.requires.i_
 pub word_in-requires : goal.word_in-requires
 word_in-requires g c = (omega arith, record_room c.requires.formed _ c.requires.i_bound.0)
 
-pub bounds-parts-word_in : goal.bounds-parts-word_in
-bounds-parts-word_in g c = omega (arith, c.word_in.ensures.0, kind_low c.requires.formed _ c.requires.i_bound.0)
+pub part_digits-left-requires : goal.part_digits-left-requires
+part_digits-left-requires g c = omega (arith, c.word_in.ensures.0, kind_low c.requires.formed _ c.requires.i_bound.0)
 
 pub loop-left-init : goal.loop-left-init
 loop-left-init g c =
-    giving_first _ _ _ (goal.F-post g c.args.by) (row_listed c.requires.formed c.requires.i_bound.0 c.requires.parts_value c.word_in.ensures.0)
+    giving_first _ _ _ (goal.F-post g c.args.by) (c.part_digits-left.ensures ∙ ap (λ k. part_digits (kind_of k)) c.word_in.ensures.0)
     c.word_in-next.ensures.0 c.by.ensures
 
 pub word_in-w-requires : goal.word_in-w-requires

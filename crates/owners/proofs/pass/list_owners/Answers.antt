@@ -14,9 +14,6 @@ use Rattle.owners.proofs.pass.list_owners.Goals as goal
 pub record_count-n-requires : goal.record_count-n-requires
 record_count-n-requires c = search rules
 
-pub part_words-parts-requires : goal.part_words-parts-requires
-part_words-parts-requires c = search rules
-
 pub loop-i-init : goal.loop-i-init
 unfolding handed_up_to
 loop-i-init c = refl
@@ -35,7 +32,6 @@ hand_to-requires c = let l = c.loop-i in let n = c.record_count-n.ensures in
     let z = c.fill.ensures.after (λ y e. e) in
     let room : c.record_count-n.result ≤ length c.args.owners.now = omega (arith, n, c.requires.file_in_bounds) in record {
       formed = c.requires.formed;
-      parts_value = c.part_words-parts.ensures;
       i_bound = (omega (arith, n, c.loop-i-test.true), omega (arith, c.requires.file_in_bounds, l.auto.owners, cleared_length _ c.args.owners.now room z));
       may_give = λ k b. let h = fits_more c.requires.formed c.args.owners.now n (cleared _ c.args.owners.now room z) l.i l.invariant c.loop-i-test.true in search rules;
     }
