@@ -13,7 +13,8 @@ use Rattle.language.specs.Values.{Valued, faulty, valued, access, reads, gives, 
 use Rattle.accesses.specs.Ranged.{Ranged, fresh, fresh_distinct}
 use Rattle.values.proofs.Typed.{TypedGoals, ArmsTyped, typed_next, typed_step, typed_arms, typed_then, typed_else, typed_condition, typed_try_then, typed_try_else, typed_arm}
 use Rattle.walks.specs.Walk.{WalkOutcome, stopped, goes_on, outcome, require, onwards, meet, walk_goals, walk_goal, walk_arms}
-use Rattle.values.specs.Valuing.{Valuation, both, giving, valuer}
+use Rattle.values.specs.Valuing.{both, giving, valuer}
+use Rattle.values.specs.declared.carried.Valuation.{Valuation}
 
 -- ---- it says what number 4 says, of goals that passed number 3
 unfoldable pub told : WalkOutcome Valuation → Valued

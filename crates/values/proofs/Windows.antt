@@ -14,7 +14,8 @@ use Rattle.language.specs.Answers.{program}
 use Rattle.chains.specs.Formed.{Stands, goals_at}
 use Rattle.tables.specs.Window.{ins_place, outs_place, body_place, set_in, FileTable}
 use Rattle.accesses.specs.Fitting.{in_window}
-use Rattle.values.specs.Valuing.{every_in, both, valuation}
+use Rattle.values.specs.Valuing.{both}
+use Rattle.values.specs.declared.carried.Valuation.{Valuation}
 use Rattle.values.proofs.ValuingLaws.{procedure_stops, procedure_ends}
 use Rattle.values.specs.Carrying.{GoalsValued}
 use Rattle.values.proofs.Turns.{typed_at}
@@ -28,7 +29,7 @@ module _ {f t : List ℕ} (T : FileTable f t) {q w : ℕ} (h : q < length (progr
   body_stands g = rw (in_window T h e body_place g) (T.at q h).stands
 
   module _ (ok : typing_ok (program f) ≡ true) {ins outs : Set} {b : ℕ} (i : ins ≡ set_in t (w + ins_place)) (o : outs ≡ set_in t (w + outs_place))
-      (g : b ≡ get_or t (w + body_place) 0) (c d : List ℕ) (r : Bool) (s : valuation c ≡ both ins ins) (m : GoalsValued f b c r d) where
+      (g : b ≡ get_or t (w + body_place) 0) (c d : Valuation) (r : Bool) (s : c ≡ both ins ins) (m : GoalsValued f b c r d) where
     ins_are : ins ≡ ins_of (procedure_at (program f) q).signature
     ins_are = set_in_window ins_place i ∙ (T.at q h).window.ins
 
@@ -37,10 +38,10 @@ module _ {f t : List ℕ} (T : FileTable f t) {q w : ℕ} (h : q < length (progr
 
     pub valued_stop : r ≡ false → false ≡ procedure_values (program f) (procedure_at (program f) q)
     valued_stop p =
-        procedure_stops (program f) (procedure_at (program f) q) (typed_at (program f) ok q h) (valuation c) (valuation d) r (s ∙ ap₂ both ins_are ins_are)
+        procedure_stops (program f) (procedure_at (program f) q) (typed_at (program f) ok q h) c d r (s ∙ ap₂ both ins_are ins_are)
         (rw body_is at m) p
 
-    pub valued_end : {x : Bool} {y : Set} → r ≡ true → y ≡ every_in d → x ≡ subset outs y → x ≡ procedure_values (program f) (procedure_at (program f) q)
+    pub valued_end : {x : Bool} {y : Set} → r ≡ true → y ≡ d.every → x ≡ subset outs y → x ≡ procedure_values (program f) (procedure_at (program f) q)
     valued_end p y x =
-        procedure_ends (program f) (procedure_at (program f) q) (typed_at (program f) ok q h) (valuation c) (valuation d) r (s ∙ ap₂ both ins_are ins_are)
+        procedure_ends (program f) (procedure_at (program f) q) (typed_at (program f) ok q h) c d r (s ∙ ap₂ both ins_are ins_are)
         (rw body_is at m) p (x ∙ ap₂ subset (set_in_window outs_place o ∙ (T.at q h).window.outs) y)

@@ -10,7 +10,7 @@ ghost use Rattle.chains.specs.Formed.{Formed};
 ghost use Rattle.tables.specs.Window.{FileTable};
 ghost use Rattle.accesses.specs.Noting.{AllNoted, RowsKept};
 
-use crate::carried::{carry, every_in};
+use crate::carried::Valuation;
 use crate::declared::all_local;
 use crate::walk::goals;
 use accesses::list_accesses;
@@ -18,7 +18,6 @@ use chains::{chain_length, field};
 use language::format::{HEADER_PROCEDURES, PROCEDURE_VARIABLES};
 use records::word;
 use tables::{BODY, INS, OUTS, ROWS, TABLE, set_at, word_at};
-use walks::blank_walk;
 
 // Number 4. Fills the rows of steps and arms, whatever the answer.
 pub fn values_ok(file: &[u8], table: &[u64; TABLE], rows: &mut [u64; ROWS]) -> bool
@@ -68,10 +67,12 @@ fn procedure_ok(file: &[u8], table: &[u64; TABLE], rows: &[u64; ROWS], q: usize)
     let ins = set_at(table, window + INS);
     let body = word_at(table, window + BODY);
     let outs = set_at(table, window + OUTS);
-    let mut carried = blank_walk();
-    carry(&mut carried, ins, ins);
+    let mut carried = Valuation {
+        every: ins,
+        some: ins,
+    };
     if !goals(file, rows, &mut carried, body) {
         return false;
     }
-    outs.is_subset(every_in(&carried))
+    outs.is_subset(carried.every)
 }

@@ -1,4 +1,5 @@
-// Number 4's walk over goals. What has a value is carried in place; the answer says that no fault was met.
+// Number 4's walk over goals. What has a value is carried in place; the answer says that no fault was met. An Option of it would take more of the
+// stack at each level, and the deepest files are to pass in a fixed stack.
 ghost use Rattle.std.specs.Prelude.{◌≡◌};
 ghost use Rattle.language.specs.File.{goals, arms, word};
 ghost use Rattle.language.specs.Format.{kind_word, switch_kind, if_kind, try_kind};
@@ -6,18 +7,17 @@ ghost use Rattle.chains.specs.Formed.{Formed, Stands};
 ghost use Rattle.accesses.specs.Noting.{AllNoted};
 ghost use Rattle.values.specs.Carrying.{GoalsValued, GoalValued, ArmsValued};
 
-use crate::carried::{apply, carry, every_in, join, some_in};
+use crate::carried::Valuation;
 use chains::word;
 use language::format::{
     ARM, ARM_GOALS, GOAL_X, IF, IF_ELSE, IF_THEN, IF_Y, IF_Z, KIND, NEXT, SWITCH, SWITCH_ARMS, TRY,
     TRY_CONDITION, TRY_ELSE, TRY_THEN,
 };
 use tables::ROWS;
-use walks::WALK_WORDS;
 
 // The goals from record start on.
 #[cycle(arms_attempt_branches_goal_goals_switch)]
-pub fn goals(file: &[u8], rows: &[u64; ROWS], carried: &mut [u64; WALK_WORDS], start: usize) -> bool
+pub fn goals(file: &[u8], rows: &[u64; ROWS], carried: &mut Valuation, start: usize) -> bool
     requires formed { Formed file.now }
     requires all_noted { AllNoted file.now rows.now }
     requires stands { Stands file.now goals start }
@@ -35,7 +35,7 @@ pub fn goals(file: &[u8], rows: &[u64; ROWS], carried: &mut [u64; WALK_WORDS], s
 
 // The goal at record i.
 #[cycle(arms_attempt_branches_goal_goals_switch)]
-fn goal(file: &[u8], rows: &[u64; ROWS], carried: &mut [u64; WALK_WORDS], i: usize) -> bool
+fn goal(file: &[u8], rows: &[u64; ROWS], carried: &mut Valuation, i: usize) -> bool
     requires formed { Formed file.now }
     requires all_noted { AllNoted file.now rows.now }
     requires stands { Stands file.now goals i × (i ≡ 0 → ⊥) }
@@ -45,18 +45,18 @@ fn goal(file: &[u8], rows: &[u64; ROWS], carried: &mut [u64; WALK_WORDS], i: usi
         SWITCH => switch(file, rows, carried, i),
         IF => branches(file, rows, carried, i),
         TRY => attempt(file, rows, carried, i),
-        _ => apply(rows, i, carried),
+        _ => carried.apply(rows, i),
     }
 }
 
 #[cycle(arms_attempt_branches_goal_goals_switch)]
-fn switch(file: &[u8], rows: &[u64; ROWS], carried: &mut [u64; WALK_WORDS], i: usize) -> bool
+fn switch(file: &[u8], rows: &[u64; ROWS], carried: &mut Valuation, i: usize) -> bool
     requires formed { Formed file.now }
     requires all_noted { AllNoted file.now rows.now }
     requires kind_word_value { word file.now i kind_word ≡ switch_kind }
     ensures { GoalValued file.now i carried.old result carried.new }
 {
-    if !every_in(carried).has(word(file, i, GOAL_X)) {
+    if !carried.every.has(word(file, i, GOAL_X)) {
         return false;
     }
     let first = word(file, i, SWITCH_ARMS);
@@ -65,18 +65,17 @@ fn switch(file: &[u8], rows: &[u64; ROWS], carried: &mut [u64; WALK_WORDS], i: u
 
 // An if: its first part, then from what was carried before its second.
 #[cycle(arms_attempt_branches_goal_goals_switch)]
-fn branches(file: &[u8], rows: &[u64; ROWS], carried: &mut [u64; WALK_WORDS], i: usize) -> bool
+fn branches(file: &[u8], rows: &[u64; ROWS], carried: &mut Valuation, i: usize) -> bool
     requires formed { Formed file.now }
     requires all_noted { AllNoted file.now rows.now }
     requires kind_word_value { word file.now i kind_word ≡ if_kind }
     ensures { GoalValued file.now i carried.old result carried.new }
 {
-    let every = every_in(carried);
-    let some = some_in(carried);
-    if !every.has(word(file, i, IF_Y)) {
+    let before = *carried;
+    if !before.every.has(word(file, i, IF_Y)) {
         return false;
     }
-    if !every.has(word(file, i, IF_Z)) {
+    if !before.every.has(word(file, i, IF_Z)) {
         return false;
     }
     let first = word(file, i, IF_THEN);
@@ -85,29 +84,27 @@ fn branches(file: &[u8], rows: &[u64; ROWS], carried: &mut [u64; WALK_WORDS], i:
     }
     let second = word(file, i, IF_ELSE);
     if second == 0 {
-        join(every, some, carried);
+        carried.join(before);
         return true;
     }
-    let e = every_in(carried);
-    let s = some_in(carried);
-    carry(carried, every, some);
+    let after = *carried;
+    *carried = before;
     if !goals(file, rows, carried, second) {
         return false;
     }
-    join(e, s, carried);
+    carried.join(after);
     true
 }
 
 // A try: its condition and from there its then part, then from what was carried before its else part.
 #[cycle(arms_attempt_branches_goal_goals_switch)]
-fn attempt(file: &[u8], rows: &[u64; ROWS], carried: &mut [u64; WALK_WORDS], i: usize) -> bool
+fn attempt(file: &[u8], rows: &[u64; ROWS], carried: &mut Valuation, i: usize) -> bool
     requires formed { Formed file.now }
     requires all_noted { AllNoted file.now rows.now }
     requires kind_word_value { word file.now i kind_word ≡ try_kind }
     ensures { GoalValued file.now i carried.old result carried.new }
 {
-    let every = every_in(carried);
-    let some = some_in(carried);
+    let before = *carried;
     let condition = word(file, i, TRY_CONDITION);
     if !goals(file, rows, carried, condition) {
         return false;
@@ -116,24 +113,23 @@ fn attempt(file: &[u8], rows: &[u64; ROWS], carried: &mut [u64; WALK_WORDS], i: 
     if !goals(file, rows, carried, first) {
         return false;
     }
-    let e = every_in(carried);
-    let s = some_in(carried);
-    carry(carried, every, some);
+    let after = *carried;
+    *carried = before;
     let otherwise = word(file, i, TRY_ELSE);
     if otherwise == 0 {
-        join(e, s, carried);
+        carried.join(after);
         return true;
     }
     if !goals(file, rows, carried, otherwise) {
         return false;
     }
-    join(e, s, carried);
+    carried.join(after);
     true
 }
 
 // The arms from record i on, each from what is carried before them.
 #[cycle(arms_attempt_branches_goal_goals_switch)]
-fn arms(file: &[u8], rows: &[u64; ROWS], carried: &mut [u64; WALK_WORDS], i: usize) -> bool
+fn arms(file: &[u8], rows: &[u64; ROWS], carried: &mut Valuation, i: usize) -> bool
     requires formed { Formed file.now }
     requires all_noted { AllNoted file.now rows.now }
     requires stands { Stands file.now arms i }
@@ -145,9 +141,8 @@ fn arms(file: &[u8], rows: &[u64; ROWS], carried: &mut [u64; WALK_WORDS], i: usi
     if word(file, i, KIND) != ARM {
         return false;
     }
-    let every = every_in(carried);
-    let some = some_in(carried);
-    if !apply(rows, i, carried) {
+    let before = *carried;
+    if !carried.apply(rows, i) {
         return false;
     }
     let first = word(file, i, ARM_GOALS);
@@ -158,12 +153,11 @@ fn arms(file: &[u8], rows: &[u64; ROWS], carried: &mut [u64; WALK_WORDS], i: usi
     if next == 0 {
         return true;
     }
-    let e = every_in(carried);
-    let s = some_in(carried);
-    carry(carried, every, some);
+    let after = *carried;
+    *carried = before;
     if !arms(file, rows, carried, next) {
         return false;
     }
-    join(e, s, carried);
+    carried.join(after);
     true
 }

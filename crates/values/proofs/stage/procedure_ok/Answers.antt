@@ -1,3 +1,4 @@
+use mathlib.Core.Path.{refl}
 use Rattle.std.proofs.Common.{arith}
 use Rattle.accesses.specs.Fitting.{window_fits}
 use Rattle.values.proofs.Windows.{body_stands, valued_stop, valued_end}
@@ -20,7 +21,7 @@ goals-requires c = record {
 }
 
 pub returns-then-not-goals : goal.returns-then-not-goals
-returns-then-not-goals c = valued_stop c.requires.file_table c.requires.q_in_bounds c.word_at-window.ensures c.requires.file_value c.set_at-ins.ensures c.set_at-outs.ensures c.word_at-body.ensures _ _ _ c.carry.ensures c.goals.ensures c.if-not-goals.true
+returns-then-not-goals c = valued_stop c.requires.file_table c.requires.q_in_bounds c.word_at-window.ensures c.requires.file_value c.set_at-ins.ensures c.set_at-outs.ensures c.word_at-body.ensures _ _ _ refl c.goals.ensures c.if-not-goals.true
 
 pub returns : goal.returns
-returns c = valued_end c.requires.file_table c.requires.q_in_bounds c.word_at-window.ensures c.requires.file_value c.set_at-ins.ensures c.set_at-outs.ensures c.word_at-body.ensures _ _ _ c.carry.ensures c.goals.ensures c.if-not-goals.false c.every_in.ensures c.is_subset.ensures
+returns c = valued_end c.requires.file_table c.requires.q_in_bounds c.word_at-window.ensures c.requires.file_value c.set_at-ins.ensures c.set_at-outs.ensures c.word_at-body.ensures _ _ _ refl c.goals.ensures c.if-not-goals.false refl c.is_subset.ensures

@@ -3,7 +3,7 @@ use Prim.Native.Nat.{◌+◌, ◌*◌}
 use Rattle.language.specs.Answers.{program}
 use Rattle.chains.specs.Formed.{ahead}
 use Rattle.walks.specs.Along.{WalkedAlong}
-use Rattle.values.specs.Valuing.{valuation, valuer}
+use Rattle.values.specs.Valuing.{valuer}
 use Rattle.values.proofs.walk.+arms_attempt_branches_goal_goals_switch.Given as goal
 
 -- The functions `past` lead from a point that several needs pass to the earlier points that these look at, so that a path stands once.
@@ -23,7 +23,7 @@ abbrev pub decreases-goals : goal.decreases-goals
 decreases-goals l = 4 * ahead l.file.now l.start + 3
 
 abbrev pub invariant-goals-loop-i : goal.invariant-goals-loop-i
-invariant-goals-loop-i l = WalkedAlong (valuer (program l.file)) l.file l.start (valuation l.initial.carried) l.i (valuation l.carried)
+invariant-goals-loop-i l = WalkedAlong (valuer (program l.file)) l.file l.start l.initial.carried l.i l.carried
 
 abbrev pub decreases-goals-loop-i : goal.decreases-goals-loop-i
 decreases-goals-loop-i l = ahead l.file l.i
