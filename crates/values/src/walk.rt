@@ -1,5 +1,5 @@
-// Number 4's walk over goals. What has a value is carried in place; the answer says that no fault was met. An Option of it would take more of the
-// stack at each level, and the deepest files are to pass in a fixed stack.
+// Number 4's walk over goals. What has a value is carried in place; the answer says that no fault was met. An Option of it takes 24
+// bytes more of the stack at each level, 96 KiB where 4,092 ifs are nested, and the programs pass such a file in 1,024 KiB, which leave less.
 ghost use Rattle.std.specs.Prelude.{◌≡◌};
 ghost use Rattle.language.specs.File.{goals, arms, word};
 ghost use Rattle.language.specs.Format.{kind_word, switch_kind, if_kind, try_kind};
