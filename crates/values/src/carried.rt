@@ -2,7 +2,7 @@
 ghost use Rattle.std.specs.Prelude.{◌≡◌};
 ghost use Rattle.sets.specs.Sets.{◌∪◌, ◌∩◌};
 ghost use Rattle.values.specs.Valuing.{both};
-ghost use Rattle.values.specs.Carrying.{RowValued};
+ghost use Rattle.values.specs.Carrying.{RowAfter};
 
 use sets::Set;
 use tables::{ROWS, gives_at, marked, reads_at};
@@ -16,29 +16,32 @@ pub struct Valuation {
 
 impl Valuation {
     // Where paths meet: another path has those of `other`.
-    pub fn join(&mut self, other: Valuation)
-        ensures { self.new ≡ both (other.every ∩ self.old.every) (other.some ∪ self.old.some) }
+    pub fn join(self, other: Valuation) -> Valuation
+        ensures { result ≡ both (self.every ∩ other.every) (self.some ∪ other.some) }
     {
-        self.every = other.every.intersection(self.every);
-        self.some = other.some.union(self.some);
+        Valuation {
+            every: self.every.intersection(other.every),
+            some: self.some.union(other.some),
+        }
     }
 
     // After the step or arm of row i: what it reads has a value on every path, what it gives has one on no path.
-    pub fn apply(&mut self, rows: &[u64; ROWS], i: usize) -> bool
-        ensures { RowValued rows.now i self.old result self.new }
+    pub fn after(self, rows: &[u64; ROWS], i: usize) -> Option<Valuation>
+        ensures { RowAfter rows.now i self result }
     {
         let gives = gives_at(rows, i);
         if !reads_at(rows, i).is_subset(self.every) {
-            return false;
+            return None;
         }
         if !marked(rows, i) {
-            return false;
+            return None;
         }
         if !gives.intersection(self.some).is_empty() {
-            return false;
+            return None;
         }
-        self.every = self.every.union(gives);
-        self.some = self.some.union(gives);
-        true
+        Some(Valuation {
+            every: self.every.union(gives),
+            some: self.some.union(gives),
+        })
     }
 }

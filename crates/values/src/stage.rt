@@ -67,12 +67,12 @@ fn procedure_ok(file: &[u8], table: &[u64; TABLE], rows: &[u64; ROWS], q: usize)
     let ins = set_at(table, window + INS);
     let body = word_at(table, window + BODY);
     let outs = set_at(table, window + OUTS);
-    let mut carried = Valuation {
+    let before = Valuation {
         every: ins,
         some: ins,
     };
-    if !goals(file, rows, &mut carried, body) {
+    let Some(behind) = goals(file, rows, before, body) else {
         return false;
-    }
-    outs.is_subset(carried.every)
+    };
+    outs.is_subset(behind.every)
 }

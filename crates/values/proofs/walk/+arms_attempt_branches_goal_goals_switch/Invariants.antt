@@ -23,7 +23,7 @@ abbrev pub decreases-goals : goal.decreases-goals
 decreases-goals l = 4 * ahead l.file.now l.start + 3
 
 abbrev pub invariant-goals-loop-i : goal.invariant-goals-loop-i
-invariant-goals-loop-i l = WalkedAlong (valuer (program l.file)) l.file l.start l.initial.carried l.i l.carried
+invariant-goals-loop-i l = WalkedAlong (valuer (program l.file)) l.file l.start l.fn.before l.i l.carried
 
 abbrev pub decreases-goals-loop-i : goal.decreases-goals-loop-i
 decreases-goals-loop-i l = ahead l.file l.i
