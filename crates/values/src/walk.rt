@@ -8,9 +8,10 @@ ghost use Rattle.values.specs.Carrying.{GoalsAfter, GoalAfter, ArmsAfter};
 
 use crate::carried::Valuation;
 use chains::word;
+use language::Goal;
 use language::format::{
-    ARM, ARM_GOALS, GOAL_X, IF, IF_ELSE, IF_THEN, IF_Y, IF_Z, KIND, NEXT, SWITCH, SWITCH_ARMS, TRY,
-    TRY_CONDITION, TRY_ELSE, TRY_THEN,
+    ARM, ARM_GOALS, GOAL_X, IF_ELSE, IF_THEN, IF_Y, IF_Z, KIND, NEXT, SWITCH_ARMS, TRY_CONDITION,
+    TRY_ELSE, TRY_THEN,
 };
 use tables::ROWS;
 
@@ -39,10 +40,10 @@ fn goal(file: &[u8], rows: &[u64; ROWS], before: Valuation, i: usize) -> Option<
     requires stands { Stands file.now goals i × (i ≡ 0 → ⊥) }
     ensures { GoalAfter file.now i before result }
 {
-    match word(file, i, KIND) {
-        SWITCH => switch(file, rows, before, i),
-        IF => branches(file, rows, before, i),
-        TRY => attempt(file, rows, before, i),
+    match chains::goal(file, i) {
+        Goal::Switch => switch(file, rows, before, i),
+        Goal::If => branches(file, rows, before, i),
+        Goal::Try => attempt(file, rows, before, i),
         _ => before.after(rows, i),
     }
 }

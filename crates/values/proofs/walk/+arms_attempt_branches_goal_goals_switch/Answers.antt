@@ -1,5 +1,5 @@
 -- The walk over goals: one law of Along for each way through it. The records ahead fall.
-use Rattle.std.proofs.Common.{arith}
+use Rattle.std.proofs.Common.{arith, rules}
 use mathlib.Core.Path.{refl}
 use Rattle.chains.specs.Is.{chain_next}
 use Rattle.chains.specs.Shapes.{switch_here, if_here, try_here, to_arms, to_then, to_else, to_condition, to_try_then, to_try_else, arm_goals_law, arm_next}
@@ -121,7 +121,7 @@ pub branches-returns : goal.branches-returns
 branches-returns t c = if_walked _ _ c.requires.formed _ c.requires.kind_word_value _ c.word.ensures.0 (readable_is _ _ _ c.has.ensures) c.if-not-has.false c.word-2.ensures.0 (readable_is _ _ _ c.has-2.ensures) c.if-not-has-2.false _ _ c.word-first.ensures.0 c.in_ok-one.ensures refl _ refl _ _ c.word-second.ensures.0 c.in_ok-other.ensures _ _ _ refl refl (joined _ _ _ _ c.join.ensures)
 
 pub goal-returns-in_default : goal.goal-returns-in_default
-goal-returns-in_default t c = goal_after _ c.requires.all_noted c.requires.formed _ c.requires.stands.0 c.requires.stands.1 c.word.ensures.0 (λ k. omega arith) (λ k. omega arith) (λ k. omega arith) _ _ c.after.ensures
+goal-returns-in_default t c = goal_after _ c.requires.all_noted c.requires.formed _ c.requires.stands.0 c.requires.stands.1 refl (search rules) (search rules) (search rules) _ _ c.after.ensures
 
 pub goals-returns-in_err-carried : goal.goals-returns-in_err-carried
 goals-returns-in_err-carried t c = rw c.from_residual.ensures (along_stop _ _ c.requires.formed c.loop-i.invariant c.loop-i-test.true _ c.in_err-carried.ensures _ refl)
