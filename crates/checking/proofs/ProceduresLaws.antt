@@ -18,7 +18,8 @@ use Rattle.language.specs.Answers.{program}
 use Rattle.chains.specs.Formed.{Stands, goals_at}
 use Rattle.tables.specs.Window.{WindowOf, set_in, body_place, ins_place, outs_place, born_place, dead_place, kept_place}
 use Rattle.tables.specs.Filled.{Belongs, Prepared}
-use Rattle.checking.specs.Carried.{held_in, sound_in, state}
+use Rattle.checking.specs.Carried.{state}
+use Rattle.checking.specs.declared.carried.Carried.{Carried}
 use Rattle.walks.specs.Walk.{outcome, walk_goals}
 use Rattle.checking.specs.Checker.{carrying, checker}
 use Rattle.checking.proofs.CheckerLaws.{told, goals_agree}
@@ -27,7 +28,7 @@ use Rattle.checking.specs.Procedures.{WindowChecked}
 
 -- ---- one law for each way through it
 module _ (f rows own : List ℕ) {k d u s : Set} (ek : k ≡ set_in own kept_place) (ed : d ≡ set_in own dead_place) (eu : u ≡ d ∪ k) (es : s ≡ set_in own ins_place)
-    (c : List ℕ) (eh : held_in c ≡ u) (ec : sound_in c ≡ s) {j : ℕ} (ej : j ≡ get_or own body_place 0) (c' : List ℕ) (b : Bool)
+    (c : Carried) (eh : c.held ≡ u) (ec : c.sound ≡ s) {j : ℕ} (ej : j ≡ get_or own body_place 0) (c' : Carried) (b : Bool)
     (m : GoalsChecked f rows own j c b c') where
   module _ (o : ℕ → ℕ) (q : ℕ) (y : Ready f rows own o q) (p : Belongs o q (get_or own body_place 0)) (g : goals_at f (get_or own body_place 0) ≡ (procedure_at (program f) q).body) where
     abbrev S : Signature
@@ -45,15 +46,15 @@ module _ (f rows own : List ℕ) {k d u s : Set} (ek : k ≡ set_in own kept_pla
   unfolding end_rules outcome told
   window_broken e o q y p g = ends o q y p g false (rw e refl)
 
-  module _ (e : b ≡ true) {w v h : Set} {a : Bool} (ew : w ≡ set_in own born_place) (ev : v ≡ w ∪ k) (ei : h ≡ held_in c') (ea : a ≡ same_set h v) where
-    left : (o : ℕ → ℕ) (q : ℕ) → Ready f rows own o q → same_set (held_in c') (Lifetimes.born (signature_of (program f) q) ∪ Lifetimes.kept (signature_of (program f) q)) ≡ a
+  module _ (e : b ≡ true) {w v h : Set} {a : Bool} (ew : w ≡ set_in own born_place) (ev : v ≡ w ∪ k) (ei : h ≡ c'.held) (ea : a ≡ same_set h v) where
+    left : (o : ℕ → ℕ) (q : ℕ) → Ready f rows own o q → same_set c'.held (Lifetimes.born (signature_of (program f) q) ∪ Lifetimes.kept (signature_of (program f) q)) ≡ a
     left o q y = rw (sym y.window.born, sym y.window.kept, sym ew, sym ek, sym ev, sym ei) (sym ea)
 
     pub window_differs : a ≡ false → WindowChecked f rows own false
     unfolding end_rules ◌&◌ outcome told
     window_differs n o q y p g = ends o q y p g false (rw (e, left o q y, n) refl)
 
-    pub window_ends : {x t : Set} {r : Bool} → a ≡ true → x ≡ set_in own outs_place → t ≡ sound_in c' → r ≡ subset x t → WindowChecked f rows own r
+    pub window_ends : {x t : Set} {r : Bool} → a ≡ true → x ≡ set_in own outs_place → t ≡ c'.sound → r ≡ subset x t → WindowChecked f rows own r
     unfolding end_rules ◌&◌ outcome told
     window_ends {r = r} n ex et er o q y p g =
         ends o q y p g r (er ∙ rw (et, ex, y.window.outs, e, left o q y, n) refl)

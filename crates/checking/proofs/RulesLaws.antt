@@ -15,7 +15,7 @@ use Rattle.tables.specs.Rows.{reads_in, gives_in, needs_in, bears_in, ends_in, m
 use Rattle.tables.specs.Filled.{GoalIsStep, Accessed, Effected}
 use Rattle.walks.specs.Walk.{outcome, goes_on}
 use Rattle.checking.specs.Checker.{carrying, as_outcome, checker}
-use Rattle.checking.specs.Carried.{held_in, sound_in}
+use Rattle.checking.specs.declared.carried.Carried.{Carried}
 use Rattle.checking.specs.Sound.{ReachesAll}
 use Rattle.checking.specs.Rules.{StepChecked, rules_at}
 
@@ -80,26 +80,26 @@ module _ {f rows own : List ℕ} {o : ℕ → ℕ} {q i : ℕ} {g : Step} (A : A
       rw (sym (rules_are held sound), sym p ∙ t, eg, ew, es, ea, eu, ed, ee, A.gives i g at, E.ends i g at, E.bears i g at, h) refl
 
 -- .. from the code's own values
-module _ (rows own : List ℕ) (i : ℕ) (c : List ℕ) {held sound : Set} (eh : held ≡ held_in c) (es : sound ≡ sound_in c) {b : Bool} (rb : b ≡ rules_at rows own i held sound) where
-  rule : b ≡ rules_at rows own i (held_in c) (sound_in c)
+module _ (rows own : List ℕ) (i : ℕ) (c : Carried) {held sound : Set} (eh : held ≡ c.held) (es : sound ≡ c.sound) {b : Bool} (rb : b ≡ rules_at rows own i held sound) where
+  rule : b ≡ rules_at rows own i c.held c.sound
   rule = rw (eh, es) at rb
 
-  pub step_stops : (d : List ℕ) → b ≡ false → StepChecked rows own i c false d
+  pub step_stops : (d : Carried) → b ≡ false → StepChecked rows own i c false d
   unfolding outcome checker as_outcome
-  step_stops d p f o q g A E W at h = ap as_outcome (step_broken A E W at h (held_in c) (sound_in c) rule p)
+  step_stops d p f o q g A E W at h = ap as_outcome (step_broken A E W at h c.held c.sound rule p)
 
-  pub step_goes : (d : List ℕ) {e r u after still w s : Set} → b ≡ true → e ≡ ends_in rows i → r ≡ held ∖ e → u ≡ bears_in rows i → after ≡ r ∪ u
+  pub step_goes : (d : Carried) {e r u after still w s : Set} → b ≡ true → e ≡ ends_in rows i → r ≡ held ∖ e → u ≡ bears_in rows i → after ≡ r ∪ u
       → ((S : Signature) → ReachesAll S own → still ≡ sound_without S e sound) → w ≡ gives_in rows i → ((S : Signature) → ReachesAll S own → s ≡ sound_given S w after still)
-      → held_in d ≡ after → sound_in d ≡ s → StepChecked rows own i c true d
+      → d.held ≡ after → d.sound ≡ s → StepChecked rows own i c true d
   unfolding outcome checker as_outcome
   step_goes d {e} p ee er eu ea ew eg ex jh js f o q g A E W at h =
       let S : Signature = signature_of (program f) q in
       ap₂ (λ (x y : Set). goes_on (carrying x y)) jh js
-      ∙ ap as_outcome (step_carries A E W at h (held_in c) (sound_in c) rule p ee (er ∙ ap (λ (y : Set). y ∖ e) eh) eu ea
+      ∙ ap as_outcome (step_carries A E W at h c.held c.sound rule p ee (er ∙ ap (λ (y : Set). y ∖ e) eh) eu ea
       (ew S W.reached ∙ ap (λ (y : Set). sound_without S e y) es) eg (ex S W.reached))
 
 -- ---- where an arm's goals start: its arguments have been given their values
-pub entered : (S : Signature) (rows own : List ℕ) (i : ℕ) (c : List ℕ) {given held sound r : Set} → ReachesAll S own
-    → ((S : Signature) → ReachesAll S own → r ≡ sound_given S given held sound) → given ≡ gives_in rows i → held ≡ held_in c → sound ≡ sound_in c
-    → r ≡ sound_given S (gives_in rows i) (held_in c) (sound_in c)
+pub entered : (S : Signature) (rows own : List ℕ) (i : ℕ) (c : Carried) {given held sound r : Set} → ReachesAll S own
+    → ((S : Signature) → ReachesAll S own → r ≡ sound_given S given held sound) → given ≡ gives_in rows i → held ≡ c.held → sound ≡ c.sound
+    → r ≡ sound_given S (gives_in rows i) c.held c.sound
 entered S rows own i c w h eg eh es = rw (eg, eh, es) at (h S w)

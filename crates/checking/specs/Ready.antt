@@ -7,6 +7,7 @@ use Rattle.tables.specs.Filled.{Accessed, Belongs, Owned}
 use Rattle.walks.specs.Along.{GoalsWalked, GoalWalked, ArmsWalked}
 use Rattle.checking.specs.Checker.{checker}
 use Rattle.checking.specs.Carried.{state}
+use Rattle.checking.specs.declared.carried.Carried.{Carried}
 
 -- the rows are those of the file, the window is that of procedure q
 pub record Ready (f rows own : List ℕ) (o : ℕ → ℕ) (q : ℕ) : Type 0 where
@@ -15,7 +16,7 @@ pub record Ready (f rows own : List ℕ) (o : ℕ → ℕ) (q : ℕ) : Type 0 wh
   pub window : Window f (signature_of (program f) q) own
 
 -- ---- b, and what is carried afterwards, is number 8 of the goals, the goal, the arms
-module _ (f rows own : List ℕ) (i : ℕ) (c : List ℕ) (b : Bool) (c' : List ℕ) where
+module _ (f rows own : List ℕ) (i : ℕ) (c : Carried) (b : Bool) (c' : Carried) where
   abbrev pub GoalsChecked : Type 0
   GoalsChecked = (o : ℕ → ℕ) (q : ℕ) → Ready f rows own o q → Belongs o q i → GoalsWalked (checker (program f) (signature_of (program f) q)) f i (state c) b (state c')
 

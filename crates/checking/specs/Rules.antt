@@ -11,7 +11,8 @@ use Rattle.tables.specs.Rows.{reads_in, gives_in, needs_in, bears_in, ends_in, m
 use Rattle.tables.specs.Filled.{GoalIsStep, Accessed, Effected}
 use Rattle.walks.specs.Walk.{outcome}
 use Rattle.checking.specs.Checker.{checker}
-use Rattle.checking.specs.Carried.{held_in, sound_in, state}
+use Rattle.checking.specs.Carried.{state}
+use Rattle.checking.specs.declared.carried.Carried.{Carried}
 use Rattle.checking.specs.Sound.{ReachesAll}
 
 unfoldable pub rules_at : List ℕ → List ℕ → ℕ → Set → Set → Bool
@@ -19,12 +20,12 @@ rules_at rows own i held sound =
     subset (reads_in rows i) sound & subset (needs_in rows i) held & apart (ends_in rows i) (set_in own kept_place) & apart (bears_in rows i) held & mark_in rows i
 
 -- what `step` answers
-abbrev pub StepChecked : List ℕ → List ℕ → ℕ → List ℕ → Bool → List ℕ → Type 0
+abbrev pub StepChecked : List ℕ → List ℕ → ℕ → Carried → Bool → Carried → Type 0
 StepChecked rows own i c b c' =
     (f : List ℕ) (o : ℕ → ℕ) (q : ℕ) (g : Step) → Accessed f rows → Effected f o rows → Window f (signature_of (program f) q) own → GoalIsStep f i g → o i ≡ q
     → outcome b (state c') ≡ (checker (program f) (signature_of (program f) q)).at_step g (state c)
 
 -- ---- where an arm's goals start: its arguments have been given their values
-abbrev pub Entered : List ℕ → List ℕ → ℕ → List ℕ → List ℕ → Type 0
+abbrev pub Entered : List ℕ → List ℕ → ℕ → Carried → Carried → Type 0
 Entered rows own i c c' =
-    (held_in c' ≡ held_in c) × ((S : Signature) → ReachesAll S own → sound_in c' ≡ sound_given S (gives_in rows i) (held_in c) (sound_in c))
+    (c'.held ≡ c.held) × ((S : Signature) → ReachesAll S own → c'.sound ≡ sound_given S (gives_in rows i) c.held c.sound)

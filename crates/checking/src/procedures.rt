@@ -9,12 +9,11 @@ ghost use Rattle.tables.specs.Window.{body_place};
 ghost use Rattle.tables.specs.Filled.{Prepared};
 ghost use Rattle.checking.specs.Procedures.{WindowChecked};
 
-use crate::carried::{carry, held_in, sound_in};
+use crate::carried::Carried;
 use crate::walk::goals;
 use chains::word;
 use language::format::{HEADER_PROCEDURES, NEXT};
 use tables::{BODY, BORN, DEAD, INS, KEPT, OUTS, ROWS, TABLE, set_at, word_at};
-use walks::blank_walk;
 
 // Whether the procedure with this window keeps the rules. "A procedure starts with its dead and kept regions held and its in variables sound." "At
 // the end: born and kept regions held, no other; out variables sound."
@@ -24,19 +23,17 @@ fn window_ok(file: &[u8], rows: &[u64; ROWS], own: &[u64]) -> bool
     ensures { WindowChecked file.now rows.now own.now result }
 {
     let kept = set_at(own, KEPT);
-    let mut carried = blank_walk();
-    carry(
-        &mut carried,
-        set_at(own, DEAD).union(kept),
-        set_at(own, INS),
-    );
+    let mut carried = Carried {
+        held: set_at(own, DEAD).union(kept),
+        sound: set_at(own, INS),
+    };
     if !goals(file, rows, own, &mut carried, word_at(own, BODY)) {
         return false;
     }
-    if !held_in(&carried).same(set_at(own, BORN).union(kept)) {
+    if !carried.held.same(set_at(own, BORN).union(kept)) {
         return false;
     }
-    set_at(own, OUTS).is_subset(sound_in(&carried))
+    set_at(own, OUTS).is_subset(carried.sound)
 }
 
 // Whether procedure q keeps the rules.

@@ -2,11 +2,10 @@
 ghost use Rattle.std.specs.Prelude.{◌≡◌};
 ghost use Rattle.checking.specs.Rules.{rules_at, StepChecked, Entered};
 
-use crate::carried::{carry, held_in, sound_in};
+use crate::carried::Carried;
 use crate::sound::{sound_given, sound_without};
 use sets::Set;
 use tables::{KEPT, ROWS, bears_at, ends_at, gives_at, marked, needs_at, reads_at, set_at};
-use walks::WALK_WORDS;
 
 // "Create: not held before. Remove: held, not kept." "Each variable read is sound. A construct's region is held." "Call: images of dead and kept
 // regions are held. Images of dead ones are not kept by the caller. Images of born ones are not held. An image of a dead or born one is no other
@@ -33,11 +32,10 @@ fn allowed(rows: &[u64; ROWS], own: &[u64], i: usize, held: Set, sound: Set) -> 
 }
 
 // After the step at record i; false where a rule is broken.
-pub fn step(rows: &[u64; ROWS], own: &[u64], carried: &mut [u64; WALK_WORDS], i: usize) -> bool
+pub fn step(rows: &[u64; ROWS], own: &[u64], carried: &mut Carried, i: usize) -> bool
     ensures { StepChecked rows.now own.now i carried.old result carried.new }
 {
-    let held = held_in(carried);
-    let sound = sound_in(carried);
+    let Carried { held, sound } = *carried;
     if !allowed(rows, own, i, held, sound) {
         return false;
     }
@@ -45,16 +43,16 @@ pub fn step(rows: &[u64; ROWS], own: &[u64], carried: &mut [u64; WALK_WORDS], i:
     let after = held.difference(ends).union(bears_at(rows, i));
     let still = sound_without(own, ends, sound);
     let now_sound = sound_given(own, gives_at(rows, i), after, still);
-    carry(carried, after, now_sound);
+    *carried = Carried {
+        held: after,
+        sound: now_sound,
+    };
     true
 }
 
 // Where the goals of the arm at record i start: its arguments have been given their values.
-pub fn enter(rows: &[u64; ROWS], own: &[u64], carried: &mut [u64; WALK_WORDS], i: usize)
+pub fn enter(rows: &[u64; ROWS], own: &[u64], carried: &mut Carried, i: usize)
     ensures { Entered rows.now own.now i carried.old carried.new }
 {
-    let held = held_in(carried);
-    let sound = sound_in(carried);
-    let inside = sound_given(own, gives_at(rows, i), held, sound);
-    carry(carried, held, inside);
+    carried.sound = sound_given(own, gives_at(rows, i), carried.held, carried.sound);
 }

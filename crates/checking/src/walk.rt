@@ -5,7 +5,7 @@ ghost use Rattle.chains.specs.Formed.{Formed, Stands};
 ghost use Rattle.chains.specs.Shapes.{IsSwitch, IsIf, IsTry};
 ghost use Rattle.checking.specs.Ready.{GoalsChecked, GoalChecked, ArmsChecked};
 
-use crate::carried::{carry, held_in, join, sound_in};
+use crate::carried::{Carried, join};
 use crate::step::{enter, step};
 use chains::word;
 use language::format::{
@@ -13,7 +13,7 @@ use language::format::{
     TRY_CONDITION, TRY_ELSE, TRY_THEN,
 };
 use tables::ROWS;
-use walks::{WALK_WORDS, is_step};
+use walks::is_step;
 
 // After the goals from record start on.
 #[cycle(arms_attempt_branches_goal_goals_switch)]
@@ -21,7 +21,7 @@ pub fn goals(
     file: &[u8],
     rows: &[u64; ROWS],
     own: &[u64],
-    carried: &mut [u64; WALK_WORDS],
+    carried: &mut Carried,
     start: usize,
 ) -> bool
     requires formed { Formed file.now }
@@ -40,13 +40,7 @@ pub fn goals(
 
 // After the goal at record i.
 #[cycle(arms_attempt_branches_goal_goals_switch)]
-fn goal(
-    file: &[u8],
-    rows: &[u64; ROWS],
-    own: &[u64],
-    carried: &mut [u64; WALK_WORDS],
-    i: usize,
-) -> bool
+fn goal(file: &[u8], rows: &[u64; ROWS], own: &[u64], carried: &mut Carried, i: usize) -> bool
     requires formed { Formed file.now }
     requires stands { Stands file.now File.goals i × (i ≡ 0 → ⊥) }
     ensures { GoalChecked file.now rows.now own.now i carried.old result carried.new }
@@ -67,18 +61,12 @@ fn goal(
 
 // After any of the arms of a switch.
 #[cycle(arms_attempt_branches_goal_goals_switch)]
-fn switch(
-    file: &[u8],
-    rows: &[u64; ROWS],
-    own: &[u64],
-    carried: &mut [u64; WALK_WORDS],
-    i: usize,
-) -> bool
+fn switch(file: &[u8], rows: &[u64; ROWS], own: &[u64], carried: &mut Carried, i: usize) -> bool
     requires formed { Formed file.now }
     requires switch { IsSwitch file.now i }
     ensures { GoalChecked file.now rows.now own.now i carried.old result carried.new }
 {
-    if !sound_in(carried).has(word(file, i, GOAL_X)) {
+    if !carried.sound.has(word(file, i, GOAL_X)) {
         return false;
     }
     let first = word(file, i, SWITCH_ARMS);
@@ -87,57 +75,42 @@ fn switch(
 
 // After either part of an if.
 #[cycle(arms_attempt_branches_goal_goals_switch)]
-fn branches(
-    file: &[u8],
-    rows: &[u64; ROWS],
-    own: &[u64],
-    carried: &mut [u64; WALK_WORDS],
-    i: usize,
-) -> bool
+fn branches(file: &[u8], rows: &[u64; ROWS], own: &[u64], carried: &mut Carried, i: usize) -> bool
     requires formed { Formed file.now }
     requires fact { IsIf file.now i }
     ensures { GoalChecked file.now rows.now own.now i carried.old result carried.new }
 {
-    let held = held_in(carried);
-    let sound = sound_in(carried);
-    if !sound.has(word(file, i, IF_Y)) {
+    let before = *carried;
+    if !before.sound.has(word(file, i, IF_Y)) {
         return false;
     }
-    if !sound.has(word(file, i, IF_Z)) {
+    if !before.sound.has(word(file, i, IF_Z)) {
         return false;
     }
     let yes = word(file, i, IF_THEN);
     if !goals(file, rows, own, carried, yes) {
         return false;
     }
-    let h = held_in(carried);
-    let s = sound_in(carried);
-    carry(carried, held, sound);
+    let first = *carried;
+    *carried = before;
     let no = word(file, i, IF_ELSE);
     if no == 0 {
-        return join(h, s, carried);
+        return join(first, carried);
     }
     if !goals(file, rows, own, carried, no) {
         return false;
     }
-    join(h, s, carried)
+    join(first, carried)
 }
 
 // After the condition and the then part of a try, or after its else part, which starts from what was carried before the try.
 #[cycle(arms_attempt_branches_goal_goals_switch)]
-fn attempt(
-    file: &[u8],
-    rows: &[u64; ROWS],
-    own: &[u64],
-    carried: &mut [u64; WALK_WORDS],
-    i: usize,
-) -> bool
+fn attempt(file: &[u8], rows: &[u64; ROWS], own: &[u64], carried: &mut Carried, i: usize) -> bool
     requires formed { Formed file.now }
     requires fact { IsTry file.now i }
     ensures { GoalChecked file.now rows.now own.now i carried.old result carried.new }
 {
-    let held = held_in(carried);
-    let sound = sound_in(carried);
+    let before = *carried;
     let condition = word(file, i, TRY_CONDITION);
     if !goals(file, rows, own, carried, condition) {
         return false;
@@ -146,28 +119,21 @@ fn attempt(
     if !goals(file, rows, own, carried, yes) {
         return false;
     }
-    let h = held_in(carried);
-    let s = sound_in(carried);
-    carry(carried, held, sound);
+    let first = *carried;
+    *carried = before;
     let otherwise = word(file, i, TRY_ELSE);
     if otherwise == 0 {
-        return join(h, s, carried);
+        return join(first, carried);
     }
     if !goals(file, rows, own, carried, otherwise) {
         return false;
     }
-    join(h, s, carried)
+    join(first, carried)
 }
 
 // After any of the arms from record i on.
 #[cycle(arms_attempt_branches_goal_goals_switch)]
-fn arms(
-    file: &[u8],
-    rows: &[u64; ROWS],
-    own: &[u64],
-    carried: &mut [u64; WALK_WORDS],
-    i: usize,
-) -> bool
+fn arms(file: &[u8], rows: &[u64; ROWS], own: &[u64], carried: &mut Carried, i: usize) -> bool
     requires formed { Formed file.now }
     requires stands { Stands file.now File.arms i }
     ensures { ArmsChecked file.now rows.now own.now i carried.old result carried.new }
@@ -178,8 +144,7 @@ fn arms(
     if word(file, i, KIND) != ARM {
         return false;
     }
-    let held = held_in(carried);
-    let sound = sound_in(carried);
+    let before = *carried;
     enter(rows, own, carried, i);
     let inside = word(file, i, ARM_GOALS);
     if !goals(file, rows, own, carried, inside) {
@@ -189,11 +154,10 @@ fn arms(
     if next == 0 {
         return true;
     }
-    let h = held_in(carried);
-    let s = sound_in(carried);
-    carry(carried, held, sound);
+    let first = *carried;
+    *carried = before;
     if !arms(file, rows, own, carried, next) {
         return false;
     }
-    join(h, s, carried)
+    join(first, carried)
 }

@@ -1,3 +1,4 @@
+use mathlib.Core.Path.{refl}
 use borrow.Author.Tests.{not-true}
 use Rattle.checking.proofs.RulesLaws.{step_stops, step_goes}
 use Rattle.std.proofs.Common.{rules}
@@ -7,4 +8,4 @@ pub returns-then-not-allowed : goal.returns-then-not-allowed
 returns-then-not-allowed c = search (not-true, step_stops, rules)
 
 pub returns : goal.returns
-returns c = step_goes _ _ _ _ c.held_in-held.ensures c.sound_in-sound.ensures c.allowed.ensures _ c.if-not-allowed.false c.ends_at-ends.ensures c.difference.ensures c.bears_at.ensures c.union-after.ensures c.sound_without-still.ensures c.gives_at.ensures c.sound_given-now_sound.ensures c.carry.ensures.0 c.carry.ensures.1
+returns c = step_goes _ _ _ _ refl refl c.allowed.ensures _ c.if-not-allowed.false c.ends_at-ends.ensures c.difference.ensures c.bears_at.ensures c.union-after.ensures c.sound_without-still.ensures c.gives_at.ensures c.sound_given-now_sound.ensures refl refl

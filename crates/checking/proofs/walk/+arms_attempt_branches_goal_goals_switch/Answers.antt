@@ -1,7 +1,7 @@
 -- The walk over goals: one law of Walking for each way through it. The records ahead fall.
 use borrow.Author.Tests.{not-true, not-false}
 use Rattle.std.proofs.Common.{arith, rules}
-use mathlib.Core.Path.{refl, ◌∙◌}
+use mathlib.Core.Path.{refl}
 use Rattle.chains.specs.Shapes.{switch_here, if_here, try_here, to_arms, to_then, to_else, to_condition, to_try_then, to_try_else, arm_goals_law, arm_next}
 use Rattle.walks.specs.Closed.{goal_closed, arm_closed}
 use Rattle.checking.proofs.Walking.{none_checked, walk_last, walk_onward, walk_stop, walk_next, step_checked, switch_broken, switch_done, if_broken, if_broken_2, then_broken, else_broken, if_done, condition_broken, try_then_broken, try_else_broken, try_done, arms_none_checked, arm_broken, arm_ended, rest_broken, arm_more}
@@ -34,15 +34,15 @@ pub arms-returns-then-not-arms : goal.arms-returns-then-not-arms
 arms-returns-then-not-arms t c =
     rest_broken _ _ _ _ c.requires.formed c.requires.stands c.if-i-eq0.false _ c.enter.ensures.0 c.enter.ensures.1 c.word-inside.ensures.0
     _ _ c.goals.ensures c.if-not-goals.false c.word-next.ensures.0 c.if-next-eq0.false _
-    (c.carry.ensures.0 ∙ c.held_in-held.ensures) (c.carry.ensures.1 ∙ c.sound_in-sound.ensures) _ _
+    refl refl _ _
     c.arms.ensures _ c.if-not-arms.true
 
 pub arms-returns : goal.arms-returns
 arms-returns t c =
     arm_more _ _ _ _ c.requires.formed c.requires.stands c.if-i-eq0.false _ c.enter.ensures.0 c.enter.ensures.1 c.word-inside.ensures.0 _ _
     c.goals.ensures c.if-not-goals.false c.word-next.ensures.0 c.if-next-eq0.false _
-    (c.carry.ensures.0 ∙ c.held_in-held.ensures) (c.carry.ensures.1 ∙ c.sound_in-sound.ensures) _ _
-    c.arms.ensures _ _ c.if-not-arms.false c.held_in-h.ensures c.sound_in-s.ensures
+    refl refl _ _
+    c.arms.ensures _ _ c.if-not-arms.false refl refl
     c.join.ensures
 
 pub attempt-word-condition-requires : goal.attempt-word-condition-requires
@@ -79,8 +79,8 @@ pub attempt-returns-then-otherwise-eq0 : goal.attempt-returns-then-otherwise-eq0
 attempt-returns-then-otherwise-eq0 t c =
     try_done _ _ _ c.requires.formed c.requires.fact c.word-condition.ensures.0 _ _ c.goals.ensures c.if-not-goals.false c.word-yes.ensures.0 _ _
     c.goals-2.ensures c.if-not-goals-2.false c.word-otherwise.ensures.0 _
-    (c.carry.ensures.0 ∙ c.held_in-held.ensures) (c.carry.ensures.1 ∙ c.sound_in-sound.ensures) _ _
-    (none_checked _ _ _ _ c.if-otherwise-eq0.true) _ _ refl c.held_in-h.ensures c.sound_in-s.ensures c.join.ensures
+    refl refl _ _
+    (none_checked _ _ _ _ c.if-otherwise-eq0.true) _ _ refl refl refl c.join.ensures
 
 pub attempt-goals-requires-3 : goal.attempt-goals-requires-3
 attempt-goals-requires-3 t c = let o = to_try_else c.requires.formed c.requires.fact c.word-otherwise.ensures.0 in (omega (arith, o.falls, c.decreases), (c.requires.formed, o.stands))
@@ -89,15 +89,15 @@ pub attempt-returns-then-not-goals-3 : goal.attempt-returns-then-not-goals-3
 attempt-returns-then-not-goals-3 t c =
     try_else_broken _ _ _ c.requires.formed c.requires.fact c.word-condition.ensures.0 _ _ c.goals.ensures c.if-not-goals.false c.word-yes.ensures.0 _ _
     c.goals-2.ensures c.if-not-goals-2.false c.word-otherwise.ensures.0 _
-    (c.carry.ensures.0 ∙ c.held_in-held.ensures) (c.carry.ensures.1 ∙ c.sound_in-sound.ensures) _ _
+    refl refl _ _
     c.goals-3.ensures _ c.if-not-goals-3.true
 
 pub attempt-returns : goal.attempt-returns
 attempt-returns t c =
     try_done _ _ _ c.requires.formed c.requires.fact c.word-condition.ensures.0 _ _ c.goals.ensures c.if-not-goals.false c.word-yes.ensures.0 _ _
     c.goals-2.ensures c.if-not-goals-2.false c.word-otherwise.ensures.0 _
-    (c.carry.ensures.0 ∙ c.held_in-held.ensures) (c.carry.ensures.1 ∙ c.sound_in-sound.ensures) _ _
-    c.goals-3.ensures _ _ c.if-not-goals-3.false c.held_in-h.ensures c.sound_in-s.ensures
+    refl refl _ _
+    c.goals-3.ensures _ _ c.if-not-goals-3.false refl refl
     c.join-2.ensures
 
 pub branches-word-requires : goal.branches-word-requires
@@ -138,30 +138,30 @@ branches-word-no-requires t c = record {
 
 pub branches-returns-then-no-eq0 : goal.branches-returns-then-no-eq0
 branches-returns-then-no-eq0 t c =
-    if_done _ _ _ c.requires.formed c.requires.fact c.sound_in-sound.ensures c.word.ensures.0 c.has.ensures c.if-not-has.false
+    if_done _ _ _ c.requires.formed c.requires.fact refl c.word.ensures.0 c.has.ensures c.if-not-has.false
     c.word-2.ensures.0 c.has-2.ensures c.if-not-has-2.false c.word-yes.ensures.0 _ _
     c.goals.ensures c.if-not-goals.false c.word-no.ensures.0 _
-    (c.carry.ensures.0 ∙ c.held_in-held.ensures) (c.carry.ensures.1 ∙ c.sound_in-sound.ensures) _ _
-    (none_checked _ _ _ _ c.if-no-eq0.true) _ _ refl c.held_in-h.ensures c.sound_in-s.ensures c.join.ensures
+    refl refl _ _
+    (none_checked _ _ _ _ c.if-no-eq0.true) _ _ refl refl refl c.join.ensures
 
 pub branches-goals-requires-2 : goal.branches-goals-requires-2
 branches-goals-requires-2 t c = let o = to_else c.requires.formed c.requires.fact c.word-no.ensures.0 in (omega (arith, o.falls, c.decreases), (c.requires.formed, o.stands))
 
 pub branches-returns-then-not-goals-2 : goal.branches-returns-then-not-goals-2
 branches-returns-then-not-goals-2 t c =
-    else_broken _ _ _ c.requires.formed c.requires.fact c.sound_in-sound.ensures c.word.ensures.0 c.has.ensures
+    else_broken _ _ _ c.requires.formed c.requires.fact refl c.word.ensures.0 c.has.ensures
     c.if-not-has.false c.word-2.ensures.0 c.has-2.ensures c.if-not-has-2.false
     c.word-yes.ensures.0 _ _ c.goals.ensures c.if-not-goals.false c.word-no.ensures.0 _
-    (c.carry.ensures.0 ∙ c.held_in-held.ensures) (c.carry.ensures.1 ∙ c.sound_in-sound.ensures) _ _
+    refl refl _ _
     c.goals-2.ensures _ c.if-not-goals-2.true
 
 pub branches-returns : goal.branches-returns
 branches-returns t c =
-    if_done _ _ _ c.requires.formed c.requires.fact c.sound_in-sound.ensures c.word.ensures.0 c.has.ensures c.if-not-has.false
+    if_done _ _ _ c.requires.formed c.requires.fact refl c.word.ensures.0 c.has.ensures c.if-not-has.false
     c.word-2.ensures.0 c.has-2.ensures c.if-not-has-2.false c.word-yes.ensures.0 _ _
     c.goals.ensures c.if-not-goals.false c.word-no.ensures.0 _
-    (c.carry.ensures.0 ∙ c.held_in-held.ensures) (c.carry.ensures.1 ∙ c.sound_in-sound.ensures) _ _
-    c.goals-2.ensures _ _ c.if-not-goals-2.false c.held_in-h.ensures c.sound_in-s.ensures
+    refl refl _ _
+    c.goals-2.ensures _ _ c.if-not-goals-2.false refl refl
     c.join-2.ensures
 
 pub goal-returns-then-not-is_step : goal.goal-returns-then-not-is_step
