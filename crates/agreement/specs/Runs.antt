@@ -1,9 +1,8 @@
 -- Demand 3 about the runner's code. `run` promises `RanAs`: from that promise and the theorem about the definitions, what holds of every accepted file's run in
 -- whatever memory and with whatever number of steps lent. With memory for all that it makes, nothing but its end, the steps lent or a sum out of range stops it.
-use Rattle.std.specs.Prelude.{ℕ, ◌-◌, ◌≤◌, true, false, List, [], map, ◌≡◌, take}
+use Rattle.std.specs.Prelude.{ℕ, ◌-◌, ◌≤◌, true, false, List, [], map, ◌≡◌, take, Ok}
 use Rattle.std.proofs.Common.{sym, ◌∙◌, to_z}
 use Rattle.std.specs.Int.{w32}
-use Rattle.language.specs.declared.Verdict.TheVariants.{Accepted}
 use Rattle.language.specs.declared.Stop.TheVariants.{Steps, Sums}
 use Rattle.language.specs.declared.Ending.TheVariants.{Finished, Stopped}
 use Rattle.language.specs.Frames.{stays_at_sum}
@@ -33,7 +32,7 @@ pub record AsPlain (f : List ℕ) (l : ℕ) (r : Outcome) (px : List ℕ) : Type
   pub at_sum : r.ending ≡ Stopped Sums → stays_at_sum (map frame_of (steps (program f) r.steps).frames) ≡ true
   pub plain_at_sum : r.ending ≡ Stopped Sums → stays_at_sum (plain_steps (stripped (program f)) (r.steps - spent (program f) r.steps)).frames ≡ true
 
-pub as_plain : {f m rs fw ps px : List ℕ} {l : ℕ} {r : Outcome} → RanAs f m rs fw ps l r px → checked f ≡ Accepted → AsPlain f l r px
+pub as_plain : {f m rs fw ps px : List ℕ} {l : ℕ} {r : Outcome} → RanAs f m rs fw ps l r px → checked f ≡ Ok tt → AsPlain f l r px
 unfolding lent_words
 as_plain {f} {m} {rs} {fw} {ps} {px} {l} {r} R a =
     let L = lent_run f a (lent_words m rs fw ps l) in

@@ -7,9 +7,8 @@ ghost use Rattle.std.specs.Prelude.{◌≡◌, true, length};
 ghost use Rattle.language.specs.Answers.{annotated, annotator_memory};
 ghost use Rattle.agreement.specs.Agreement.{LeavesSound};
 
-use annotation::{Annotated, annotate};
+use annotation::annotate;
 use checking::check;
-use language::Verdict;
 pub use runs::runs_as_plain;
 
 // Annotates, then checks the bytes that were left, in memory that stands as the annotator leaves it. Whatever the file and the memory, the checker accepts
@@ -20,11 +19,8 @@ pub fn left_is_accepted(file: &[u8], out: &mut [u8]) -> bool
     ensures leaves_sound { LeavesSound (annotated file.now (length out.old)) out.new }
     ensures out_after { out.new ≡ annotator_memory (annotated file.now (length out.old)) out.old }
 {
-    let Annotated::Written(n) = annotate(file, out) else {
+    let Ok(n) = annotate(file, out) else {
         return true;
     };
-    let Verdict::Accepted = check(&out[..n]) else {
-        return false;
-    };
-    true
+    check(&out[..n]).is_ok()
 }

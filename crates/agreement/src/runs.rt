@@ -1,6 +1,5 @@
 // The runner as it runs, joined with the theorem about the definitions.
-ghost use Rattle.std.specs.Prelude.{◌≡◌};
-ghost use Rattle.language.specs.declared.Verdict.TheVariants.{Accepted};
+ghost use Rattle.std.specs.Prelude.{◌≡◌, Ok};
 ghost use Rattle.language.specs.Answers.{checked};
 ghost use Rattle.machine.specs.Joining.{RanAs};
 ghost use Rattle.running.specs.Answer.{LentAfter};
@@ -19,7 +18,7 @@ pub fn runs_as_plain(
     prints: &mut [u32],
     steps: usize,
 ) -> Outcome
-    ensures as_plain { checked file.now ≡ Accepted → AsPlain file.now steps result prints.new }
+    ensures as_plain { checked file.now ≡ Ok tt → AsPlain file.now steps result prints.new }
     ensures ran_as { RanAs file.now cells.old regions.old frames.old prints.old steps
         result prints.new }
     ensures lent_after { LentAfter file.now cells.old regions.old frames.old prints.old

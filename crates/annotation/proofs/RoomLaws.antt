@@ -1,5 +1,5 @@
 -- Number 9, and what is handed back where the room is there.
-use Rattle.std.specs.Prelude.{ℕ, ◌*◌, ◌≤◌, ◌<◌, true, ◌≡◌, leb, length}
+use Rattle.std.specs.Prelude.{ℕ, ◌*◌, ◌≤◌, ◌<◌, true, ◌≡◌, leb, length, Ok}
 use native.Mathlib.Omega.{arith}
 use Rattle.std.proofs.Math.Decide.{dec_lt}
 use mathlib.Core.List.{List}
@@ -16,7 +16,6 @@ use Rattle.language.specs.Records.{program_tree}
 use Rattle.language.specs.Annotation.{annotate}
 use Rattle.language.specs.Answers.{lowest, program, file_of, room_ok, refuses, writes, annotator_number, writes_unless, annotator_memory}
 use Rattle.chains.specs.Layout.{length_of_program}
-use Rattle.annotation.specs.declared.Annotated.TheVariants.{Written}
 use Rattle.annotation.specs.Answer.{told, answer_number, Annotates, RoomIn, room_answer}
 
 -- ---- number 9: n is the annotated file's size in records, or more than 4,096 where that is
@@ -60,6 +59,6 @@ module _ (f : List ℕ) (lent : ℕ) (n : ℕ) (small : size (program_tree (anno
     room_there h = rw (fits, le-leb (length (file_of P)) lent (let e = sized in omega (arith, bytes))) refl
 
     pub file_told : (before : List ℕ) {front after : List ℕ} → record_bytes * n ≤ lent → front ≡ file_of P → after ≡ front_written front before
-        → Annotates (room_answer f lent) before after (Written (record_bytes * n))
+        → Annotates (room_answer f lent) before after (Ok (record_bytes * n))
     unfolding told annotator_memory answer_number annotator_number
-    file_told before h p e = rw (room_there h) (ap (λ (k : ℕ). Written k) (let q = sized in omega (arith, bytes)), e ∙ ap (λ (g : List ℕ). front_written g before) p, refl)
+    file_told before h p e = rw (room_there h) (ap (λ (k : ℕ). Ok k) (let q = sized in omega (arith, bytes)), e ∙ ap (λ (g : List ℕ). front_written g before) p, refl)

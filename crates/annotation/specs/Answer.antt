@@ -1,33 +1,29 @@
 -- The annotator's answer as code gives it, and its stages in turn.
-use Rattle.std.specs.Prelude.{ℕ, ◌≤◌, ◌<◌, ◌≡◌, length}
+use Rattle.std.specs.Prelude.{ℕ, ◌≤◌, ◌<◌, ◌≡◌, length, Result, Ok, Err}
 use mathlib.Core.List.{List, [], ◌∷◌, ◌++◌}
 use Rattle.std.proofs.Math.Path.{refl, ap}
 use Rattle.std.proofs.Common.{sym, ◌∙◌}
 use Rattle.language.specs.declared.Refusal.{Refusal}
 use Rattle.language.specs.declared.Refusal.TheVariants.{Room}
-use Rattle.language.specs.declared.Verdict.{Verdict}
-use Rattle.language.specs.declared.Verdict.TheVariants.{Refused, Accepted}
 use Rattle.language.specs.Format.{max_bytes}
 use Rattle.language.specs.Annotation.{annotate}
 use Rattle.language.specs.Answers.{refusal_number, Stage, stage, lowest, program, file_of, room_ok, file_stages, reached_stages, annotator_stages, AnnotatorAnswer, refuses, writes, annotator_number, writes_unless, annotated, annotator_memory}
 use Rattle.records.specs.Verdicts.{form_stages, after, lowest_append}
 use Rattle.stages.specs.Stages.{typing_stages}
-use Rattle.annotation.specs.declared.Annotated.{Annotated}
-use Rattle.annotation.specs.declared.Annotated.TheVariants.{Refused as NotAnnotated, Written}
 use Rattle.annotation.specs.Stages.{mark_stages}
 
 -- "handed back as the front part of the caller's output memory": how many bytes that are
-unfoldable pub told : AnnotatorAnswer → Annotated
-told (refuses r) = NotAnnotated r
-told (writes g) = Written (length g)
+unfoldable pub told : AnnotatorAnswer → Result ℕ Refusal
+told (refuses r) = Err r
+told (writes g) = Ok (length g)
 
 -- the table's number, 0 where the file is written
-unfoldable pub answer_number : Annotated → ℕ
-answer_number (NotAnnotated r) = refusal_number r
-answer_number (Written n) = 0
+unfoldable pub answer_number : Result ℕ Refusal → ℕ
+answer_number (Err r) = refusal_number r
+answer_number (Ok n) = 0
 
 -- the answer, the lent memory afterwards, and the answer's number
-abbrev pub Annotates : AnnotatorAnswer → List ℕ → List ℕ → Annotated → Type 0
+abbrev pub Annotates : AnnotatorAnswer → List ℕ → List ℕ → Result ℕ Refusal → Type 0
 Annotates a before after r = (r ≡ told a) × (after ≡ annotator_memory a before) × (answer_number r ≡ annotator_number a)
 
 -- how many of the lent bytes may be written: all of them, or as many as the longest file has
@@ -51,22 +47,22 @@ module _ (f : List ℕ) (lent : ℕ) where
   unfolding annotated annotator_stages reached_stages file_stages form_stages
   all_stages = refl
 
-module _ (ss ts : List Stage) (g : List ℕ) {v : Verdict} (e : v ≡ lowest ss) where
+module _ (ss ts : List Stage) (g : List ℕ) {v : Result Unit Refusal} (e : v ≡ lowest ss) where
   later : writes_unless (lowest (ss ++ ts)) g ≡ writes_unless (after v (lowest ts)) g
-  later = ap (λ (w : Verdict). writes_unless w g) (lowest_append ss ts ∙ ap (λ (w : Verdict). after w (lowest ts)) (sym e))
+  later = ap (λ (w : Result Unit Refusal). writes_unless w g) (lowest_append ss ts ∙ ap (λ (w : Result Unit Refusal). after w (lowest ts)) (sym e))
 
-  pub stage_refuses : {r : Refusal} → v ≡ Refused r → writes_unless (lowest (ss ++ ts)) g ≡ refuses r
+  pub stage_refuses : {r : Refusal} → v ≡ Err r → writes_unless (lowest (ss ++ ts)) g ≡ refuses r
   unfolding writes_unless after
   stage_refuses p = later ∙ rw p refl
 
-  pub stage_goes : v ≡ Accepted → writes_unless (lowest (ss ++ ts)) g ≡ writes_unless (lowest ts) g
+  pub stage_goes : v ≡ Ok tt → writes_unless (lowest (ss ++ ts)) g ≡ writes_unless (lowest ts) g
   unfolding after
   stage_goes p = later ∙ rw p refl
 
 -- ---- a refusal leaves the memory as it was
-pub refusal_told : {a : AnnotatorAnswer} {r : Refusal} (m : List ℕ) → a ≡ refuses r → Annotates a m m (NotAnnotated r)
+pub refusal_told : {a : AnnotatorAnswer} {r : Refusal} (m : List ℕ) → a ≡ refuses r → Annotates a m m (Err r)
 unfolding told annotator_memory answer_number annotator_number
 refusal_told m e = rw e (refl, refl, refl)
 
-pub answer_moved : {a b : AnnotatorAnswer} (before : List ℕ) {after : List ℕ} {r : Annotated} → a ≡ b → Annotates b before after r → Annotates a before after r
+pub answer_moved : {a b : AnnotatorAnswer} (before : List ℕ) {after : List ℕ} {r : Result ℕ Refusal} → a ≡ b → Annotates b before after r → Annotates a before after r
 answer_moved before e h = rw e h

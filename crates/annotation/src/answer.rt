@@ -7,11 +7,10 @@ ghost use Rattle.liveness.specs.Points.{point_words};
 ghost use Rattle.insertion.specs.Procedures.{Unrefused};
 ghost use Rattle.annotation.specs.Answer.{Annotates, RoomIn, room_answer, typed_answer};
 
-use crate::Annotated;
 use crate::annotatable::check_annotatable;
 use insertion::{blank_laid, lay_annotated, write};
+use language::Refusal;
 use language::format::{MAX_BYTES, MAX_RECORDS, RECORD_BYTES};
-use language::{Refusal, Verdict};
 use liveness::{POINTS, blank_points};
 use stages::check_typing;
 use tables::{ROWS, TABLE, blank_file_table, blank_rows};
@@ -25,7 +24,7 @@ fn write_annotated(
     points: &mut [u64; POINTS],
     out: &mut [u8],
     room: usize,
-) -> Annotated
+) -> Result<usize, Refusal>
     requires unrefused { Unrefused file.now table.now rows.now }
     requires points_len { length points.old ≡ point_words }
     requires room_in { RoomIn room (length out.old) }
@@ -34,19 +33,19 @@ fn write_annotated(
     let mut laid = blank_laid();
     let records = lay_annotated(file, table, rows, points, &mut laid);
     if records > MAX_RECORDS {
-        return Annotated::Refused(Refusal::Room);
+        return Err(Refusal::Room);
     }
     let bytes = RECORD_BYTES * records;
     if room < bytes {
-        return Annotated::Refused(Refusal::Room);
+        return Err(Refusal::Room);
     }
     write(&laid, bytes, out);
-    Annotated::Written(bytes)
+    Ok(bytes)
 }
 
 // The answer to a file that passed number 3. The tables are made here, where the stack of number 3's walk is given back. The last step is called in two
 // places: what has one caller the compiler puts into it, and the memory that the file is laid into would lie below number 3's walk.
-fn annotate_typed(file: &[u8], out: &mut [u8]) -> Annotated
+fn annotate_typed(file: &[u8], out: &mut [u8]) -> Result<usize, Refusal>
     requires formed { Formed file.now }
     requires file_value { typing_ok (program file.now) ≡ true }
     ensures { Annotates (typed_answer file.now (length out.old)) out.old out.new result }
@@ -54,9 +53,7 @@ fn annotate_typed(file: &[u8], out: &mut [u8]) -> Annotated
     let mut table = blank_file_table();
     let mut rows = blank_rows();
     let mut points = blank_points();
-    if let Verdict::Refused(r) = check_annotatable(file, &mut table, &mut rows, &mut points) {
-        return Annotated::Refused(r);
-    }
+    check_annotatable(file, &mut table, &mut rows, &mut points)?;
     let lent = out.len();
     if lent < MAX_BYTES {
         return write_annotated(file, &table, &rows, &mut points, out, lent);
@@ -64,12 +61,10 @@ fn annotate_typed(file: &[u8], out: &mut [u8]) -> Annotated
     write_annotated(file, &table, &rows, &mut points, out, MAX_BYTES)
 }
 
-// Writes the annotated file as the front part of `out`; "bytes behind it keep their contents". After a refusal all of them do.
-pub fn annotate(file: &[u8], out: &mut [u8]) -> Annotated
+// Writes the annotated file as the front part of `out`, and says how many bytes it is; "bytes behind it keep their contents". After a refusal all of them do.
+pub fn annotate(file: &[u8], out: &mut [u8]) -> Result<usize, Refusal>
     ensures { Annotates (annotated file.now (length out.old)) out.old out.new result }
 {
-    if let Verdict::Refused(r) = check_typing(file) {
-        return Annotated::Refused(r);
-    }
+    check_typing(file)?;
     annotate_typed(file, out)
 }

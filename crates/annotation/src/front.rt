@@ -3,7 +3,6 @@ ghost use Rattle.std.specs.Prelude.{◌≡◌, length};
 ghost use Rattle.language.specs.Answers.{annotated};
 ghost use Rattle.annotation.specs.Front.{front_of};
 
-use crate::Annotated;
 use crate::answer::annotate;
 
 // "A good annotation is handed back as the front part of the caller's output memory": that part, which starts where the memory does; empty after a
@@ -13,7 +12,7 @@ pub fn annotated_front<'a>(file: &[u8], out: &'a mut [u8]) -> &'a mut [u8]
     ensures ref_ptr_value { result.ref_ptr ≡ out.entry.ref_ptr }
 {
     match annotate(file, &mut *out) {
-        Annotated::Refused(_) => &mut out[..0],
-        Annotated::Written(n) => &mut out[..n],
+        Err(_) => &mut out[..0],
+        Ok(n) => &mut out[..n],
     }
 }

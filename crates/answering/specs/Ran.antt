@@ -1,9 +1,8 @@
 -- What the runner program prints.
-use Rattle.std.specs.Prelude.{ℕ, ◌+◌, ◌*◌, ◌≤◌, ◌≡◌, List, ◌++◌, map, length, take}
+use Rattle.std.specs.Prelude.{ℕ, ◌+◌, ◌*◌, ◌≤◌, ◌≡◌, List, ◌++◌, map, length, take, Err}
 use Rattle.std.proofs.Common.{arith, sym, ap, subst, ◌∙◌, length-take-le, to_z}
 use Rattle.std.specs.Int.{w32}
 use Rattle.language.specs.declared.Refusal.{Refusal}
-use Rattle.language.specs.declared.Verdict.TheVariants.{Refused}
 use Rattle.language.specs.Machine.{runner_lent}
 use Rattle.language.specs.Answers.{checked, run_for, ran}
 use Rattle.language.specs.Output.{number_lines, refusal_line, ending_line, runner_output}
@@ -32,7 +31,7 @@ prints_run {f} {m} {rs} {fw} {ps} {b = b} {e = e} {r = r} {k = k} l h p =
     ∙ ap (λ n. number_lines R.printed ++ ending_line R.ending n) h.steps
     ∙ ap (λ n. runner_output (ran f n)) l) p
 
-pub prints_refusal : (f : List ℕ) {b e : List ℕ} {k : ℕ} {v : Refusal} → checked f ≡ Refused v → output_bytes ≡ length b → Put b 0 (refusal_line v) e k
+pub prints_refusal : (f : List ℕ) {b e : List ℕ} {k : ℕ} {v : Refusal} → checked f ≡ Err v → output_bytes ≡ length b → Put b 0 (refusal_line v) e k
     → Front (runner_output (ran f runner_lent)) b e k
 unfolding runner_output ran run_for number_lines ending_line
 prints_refusal f {b} {e} {k} {v} c l p =

@@ -5,7 +5,7 @@ ghost use Rattle.language.specs.Output.{annotator_output};
 ghost use Rattle.lines.specs.Put.{Front};
 
 use crate::print;
-use annotation::{Annotated, annotate};
+use annotation::annotate;
 use language::format::MAX_BYTES;
 use lines::put_refusal;
 
@@ -22,8 +22,8 @@ fn annotator_answer(file: &[u8], out: &mut [u8]) -> usize
     ensures { Front (annotator_output (annotated file.now annotator_bytes)) out.old out.new result }
 {
     match annotate(file, out) {
-        Annotated::Refused(r) => put_refusal(out, 0, r),
-        Annotated::Written(n) => n,
+        Err(r) => put_refusal(out, 0, r),
+        Ok(n) => n,
     }
 }
 

@@ -1,6 +1,5 @@
 // The runner's answer on standard output.
-ghost use Rattle.std.specs.Prelude.{◌≡◌, length};
-ghost use Rattle.language.specs.declared.Verdict.TheVariants.{Accepted};
+ghost use Rattle.std.specs.Prelude.{◌≡◌, length, Ok};
 ghost use Rattle.language.specs.Machine.{runner_lent};
 ghost use Rattle.language.specs.Answers.{checked, ran};
 ghost use Rattle.language.specs.Output.{runner_output};
@@ -9,7 +8,6 @@ ghost use Rattle.answering.specs.Ran.{output_bytes};
 
 use crate::print;
 use checking::check;
-use language::Verdict;
 use language::format::MAX_BYTES;
 use lines::{ENDING_BYTES, NUMBER_BYTES, put_refusal, runner_output};
 use running::lent::{PRINTS, STEPS, cell_words, frame_words, print_words, region_words};
@@ -28,7 +26,7 @@ fn output() -> [u8; OUTPUT_BYTES]
 // the checker's walks is given back.
 #[inline(never)]
 fn accepted_answer(file: &[u8], out: &mut [u8]) -> usize
-    requires file_value { checked file.now ≡ Accepted }
+    requires file_value { checked file.now ≡ Ok tt }
     requires output_bytes_value { output_bytes ≡ length out.old }
     ensures { Front (runner_output (ran file.now runner_lent)) out.old out.new result }
 {
@@ -55,7 +53,7 @@ fn runner_answer(file: &[u8], out: &mut [u8]) -> usize
     requires { output_bytes ≡ length out.old }
     ensures { Front (runner_output (ran file.now runner_lent)) out.old out.new result }
 {
-    if let Verdict::Refused(r) = check(file) {
+    if let Err(r) = check(file) {
         return put_refusal(out, 0, r);
     }
     if file.len() < MAX_BYTES {

@@ -1,14 +1,12 @@
 -- What C-18 changes, to be checked against document 02's words: "Files accepted from then on are exactly the old ones without such procedures", a file
 -- without such procedures is answered as before, and one with such procedures gets 17, "looked at after 5 and before 6".
-use Rattle.std.specs.Prelude.{ℕ, List, ◌∷◌, ◌++◌, Bool, true, false, ◌↔◌, ◌⊎◌, ◌≡◌, []}
+use Rattle.std.specs.Prelude.{ℕ, List, ◌∷◌, ◌++◌, Bool, true, false, ◌↔◌, ◌⊎◌, ◌≡◌, [], Result, Ok, Err}
 use Rattle.std.proofs.Common.{inl, inr, sym, ◌∙◌}
 use Rattle.std.proofs.Math.Path.{refl, ap}
 use Rattle.sets.specs.Tests.{◌&◌, truth}
 use Rattle.language.specs.declared.Refusal.{Refusal}
 use Rattle.language.specs.declared.Refusal.TheVariants.{Unreached, Annotated, Classes, Rules, Room}
-use Rattle.language.specs.declared.Verdict.{Verdict}
-use Rattle.language.specs.declared.Verdict.TheVariants.{Refused, Accepted}
-use Rattle.language.specs.declared.Ending.TheVariants.{Refused as RunRefused}
+use Rattle.language.specs.declared.Ending.TheVariants.{Refused}
 use Rattle.language.specs.CallChains.{reached_ok}
 use Rattle.language.specs.Lifetimes.{declared_classes_ok, call_classes_ok}
 use Rattle.language.specs.Annotation.{unannotated, annotate}
@@ -33,7 +31,7 @@ module _ (f : List ℕ) where
   abbrev pub annotated_before : ℕ → AnnotatorAnswer
   annotated_before lent = writes_unless (lowest (annotator_stages_before lent)) (file_of (annotate (program f)))
 
-  abbrev pub checked_before : Verdict
+  abbrev pub checked_before : Result Unit Refusal
   checked_before = lowest checker_stages_before
 
   abbrev pub ran_before : Lent → Run
@@ -41,17 +39,17 @@ module _ (f : List ℕ) where
 
 -- a run of the runner that is no refusal
 abbrev pub NotRefused : Run → Type 0
-NotRefused r = (q : Refusal) → r.ending ≡ RunRefused q → ⊥
+NotRefused r = (q : Refusal) → r.ending ≡ Refused q → ⊥
 
 -- the refusal of a file that has such procedures: of numbers 1 to 5, if it gets one, else 17
-abbrev pub sooner_or17 : Verdict → Refusal
-sooner_or17 (Refused r) = r
-sooner_or17 Accepted = Unreached
+abbrev pub sooner_or17 : Result Unit Refusal → Refusal
+sooner_or17 (Err r) = r
+sooner_or17 (Ok _) = Unreached
 
 pub record Changed (f : List ℕ) : Type 0 where
   -- accepted from then on: accepted before, and chains of calls reach every procedure but the entry, which is where they start
   pub annotator : (lent : ℕ) (g : List ℕ) → (annotated f lent ≡ writes g) ↔ ((annotated_before f lent ≡ writes g) × AllReached (program f))
-  pub checker : (checked f ≡ Accepted) ↔ ((checked_before f ≡ Accepted) × AllReached (program f))
+  pub checker : (checked f ≡ Ok tt) ↔ ((checked_before f ≡ Ok tt) × AllReached (program f))
   pub runner : (l : Lent) → NotRefused (ran f l) ↔ (NotRefused (ran_before f l) × AllReached (program f))
   -- and where they do, each program answers as before
   pub annotator_same : AllReached (program f) → (lent : ℕ) → annotated f lent ≡ annotated_before f lent
@@ -59,11 +57,11 @@ pub record Changed (f : List ℕ) : Type 0 where
   pub runner_same : AllReached (program f) → (l : Lent) → ran f l ≡ ran_before f l
   -- where they do not, each program refuses it
   pub annotator_17 : (AllReached (program f) → ⊥) → (lent : ℕ) → annotated f lent ≡ refuses (sooner_or17 (lowest (file_stages f)))
-  pub checker_17 : (AllReached (program f) → ⊥) → checked f ≡ Refused (sooner_or17 (lowest (file_stages f)))
-  pub runner_17 : (AllReached (program f) → ⊥) → (l : Lent) → ran f l ≡ record { ending = RunRefused (sooner_or17 (lowest (file_stages f))); steps = 0; printed = [] }
+  pub checker_17 : (AllReached (program f) → ⊥) → checked f ≡ Err (sooner_or17 (lowest (file_stages f)))
+  pub runner_17 : (AllReached (program f) → ⊥) → (l : Lent) → ran f l ≡ record { ending = Refused (sooner_or17 (lowest (file_stages f))); steps = 0; printed = [] }
 
 -- a stage that is not passed, behind others
-stopped : (ss ts : List Stage) {b : Bool} → b ≡ false → lowest (ss ++ (stage Unreached b ∷ ts)) ≡ Refused (sooner_or17 (lowest ss))
+stopped : (ss ts : List Stage) {b : Bool} → b ≡ false → lowest (ss ++ (stage Unreached b ∷ ts)) ≡ Err (sooner_or17 (lowest ss))
 unfolding lowest
 stopped [] ts e = rw e refl
 stopped (stage q true ∷ ss) ts e = stopped ss ts e
@@ -71,13 +69,13 @@ stopped (stage q false ∷ ss) ts e = refl
 
 module _ (f : List ℕ) where
   -- ---- an answer other than a refusal has passed number 17
-  passed : (ss : List Stage) → lowest (reached_stages f ++ ss) ≡ Accepted → AllReached (program f)
+  passed : (ss : List Stage) → lowest (reached_stages f ++ ss) ≡ Ok tt → AllReached (program f)
   passed ss e = ok_reached (program f) (middle_passed (file_stages f) ss Unreached (reached_ok (program f)) (ap lowest (sym (reached_stages_law f ss)) ∙ e))
 
-  run_passed : (v : Verdict) (l : Lent) → NotRefused (run_for v f l) → v ≡ Accepted
+  run_passed : (v : Result Unit Refusal) (l : Lent) → NotRefused (run_for v f l) → v ≡ Ok tt
   unfolding run_for
-  run_passed (Refused r) l h = absurd (h r refl)
-  run_passed Accepted l h = refl
+  run_passed (Err r) l h = absurd (h r refl)
+  run_passed (Ok _) l h = refl
 
   -- ---- without number 17
   without : (ss : List Stage) → AllReached (program f) → lowest (reached_stages f ++ ss) ≡ lowest (file_stages f ++ ss)
@@ -85,7 +83,7 @@ module _ (f : List ℕ) where
 
   annotator_as : AllReached (program f) → (lent : ℕ) → annotated f lent ≡ annotated_before f lent
   unfolding annotated annotator_stages
-  annotator_as h lent = ap (λ (v : Verdict). writes_unless v (file_of (annotate (program f)))) (without _ h)
+  annotator_as h lent = ap (λ (v : Result Unit Refusal). writes_unless v (file_of (annotate (program f)))) (without _ h)
 
   checker_as : AllReached (program f) → checked f ≡ checked_before f
   unfolding checked checker_stages
@@ -93,13 +91,13 @@ module _ (f : List ℕ) where
 
   runner_as : AllReached (program f) → (l : Lent) → ran f l ≡ ran_before f l
   unfolding ran
-  runner_as h l = ap (λ (v : Verdict). run_for v f l) (checker_as h)
+  runner_as h l = ap (λ (v : Result Unit Refusal). run_for v f l) (checker_as h)
 
   annotator_reached : (lent : ℕ) (g : List ℕ) → annotated f lent ≡ writes g → AllReached (program f)
   unfolding annotated annotator_stages
   annotator_reached lent g e = passed _ (writes_passed (lowest (annotator_stages f lent)) (file_of (annotate (program f))) g e).0
 
-  checker_reached : checked f ≡ Accepted → AllReached (program f)
+  checker_reached : checked f ≡ Ok tt → AllReached (program f)
   unfolding checked checker_stages
   checker_reached e = passed _ e
 
@@ -115,20 +113,20 @@ module _ (f : List ℕ) where
       go (inl e) = absurd (n (ok_reached (program f) e))
       go (inr e) = e
 
-  refused_17 : (ss : List Stage) → (AllReached (program f) → ⊥) → lowest (reached_stages f ++ ss) ≡ Refused (sooner_or17 (lowest (file_stages f)))
+  refused_17 : (ss : List Stage) → (AllReached (program f) → ⊥) → lowest (reached_stages f ++ ss) ≡ Err (sooner_or17 (lowest (file_stages f)))
   refused_17 ss n = ap lowest (reached_stages_law f ss) ∙ stopped (file_stages f) ss (unreached n)
 
   annotator_refuses : (AllReached (program f) → ⊥) → (lent : ℕ) → annotated f lent ≡ refuses (sooner_or17 (lowest (file_stages f)))
   unfolding annotated annotator_stages writes_unless
-  annotator_refuses n lent = ap (λ (v : Verdict). writes_unless v (file_of (annotate (program f)))) (refused_17 _ n)
+  annotator_refuses n lent = ap (λ (v : Result Unit Refusal). writes_unless v (file_of (annotate (program f)))) (refused_17 _ n)
 
-  checker_refuses : (AllReached (program f) → ⊥) → checked f ≡ Refused (sooner_or17 (lowest (file_stages f)))
+  checker_refuses : (AllReached (program f) → ⊥) → checked f ≡ Err (sooner_or17 (lowest (file_stages f)))
   unfolding checked checker_stages
   checker_refuses n = refused_17 _ n
 
-  runner_refuses : (AllReached (program f) → ⊥) → (l : Lent) → ran f l ≡ record { ending = RunRefused (sooner_or17 (lowest (file_stages f))); steps = 0; printed = [] }
+  runner_refuses : (AllReached (program f) → ⊥) → (l : Lent) → ran f l ≡ record { ending = Refused (sooner_or17 (lowest (file_stages f))); steps = 0; printed = [] }
   unfolding ran run_for
-  runner_refuses n l = ap (λ (v : Verdict). run_for v f l) (checker_refuses n)
+  runner_refuses n l = ap (λ (v : Result Unit Refusal). run_for v f l) (checker_refuses n)
 
 -- THE THEOREM
 pub changed : (f : List ℕ) → Changed f

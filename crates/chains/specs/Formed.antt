@@ -10,11 +10,10 @@
 --   over a decoded record: `variable_at_law` and its like (modules Declared, Goals, Parts) give the view, the Stands of each reference and that the
 --   measure falls, and `variable_is` and its like (module Is) say that the `else` is never met;
 --   the end, i ≡ 0: `variables_none` and its like, below; along the procedures: module Turns.
-use Rattle.std.specs.Prelude.{ℕ, zero, suc, ◌-◌, ◌*◌, ◌≤◌, ◌<◌, ◌≡◌, refl, List, [], true, ◌⊎◌, length}
+use Rattle.std.specs.Prelude.{ℕ, zero, suc, ◌-◌, ◌*◌, ◌≤◌, ◌<◌, ◌≡◌, refl, List, [], true, ◌⊎◌, length, Result, Ok}
 use Rattle.std.proofs.Common.{arith, sym, ◌∙◌, inl, inr}
 use Rattle.std.proofs.Math.Decide.{dec_lt}
-use Rattle.language.specs.declared.Verdict.{Verdict}
-use Rattle.language.specs.declared.Verdict.TheVariants.{Accepted}
+use Rattle.language.specs.declared.Refusal.{Refusal}
 use Rattle.language.specs.Format.{kind_word, header_procedures, header_types, record_bytes, max_records}
 use Rattle.language.specs.File.{Chain, types, procedures, row, kind_of, word, record_count, header_ok, form_ok}
 use Rattle.language.specs.Program.{Functor, Variable, Edge, Region, print, Goals, done, ◌then◌, Goal, step, Arms, no_arms, Procedure}
@@ -31,7 +30,7 @@ pub record Formed (f : List ℕ) : Type 0 where
   pub form : form_ok (word f) (record_count f) ≡ true
 
 -- `check_form` accepted the file
-pub formed : {f : List ℕ} {r : Verdict} → r ≡ form_verdict f → r ≡ Accepted → Formed f
+pub formed : {f : List ℕ} {r : Result Unit Refusal} → r ≡ form_verdict f → r ≡ Ok tt → Formed f
 formed {f} e a = let h = form_in f (sym e ∙ a) in record { header = h.0; form = h.1 }
 
 pub record Counted (f : List ℕ) : Type 0 where

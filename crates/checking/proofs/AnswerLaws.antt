@@ -1,10 +1,9 @@
 -- Laws of `specs/Answer` that only proofs cite.
+use Rattle.std.specs.Prelude.{Result, Ok, Err}
 use Prim.Native.Nat.{ℕ}
 use mathlib.Core.List.{List, ◌++◌}
 use mathlib.Core.Path.{◌≡◌, refl, sym, ap, ◌∙◌}
 use Rattle.language.specs.declared.Refusal.{Refusal}
-use Rattle.language.specs.declared.Verdict.{Verdict}
-use Rattle.language.specs.declared.Verdict.TheVariants.{Refused, Accepted}
 use Rattle.language.specs.Answers.{lowest, file_stages, reached_stages, checker_stages, checker_number, checked}
 use Rattle.records.specs.Verdicts.{form_stages, after, lowest_append}
 use Rattle.stages.specs.Stages.{typing_stages}
@@ -19,17 +18,17 @@ unfolding checked
 checked_by f = ap lowest (sym (all_stages f)) ∙ lowest_append (typing_stages f) (rule_stages f)
 
 -- the answer, with its number
-abbrev pub Checks : List ℕ → Verdict → Type 0
+abbrev pub Checks : List ℕ → Result Unit Refusal → Type 0
 Checks f v = (v ≡ checked f) × (checker_number v ≡ checker_number (checked f))
 
-numbered : (f : List ℕ) {v : Verdict} → v ≡ checked f → Checks f v
+numbered : (f : List ℕ) {v : Result Unit Refusal} → v ≡ checked f → Checks f v
 numbered f e = (e, ap checker_number e)
 
-module _ (f : List ℕ) {v : Verdict} (e : v ≡ lowest (typing_stages f)) where
-  pub checker_refuses : {r : Refusal} → v ≡ Refused r → Checks f v
+module _ (f : List ℕ) {v : Result Unit Refusal} (e : v ≡ lowest (typing_stages f)) where
+  pub checker_refuses : {r : Refusal} → v ≡ Err r → Checks f v
   unfolding after
-  checker_refuses g = numbered f (g ∙ sym (checked_by f ∙ ap (λ (w : Verdict). after w (lowest (rule_stages f))) (sym e ∙ g)))
+  checker_refuses g = numbered f (g ∙ sym (checked_by f ∙ ap (λ (w : Result Unit Refusal). after w (lowest (rule_stages f))) (sym e ∙ g)))
 
-  pub checker_goes : {w : Verdict} → v ≡ Accepted → w ≡ lowest (rule_stages f) → Checks f w
+  pub checker_goes : {w : Result Unit Refusal} → v ≡ Ok tt → w ≡ lowest (rule_stages f) → Checks f w
   unfolding after
-  checker_goes g h = numbered f (h ∙ sym (checked_by f ∙ ap (λ (u : Verdict). after u (lowest (rule_stages f))) (sym e ∙ g)))
+  checker_goes g h = numbered f (h ∙ sym (checked_by f ∙ ap (λ (u : Result Unit Refusal). after u (lowest (rule_stages f))) (sym e ∙ g)))

@@ -9,10 +9,9 @@ ghost use Rattle.word_machine.specs.Machine.{lent_words};
 ghost use Rattle.running.specs.Answer.{LentAfter};
 ghost use Rattle.gumreta.specs.Numbers.{version};
 
-use annotation::{Annotated, annotate};
+use annotation::annotate;
 use checking::check;
-use language::{Ending, Verdict};
-use lines::{refusal_number, stop_number};
+use language::Ending;
 use running::run;
 
 // As GUMRETA_VERSION of c/gumreta.h.
@@ -34,11 +33,11 @@ pub extern "C" fn gumreta_annotate(file: &[u8], out: &mut [u8], written: &mut us
     ensures written_after { written.new ≡ written_bytes (annotated file.now (length out.old)) }
 {
     match annotate(file, &mut *out) {
-        Annotated::Refused(r) => {
+        Err(r) => {
             *written = 0;
-            refusal_number(r)
+            u64::from(r)
         }
-        Annotated::Written(n) => {
+        Ok(n) => {
             *written = n;
             0
         }
@@ -50,19 +49,19 @@ pub extern "C" fn gumreta_annotate(file: &[u8], out: &mut [u8], written: &mut us
 pub extern "C" fn gumreta_check(file: &[u8]) -> u64
     ensures { result ≡ checker_number (checked file.now) }
 {
-    let Verdict::Refused(r) = check(file) else {
-        return 0;
-    };
-    refusal_number(r)
+    match check(file) {
+        Ok(()) => 0,
+        Err(r) => u64::from(r),
+    }
 }
 
 fn ending_number(e: Ending) -> u64
     ensures { result ≡ ending_number e }
 {
     match e {
-        Ending::Refused(r) => refusal_number(r),
+        Ending::Refused(r) => u64::from(r),
         Ending::Finished => 0,
-        Ending::Stopped(c) => stop_number(c),
+        Ending::Stopped(c) => u64::from(c),
     }
 }
 

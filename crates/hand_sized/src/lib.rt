@@ -8,22 +8,20 @@ mod ends;
 mod files;
 mod tries;
 
-ghost use Rattle.std.specs.Prelude.{◌≡◌, ◌∷◌, drop};
+ghost use Rattle.std.specs.Prelude.{◌≡◌, ◌∷◌, drop, Ok, Err};
 ghost use Rattle.language.specs.declared.Refusal.TheVariants.{Header, Form, Typing, Room};
-ghost use Rattle.language.specs.declared.Verdict.TheVariants.{Refused, Accepted};
 ghost use Rattle.language.specs.declared.Stop.TheVariants.{Steps, Frames, Sums};
 ghost use Rattle.language.specs.declared.Ending.TheVariants.{Refused as NotRun, Finished, Stopped};
 ghost use Rattle.language.specs.Answers.{refusal_number, stop_number};
 ghost use Rattle.language.specs.Table.{new_u};
-ghost use Rattle.annotation.specs.declared.Annotated.TheVariants.{Refused as NotAnnotated, Written};
 ghost use Rattle.running.specs.Answer.{Free, Untouched};
 ghost use Rattle.hand_sized.specs.Joined.{outcome, quiet, refused_by, IfAllRefuse};
 
-use annotation::{Annotated, annotate};
+use annotation::annotate;
 use checking::check;
 use ends::{both_ends, over, under};
 use files::{a, new_u, past_arity, removed_early, removed_twice, u, unused_word};
-use language::Verdict;
+use language::Refusal;
 use language::format::MAX_BYTES;
 use machine::Outcome;
 use running::lent::{CELLS, FRAMES, PRINTS, REGIONS, STEPS};
@@ -35,14 +33,14 @@ pub use tries::{
 // What the annotator, the checker and the runner answer to one file.
 #[derive(Clone, Copy)]
 pub struct Answers {
-    pub annotated: Annotated,
-    pub checked: Verdict,
+    pub annotated: Result<usize, Refusal>,
+    pub checked: Result<(), Refusal>,
     pub ran: Outcome,
 }
 
 // U annotated with 144 bytes: 3, "old files that give such a type a region get 3".
-pub fn annotate_u_in_144(out: &mut [u8; 144]) -> Annotated
-    ensures value { result ≡ NotAnnotated Typing }
+pub fn annotate_u_in_144(out: &mut [u8; 144]) -> Result<usize, Refusal>
+    ensures value { result ≡ Err Typing }
     ensures refusal_number_value { refusal_number Typing ≡ 3 }
     ensures out_unchanged { out.new ≡ out.old }
 {
@@ -50,8 +48,8 @@ pub fn annotate_u_in_144(out: &mut [u8; 144]) -> Annotated
 }
 
 // .. with 143: 3.
-pub fn annotate_u_in_143(out: &mut [u8; 143]) -> Annotated
-    ensures value { result ≡ NotAnnotated Typing }
+pub fn annotate_u_in_143(out: &mut [u8; 143]) -> Result<usize, Refusal>
+    ensures value { result ≡ Err Typing }
     ensures refusal_number_value { refusal_number Typing ≡ 3 }
     ensures out_unchanged { out.new ≡ out.old }
 {
@@ -59,8 +57,8 @@ pub fn annotate_u_in_143(out: &mut [u8; 143]) -> Annotated
 }
 
 // A to the annotator: 3.
-pub fn annotate_a(out: &mut [u8; MAX_BYTES]) -> Annotated
-    ensures value { result ≡ NotAnnotated Typing }
+pub fn annotate_a(out: &mut [u8; MAX_BYTES]) -> Result<usize, Refusal>
+    ensures value { result ≡ Err Typing }
     ensures refusal_number_value { refusal_number Typing ≡ 3 }
     ensures out_unchanged { out.new ≡ out.old }
 {
@@ -68,29 +66,29 @@ pub fn annotate_a(out: &mut [u8; MAX_BYTES]) -> Annotated
 }
 
 // A checked: 3.
-pub fn check_a() -> Verdict
-    ensures { result ≡ Refused Typing }
+pub fn check_a() -> Result<(), Refusal>
+    ensures { result ≡ Err Typing }
 {
     check(&a())
 }
 
 // U checked: 3.
-pub fn check_u() -> Verdict
-    ensures { result ≡ Refused Typing }
+pub fn check_u() -> Result<(), Refusal>
+    ensures { result ≡ Err Typing }
 {
     check(&u())
 }
 
 // "A with create, remove, construct": 3.
-pub fn check_removed_early() -> Verdict
-    ensures { result ≡ Refused Typing }
+pub fn check_removed_early() -> Result<(), Refusal>
+    ensures { result ≡ Err Typing }
 {
     check(&removed_early())
 }
 
 // "A with a second remove": 3.
-pub fn check_removed_twice() -> Verdict
-    ensures { result ≡ Refused Typing }
+pub fn check_removed_twice() -> Result<(), Refusal>
+    ensures { result ≡ Err Typing }
 {
     check(&removed_twice())
 }
@@ -152,16 +150,16 @@ pub fn run_a_no_frame(
 }
 
 // "File U then has no region record and comes back from the annotator unchanged with six records".
-pub fn annotate_new_u_in_96(out: &mut [u8; 96]) -> Annotated
-    ensures value { result ≡ Written 96 }
+pub fn annotate_new_u_in_96(out: &mut [u8; 96]) -> Result<usize, Refusal>
+    ensures value { result ≡ Ok 96 }
     ensures out_after { out.new ≡ new_u }
 {
     annotate(&new_u(), out)
 }
 
 // .. with 95 bytes: 9.
-pub fn annotate_new_u_in_95(out: &mut [u8; 95]) -> Annotated
-    ensures value { result ≡ NotAnnotated Room }
+pub fn annotate_new_u_in_95(out: &mut [u8; 95]) -> Result<usize, Refusal>
+    ensures value { result ≡ Err Room }
     ensures refusal_number_value { refusal_number Room ≡ 9 }
     ensures out_unchanged { out.new ≡ out.old }
 {
@@ -169,8 +167,8 @@ pub fn annotate_new_u_in_95(out: &mut [u8; 95]) -> Annotated
 }
 
 // .. checked: accepted.
-pub fn check_new_u() -> Verdict
-    ensures { result ≡ Accepted }
+pub fn check_new_u() -> Result<(), Refusal>
+    ensures { result ≡ Ok tt }
 {
     check(&new_u())
 }

@@ -1,14 +1,12 @@
 -- "Refusals and stops": what each program answers on any bytes.
-use Rattle.std.specs.Prelude.{ℕ, Bool, true, false, List, [], ◌∷◌, ◌++◌, leb, length}
+use Rattle.std.specs.Prelude.{ℕ, Bool, true, false, List, [], ◌∷◌, ◌++◌, leb, length, Result, Ok, Err}
 use Rattle.sets.specs.Tests.{◌&◌}
 use Rattle.language.specs.declared.Refusal.{Refusal}
 use Rattle.language.specs.declared.Refusal.TheVariants.{Header, Form, Typing, Values, Regions, Unreached, Annotated, Classes, Rules, Room}
-use Rattle.language.specs.declared.Verdict.{Verdict}
-use Rattle.language.specs.declared.Verdict.TheVariants.{Refused, Accepted}
 use Rattle.language.specs.declared.Stop.{Stop}
 use Rattle.language.specs.declared.Stop.TheVariants.{Steps, Cells, Places, Frames, Prints, Sums}
 use Rattle.language.specs.declared.Ending.{Ending}
-use Rattle.language.specs.declared.Ending.TheVariants.{Refused as RunRefused, Finished, Stopped}
+use Rattle.language.specs.declared.Ending.TheVariants.{Refused, Finished, Stopped}
 use Rattle.language.specs.Lists.{front_written}
 use Rattle.language.specs.Format.{max_records}
 use Rattle.language.specs.File.{word, record_count, header_ok, form_ok}
@@ -49,12 +47,12 @@ stop_number Prints = 14
 stop_number Sums = 15
 
 -- the number of an answer: 0 where the file is accepted, or run to its end
-unfoldable pub checker_number : Verdict → ℕ
-checker_number (Refused r) = refusal_number r
-checker_number Accepted = 0
+unfoldable pub checker_number : Result Unit Refusal → ℕ
+checker_number (Err r) = refusal_number r
+checker_number (Ok _) = 0
 
 unfoldable pub ending_number : Ending → ℕ
-ending_number (RunRefused r) = refusal_number r
+ending_number (Refused r) = refusal_number r
 ending_number Finished = 0
 ending_number (Stopped c) = stop_number c
 
@@ -64,10 +62,10 @@ pub data Stage : Type 0 where
 
 -- "The lowest number that applies is given, and is given for no other cause": the first stage that is not passed. The list's order decides, not the
 -- numbers' size: a number that is added later stands where its cause does.
-unfoldable pub lowest : List Stage → Verdict
-lowest [] = Accepted
+unfoldable pub lowest : List Stage → Result Unit Refusal
+lowest [] = Ok tt
 lowest (stage r true ∷ ss) = lowest ss
-lowest (stage r false ∷ ss) = Refused r
+lowest (stage r false ∷ ss) = Err r
 
 -- the program that bytes stand for
 unfoldable pub program : List ℕ → Program
@@ -116,9 +114,9 @@ unfoldable pub written_bytes : AnnotatorAnswer → ℕ
 written_bytes (refuses r) = 0
 written_bytes (writes g) = length g
 
-unfoldable pub writes_unless : Verdict → List ℕ → AnnotatorAnswer
-writes_unless (Refused r) g = refuses r
-writes_unless Accepted g = writes g
+unfoldable pub writes_unless : Result Unit Refusal → List ℕ → AnnotatorAnswer
+writes_unless (Err r) g = refuses r
+writes_unless (Ok _) g = writes g
 
 -- what the annotator answers to the bytes f with `lent` bytes of output memory
 unfoldable pub annotated : List ℕ → ℕ → AnnotatorAnswer
@@ -134,12 +132,12 @@ abbrev pub annotator_bytes : ℕ
 annotator_bytes = 65536
 
 -- what the checker answers
-unfoldable pub checked : List ℕ → Verdict
+unfoldable pub checked : List ℕ → Result Unit Refusal
 checked f = lowest (checker_stages f)
 
-unfoldable pub run_for : Verdict → List ℕ → Lent → Run
-run_for (Refused r) f l = record { ending = RunRefused r; steps = 0; printed = [] }
-run_for Accepted f l = run (program f) l
+unfoldable pub run_for : Result Unit Refusal → List ℕ → Lent → Run
+run_for (Err r) f l = record { ending = Refused r; steps = 0; printed = [] }
+run_for (Ok _) f l = run (program f) l
 
 -- what the runner answers, lent words and steps
 unfoldable pub ran : List ℕ → Lent → Run

@@ -1,10 +1,9 @@
 -- Files with tries (C-20) and their answers, computed like the table's: the corner cases of conditions that may fail.
-use Rattle.std.specs.Prelude.{ℕ, ◌*◌, List, [], ◌∷◌, ◌≡◌, refl, pos}
+use Rattle.std.specs.Prelude.{ℕ, ◌*◌, List, [], ◌∷◌, ◌≡◌, refl, pos, Result, Ok, Err}
+use Rattle.language.specs.declared.Refusal.{Refusal}
 use Rattle.language.specs.declared.Refusal.TheVariants.{Form, Values, Annotated, Rules}
-use Rattle.language.specs.declared.Verdict.{Verdict}
-use Rattle.language.specs.declared.Verdict.TheVariants.{Refused, Accepted}
 use Rattle.language.specs.declared.Stop.TheVariants.{Cells, Places}
-use Rattle.language.specs.declared.Ending.TheVariants.{Refused as RunRefused, Finished, Stopped}
+use Rattle.language.specs.declared.Ending.TheVariants.{Refused, Finished, Stopped}
 use Rattle.language.specs.Machine.{Lent, Run, runner_lent}
 use Rattle.language.specs.Answers.{AnnotatorAnswer, annotated, refuses, writes, annotator_bytes, checked, ran}
 use Rattle.language.specs.Computing.{computing}
@@ -15,7 +14,7 @@ unfoldable small : ℕ → ℕ → Lent
 small n r = record { cell_words = 8 * n; region_words = 2 * r; frame_words = 136 * 100; print_words = 1024; steps = 100 }
 
 -- what the annotator, the checker and a run with room answer to a file
-abbrev Answered : List ℕ → AnnotatorAnswer → Verdict → Run → Type 0
+abbrev Answered : List ℕ → AnnotatorAnswer → Result Unit Refusal → Run → Type 0
 Answered f a c r = (annotated f annotator_bytes ≡ a) × (checked f ≡ c) × (ran f (small 1024 1024) ≡ r)
 
 -- "Add kind 20, try": each of its parts may be empty
@@ -24,7 +23,7 @@ empty_try =
     file (
     (1 ∷ 1 ∷ 0 ∷ 3 ∷ []) ∷ (4 ∷ 0 ∷ 0 ∷ 0 ∷ 2 ∷ []) ∷ (20 ∷ []) ∷ [])
 
-empty_try_answers : Answered empty_try (writes empty_try) Accepted (record { ending = Finished; steps = 1; printed = [] })
+empty_try_answers : Answered empty_try (writes empty_try) (Ok tt) (record { ending = Finished; steps = 1; printed = [] })
 unfolding computing eight rows file small empty_try
 empty_try_answers = (refl, refl, refl)
 
@@ -34,7 +33,7 @@ test_outside =
     file (
     (1 ∷ 1 ∷ 0 ∷ 5 ∷ []) ∷ (4 ∷ 0 ∷ 2 ∷ 0 ∷ 3 ∷ []) ∷ (5 ∷ []) ∷ (8 ∷ 4 ∷ 1 ∷ 1 ∷ []) ∷ (21 ∷ 0 ∷ 1 ∷ 1 ∷ []) ∷ [])
 
-test_outside_answers : Answered test_outside (refuses Form) (Refused Form) (record { ending = RunRefused Form; steps = 0; printed = [] })
+test_outside_answers : Answered test_outside (refuses Form) (Err Form) (record { ending = Refused Form; steps = 0; printed = [] })
 unfolding computing eight rows file small test_outside
 test_outside_answers = (refl, refl, refl)
 
@@ -46,7 +45,7 @@ print_in_arm_in_condition =
     (11 ∷ 7 ∷ 1 ∷ []) ∷ (8 ∷ 8 ∷ 2 ∷ 1 ∷ []) ∷ (20 ∷ 0 ∷ 9 ∷ []) ∷ (12 ∷ 0 ∷ 1 ∷ 10 ∷ []) ∷ (13 ∷ 0 ∷ 11 ∷ []) ∷
     (17 ∷ 0 ∷ 2 ∷ []) ∷ [])
 
-print_in_arm_in_condition_answers : Answered print_in_arm_in_condition (refuses Form) (Refused Form) (record { ending = RunRefused Form; steps = 0; printed = [] })
+print_in_arm_in_condition_answers : Answered print_in_arm_in_condition (refuses Form) (Err Form) (record { ending = Refused Form; steps = 0; printed = [] })
 unfolding computing eight rows file small print_in_arm_in_condition
 print_in_arm_in_condition_answers = (refl, refl, refl)
 
@@ -58,7 +57,7 @@ test_in_arm_in_condition =
     (11 ∷ 7 ∷ 1 ∷ []) ∷ (8 ∷ 8 ∷ 2 ∷ 1 ∷ []) ∷ (20 ∷ 0 ∷ 9 ∷ 0 ∷ 12 ∷ []) ∷ (12 ∷ 0 ∷ 1 ∷ 10 ∷ []) ∷ (13 ∷ 0 ∷ 11 ∷ []) ∷
     (21 ∷ 0 ∷ 2 ∷ 2 ∷ []) ∷ (17 ∷ 0 ∷ 2 ∷ []) ∷ [])
 
-test_in_arm_in_condition_answers : Answered test_in_arm_in_condition (writes test_in_arm_in_condition) Accepted (record { ending = Finished; steps = 6; printed = (pos 1 ∷ []) })
+test_in_arm_in_condition_answers : Answered test_in_arm_in_condition (writes test_in_arm_in_condition) (Ok tt) (record { ending = Finished; steps = 6; printed = (pos 1 ∷ []) })
 unfolding computing eight rows file small test_in_arm_in_condition
 test_in_arm_in_condition_answers = (refl, refl, refl)
 
@@ -69,7 +68,7 @@ given_in_condition_and_else =
     (1 ∷ 1 ∷ 0 ∷ 10 ∷ []) ∷ (4 ∷ 0 ∷ 2 ∷ 0 ∷ 4 ∷ []) ∷ (5 ∷ 3 ∷ []) ∷ (5 ∷ []) ∷ (8 ∷ 5 ∷ 1 ∷ 1 ∷ []) ∷ (20 ∷ 9 ∷ 6 ∷ 0 ∷ 8 ∷ []) ∷
     (8 ∷ 7 ∷ 2 ∷ 5 ∷ []) ∷ (21 ∷ 0 ∷ 1 ∷ 1 ∷ []) ∷ (8 ∷ 0 ∷ 2 ∷ 6 ∷ []) ∷ (17 ∷ 0 ∷ 2 ∷ []) ∷ [])
 
-given_in_condition_and_else_answers : Answered given_in_condition_and_else (writes given_in_condition_and_else) Accepted (record { ending = Finished; steps = 6; printed = (pos 6 ∷ []) })
+given_in_condition_and_else_answers : Answered given_in_condition_and_else (writes given_in_condition_and_else) (Ok tt) (record { ending = Finished; steps = 6; printed = (pos 6 ∷ []) })
 unfolding computing eight rows file small given_in_condition_and_else
 given_in_condition_and_else_answers = (refl, refl, refl)
 
@@ -80,7 +79,7 @@ condition_value_in_else =
     (1 ∷ 1 ∷ 0 ∷ 9 ∷ []) ∷ (4 ∷ 0 ∷ 2 ∷ 0 ∷ 4 ∷ []) ∷ (5 ∷ 3 ∷ []) ∷ (5 ∷ []) ∷ (8 ∷ 5 ∷ 1 ∷ 1 ∷ []) ∷ (20 ∷ 0 ∷ 6 ∷ 0 ∷ 8 ∷ []) ∷
     (8 ∷ 7 ∷ 2 ∷ 5 ∷ []) ∷ (21 ∷ 0 ∷ 1 ∷ 1 ∷ []) ∷ (17 ∷ 0 ∷ 2 ∷ []) ∷ [])
 
-condition_value_in_else_answers : Answered condition_value_in_else (refuses Values) (Refused Values) (record { ending = RunRefused Values; steps = 0; printed = [] })
+condition_value_in_else_answers : Answered condition_value_in_else (refuses Values) (Err Values) (record { ending = Refused Values; steps = 0; printed = [] })
 unfolding computing eight rows file small condition_value_in_else
 condition_value_in_else_answers = (refl, refl, refl)
 
@@ -91,7 +90,7 @@ parts_end_differently =
     (1 ∷ 4 ∷ 1 ∷ 8 ∷ []) ∷ (2 ∷ 0 ∷ 2 ∷ []) ∷ (3 ∷ 3 ∷ []) ∷ (3 ∷ 0 ∷ 1 ∷ []) ∷ (4 ∷ 0 ∷ 0 ∷ 5 ∷ 6 ∷ []) ∷ (6 ∷ 0 ∷ 1 ∷ []) ∷
     (20 ∷ 0 ∷ 7 ∷ []) ∷ (18 ∷ 0 ∷ 1 ∷ []) ∷ [])
 
-parts_end_differently_answers : Answered parts_end_differently (refuses Annotated) (Refused Rules) (record { ending = RunRefused Rules; steps = 0; printed = [] })
+parts_end_differently_answers : Answered parts_end_differently (refuses Annotated) (Err Rules) (record { ending = Refused Rules; steps = 0; printed = [] })
 unfolding computing eight rows file small parts_end_differently
 parts_end_differently_answers = (refl, refl, refl)
 
@@ -113,11 +112,11 @@ else_only_region_annotated =
     (12 ∷ 0 ∷ 1 ∷ 16 ∷ []) ∷ (13 ∷ 18 ∷ 17 ∷ []) ∷ (19 ∷ 0 ∷ 1 ∷ []) ∷ (13 ∷ 0 ∷ 19 ∷ 1 ∷ 2 ∷ []) ∷ (19 ∷ 20 ∷ 1 ∷ []) ∷
     (17 ∷ 0 ∷ 2 ∷ []) ∷ [])
 
-else_only_region_answers : Answered else_only_region (writes else_only_region_annotated) (Refused Rules) (record { ending = RunRefused Rules; steps = 0; printed = [] })
+else_only_region_answers : Answered else_only_region (writes else_only_region_annotated) (Err Rules) (record { ending = Refused Rules; steps = 0; printed = [] })
 unfolding computing eight rows file small else_only_region else_only_region_annotated
 else_only_region_answers = (refl, refl, refl)
 
-else_only_region_annotated_answers : Answered else_only_region_annotated (refuses Annotated) Accepted (record { ending = Finished; steps = 9; printed = (pos 4 ∷ []) })
+else_only_region_annotated_answers : Answered else_only_region_annotated (refuses Annotated) (Ok tt) (record { ending = Finished; steps = 9; printed = (pos 4 ∷ []) })
 unfolding computing eight rows file small else_only_region_annotated
 else_only_region_annotated_answers = (refl, refl, refl)
 
@@ -128,7 +127,7 @@ remove_create_same_name_in_condition =
     (1 ∷ 4 ∷ 1 ∷ 11 ∷ []) ∷ (2 ∷ 0 ∷ 2 ∷ []) ∷ (3 ∷ 3 ∷ []) ∷ (3 ∷ 0 ∷ 1 ∷ []) ∷ (4 ∷ 0 ∷ 0 ∷ 5 ∷ 6 ∷ []) ∷ (6 ∷ 0 ∷ 1 ∷ []) ∷
     (18 ∷ 7 ∷ 1 ∷ []) ∷ (20 ∷ 10 ∷ 8 ∷ []) ∷ (19 ∷ 9 ∷ 1 ∷ []) ∷ (18 ∷ 0 ∷ 1 ∷ []) ∷ (19 ∷ 0 ∷ 1 ∷ []) ∷ [])
 
-remove_create_same_name_in_condition_answers : Answered remove_create_same_name_in_condition (refuses Annotated) Accepted (record { ending = Finished; steps = 5; printed = [] })
+remove_create_same_name_in_condition_answers : Answered remove_create_same_name_in_condition (refuses Annotated) (Ok tt) (record { ending = Finished; steps = 5; printed = [] })
 unfolding computing eight rows file small remove_create_same_name_in_condition
 remove_create_same_name_in_condition_answers = (refl, refl, refl)
 
@@ -147,7 +146,7 @@ numbers_come_back =
     (21 ∷ 0 ∷ 2 ∷ 2 ∷ []) ∷ (11 ∷ 15 ∷ 1 ∷ 1 ∷ 2 ∷ []) ∷ (19 ∷ 0 ∷ 1 ∷ []) ∷ [])
 
 numbers_come_back_answers :
-    Answered numbers_come_back (refuses Annotated) Accepted (record { ending = Finished; steps = 8; printed = [] })
+    Answered numbers_come_back (refuses Annotated) (Ok tt) (record { ending = Finished; steps = 8; printed = [] })
 unfolding computing eight rows file small numbers_come_back
 numbers_come_back_answers = (refl, refl, refl)
 
@@ -161,7 +160,7 @@ sound_in_else =
     (12 ∷ 0 ∷ 1 ∷ 16 ∷ []) ∷ (13 ∷ 18 ∷ 17 ∷ []) ∷ (19 ∷ 0 ∷ 1 ∷ []) ∷ (13 ∷ 0 ∷ 19 ∷ 1 ∷ 2 ∷ []) ∷ (17 ∷ 20 ∷ 2 ∷ []) ∷
     (19 ∷ 0 ∷ 1 ∷ []) ∷ [])
 
-sound_in_else_answers : Answered sound_in_else (refuses Annotated) Accepted (record { ending = Finished; steps = 9; printed = (pos 4 ∷ []) })
+sound_in_else_answers : Answered sound_in_else (refuses Annotated) (Ok tt) (record { ending = Finished; steps = 9; printed = (pos 4 ∷ []) })
 unfolding computing eight rows file small sound_in_else
 sound_in_else_answers = (refl, refl, refl)
 
@@ -173,7 +172,7 @@ remove_at_condition_end_then_create =
     (6 ∷ 0 ∷ 1 ∷ []) ∷ (18 ∷ 8 ∷ 1 ∷ []) ∷ (20 ∷ 0 ∷ 9 ∷ 10 ∷ 12 ∷ []) ∷ (19 ∷ 0 ∷ 1 ∷ []) ∷ (18 ∷ 11 ∷ 2 ∷ []) ∷
     (19 ∷ 0 ∷ 2 ∷ []) ∷ (19 ∷ 0 ∷ 1 ∷ []) ∷ [])
 
-remove_at_condition_end_then_create_answers : Answered remove_at_condition_end_then_create (refuses Annotated) Accepted (record { ending = Finished; steps = 5; printed = [] })
+remove_at_condition_end_then_create_answers : Answered remove_at_condition_end_then_create (refuses Annotated) (Ok tt) (record { ending = Finished; steps = 5; printed = [] })
 unfolding computing eight rows file small remove_at_condition_end_then_create
 remove_at_condition_end_then_create_answers = (refl, refl, refl)
 
@@ -190,7 +189,7 @@ remove_create_in_condition =
     (6 ∷ 0 ∷ 1 ∷ []) ∷ (18 ∷ 8 ∷ 1 ∷ []) ∷ (20 ∷ 0 ∷ 9 ∷ 11 ∷ 12 ∷ []) ∷ (19 ∷ 10 ∷ 1 ∷ []) ∷ (18 ∷ 0 ∷ 2 ∷ []) ∷
     (19 ∷ 0 ∷ 2 ∷ []) ∷ (19 ∷ 0 ∷ 1 ∷ []) ∷ [])
 
-remove_create_in_condition_answers : Answered remove_create_in_condition (refuses Annotated) Accepted (record { ending = Finished; steps = 5; printed = [] })
+remove_create_in_condition_answers : Answered remove_create_in_condition (refuses Annotated) (Ok tt) (record { ending = Finished; steps = 5; printed = [] })
 unfolding computing eight rows file small remove_create_in_condition
 remove_create_in_condition_answers = (refl, refl, refl)
 
@@ -209,7 +208,7 @@ cells_of_failed_condition =
     (18 ∷ 11 ∷ 1 ∷ []) ∷ (11 ∷ 12 ∷ 1 ∷ 1 ∷ 3 ∷ []) ∷ (20 ∷ 16 ∷ 13 ∷ 0 ∷ 15 ∷ []) ∷ (11 ∷ 14 ∷ 2 ∷ 1 ∷ 3 ∷ []) ∷
     (21 ∷ 0 ∷ 3 ∷ 3 ∷ []) ∷ (11 ∷ 0 ∷ 2 ∷ 1 ∷ 3 ∷ []) ∷ (19 ∷ 0 ∷ 1 ∷ []) ∷ [])
 
-cells_of_failed_condition_answers : Answered cells_of_failed_condition (refuses Annotated) Accepted (record { ending = Finished; steps = 8; printed = [] })
+cells_of_failed_condition_answers : Answered cells_of_failed_condition (refuses Annotated) (Ok tt) (record { ending = Finished; steps = 8; printed = [] })
 unfolding computing eight rows file small cells_of_failed_condition
 cells_of_failed_condition_answers = (refl, refl, refl)
 

@@ -1,24 +1,23 @@
 -- Further files with their answers, computed like the table's: the corner cases of docs/DECISIONS.md.
-use Rattle.std.specs.Prelude.{ℕ, List, [], ◌∷◌, ◌≡◌, refl, pos, negsuc}
+use Rattle.std.specs.Prelude.{ℕ, List, [], ◌∷◌, ◌≡◌, refl, pos, negsuc, Result, Ok, Err}
+use Rattle.language.specs.declared.Refusal.{Refusal}
 use Rattle.language.specs.declared.Refusal.TheVariants.{Form, Typing, Values, Regions, Annotated, Classes, Rules, Room}
-use Rattle.language.specs.declared.Verdict.{Verdict}
-use Rattle.language.specs.declared.Verdict.TheVariants.{Refused, Accepted}
 use Rattle.language.specs.declared.Stop.TheVariants.{Steps, Cells, Frames}
-use Rattle.language.specs.declared.Ending.TheVariants.{Refused as RunRefused, Finished, Stopped}
+use Rattle.language.specs.declared.Ending.TheVariants.{Refused, Finished, Stopped}
 use Rattle.language.specs.Machine.{Lent, Run, runner_lent, print_places}
 use Rattle.language.specs.Answers.{AnnotatorAnswer, annotated, refuses, writes, annotator_memory, annotator_bytes, checked, ran}
 use Rattle.language.specs.Computing.{computing}
 use Rattle.language.specs.Table.{eight, rows, file, lending, in_steps, no_cells, no_frames, silent}
 
 -- what the annotator, the checker and the runner answer to a file
-abbrev Answered : List ℕ → AnnotatorAnswer → Verdict → Run → Type 0
+abbrev Answered : List ℕ → AnnotatorAnswer → Result Unit Refusal → Run → Type 0
 Answered f a c r = (annotated f annotator_bytes ≡ a) × (checked f ≡ c) × (ran f runner_lent ≡ r)
 
 -- number 2: two procedures refer to one goal
 unfoldable referred_twice : List ℕ
 referred_twice = file ((1 ∷ 1 ∷ 0 ∷ 4 ∷ []) ∷ (4 ∷ 2 ∷ 0 ∷ 0 ∷ 3 ∷ []) ∷ (4 ∷ 0 ∷ 0 ∷ 0 ∷ 3 ∷ []) ∷ (17 ∷ 0 ∷ 1 ∷ []) ∷ [])
 
-referred_twice_answers : Answered referred_twice (refuses Form) (Refused Form) (silent (RunRefused Form) 0)
+referred_twice_answers : Answered referred_twice (refuses Form) (Err Form) (silent (Refused Form) 0)
 unfolding computing eight rows file silent referred_twice
 referred_twice_answers = (refl, refl, refl)
 
@@ -28,7 +27,7 @@ lowest_number =
     file (
     (1 ∷ 1 ∷ 0 ∷ 5 ∷ []) ∷ (4 ∷ 0 ∷ 2 ∷ 0 ∷ 3 ∷ []) ∷ (5 ∷ []) ∷ (17 ∷ 4 ∷ 1 ∷ []) ∷ (17 ∷ 0 ∷ 2 ∷ []) ∷ [])
 
-lowest_number_answers : Answered lowest_number (refuses Typing) (Refused Typing) (silent (RunRefused Typing) 0)
+lowest_number_answers : Answered lowest_number (refuses Typing) (Err Typing) (silent (Refused Typing) 0)
 unfolding computing eight rows file silent lowest_number
 lowest_number_answers = (refl, refl, refl)
 
@@ -39,7 +38,7 @@ some_path =
     (1 ∷ 1 ∷ 0 ∷ 8 ∷ []) ∷ (4 ∷ 0 ∷ 2 ∷ 0 ∷ 4 ∷ []) ∷ (5 ∷ 3 ∷ []) ∷ (5 ∷ []) ∷ (8 ∷ 5 ∷ 1 ∷ 1 ∷ []) ∷ (14 ∷ 7 ∷ 1 ∷ 1 ∷ 6 ∷ []) ∷
     (8 ∷ 0 ∷ 2 ∷ 2 ∷ []) ∷ (8 ∷ 0 ∷ 2 ∷ 3 ∷ []) ∷ [])
 
-some_path_answers : Answered some_path (refuses Values) (Refused Values) (silent (RunRefused Values) 0)
+some_path_answers : Answered some_path (refuses Values) (Err Values) (silent (Refused Values) 0)
 unfolding computing eight rows file silent some_path
 some_path_answers = (refl, refl, refl)
 
@@ -52,7 +51,7 @@ mapped_two_ways =
     (11 ∷ 11 ∷ 2 ∷ []) ∷ (15 ∷ 0 ∷ 1 ∷ 12 ∷ []) ∷ (16 ∷ 13 ∷ 1 ∷ []) ∷ (16 ∷ 0 ∷ 2 ∷ []) ∷ (4 ∷ 0 ∷ 15 ∷ 17 ∷ []) ∷
     (5 ∷ 16 ∷ 1 ∷ 1 ∷ 1 ∷ []) ∷ (5 ∷ 0 ∷ 1 ∷ 1 ∷ 1 ∷ []) ∷ (6 ∷ 0 ∷ 1 ∷ []) ∷ [])
 
-mapped_two_ways_answers : Answered mapped_two_ways (refuses Regions) (Refused Regions) (silent (RunRefused Regions) 0)
+mapped_two_ways_answers : Answered mapped_two_ways (refuses Regions) (Err Regions) (silent (Refused Regions) 0)
 unfolding computing eight rows file silent mapped_two_ways
 mapped_two_ways_answers = (refl, refl, refl)
 
@@ -63,7 +62,7 @@ local_class =
     (1 ∷ 4 ∷ 1 ∷ 10 ∷ []) ∷ (2 ∷ 0 ∷ 2 ∷ []) ∷ (3 ∷ 3 ∷ []) ∷ (3 ∷ 0 ∷ 1 ∷ []) ∷ (4 ∷ 0 ∷ 5 ∷ 6 ∷ 7 ∷ []) ∷
     (5 ∷ 0 ∷ 0 ∷ 1 ∷ 1 ∷ []) ∷ (6 ∷ 0 ∷ 1 ∷ 1 ∷ []) ∷ (18 ∷ 8 ∷ 1 ∷ []) ∷ (11 ∷ 9 ∷ 1 ∷ []) ∷ (19 ∷ 0 ∷ 1 ∷ []) ∷ [])
 
-local_class_answers : Answered local_class (refuses Annotated) (Refused Classes) (silent (RunRefused Classes) 0)
+local_class_answers : Answered local_class (refuses Annotated) (Err Classes) (silent (Refused Classes) 0)
 unfolding computing eight rows file silent local_class
 local_class_answers = (refl, refl, refl)
 
@@ -76,7 +75,7 @@ shared_image =
     (16 ∷ 0 ∷ 1 ∷ []) ∷ (4 ∷ 0 ∷ 12 ∷ 14 ∷ []) ∷ (5 ∷ 13 ∷ 1 ∷ 1 ∷ 1 ∷ []) ∷ (5 ∷ 0 ∷ 1 ∷ 1 ∷ 2 ∷ []) ∷ (6 ∷ 15 ∷ 1 ∷ 2 ∷ []) ∷
     (6 ∷ 0 ∷ 1 ∷ []) ∷ [])
 
-shared_image_answers : Answered shared_image (refuses Classes) (Refused Rules) (silent (RunRefused Rules) 0)
+shared_image_answers : Answered shared_image (refuses Classes) (Err Rules) (silent (Refused Rules) 0)
 unfolding computing eight rows file silent shared_image
 shared_image_answers = (refl, refl, refl)
 
@@ -88,7 +87,7 @@ created_again =
     (5 ∷ 6 ∷ 0 ∷ 1 ∷ 1 ∷ []) ∷ (5 ∷ []) ∷ (6 ∷ 0 ∷ 1 ∷ []) ∷ (18 ∷ 9 ∷ 1 ∷ []) ∷ (11 ∷ 10 ∷ 1 ∷ []) ∷ (19 ∷ 11 ∷ 1 ∷ []) ∷
     (18 ∷ 12 ∷ 1 ∷ []) ∷ (12 ∷ 15 ∷ 1 ∷ 13 ∷ []) ∷ (13 ∷ 14 ∷ []) ∷ (13 ∷ 0 ∷ 0 ∷ 1 ∷ 2 ∷ []) ∷ (19 ∷ 0 ∷ 1 ∷ []) ∷ [])
 
-created_again_answers : Answered created_again (refuses Annotated) (Refused Rules) (silent (RunRefused Rules) 0)
+created_again_answers : Answered created_again (refuses Annotated) (Err Rules) (silent (Refused Rules) 0)
 unfolding computing eight rows file silent created_again
 created_again_answers = (refl, refl, refl)
 
@@ -102,7 +101,7 @@ kept_image =
     (4 ∷ 22 ∷ 17 ∷ 18 ∷ 19 ∷ []) ∷ (5 ∷ 0 ∷ 1 ∷ 1 ∷ 1 ∷ []) ∷ (6 ∷ 0 ∷ 1 ∷ []) ∷ (15 ∷ 21 ∷ 2 ∷ 20 ∷ []) ∷ (16 ∷ 0 ∷ 1 ∷ []) ∷
     (18 ∷ 0 ∷ 1 ∷ []) ∷ (4 ∷ 0 ∷ 23 ∷ 24 ∷ 25 ∷ []) ∷ (5 ∷ 0 ∷ 1 ∷ 1 ∷ 1 ∷ []) ∷ (6 ∷ 0 ∷ 1 ∷ 2 ∷ []) ∷ (19 ∷ 0 ∷ 1 ∷ []) ∷ [])
 
-kept_image_answers : Answered kept_image (refuses Annotated) (Refused Rules) (silent (RunRefused Rules) 0)
+kept_image_answers : Answered kept_image (refuses Annotated) (Err Rules) (silent (Refused Rules) 0)
 unfolding computing eight rows file silent kept_image
 kept_image_answers = (refl, refl, refl)
 
@@ -116,7 +115,7 @@ removed_shared =
     (5 ∷ 15 ∷ 1 ∷ 1 ∷ 2 ∷ []) ∷ (5 ∷ []) ∷ (6 ∷ 17 ∷ 1 ∷ 2 ∷ []) ∷ (6 ∷ 0 ∷ 1 ∷ []) ∷ (19 ∷ 19 ∷ 1 ∷ []) ∷
     (12 ∷ 0 ∷ 2 ∷ 20 ∷ []) ∷ (13 ∷ 21 ∷ []) ∷ (13 ∷ 0 ∷ 0 ∷ 1 ∷ 3 ∷ []) ∷ [])
 
-removed_shared_answers : Answered removed_shared (refuses Annotated) (Refused Rules) (silent (RunRefused Rules) 0)
+removed_shared_answers : Answered removed_shared (refuses Annotated) (Err Rules) (silent (Refused Rules) 0)
 unfolding computing eight rows file silent removed_shared
 removed_shared_answers = (refl, refl, refl)
 
@@ -135,7 +134,7 @@ reach_held =
     (13 ∷ 0 ∷ 21 ∷ 1 ∷ 2 ∷ []) ∷ (19 ∷ 22 ∷ 1 ∷ []) ∷ (19 ∷ 0 ∷ 2 ∷ []) ∷ [])
 
 reach_held_answers :
-    (annotated reach_held annotator_bytes ≡ refuses Annotated) × (checked reach_held ≡ Accepted) × (ran reach_held (without_cells 6) ≡ silent Finished 6)
+    (annotated reach_held annotator_bytes ≡ refuses Annotated) × (checked reach_held ≡ Ok tt) × (ran reach_held (without_cells 6) ≡ silent Finished 6)
 unfolding computing eight rows file lending without_cells silent reach_held
 reach_held_answers = (refl, refl, refl)
 
@@ -145,7 +144,7 @@ recursion =
     file (
     (1 ∷ 1 ∷ 0 ∷ 3 ∷ []) ∷ (4 ∷ 0 ∷ 0 ∷ 0 ∷ 2 ∷ []) ∷ (15 ∷ []) ∷ [])
 
-recursion_answers : Answered recursion (writes recursion) Accepted (silent (Stopped Frames) 99)
+recursion_answers : Answered recursion (writes recursion) (Ok tt) (silent (Stopped Frames) 99)
 unfolding computing eight rows file silent recursion
 recursion_answers = (refl, refl, refl)
 
@@ -165,11 +164,11 @@ arms_share_annotated =
     (11 ∷ 12 ∷ 1 ∷ 0 ∷ 3 ∷ []) ∷ (12 ∷ 0 ∷ 1 ∷ 13 ∷ []) ∷ (13 ∷ 16 ∷ 14 ∷ 0 ∷ 2 ∷ []) ∷ (19 ∷ 15 ∷ 1 ∷ []) ∷ (17 ∷ 0 ∷ 2 ∷ []) ∷
     (13 ∷ 0 ∷ 17 ∷ 1 ∷ 2 ∷ []) ∷ (19 ∷ 0 ∷ 1 ∷ []) ∷ [])
 
-arms_share_answers : Answered arms_share (writes arms_share_annotated) (Refused Rules) (silent (RunRefused Rules) 0)
+arms_share_answers : Answered arms_share (writes arms_share_annotated) (Err Rules) (silent (Refused Rules) 0)
 unfolding computing eight rows file silent arms_share arms_share_annotated
 arms_share_answers = (refl, refl, refl)
 
-arms_share_annotated_answers : Answered arms_share_annotated (refuses Annotated) Accepted (record { ending = Finished; steps = 6; printed = pos 5 ∷ [] })
+arms_share_annotated_answers : Answered arms_share_annotated (refuses Annotated) (Ok tt) (record { ending = Finished; steps = 6; printed = pos 5 ∷ [] })
 unfolding computing eight rows file silent arms_share_annotated
 arms_share_annotated_answers = (refl, refl, refl)
 
@@ -190,11 +189,11 @@ kept_shared_annotated =
     (16 ∷ 11 ∷ 1 ∷ []) ∷ (16 ∷ 0 ∷ 1 ∷ []) ∷ (19 ∷ 0 ∷ 1 ∷ []) ∷ (4 ∷ 0 ∷ 14 ∷ 16 ∷ []) ∷ (5 ∷ 15 ∷ 1 ∷ 1 ∷ 1 ∷ []) ∷
     (5 ∷ 0 ∷ 1 ∷ 1 ∷ 2 ∷ []) ∷ (6 ∷ 17 ∷ 1 ∷ []) ∷ (6 ∷ 0 ∷ 1 ∷ []) ∷ [])
 
-kept_shared_answers : Answered kept_shared (writes kept_shared_annotated) (Refused Rules) (silent (RunRefused Rules) 0)
+kept_shared_answers : Answered kept_shared (writes kept_shared_annotated) (Err Rules) (silent (Refused Rules) 0)
 unfolding computing eight rows file silent kept_shared kept_shared_annotated
 kept_shared_answers = (refl, refl, refl)
 
-kept_shared_annotated_answers : Answered kept_shared_annotated (refuses Annotated) Accepted (silent Finished 4)
+kept_shared_annotated_answers : Answered kept_shared_annotated (refuses Annotated) (Ok tt) (silent Finished 4)
 unfolding computing eight rows file silent kept_shared_annotated
 kept_shared_annotated_answers = (refl, refl, refl)
 
@@ -220,13 +219,13 @@ unfoldable one_cell_twice : List ℕ
 one_cell_twice = with_cell 13 ((18 ∷ 10 ∷ 1 ∷ []) ∷ (11 ∷ 11 ∷ 1 ∷ 1 ∷ 2 ∷ []) ∷ (19 ∷ 12 ∷ 1 ∷ []) ∷ (19 ∷ 0 ∷ 1 ∷ []) ∷ [])
 
 one_cell_answers :
-    (annotated one_cell 192 ≡ writes one_cell_annotated) × (annotated one_cell 191 ≡ refuses Room) × (checked one_cell ≡ Refused Rules)
-    × (checked one_cell_early ≡ Refused Rules) × (checked one_cell_twice ≡ Refused Rules)
+    (annotated one_cell 192 ≡ writes one_cell_annotated) × (annotated one_cell 191 ≡ refuses Room) × (checked one_cell ≡ Err Rules)
+    × (checked one_cell_early ≡ Err Rules) × (checked one_cell_twice ≡ Err Rules)
 unfolding computing eight rows file with_cell one_cell one_cell_annotated one_cell_early one_cell_twice
 one_cell_answers = (refl, refl, refl, refl, refl)
 
 one_cell_annotated_answers :
-    Answered one_cell_annotated (refuses Annotated) Accepted (silent Finished 4) × (ran one_cell_annotated (in_steps 2) ≡ silent (Stopped Steps) 2)
+    Answered one_cell_annotated (refuses Annotated) (Ok tt) (silent Finished 4) × (ran one_cell_annotated (in_steps 2) ≡ silent (Stopped Steps) 2)
     × (ran one_cell_annotated no_cells ≡ silent (Stopped Cells) 2) × (ran one_cell_annotated no_frames ≡ silent (Stopped Frames) 0)
 unfolding computing eight rows file with_cell lending in_steps no_cells no_frames silent one_cell_annotated
 one_cell_annotated_answers = ((refl, refl, refl), refl, refl, refl)
@@ -244,11 +243,11 @@ mixed_constant_annotated =
     (1 ∷ 4 ∷ 1 ∷ 10 ∷ []) ∷ (2 ∷ 0 ∷ 2 ∷ []) ∷ (3 ∷ 3 ∷ []) ∷ (3 ∷ 0 ∷ 1 ∷ []) ∷ (4 ∷ 0 ∷ 5 ∷ 6 ∷ 7 ∷ []) ∷
     (5 ∷ 0 ∷ 0 ∷ 1 ∷ 1 ∷ []) ∷ (6 ∷ 0 ∷ 1 ∷ []) ∷ (18 ∷ 8 ∷ 1 ∷ []) ∷ (11 ∷ 9 ∷ 1 ∷ []) ∷ (19 ∷ 0 ∷ 1 ∷ []) ∷ [])
 
-mixed_constant_answers : Answered mixed_constant (writes mixed_constant_annotated) (Refused Rules) (silent (RunRefused Rules) 0)
+mixed_constant_answers : Answered mixed_constant (writes mixed_constant_annotated) (Err Rules) (silent (Refused Rules) 0)
 unfolding computing eight rows file silent mixed_constant mixed_constant_annotated
 mixed_constant_answers = (refl, refl, refl)
 
-mixed_constant_run : (checked mixed_constant_annotated ≡ Accepted) × (ran mixed_constant_annotated no_cells ≡ silent Finished 3)
+mixed_constant_run : (checked mixed_constant_annotated ≡ Ok tt) × (ran mixed_constant_annotated no_cells ≡ silent Finished 3)
 unfolding computing eight rows file silent lending no_cells mixed_constant_annotated
 mixed_constant_run = (refl, refl)
 
@@ -261,7 +260,7 @@ constants_switched =
     (17 ∷ 0 ∷ 2 ∷ []) ∷ [])
 
 constants_switched_answers :
-    (annotated constants_switched annotator_bytes ≡ writes constants_switched) × (checked constants_switched ≡ Accepted)
+    (annotated constants_switched annotator_bytes ≡ writes constants_switched) × (checked constants_switched ≡ Ok tt)
     × (ran constants_switched (without_cells 4) ≡ record { ending = Finished; steps = 4; printed = pos 7 ∷ [] })
 unfolding computing eight rows file lending without_cells constants_switched
 constants_switched_answers = (refl, refl, refl)
@@ -274,7 +273,7 @@ constant_inside =
     (4 ∷ 0 ∷ 7 ∷ 10 ∷ 11 ∷ []) ∷ (5 ∷ 8 ∷ 0 ∷ 1 ∷ 1 ∷ []) ∷ (5 ∷ 9 ∷ 0 ∷ 2 ∷ []) ∷ (5 ∷ []) ∷ (6 ∷ 0 ∷ 1 ∷ []) ∷
     (11 ∷ 12 ∷ 2 ∷ 1 ∷ []) ∷ (8 ∷ 13 ∷ 3 ∷ 7 ∷ []) ∷ (11 ∷ 0 ∷ 1 ∷ 0 ∷ 2 ∷ 3 ∷ []) ∷ [])
 
-constant_inside_typed : checked constant_inside ≡ Refused Rules
+constant_inside_typed : checked constant_inside ≡ Err Rules
 unfolding computing eight rows file constant_inside
 constant_inside_typed = refl
 
@@ -286,7 +285,7 @@ edge_to_constants =
     (7 ∷ 0 ∷ 0 ∷ 1 ∷ 2 ∷ []) ∷ (6 ∷ 0 ∷ 2 ∷ []) ∷ (11 ∷ 14 ∷ 2 ∷ 1 ∷ []) ∷ (8 ∷ 15 ∷ 3 ∷ 7 ∷ []) ∷
     (11 ∷ 0 ∷ 1 ∷ 0 ∷ 2 ∷ 3 ∷ []) ∷ [])
 
-edge_to_constants_answers : Answered edge_to_constants (refuses Typing) (Refused Typing) (silent (RunRefused Typing) 0)
+edge_to_constants_answers : Answered edge_to_constants (refuses Typing) (Err Typing) (silent (Refused Typing) 0)
 unfolding computing eight rows file silent edge_to_constants
 edge_to_constants_answers = (refl, refl, refl)
 

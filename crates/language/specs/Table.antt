@@ -1,12 +1,11 @@
 -- "Proved by hand-sized files": the cases of document 01, together as one theorem. "The table keeps its cases with the answers that now follow and
 -- gains the new U's" (C-14): U and A give a type of constants a region. "The last of the table cases" is a run that stops (C-15).
-use Rattle.std.specs.Prelude.{ℕ, zero, suc, List, [], ◌∷◌, ◌++◌, ◌≡◌, refl, ℤ, pos, negsuc, set}
+use Rattle.std.specs.Prelude.{ℕ, zero, suc, List, [], ◌∷◌, ◌++◌, ◌≡◌, refl, ℤ, pos, negsuc, set, Ok, Err}
 use Rattle.language.specs.declared.Refusal.{Refusal}
 use Rattle.language.specs.declared.Refusal.TheVariants.{Header, Form, Typing, Room}
-use Rattle.language.specs.declared.Verdict.TheVariants.{Refused, Accepted}
 use Rattle.language.specs.declared.Stop.TheVariants.{Steps, Frames, Sums}
 use Rattle.language.specs.declared.Ending.{Ending}
-use Rattle.language.specs.declared.Ending.TheVariants.{Refused as RunRefused, Finished, Stopped}
+use Rattle.language.specs.declared.Ending.TheVariants.{Refused, Finished, Stopped}
 use Rattle.language.specs.Layout.{bytes_of}
 use Rattle.language.specs.Machine.{Lent, Run, runner_lent}
 use Rattle.language.specs.Answers.{annotated, refuses, writes, annotator_bytes, checked, ran}
@@ -107,7 +106,7 @@ silent e n = record { ending = e; steps = n; printed = [] }
 
 -- the three programs' answers where they are one refusal
 abbrev pub AllRefuse : List ℕ → Refusal → Type 0
-AllRefuse f r = (annotated f annotator_bytes ≡ refuses r) × (checked f ≡ Refused r) × (ran f runner_lent ≡ silent (RunRefused r) 0)
+AllRefuse f r = (annotated f annotator_bytes ≡ refuses r) × (checked f ≡ Err r) × (ran f runner_lent ≡ silent (Refused r) 0)
 
 pub record Table : Type 0 where
   pub annotated_144 : annotated U 144 ≡ refuses Typing
@@ -116,18 +115,18 @@ pub record Table : Type 0 where
   pub unused_word : AllRefuse U5 Form
   pub past_arity : AllRefuse U6 Typing
   pub already_annotated : annotated A annotator_bytes ≡ refuses Typing
-  pub A-checked : checked A ≡ Refused Typing
-  pub U-checked : checked U ≡ Refused Typing
-  pub removed_early : checked early ≡ Refused Typing
-  pub removed_twice_law : checked twice ≡ Refused Typing
-  pub A-run : ran A runner_lent ≡ silent (RunRefused Typing) 0
+  pub A-checked : checked A ≡ Err Typing
+  pub U-checked : checked U ≡ Err Typing
+  pub removed_early : checked early ≡ Err Typing
+  pub removed_twice_law : checked twice ≡ Err Typing
+  pub A-run : ran A runner_lent ≡ silent (Refused Typing) 0
   pub A-lines : runner_output (ran A runner_lent) ≡ refused_word ++ (51 ∷ 10 ∷ [])
-  pub steps_spent : ran A (in_steps 2) ≡ silent (RunRefused Typing) 0
-  pub no_cell_law : ran A no_cells ≡ silent (RunRefused Typing) 0
-  pub no_frame_law : ran A no_frames ≡ silent (RunRefused Typing) 0
+  pub steps_spent : ran A (in_steps 2) ≡ silent (Refused Typing) 0
+  pub no_cell_law : ran A no_cells ≡ silent (Refused Typing) 0
+  pub no_frame_law : ran A no_frames ≡ silent (Refused Typing) 0
   pub new_u_96 : annotated new_u 96 ≡ writes new_u
   pub new_u_95 : annotated new_u 95 ≡ refuses Room
-  pub new_u_checked : checked new_u ≡ Accepted
+  pub new_u_checked : checked new_u ≡ Ok tt
   pub new_u_run : ran new_u runner_lent ≡ silent Finished 1
   pub new_u_lines : runner_output (ran new_u runner_lent) ≡ finished_word ++ (49 ∷ 10 ∷ [])
   pub new_u_no_steps : ran new_u (in_steps 0) ≡ silent (Stopped Steps) 0

@@ -1,7 +1,6 @@
 -- Files for number 17 (C-18) with their answers, computed like the table's.
-use Rattle.std.specs.Prelude.{ℕ, List, [], ◌∷◌, ◌++◌, ◌≡◌, refl}
+use Rattle.std.specs.Prelude.{ℕ, List, [], ◌∷◌, ◌++◌, ◌≡◌, refl, Ok}
 use Rattle.language.specs.declared.Refusal.TheVariants.{Regions, Unreached}
-use Rattle.language.specs.declared.Verdict.TheVariants.{Accepted}
 use Rattle.language.specs.declared.Ending.TheVariants.{Finished}
 use Rattle.language.specs.Machine.{runner_lent}
 use Rattle.language.specs.Answers.{annotated, writes, annotator_bytes, checked, ran}
@@ -11,7 +10,7 @@ use Rattle.language.specs.Table.{eight, rows, file, silent, AllRefuse}
 
 -- the annotator hands the file back, the checker accepts it, and it runs to its end in n steps
 abbrev Silent : List ℕ → ℕ → Type 0
-Silent f n = (annotated f annotator_bytes ≡ writes f) × (checked f ≡ Accepted) × (ran f runner_lent ≡ silent Finished n)
+Silent f n = (annotated f annotator_bytes ≡ writes f) × (checked f ≡ Ok tt) × (ran f runner_lent ≡ silent Finished n)
 
 -- a procedure that nothing calls, one that only itself calls, two that call each other
 unfoldable uncalled : List ℕ

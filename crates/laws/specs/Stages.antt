@@ -1,12 +1,10 @@
 -- A file passes a list of stages exactly if it passes each test, and is refused with the last one's number exactly if it passes all but that;
 -- the stages of every program by name, and number 17 behind them.
-use Rattle.std.specs.Prelude.{ℕ, Bool, true, false, List, [], ◌∷◌, ◌++◌, ◌≡◌, refl}
+use Rattle.std.specs.Prelude.{ℕ, Bool, true, false, List, [], ◌∷◌, ◌++◌, ◌≡◌, refl, Result, Ok, Err}
 use Rattle.std.proofs.lemmas.Bool.{false≢true}
 use Rattle.std.proofs.Common.{sym, ap}
 use Rattle.language.specs.declared.Refusal.{Refusal}
 use Rattle.language.specs.declared.Refusal.TheVariants.{Unreached}
-use Rattle.language.specs.declared.Verdict.{Verdict}
-use Rattle.language.specs.declared.Verdict.TheVariants.{Refused, Accepted}
 use Rattle.language.specs.File.{word, record_count, header_ok, form_ok}
 use Rattle.language.specs.Conditions.{conditions_ok}
 use Rattle.language.specs.Typing.{typing_ok}
@@ -20,28 +18,25 @@ abbrev pub Passed : List Stage → Type 0
 Passed [] = Unit {0}
 Passed (stage r b ∷ ss) = (b ≡ true) × Passed ss
 
-refused_not : (r : Refusal) → Refused r ≡ Accepted → ⊥
-refused_not r e = false≢true cc
-
-pub lowest_passed : (ss : List Stage) → lowest ss ≡ Accepted → Passed ss
+pub lowest_passed : (ss : List Stage) → lowest ss ≡ Ok tt → Passed ss
 unfolding lowest
 lowest_passed [] e = tt
 lowest_passed (stage r true ∷ ss) e = (refl, lowest_passed ss e)
-lowest_passed (stage r false ∷ ss) e = absurd (refused_not r e)
+lowest_passed (stage r false ∷ ss) e = absurd cc
 
-pub passed_lowest : (ss : List Stage) → Passed ss → lowest ss ≡ Accepted
+pub passed_lowest : (ss : List Stage) → Passed ss → lowest ss ≡ Ok tt
 unfolding lowest
 passed_lowest [] p = refl
 passed_lowest (stage r true ∷ ss) p = passed_lowest ss p.1
 passed_lowest (stage r false ∷ ss) p = absurd (false≢true p.0)
 
 -- ---- one stage among others: it is passed, and then the others decide
-pub middle_passed : (ss ts : List Stage) (r : Refusal) (b : Bool) → lowest (ss ++ (stage r b ∷ ts)) ≡ Accepted → b ≡ true
+pub middle_passed : (ss ts : List Stage) (r : Refusal) (b : Bool) → lowest (ss ++ (stage r b ∷ ts)) ≡ Ok tt → b ≡ true
 unfolding lowest
 middle_passed [] ts r true e = refl
-middle_passed [] ts r false e = absurd (refused_not r e)
+middle_passed [] ts r false e = absurd cc
 middle_passed (stage q true ∷ ss) ts r b e = middle_passed ss ts r b e
-middle_passed (stage q false ∷ ss) ts r b e = absurd (refused_not q e)
+middle_passed (stage q false ∷ ss) ts r b e = absurd cc
 
 pub lowest_without : (ss ts : List Stage) (r : Refusal) {b : Bool} → b ≡ true → lowest (ss ++ (stage r b ∷ ts)) ≡ lowest (ss ++ ts)
 unfolding lowest
@@ -54,14 +49,14 @@ abbrev pub Others : Refusal → List Stage → Type 0
 Others q [] = Unit {0}
 Others q (stage r b ∷ ss) = (r ≡ q → ⊥) × Others q ss
 
-pub refused_last : (q : Refusal) (b : Bool) (ss : List Stage) → Others q ss → lowest (ss ++ (stage q b ∷ [])) ≡ Refused q → Passed ss × (b ≡ false)
+pub refused_last : (q : Refusal) (b : Bool) (ss : List Stage) → Others q ss → lowest (ss ++ (stage q b ∷ [])) ≡ Err q → Passed ss × (b ≡ false)
 unfolding lowest
-refused_last q true [] o e = absurd (refused_not q (sym e))
+refused_last q true [] o e = absurd cc
 refused_last q false [] o e = (tt, refl)
 refused_last q b (stage r true ∷ ss) o e = let p = refused_last q b ss o.1 e in ((refl, p.0), p.1)
 refused_last q b (stage r false ∷ ss) o e = absurd (o.0 cc)
 
-pub last_refused : (q : Refusal) (b : Bool) (ss : List Stage) → Passed ss → b ≡ false → lowest (ss ++ (stage q b ∷ [])) ≡ Refused q
+pub last_refused : (q : Refusal) (b : Bool) (ss : List Stage) → Passed ss → b ≡ false → lowest (ss ++ (stage q b ∷ [])) ≡ Err q
 unfolding lowest
 last_refused q b [] p e = rw e
 last_refused q b (stage r true ∷ ss) p e = last_refused q b ss p.1 e
@@ -110,10 +105,10 @@ unfoldable bytes_in : AnnotatorAnswer → List ℕ
 bytes_in (refuses r) = []
 bytes_in (writes g) = g
 
-pub writes_passed : (v : Verdict) (h g : List ℕ) → writes_unless v h ≡ writes g → (v ≡ Accepted) × (h ≡ g)
+pub writes_passed : (v : Result Unit Refusal) (h g : List ℕ) → writes_unless v h ≡ writes g → (v ≡ Ok tt) × (h ≡ g)
 unfolding writes_unless bytes_in
-writes_passed (Refused r) h g e = absurd (no_answer e)
+writes_passed (Err r) h g e = absurd (no_answer e)
   where
     no_answer : refuses r ≡ writes g → ⊥
     no_answer z = false≢true cc
-writes_passed Accepted h g e = (refl, ap bytes_in e)
+writes_passed (Ok _) h g e = (refl, ap bytes_in e)

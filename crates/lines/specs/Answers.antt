@@ -1,14 +1,12 @@
 -- The lines of the answers, from their parts, and how long their numbers are.
-use Rattle.std.specs.Prelude.{ℕ, ◌+◌, ◌^◌, ◌≤◌, ◌<◌, List, [], ◌∷◌, ◌++◌, ◌≡◌, length}
+use Rattle.std.specs.Prelude.{ℕ, ◌+◌, ◌^◌, ◌≤◌, ◌<◌, List, [], ◌∷◌, ◌++◌, ◌≡◌, length, Result, Ok, Err}
 use Rattle.std.proofs.Common.{append_assoc, ap, sym, subst, ◌∙◌, arith, length-append}
 use Rattle.language.specs.declared.Refusal.{Refusal}
 use Rattle.language.specs.declared.Refusal.TheVariants.{Header, Form, Typing, Values, Regions, Unreached, Annotated, Classes, Rules, Room}
-use Rattle.language.specs.declared.Verdict.{Verdict}
-use Rattle.language.specs.declared.Verdict.TheVariants.{Refused, Accepted}
 use Rattle.language.specs.declared.Stop.{Stop}
 use Rattle.language.specs.declared.Stop.TheVariants.{Steps, Cells, Places, Frames, Prints, Sums}
 use Rattle.language.specs.declared.Ending.{Ending}
-use Rattle.language.specs.declared.Ending.TheVariants.{Refused as RunRefused, Finished, Stopped}
+use Rattle.language.specs.declared.Ending.TheVariants.{Refused, Finished, Stopped}
 use Rattle.language.specs.Answers.{refusal_number, stop_number}
 use Rattle.language.specs.Output.{decimal, refused_word, accepted_word, finished_word, stopped_word, line, refusal_line, checker_output, ending_line}
 use Rattle.lines.specs.Widths.{refusal_bytes, decimal_bytes, ending_bytes}
@@ -66,18 +64,18 @@ unfolding refusal_line line
 refusal_length r = omega (arith, refusal_digits r, length-append (decimal (refusal_number r)) (10 ∷ []))
 
 -- the checker's two answers
-pub front_refused : {b m : List ℕ} {k : ℕ} (a : Verdict) (r : Refusal) → a ≡ Refused r → refusal_bytes ≤ length b → Put b 0 (refusal_line r) m k
+pub front_refused : {b m : List ℕ} {k : ℕ} (a : Result Unit Refusal) (r : Refusal) → a ≡ Err r → refusal_bytes ≤ length b → Put b 0 (refusal_line r) m k
     → Front (checker_output a) b m k
 unfolding checker_output
 front_refused a r e l p = rw e (put_front p (omega (arith, refusal_length r)))
 
-pub front_accepted : {b m : List ℕ} {k : ℕ} (a : Verdict) → a ≡ Accepted → refusal_bytes ≤ length b → Put b 0 (accepted_word ++ (10 ∷ [])) m k
+pub front_accepted : {b m : List ℕ} {k : ℕ} (a : Result Unit Refusal) → a ≡ Ok tt → refusal_bytes ≤ length b → Put b 0 (accepted_word ++ (10 ∷ [])) m k
     → Front (checker_output a) b m k
 unfolding checker_output line
 front_accepted a e l p = rw e (put_front p (omega arith))
 
 -- the runner's three endings
-pub end_refused : {b m : List ℕ} {at k : ℕ} (a : Ending) (r : Refusal) (n : ℕ) → a ≡ RunRefused r → Put b at (refusal_line r) m k
+pub end_refused : {b m : List ℕ} {at k : ℕ} (a : Ending) (r : Refusal) (n : ℕ) → a ≡ Refused r → Put b at (refusal_line r) m k
     → Put b at (ending_line a n) m k
 unfolding ending_line
 end_refused a r n e p = rw e p
@@ -93,7 +91,7 @@ end_stopped a c n e p = rw e p
 
 pub ending_length : (a : Ending) (n : ℕ) → n < 2 ^ 64 → length (ending_line a n) ≤ ending_bytes
 unfolding ending_line line
-ending_length (RunRefused r) n l = omega (arith, refusal_length r)
+ending_length (Refused r) n l = omega (arith, refusal_length r)
 ending_length Finished n l = omega (arith, word_digits n l, length-append (decimal n) (10 ∷ []))
 ending_length (Stopped c) n l =
     omega (

@@ -1,6 +1,6 @@
 -- Bytes put into lent memory, one text after another.
-use Rattle.std.specs.Prelude.{ℕ, suc, ◌+◌, ◌≤◌, ◌<◌, List, [], ◌∷◌, ◌++◌, ◌≡◌, refl, length, set, get_or, take, drop}
-use Rattle.std.proofs.Common.{ap, sym, ◌∙◌, arith, add-one, length-append, take-suc, take_all, take_at}
+use Rattle.std.specs.Prelude.{ℕ, suc, ◌+◌, ◌≤◌, ◌<◌, List, [], ◌∷◌, ◌++◌, ◌≡◌, refl, length, set, take, drop}
+use Rattle.std.proofs.Common.{ap, sym, ◌∙◌, arith, append_assoc, length-append, take_at}
 use Rattle.std.proofs.lemmas.List.Edits.{sets, sets-eq}
 use Rattle.std.proofs.Math.Seq.{length-sets}
 use Rattle.language.specs.Lists.{front_written}
@@ -30,16 +30,12 @@ put_then {b} {m} {e} {s} {t} {at} {k} p q = record {
 pub put_length : {b m s : List ℕ} {at k : ℕ} → Put b at s m k → length m ≡ length b
 put_length {b} {m} {s} {at} p = ap length p.bytes ∙ length-sets b at s
 
--- one byte more of a text
-pub put_more : (t b m : List ℕ) (at i : ℕ) → i < length t → Put b at (take i t) m (at + i)
-    → Put b at (take (i + 1) t) (set m (at + i) (get_or t i 0)) (at + (i + 1))
-put_more t b m at i l p =
-    let e : take (i + 1) t ≡ take i t ++ (get_or t i 0 ∷ []) = ap (λ k. take k t) (add-one i) ∙ take-suc t i 0 l in
-    let k : at + (i + 1) ≡ suc (at + i) = omega arith in
-    rw (e, k) (put_then p (put_one m (at + i) (get_or t i 0)))
-
-pub put_all : (t b m : List ℕ) (at i : ℕ) → length t ≤ i → Put b at (take i t) m (at + i) → Put b at t m (at + i)
-put_all t b m at i l p = rw (take_all i t l) at p
+-- a text in its place, what was before it and behind it as it was
+pub put_copied : (b s : List ℕ) {m : List ℕ} (at : ℕ) → at + length s ≤ length b → m ≡ take at b ++ (s ++ drop (at + length s) b) → Put b at s m (at + length s)
+put_copied b s at l e = record {
+  bytes = e ∙ sym (append_assoc (take at b) s (drop (at + length s) b)) ∙ sym (sets-eq s b at l);
+  behind = refl;
+}
 
 -- `s` stands at the front of a lent memory: its first `count` bytes; the rest is as it was
 pub record Front (s before after : List ℕ) (count : ℕ) : Type 0 where

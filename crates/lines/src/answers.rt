@@ -3,7 +3,6 @@ ghost use Rattle.std.specs.Prelude.{◌+◌, ◌*◌, ◌≤◌, ◌++◌, map, 
 ghost use Rattle.std.specs.Int.{w32};
 ghost use Rattle.std.proofs.Common.{to_z};
 ghost use Rattle.language.specs.declared.Ending.TheVariants.{Stopped};
-ghost use Rattle.language.specs.Answers.{refusal_number, stop_number};
 ghost use Rattle.language.specs.Output.{decimal, signed_decimal, line, number_lines, refusal_line, checker_output, ending_line};
 ghost use Rattle.lines.specs.Widths.{refusal_bytes, number_bytes, ending_bytes};
 ghost use Rattle.lines.specs.Put.{Put, Front};
@@ -11,38 +10,7 @@ ghost use Rattle.lines.specs.Put.{Put, Front};
 use crate::REFUSAL_BYTES;
 use crate::numbers::{put_decimal, put_signed};
 use crate::text::put_text;
-use language::{Ending, Refusal, Stop, Verdict};
-
-// The table's numbers.
-pub fn refusal_number(r: Refusal) -> u64
-    ensures { result ≡ refusal_number r }
-{
-    match r {
-        Refusal::Header => 1,
-        Refusal::Form => 2,
-        Refusal::Typing => 3,
-        Refusal::Values => 4,
-        Refusal::Regions => 5,
-        Refusal::Unreached => 17,
-        Refusal::Annotated => 6,
-        Refusal::Classes => 7,
-        Refusal::Rules => 8,
-        Refusal::Room => 9,
-    }
-}
-
-pub fn stop_number(c: Stop) -> u64
-    ensures { result ≡ stop_number c }
-{
-    match c {
-        Stop::Steps => 10,
-        Stop::Cells => 11,
-        Stop::Places => 12,
-        Stop::Frames => 13,
-        Stop::Prints => 14,
-        Stop::Sums => 15,
-    }
-}
+use language::{Ending, Refusal, Stop};
 
 // A line of a word and a number.
 fn put_line(out: &mut [u8], at: usize, word: &[u8], n: u64) -> usize
@@ -59,17 +27,17 @@ pub fn put_refusal(out: &mut [u8], at: usize, r: Refusal) -> usize
     requires { at + refusal_bytes ≤ length out.old }
     ensures { Put out.old at (refusal_line r) out.new result }
 {
-    put_line(out, at, b"refused ", refusal_number(r))
+    put_line(out, at, b"refused ", u64::from(r))
 }
 
 // All that the checker prints, at the front of `out`. Answers how many bytes that are.
-pub fn checker_output(answer: Verdict, out: &mut [u8; REFUSAL_BYTES]) -> usize
+pub fn checker_output(answer: Result<(), Refusal>, out: &mut [u8; REFUSAL_BYTES]) -> usize
     ensures { Front (checker_output answer) out.old out.new result }
 {
-    let Verdict::Refused(r) = answer else {
-        return put_text(out, 0, b"accepted\n");
-    };
-    put_refusal(out, 0, r)
+    match answer {
+        Ok(()) => put_text(out, 0, b"accepted\n"),
+        Err(r) => put_refusal(out, 0, r),
+    }
 }
 
 // The last line of the runner.
@@ -89,7 +57,7 @@ fn put_stop(out: &mut [u8], at: usize, c: Stop, steps: u64) -> usize
     ensures { Put out.old at (ending_line (Stopped c) steps) out.new result }
 {
     let number = put_text(out, at, b"stopped ");
-    let space = put_decimal(out, number, stop_number(c));
+    let space = put_decimal(out, number, u64::from(c));
     put_line(out, space, b" ", steps)
 }
 
@@ -100,10 +68,8 @@ pub fn put_numbers(out: &mut [u8], at: usize, words: &[u32]) -> usize
     ensures upper_bound { result ≤ at + number_bytes * length words.now }
 {
     let mut end = at;
-    let mut i = 0;
-    while i < words.len() {
-        end = put_number(out, end, words[i]);
-        i += 1;
+    for word in words {
+        end = put_number(out, end, *word);
     }
     end
 }

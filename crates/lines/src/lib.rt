@@ -5,10 +5,7 @@ mod answers;
 mod numbers;
 mod text;
 
-pub use answers::{
-    checker_output, put_ending, put_numbers, put_refusal, refusal_number, runner_output,
-    stop_number,
-};
+pub use answers::{checker_output, put_ending, put_numbers, put_refusal, runner_output};
 pub use numbers::{put_decimal, put_signed};
 pub use text::put_text;
 

@@ -1,12 +1,11 @@
 -- What a run in lent words promises, in document 01's terms: for every accepted file, with tables that are right, it ends as the definition's run does,
 -- after as many steps, with the same numbers printed; the words behind those are as they were.
-use Rattle.std.specs.Prelude.{ℕ, ◌≤◌, ◌≡◌, List, map, length}
+use Rattle.std.specs.Prelude.{ℕ, ◌≤◌, ◌≡◌, List, map, length, Result, Ok, Err}
 use native.Mathlib.Omega.{arith}
 use Rattle.std.proofs.Math.Path.{refl}
 use Rattle.std.proofs.Common.{ap, ◌∙◌, to_z}
 use Rattle.std.specs.Int.{w32}
-use Rattle.language.specs.declared.Verdict.{Verdict}
-use Rattle.language.specs.declared.Verdict.TheVariants.{Refused, Accepted}
+use Rattle.language.specs.declared.Refusal.{Refusal}
 use Rattle.language.specs.Numbers.{residue}
 use Rattle.language.specs.Machine.{print_places}
 use Rattle.language.specs.Answers.{ending_number, checked, run_for, ran}
@@ -25,7 +24,7 @@ pub record RanAs (f m rs fw ps : List ℕ) (l : ℕ) (r : Outcome) (px : List �
   pub printed : r.printed ≡ length (ran f (lent_words m rs fw ps l)).printed
   pub places : px ≡ print_places (ran f (lent_words m rs fw ps l)) ps
 
-pub ran_as_defined : (f : List ℕ) → checked f ≡ Accepted → (T : Tables) → Tabled f T → (m rs fw ps : List ℕ) (l : ℕ) (r : Outcome) (m₁ rs₁ fw₁ ps₁ : List ℕ)
+pub ran_as_defined : (f : List ℕ) → checked f ≡ Ok tt → (T : Tables) → Tabled f T → (m rs fw ps : List ℕ) (l : ℕ) (r : Outcome) (m₁ rs₁ fw₁ ps₁ : List ℕ)
     → Ran (word_run f T m rs fw ps l) r m₁ rs₁ fw₁ ps₁ → RanAs f m rs fw ps l r ps₁
 unfolding print_places
 ran_as_defined f a T t m rs fw ps l r m₁ rs₁ fw₁ ps₁ R =
@@ -35,12 +34,12 @@ ran_as_defined f a T t m rs fw ps l r m₁ rs₁ fw₁ ps₁ R =
 
 -- ---- the numbers printed fit the words lent for them, and each is read back from its word
 module _ (f m rs fw ps : List ℕ) (l : ℕ) where
-  fit_and_read : (v : Verdict) → checked f ≡ v
+  fit_and_read : (v : Result Unit Refusal) → checked f ≡ v
       → (length (ran f (lent_words m rs fw ps l)).printed ≤ length ps)
       × (map (to_z w32) (map residue (ran f (lent_words m rs fw ps l)).printed) ≡ (ran f (lent_words m rs fw ps l)).printed)
   unfolding ran run_for
-  fit_and_read (Refused q) e = rw e (omega arith, refl)
-  fit_and_read Accepted e = let g = (joined_filled f e m rs fw ps l).printed in (rw (← g.count) g.room, g.read)
+  fit_and_read (Err q) e = rw e (omega arith, refl)
+  fit_and_read (Ok _) e = let g = (joined_filled f e m rs fw ps l).printed in (rw (← g.count) g.room, g.read)
 
   pub as_printed : {r : Outcome} {px : List ℕ} → RanAs f m rs fw ps l r px → Printed ps px r.printed (ran f (lent_words m rs fw ps l)).printed
   unfolding print_places

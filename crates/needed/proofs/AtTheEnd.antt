@@ -1,5 +1,5 @@
 -- Two parts of "At the end: born and kept regions held" follow from the other rules: a file that passes without one of them passes with it.
-use Rattle.std.specs.Prelude.{ℕ, false, List, ◌∷◌, ◌≡◌, refl, eqb, ltb, []}
+use Rattle.std.specs.Prelude.{ℕ, false, List, ◌∷◌, ◌≡◌, refl, eqb, ltb, [], Ok}
 use Rattle.std.proofs.Math.Bool.{true}
 use Rattle.std.proofs.Common.{⊎_elim, sym, ap, ◌∙◌, eqb-true}
 use Rattle.sets.specs.Tests.{◌or◌, and_true, truth, clash}
@@ -7,7 +7,6 @@ use Rattle.sets.specs.Sets.{member, subset, apart, union_right, difference_in, s
 use Rattle.sets.specs.SetLaws.{apart_in, apart_sym, union_subset, union_comm}
 use Rattle.sets.specs.MemberLaws.{union_over_in, union_over_mk}
 use Rattle.sets.specs.declared.Set.{Set}
-use Rattle.language.specs.declared.Verdict.TheVariants.{Accepted}
 use Rattle.language.specs.Lists.{choose}
 use Rattle.language.specs.Program.{Step, Goals, Signature, Program}
 use Rattle.language.specs.Values.{ins_of, outs_of}
@@ -98,13 +97,13 @@ module _ (P : Program) (S : Signature) where
 
 -- ---- and so for files
 -- "At the end: .. kept regions held" follows from the other rules
-pub end_kept_follows : (f : List ℕ) → checked_without (end_kept ∷ []) f ≡ Accepted → checked f ≡ Accepted
+pub end_kept_follows : (f : List ℕ) → checked_without (end_kept ∷ []) f ≡ Ok tt → checked f ≡ Ok tt
 unfolding checked_without checked checker_stages rules_without rules_ok procedure_without procedure_rules declared_classes_ok
 end_kept_follows f e =
     last_test (reached_stages f) _ _ _ (all_from _ _ _ (λ p o k. procedure_kept (program f) p.signature p.body k) (program f).procedures) e
 
 -- "At the end: born .. regions held" follows from the other rules
-pub end_born_follows : (f : List ℕ) → checked_without (end_born ∷ []) f ≡ Accepted → checked f ≡ Accepted
+pub end_born_follows : (f : List ℕ) → checked_without (end_born ∷ []) f ≡ Ok tt → checked f ≡ Ok tt
 unfolding checked_without checked checker_stages rules_without rules_ok procedure_without procedure_rules declared_classes_ok
 end_born_follows f e =
     last_test (reached_stages f) _ _ _ (all_from _ _ _ (λ p o k. procedure_born (program f) p.signature o p.body k) (program f).procedures) e

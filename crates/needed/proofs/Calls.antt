@@ -1,6 +1,5 @@
 -- Each rule about a call is needed, but for "images of dead regions are held", which stands in `Implied`.
-use Rattle.std.specs.Prelude.{ℕ, List, ◌∷◌, ◌≡◌, refl, []}
-use Rattle.language.specs.declared.Verdict.TheVariants.{Accepted}
+use Rattle.std.specs.Prelude.{ℕ, List, ◌∷◌, ◌≡◌, refl, [], Ok}
 use Rattle.language.specs.Answers.{checked}
 use Rattle.language.specs.Table.{file}
 use Rattle.needed.specs.Without.{kept_held, dead_not_kept, born_not_held, dead_unshared, born_unshared, dead_gone, dead_unsound, born_then_held}
@@ -162,6 +161,6 @@ first_call =
     (16 ∷ 0 ∷ 1 ∷ []) ∷ (19 ∷ 0 ∷ 1 ∷ []) ∷ (4 ∷ 0 ∷ 11 ∷ 13 ∷ 14 ∷ []) ∷ (5 ∷ 12 ∷ 2 ∷ 1 ∷ 1 ∷ []) ∷ (5 ∷ []) ∷
     (6 ∷ 0 ∷ 1 ∷ 1 ∷ []) ∷ (18 ∷ 15 ∷ 1 ∷ []) ∷ (8 ∷ 16 ∷ 2 ∷ 1 ∷ []) ∷ (11 ∷ 0 ∷ 1 ∷ 0 ∷ 2 ∷ []) ∷ [])
 
-pub first_call_accepted : checked first_call ≡ Accepted
+pub first_call_accepted : checked first_call ≡ Ok tt
 unfolding computing first_call
 first_call_accepted = refl

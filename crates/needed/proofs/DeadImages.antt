@@ -1,5 +1,5 @@
 -- "Call: images of dead .. regions are held" follows from the other rules: such an image is in the reach of an in argument, which is sound.
-use Rattle.std.specs.Prelude.{ℕ, ◌≤◌, Bool, true, false, List, ◌∷◌, ◌≡◌, []}
+use Rattle.std.specs.Prelude.{ℕ, ◌≤◌, Bool, true, false, List, ◌∷◌, ◌≡◌, [], Ok}
 use Rattle.std.proofs.Common.{⊎_elim, sym, ap, ◌∙◌, arith}
 use Rattle.std.proofs.Math.Path.{refl}
 use Rattle.sets.specs.Tests.{◌&◌, ◌or◌, and_true, true_and, clash, same_truth}
@@ -8,7 +8,6 @@ use Rattle.sets.specs.SetLaws.{apart_in, small_top}
 use Rattle.sets.specs.Members.{image}
 use Rattle.sets.specs.MemberLaws.{union_over_mk, image_in_law, image_mk, small_image}
 use Rattle.sets.specs.declared.Set.{Set}
-use Rattle.language.specs.declared.Verdict.TheVariants.{Accepted}
 use Rattle.language.specs.Lists.{all, choose}
 use Rattle.language.specs.Program.{Functor, Step, literal, sum, assign, construct, call, print, create, remove, test, Goals, Signature, Procedure, Program, signature_of}
 use Rattle.language.specs.Values.{ins_of, reads, accessing, access}
@@ -129,6 +128,6 @@ rules_dead P t d e =
     (λ p o k. sym (procedure_dead P t d p (and_true o).0 (and_true o).1) ∙ k) P.procedures
     (all_from (procedure_ok P) (λ p. classes_ok p.signature) _ (λ p a b. true_and a b) P.procedures (and_true (and_true t).1).1 (classes_all P d)) e
 
-pub dead_held_follows : (f : List ℕ) → checked_without (dead_held ∷ []) f ≡ Accepted → checked f ≡ Accepted
+pub dead_held_follows : (f : List ℕ) → checked_without (dead_held ∷ []) f ≡ Ok tt → checked f ≡ Ok tt
 unfolding checked_without checked checker_stages
 dead_held_follows f e = last_test (reached_stages f) _ _ _ (λ d k. rules_dead (program f) (typed f _ e) d k) e

@@ -1,13 +1,12 @@
 -- What goes wrong in the run of a file that breaks a rule, were it allowed: a goal that is not allowed, at which the run stays for good, or an end
 -- with a region still alive. And what is shown of each file.
-use Rattle.std.specs.Prelude.{ℕ, ◌+◌, Bool, true, false, ◌≡◌}
+use Rattle.std.specs.Prelude.{ℕ, ◌+◌, Bool, true, false, ◌≡◌, Ok, Err}
 use mathlib.Core.List.{List, ◌∷◌, []}
 use Rattle.std.proofs.Math.Path.{refl, sym, ap}
 use Rattle.std.proofs.Common.{◌∙◌}
 use native.Mathlib.Omega.{arith}
 use Rattle.sets.specs.Tests.{neg, neg_true, clash}
 use Rattle.language.specs.declared.Refusal.TheVariants.{Rules}
-use Rattle.language.specs.declared.Verdict.TheVariants.{Refused, Accepted}
 use Rattle.language.specs.Lists.{all, up_from}
 use Rattle.language.specs.Program.{Goals, done, ◌then◌, Program}
 use Rattle.language.specs.AcceptedRun.{RegionFrame, Memory, State, allowed, step_from, step_of, steps}
@@ -86,6 +85,6 @@ pub record Clean (f : List ℕ) (n : ℕ) : Type 0 where
 -- a file that the checker refuses for the rules rs alone, and whose run goes wrong
 pub record Needed (rs : List Rule) : Type 0 where
   pub bytes : List ℕ
-  pub refused : checked bytes ≡ Refused Rules
-  pub accepted : checked_without rs bytes ≡ Accepted
+  pub refused : checked bytes ≡ Err Rules
+  pub accepted : checked_without rs bytes ≡ Ok tt
   pub wrong : Fault bytes

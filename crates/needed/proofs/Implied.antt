@@ -1,7 +1,6 @@
 -- The rules that no run needs by itself, each with the rule that must be left out with it before a run goes wrong.
-use Rattle.std.specs.Prelude.{ℕ, List, ◌∷◌, ◌≡◌, refl, []}
+use Rattle.std.specs.Prelude.{ℕ, List, ◌∷◌, ◌≡◌, refl, [], Ok, Err}
 use Rattle.language.specs.declared.Refusal.TheVariants.{Rules}
-use Rattle.language.specs.declared.Verdict.TheVariants.{Refused, Accepted}
 use Rattle.language.specs.Answers.{checked}
 use Rattle.language.specs.Table.{file}
 use Rattle.needed.specs.Without.{remove_not_kept, dead_held, reach_held, end_born, end_kept, checked_without}
@@ -25,7 +24,7 @@ unfolding computing kept_gone
 kept_gone_needs = record { bytes = kept_gone; refused = refl; accepted = refl; wrong = stays 5 refl }
 
 -- each of the two refuses it
-pub kept_gone_twice : (checked_without (end_kept ∷ []) kept_gone ≡ Refused Rules) × (checked_without (remove_not_kept ∷ []) kept_gone ≡ Refused Rules)
+pub kept_gone_twice : (checked_without (end_kept ∷ []) kept_gone ≡ Err Rules) × (checked_without (remove_not_kept ∷ []) kept_gone ≡ Err Rules)
 unfolding computing kept_gone
 kept_gone_twice = (refl, refl)
 
@@ -48,7 +47,7 @@ unfolding computing born_missing
 born_missing_needs = record { bytes = born_missing; refused = refl; accepted = refl; wrong = stays 4 refl }
 
 -- each of the two refuses it
-pub born_missing_twice : (checked_without (end_born ∷ []) born_missing ≡ Refused Rules) × (checked_without (reach_held ∷ []) born_missing ≡ Refused Rules)
+pub born_missing_twice : (checked_without (end_born ∷ []) born_missing ≡ Err Rules) × (checked_without (reach_held ∷ []) born_missing ≡ Err Rules)
 unfolding computing born_missing
 born_missing_twice = (refl, refl)
 
@@ -72,7 +71,7 @@ unfolding computing dead_missing
 dead_missing_needs = record { bytes = dead_missing; refused = refl; accepted = refl; wrong = stays 3 refl }
 
 -- each of the two refuses it
-pub dead_missing_twice : (checked_without (dead_held ∷ []) dead_missing ≡ Refused Rules) × (checked_without (reach_held ∷ []) dead_missing ≡ Refused Rules)
+pub dead_missing_twice : (checked_without (dead_held ∷ []) dead_missing ≡ Err Rules) × (checked_without (reach_held ∷ []) dead_missing ≡ Err Rules)
 unfolding computing dead_missing
 dead_missing_twice = (refl, refl)
 
@@ -89,6 +88,6 @@ reach_missing =
     (6 ∷ 0 ∷ 1 ∷ 0 ∷ 10 ∷ []) ∷ (7 ∷ 0 ∷ 1 ∷ 1 ∷ 2 ∷ []) ∷ (18 ∷ 12 ∷ 1 ∷ []) ∷ (11 ∷ 13 ∷ 1 ∷ []) ∷
     (12 ∷ 16 ∷ 1 ∷ 14 ∷ []) ∷ (13 ∷ 15 ∷ []) ∷ (13 ∷ 0 ∷ 0 ∷ 1 ∷ 2 ∷ []) ∷ (19 ∷ 0 ∷ 1 ∷ []) ∷ [])
 
-pub reach_missing_runs : (checked reach_missing ≡ Refused Rules) × (checked_without (reach_held ∷ []) reach_missing ≡ Accepted) × Clean reach_missing 4
+pub reach_missing_runs : (checked reach_missing ≡ Err Rules) × (checked_without (reach_held ∷ []) reach_missing ≡ Ok tt) × Clean reach_missing 4
 unfolding computing reach_missing
 reach_missing_runs = (refl, refl, record { ended = refl; removed = refl })

@@ -1,8 +1,7 @@
 -- From procedures to files: where a rule follows from the others for each procedure, a file that passes without it passes.
-use Rattle.std.specs.Prelude.{Bool, true, false, List, ◌∷◌, ◌++◌, ◌≡◌, refl, ℕ, []}
+use Rattle.std.specs.Prelude.{Bool, true, false, List, ◌∷◌, ◌++◌, ◌≡◌, refl, ℕ, [], Ok}
 use Rattle.sets.specs.Tests.{and_true, true_and}
 use Rattle.language.specs.declared.Refusal.TheVariants.{Classes, Rules}
-use Rattle.language.specs.declared.Verdict.TheVariants.{Accepted}
 use Rattle.language.specs.Lists.{all}
 use Rattle.language.specs.Program.{Procedure}
 use Rattle.language.specs.Typing.{typing_ok}
@@ -18,7 +17,7 @@ all_from c p q f (x ∷ xs) a b =
 
 -- a file that passes with `less` for its last test passes with `more`, if that follows from number 7 and `less`
 pub last_test : (ss : List Stage) (d less more : Bool) → (d ≡ true → less ≡ true → more ≡ true)
-    → lowest (ss ++ (stage Classes d ∷ stage Rules less ∷ [])) ≡ Accepted → lowest (ss ++ (stage Classes d ∷ stage Rules more ∷ [])) ≡ Accepted
+    → lowest (ss ++ (stage Classes d ∷ stage Rules less ∷ [])) ≡ Ok tt → lowest (ss ++ (stage Classes d ∷ stage Rules more ∷ [])) ≡ Ok tt
 unfolding lowest
 last_test [] true true more f e = rw (f refl refl)
 last_test [] true false true f e = refl
@@ -28,5 +27,5 @@ last_test (stage r true ∷ ss) d less more f e = last_test ss d less more f e
 last_test (stage r false ∷ ss) d less more f e = e
 
 -- a file that passes has passed number 3
-pub typed : (f : List ℕ) (ss : List Stage) → lowest (reached_stages f ++ ss) ≡ Accepted → typing_ok (program f) ≡ true
+pub typed : (f : List ℕ) (ss : List Stage) → lowest (reached_stages f ++ ss) ≡ Ok tt → typing_ok (program f) ≡ true
 typed f ss e = (passed_reached f ss (lowest_passed (reached_stages f ++ ss) e)).0.typing

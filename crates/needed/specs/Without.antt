@@ -1,11 +1,11 @@
 -- The checker of document 01 with some of its rules left out: what shows that a rule is needed. With none left out it is the checker.
-use Rattle.std.specs.Prelude.{ℕ, Bool, true, false, List, [], ◌∷◌, ◌++◌, eqb}
+use Rattle.std.specs.Prelude.{ℕ, Bool, true, false, List, [], ◌∷◌, ◌++◌, eqb, Result}
 use Rattle.sets.specs.Tests.{◌&◌, ◌or◌}
 use Rattle.sets.specs.Sets.{empty_set, single, member, ◌∪◌, ◌∩◌, ◌∖◌, same_set, subset, apart}
 use Rattle.sets.specs.Members.{set_of, image}
 use Rattle.sets.specs.declared.Set.{Set}
+use Rattle.language.specs.declared.Refusal.{Refusal}
 use Rattle.language.specs.declared.Refusal.TheVariants.{Classes, Rules}
-use Rattle.language.specs.declared.Verdict.{Verdict}
 use Rattle.language.specs.Lists.{all, choose}
 use Rattle.language.specs.Program.{arguments_of, Step, literal, sum, assign, construct, call, print, create, remove, test, Goals, done, ◌then◌, Goal, step, switch, if_less, try, Arms, no_arms, arm, Signature, Procedure, Program, region_of, signature_of}
 use Rattle.language.specs.Values.{ins_of, outs_of, reads, gives}
@@ -214,5 +214,5 @@ module _ (out : List Rule) where
   rules_without P = all (procedure_without P) P.procedures
 
   -- what a checker without these rules answers
-  unfoldable pub checked_without : List ℕ → Verdict
+  unfoldable pub checked_without : List ℕ → Result Unit Refusal
   checked_without f = lowest (reached_stages f ++ (stage Classes (declared_classes_ok (program f)) ∷ stage Rules (rules_without (program f)) ∷ []))

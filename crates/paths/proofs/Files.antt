@@ -1,11 +1,10 @@
 -- The same of files: the checker accepts one if and only if it passes the numbers before 8 and the rules hold on every path of every
 -- procedure; it refuses one with 8 if and only if it passes those and some path of some procedure breaks a rule.
-use Rattle.std.specs.Prelude.{ℕ, ◌<◌, true, false, List, ◌∷◌, ◌++◌, ◌↔◌, ◌≡◌, length, []}
+use Rattle.std.specs.Prelude.{ℕ, ◌<◌, true, false, List, ◌∷◌, ◌++◌, ◌↔◌, ◌≡◌, length, [], Ok, Err}
 use Rattle.std.proofs.Common.{sym, ap, ◌∙◌, arith}
 use Rattle.sets.specs.Tests.{clash, and_true, false_of}
 use Rattle.language.specs.declared.Refusal.{Refusal}
 use Rattle.language.specs.declared.Refusal.TheVariants.{Header, Form, Typing, Values, Regions, Unreached, Classes, Rules}
-use Rattle.language.specs.declared.Verdict.TheVariants.{Refused, Accepted}
 use Rattle.language.specs.Lists.{nth}
 use Rattle.language.specs.File.{word, record_count, header_ok, form_ok}
 use Rattle.language.specs.Program.{Program, procedure_at}
@@ -71,16 +70,16 @@ before_passed f ss q p =
     (record { header = q.header; form = q.form; conditions = q.conditions; typing = q.typing; values = q.values; regions = q.regions }) q.reached (q.classes, p)
 
 -- ---- the theorems
-pub accepted_every_path : (f : List ℕ) → (checked f ≡ Accepted) ↔ (PassesBefore8 f × EveryProcedure (program f))
+pub accepted_every_path : (f : List ℕ) → (checked f ≡ Ok tt) ↔ (PassesBefore8 f × EveryProcedure (program f))
 unfolding checked checker_stages before_8 reached_stages file_stages
 accepted_every_path f = (to, from)
   where
-    to : checked f ≡ Accepted → PassesBefore8 f × EveryProcedure (program f)
+    to : checked f ≡ Ok tt → PassesBefore8 f × EveryProcedure (program f)
     to e =
         let p = passed_before f (stage Rules (rules_ok (program f)) ∷ []) (lowest_passed (checker_stages f) e) in
         (p.0, (rules_every_path (program f) p.0.typing).0 p.1.0)
 
-    from : PassesBefore8 f × EveryProcedure (program f) → checked f ≡ Accepted
+    from : PassesBefore8 f × EveryProcedure (program f) → checked f ≡ Ok tt
     from q =
         passed_lowest (checker_stages f)
         (before_passed f (stage Rules (rules_ok (program f)) ∷ []) q.0 ((rules_every_path (program f) q.0.typing).1 q.1, tt))
@@ -105,15 +104,15 @@ broken_path P t = (to, from)
         (all_nth (path_rules P (procedure_at P q.procedure).signature) [] (paths (procedure_at P q.procedure).body) q.path
         ((rules_every_path P t).0 e q.procedure q.declared).rules q.listed) q.breaks)
 
-pub refused_broken_path : (f : List ℕ) → (checked f ≡ Refused Rules) ↔ (PassesBefore8 f × BrokenPath (program f))
+pub refused_broken_path : (f : List ℕ) → (checked f ≡ Err Rules) ↔ (PassesBefore8 f × BrokenPath (program f))
 unfolding checked checker_stages before_8 reached_stages file_stages
 refused_broken_path f = (to, from)
   where
-    to : checked f ≡ Refused Rules → PassesBefore8 f × BrokenPath (program f)
+    to : checked f ≡ Err Rules → PassesBefore8 f × BrokenPath (program f)
     to e =
         let p = refused_last Rules (rules_ok (program f)) (before_8 f) (others f) e in
         let r = (passed_before f [] p.0).0 in
         (r, (broken_path (program f) r.typing).0 p.1)
 
-    from : PassesBefore8 f × BrokenPath (program f) → checked f ≡ Refused Rules
+    from : PassesBefore8 f × BrokenPath (program f) → checked f ≡ Err Rules
     from q = last_refused Rules (rules_ok (program f)) (before_8 f) (before_passed f [] q.0 tt) ((broken_path (program f) q.0.typing).1 q.1)

@@ -1,6 +1,5 @@
 // An accepted file's profile, in the memory that the runner program lends.
-ghost use Rattle.std.specs.Prelude.{◌≡◌, ◌≤◌, length};
-ghost use Rattle.language.specs.declared.Verdict.TheVariants.{Accepted};
+ghost use Rattle.std.specs.Prelude.{◌≡◌, ◌≤◌, length, Ok};
 ghost use Rattle.language.specs.Answers.{checked};
 ghost use Rattle.running.specs.Planned.{Planned};
 ghost use Rattle.profiling.specs.Text.{line_bytes};
@@ -62,7 +61,7 @@ fn print_tabled(
 }
 
 pub fn print_accepted(rt: &HostRuntime, file: &[u8], room: usize)
-    requires file_value { checked file.now ≡ Accepted }
+    requires file_value { checked file.now ≡ Ok tt }
     requires line_bytes_le_room { (line_bytes ≤ room) × (room ≤ output_bytes) }
 {
     let mut plan = blank_plan();

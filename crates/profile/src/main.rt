@@ -9,7 +9,6 @@ use accepted::{OUTPUT_BYTES, print_accepted};
 use answering::print;
 use checking::check;
 use input::read_standard;
-use language::Verdict;
 use language::format::MAX_BYTES;
 use lines::{REFUSAL_BYTES, checker_output};
 use profiling::LINE_BYTES;
@@ -19,7 +18,7 @@ use records::blank::blank_input;
 // what has one caller the compiler puts into it, two like calls it makes one, and the run's tables would lie on the stack below the checker's walks.
 fn print_profile(rt: &HostRuntime, file: &[u8]) {
     let answer = check(file);
-    if let Verdict::Refused(r) = answer {
+    if answer.is_err() {
         let mut line = [0; REFUSAL_BYTES];
         let n = checker_output(answer, &mut line);
         print(rt, &line[..n]);

@@ -1,9 +1,8 @@
 -- The run stands at its start; and few cells and regions are held wherever it stands.
-use Rattle.std.specs.Prelude.{ℕ, ◌-◌, ◌≤◌, ◌<◌, ◌≡◌, List, length}
+use Rattle.std.specs.Prelude.{ℕ, ◌-◌, ◌≤◌, ◌<◌, ◌≡◌, List, length, Ok}
 use native.Mathlib.Omega.{arith}
 use Rattle.std.proofs.Math.Path.{refl}
 use Rattle.std.proofs.Common.{lt-ltb}
-use Rattle.language.specs.declared.Verdict.TheVariants.{Accepted}
 use Rattle.language.specs.Lists.{up_from}
 use Rattle.language.specs.AcceptedRun.{RegionFrame, Memory, start, state}
 use Rattle.language.specs.AcceptedRun as Run
@@ -31,7 +30,7 @@ use Rattle.profiling.specs.Tallying.{Tally, tally_in, alike, Covers, fewer_left,
 use Rattle.profiling.specs.Standing.{Stand, outside, AgreesAt, agrees_out, agrees_inside, StandsAfter}
 
 -- ---- the entry's frame alone
-module _ {f : List ℕ} (e : checked f ≡ Accepted) {T : Tables} (B : Tabled f T) (m rs fw ps : List ℕ) (l : ℕ) (some : 0 < holds (length fw) frame_words) where
+module _ {f : List ℕ} (e : checked f ≡ Ok tt) {T : Tables} (B : Tabled f T) (m rs fw ps : List ℕ) (l : ℕ) (some : 0 < holds (length fw) frame_words) where
   abbrev lent : Lent
   lent = lent_words m rs fw ps l
 

@@ -1,8 +1,7 @@
 -- The run before its first step, in lent words.
-use Rattle.std.specs.Prelude.{ℕ, ◌<◌, ◌≡◌, List, length}
+use Rattle.std.specs.Prelude.{ℕ, ◌<◌, ◌≡◌, List, length, Ok}
 use Rattle.std.proofs.Common.{arith, subst, ◌∙◌}
 use Rattle.std.proofs.Math.Path.{refl, sym, ap}
-use Rattle.language.specs.declared.Verdict.TheVariants.{Accepted}
 use Rattle.language.specs.Machine.{holds}
 use Rattle.language.specs.Answers.{checked}
 use Rattle.lines.specs.Put.{Put}
@@ -40,7 +39,7 @@ module _ (f plan images callees : List ℕ) (m rs fw fx ps : List ℕ) (l : ℕ)
   placed_first s es lx some = rw es (record { place = omega arith; fits = omega (arith, lx) })
 
   pub begin_stands : (size : ℕ) (s : State) (h : Heap) (o : Open) (k : Counts) → size ≡ callee_word callees 0 callee_size → fx ≡ cleared 1 (blocks size) fw → s ≡ first_state callees
-      → h ≡ empty_heap (holds (length m) cell_words) (holds (length rs) region_words) → o.at ≡ 0 → k ≡ record { cells = 0; regions = 0 } → length fx ≡ length fw → checked f ≡ Accepted → Tabled f T
+      → h ≡ empty_heap (holds (length m) cell_words) (holds (length rs) region_words) → o.at ≡ 0 → k ≡ record { cells = 0; regions = 0 } → length fx ≡ length fw → checked f ≡ Ok tt → Tabled f T
       → 0 < holds (length fw) frame_words → (log own : List ℕ) → length log ≡ log_words
       → RunStands f T l m rs fx ps log own (record { state = s; heap = h; counts = k; done = 0; condition = o })
   unfolding words_in

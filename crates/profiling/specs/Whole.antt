@@ -1,8 +1,7 @@
 -- What all parts together write is the profile.
-use Rattle.std.specs.Prelude.{ℕ, ◌≤◌, ◌≡◌, refl, List, [], ◌++◌, length, take}
+use Rattle.std.specs.Prelude.{ℕ, ◌≤◌, ◌≡◌, refl, List, [], ◌++◌, length, take, Ok}
 use Rattle.std.proofs.Common.{arith, sym, ◌∙◌}
 use Rattle.std.proofs.Math.Path.{ap, subst}
-use Rattle.language.specs.declared.Verdict.TheVariants.{Accepted}
 use Rattle.language.specs.declared.Ending.{Ending}
 use Rattle.language.specs.AcceptedRun as Run
 use Rattle.language.specs.Machine.{Lent}
@@ -39,7 +38,7 @@ joined (one_more {text = text} P W h) =
       is = ap (λ t. text ++ t) e ∙ ap (λ t. t ++ text_of W.lines) J.is ∙ sym (text_join J.lines W.lines);
     }
 
-module _ (f : List ℕ) (lent : Lent) (c : checked f ≡ Accepted) (e : Ending) (n : ℕ) (s : EndsAfter f lent e n) where
+module _ (f : List ℕ) (lent : Lent) (c : checked f ≡ Ok tt) (e : Ending) (n : ℕ) (s : EndsAfter f lent e n) where
   ran_is : ran f lent ≡ D.ended_with e n (Run.steps (program f) n)
   unfolding ran run_for
   ran_is = ap (λ v. run_for v f lent) c ∙ s.is

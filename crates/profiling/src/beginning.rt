@@ -1,6 +1,5 @@
 // A run before its first step.
-ghost use Rattle.std.specs.Prelude.{List, ℕ, ◌≤◌, ◌<◌, ◌≡◌, length};
-ghost use Rattle.language.specs.declared.Verdict.TheVariants.{Accepted};
+ghost use Rattle.std.specs.Prelude.{List, ℕ, ◌≤◌, ◌<◌, ◌≡◌, length, Ok};
 ghost use Rattle.language.specs.Machine.{holds};
 ghost use Rattle.language.specs.Answers.{checked};
 ghost use Rattle.lines.specs.Put.{Put};
@@ -58,7 +57,7 @@ pub fn closed() -> Open
 // "The entry's frame is taken first."
 pub fn begin(callees: &[u64; CALLEES], cells: &[u32], regions: &[u32], frames: &mut [u32]) -> Point
     requires { frame_words ≤ length frames.old }
-    ensures { (f plan images ps : List ℕ) (l : ℕ) → checked f ≡ Accepted → Tabled f (tables_in plan images callees.now)
+    ensures { (f plan images ps : List ℕ) (l : ℕ) → checked f ≡ Ok tt → Tabled f (tables_in plan images callees.now)
         → 0 < holds (length frames.old) frame_words
         → (log own : List ℕ) → length log ≡ log_words → (result.done ≡ 0)
         × RunStands f (tables_in plan images callees.now) l cells.now regions.now frames.new ps log own result }

@@ -1,4 +1,5 @@
 -- Number 1 and the stage over plain values: the code's tests, in turn. Assumes nothing.
+use Rattle.std.specs.Prelude.{Ok, Err}
 use Prim.Native.Nat.{ℕ, ◌*◌, ◌≤◌, ◌<◌}
 use native.Mathlib.Omega.{arith}
 use mathlib.Core.Path.{◌≡◌, sym, ap, ◌∙◌}
@@ -11,7 +12,6 @@ use Rattle.language.specs.File.{word, record_count, header_ok, form_ok}
 use Rattle.language.specs.Format.{header_kind, kind_word, max_bytes, max_records, record_bytes, header_count}
 use lib.Dec.{eqb}
 use Rattle.language.specs.declared.Refusal.TheVariants.{Header, Form}
-use Rattle.language.specs.declared.Verdict.TheVariants.{Refused, Accepted}
 use Rattle.language.specs.Answers.{lowest}
 use Rattle.records.specs.Verdicts.{form_stages, form_verdict}
 
@@ -57,7 +57,7 @@ module _ (f : List ℕ) where
   unfolding record_count
   count_most e t c = let s = header_in f (sym e ∙ t) in (omega arith, omega arith)
 
-  pub form_header : {b : Bool} → b ≡ header_ok f → b ≡ false → Refused Header ≡ form_verdict f
+  pub form_header : {b : Bool} → b ≡ header_ok f → b ≡ false → Err Header ≡ form_verdict f
   unfolding form_verdict form_stages lowest
   form_header e h = rw (← e, h)
 
@@ -66,10 +66,10 @@ module _ (f : List ℕ) where
     unfolding record_count
     formed = g ∙ ap (form_ok (word f)) c
 
-    pub form_form : a ≡ true → b ≡ false → Refused Form ≡ form_verdict f
+    pub form_form : a ≡ true → b ≡ false → Err Form ≡ form_verdict f
     unfolding form_verdict form_stages lowest
     form_form h k = rw (← e, h, ← formed, k)
 
-    pub form_accepted : a ≡ true → b ≡ true → Accepted ≡ form_verdict f
+    pub form_accepted : a ≡ true → b ≡ true → Ok tt ≡ form_verdict f
     unfolding form_verdict form_stages lowest
     form_accepted h k = rw (← e, h, ← formed, k)

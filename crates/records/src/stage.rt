@@ -5,17 +5,17 @@ ghost use Rattle.records.specs.Verdicts.{form_verdict};
 use crate::form::form_ok;
 use crate::words::{header_ok, word};
 use language::format::HEADER_COUNT;
-use language::{Refusal, Verdict};
+use language::Refusal;
 
-pub fn check_form(file: &[u8]) -> Verdict
+pub fn check_form(file: &[u8]) -> Result<(), Refusal>
     ensures { result ≡ form_verdict file.now }
 {
     if !header_ok(file) {
-        return Verdict::Refused(Refusal::Header);
+        return Err(Refusal::Header);
     }
     let n = word(file, 0, HEADER_COUNT);
     if !form_ok(file, n) {
-        return Verdict::Refused(Refusal::Form);
+        return Err(Refusal::Form);
     }
-    Verdict::Accepted
+    Ok(())
 }

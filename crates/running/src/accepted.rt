@@ -1,6 +1,5 @@
 // The run of an accepted file.
-ghost use Rattle.std.specs.Prelude.{◌≡◌, replicate};
-ghost use Rattle.language.specs.declared.Verdict.TheVariants.{Accepted};
+ghost use Rattle.std.specs.Prelude.{◌≡◌, replicate, Ok};
 ghost use Rattle.language.specs.Answers.{checked};
 ghost use Rattle.plans.specs.Plan.{plan_words, image_bytes, callees_words};
 ghost use Rattle.machine.specs.Joining.{RanAs};
@@ -18,7 +17,7 @@ pub fn fill_tables(
     images: &mut [u8; IMAGES],
     callees: &mut [u64; CALLEES],
 )
-    requires file_value { checked file.now ≡ Accepted }
+    requires file_value { checked file.now ≡ Ok tt }
     requires plan_value { (plan.old ≡ replicate plan_words 0) × (images.old ≡ replicate image_bytes 0) × (callees.old ≡ replicate callees_words 0) }
     ensures { Planned file.now plan.new images.new callees.new }
 {
@@ -58,7 +57,7 @@ pub fn run_accepted(
     prints: &mut [u32],
     steps: usize,
 ) -> Outcome
-    requires { checked file.now ≡ Accepted }
+    requires { checked file.now ≡ Ok tt }
     ensures { RanAs file.now cells.old regions.old frames.old prints.old steps
         result prints.new }
 {

@@ -4,7 +4,7 @@ ghost use Rattle.running.specs.Answer.{LentAfter};
 
 use crate::accepted::run_accepted;
 use checking::check;
-use language::{Ending, Verdict};
+use language::Ending;
 use machine::Outcome;
 
 // Refuses as the checker does, with all lent memory as it was; else a run in it. Of an accepted file's run the words lent for cells, regions and
@@ -22,7 +22,7 @@ pub fn run(
     ensures lent_after { LentAfter file.now cells.old regions.old frames.old prints.old
         cells.new regions.new frames.new prints.new }
 {
-    if let Verdict::Refused(r) = check(file) {
+    if let Err(r) = check(file) {
         return Outcome {
             ending: Ending::Refused(r),
             steps: 0,

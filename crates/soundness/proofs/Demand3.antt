@@ -1,9 +1,8 @@
 -- Demand 3, proved: `demand_3` and `written_accepted` are the two claims of `Statement`.
-use Rattle.std.specs.Prelude.{ℕ, zero, suc, ◌≤◌, true, List, ◌≡◌}
+use Rattle.std.specs.Prelude.{ℕ, zero, suc, ◌≤◌, true, List, ◌≡◌, Ok}
 use Rattle.std.proofs.Common.{arith, sym, ap, ◌∙◌, leb-true}
 use Rattle.std.proofs.Math.Decide.{dec_le}
 use Rattle.sets.specs.Tests.{and_true}
-use Rattle.language.specs.declared.Verdict.TheVariants.{Accepted}
 use Rattle.language.specs.Layout.{size}
 use Rattle.language.specs.Program.{Program}
 use Rattle.language.specs.Records.{program_tree}
@@ -43,13 +42,13 @@ pub record Checked (f : List ℕ) : Type 0 where
   pub classes : declared_classes_ok (program f) ≡ true
   pub rules : rules_ok (program f) ≡ true
 
-pub checked_is : (f : List ℕ) → checked f ≡ Accepted → Checked f
+pub checked_is : (f : List ℕ) → checked f ≡ Ok tt → Checked f
 unfolding checked checker_stages
 checked_is f e =
     let p = passed_reached f _ (lowest_passed (checker_stages f) e) in
     record { read = p.0; reached = p.1; classes = p.2.0; rules = p.2.1.0 }
 
-pub is_checked : (f : List ℕ) → Checked f → checked f ≡ Accepted
+pub is_checked : (f : List ℕ) → Checked f → checked f ≡ Ok tt
 unfolding checked checker_stages
 is_checked f c = passed_lowest (checker_stages f) (reached_passed f _ c.read c.reached (c.classes, (c.rules, tt)))
 

@@ -1,7 +1,6 @@
 -- The claims applied to a program with recursion and a born, a kept and a dead region: `make` bears a list, `show` prints it and keeps it, `drop` prints it again and ends its
 -- region; the entry calls them in turn.
-use Rattle.std.specs.Prelude.{ℕ, List, ◌∷◌, ◌≡◌, refl, pos, []}
-use Rattle.language.specs.declared.Verdict.TheVariants.{Accepted}
+use Rattle.std.specs.Prelude.{ℕ, List, ◌∷◌, ◌≡◌, refl, pos, [], Ok}
 use Rattle.language.specs.declared.Ending.TheVariants.{Finished}
 use Rattle.language.specs.Machine.{runner_lent}
 use Rattle.language.specs.Answers.{annotated, writes, annotator_bytes, checked, ran}
@@ -46,7 +45,7 @@ pub source_annotated : annotated source annotator_bytes ≡ writes listed
 unfolding computing eight rows file source listed
 source_annotated = refl
 
-pub listed_checked : checked listed ≡ Accepted
+pub listed_checked : checked listed ≡ Ok tt
 unfolding computing eight rows file listed
 listed_checked = refl
 
@@ -58,5 +57,5 @@ listed_run = refl
 pub listed_sound : Sound listed
 listed_sound = demand_3 listed listed_checked
 
-pub listed_written : checked listed ≡ Accepted
+pub listed_written : checked listed ≡ Ok tt
 listed_written = written_accepted source annotator_bytes listed source_annotated

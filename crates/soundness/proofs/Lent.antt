@@ -1,12 +1,11 @@
 -- A run in lent memory is a front part of the accepted file's run: what it printed, demand 3 says of it too.
 use Prim.Native.Nat.{ℕ, zero, suc, ◌+◌, ◌-◌, ◌≤◌}
 use Rattle.std.proofs.Common.{arith, ◌∙◌}
-use Rattle.std.specs.Prelude.{Bool, ◌≡◌, eqb}
+use Rattle.std.specs.Prelude.{Bool, ◌≡◌, eqb, Ok}
 use Rattle.std.proofs.Math.Bool.{true, false, false≢true}
 use mathlib.Core.List.{List, ◌∷◌, map, []}
 use Rattle.std.proofs.Math.Path.{refl, sym, ap}
 use Rattle.sets.specs.Tests.{clash, true_neg}
-use Rattle.language.specs.declared.Verdict.TheVariants.{Accepted}
 use Rattle.language.specs.declared.Stop.{Stop}
 use Rattle.language.specs.declared.Stop.TheVariants.{Steps, Frames, Sums}
 use Rattle.language.specs.declared.Ending.{Ending}
@@ -221,11 +220,11 @@ module _ (P : Program) where
       let no : Stopped Frames ≡ Stopped Steps → ⊥ = λ z. false≢true (ap (λ x. lacks_steps (stop_of x)) z) in
       ends l 0 (start P) (Stopped Frames) refl (λ z. absurd (no z)) (λ z. absurd (not_finished z)) (λ z. absurd (no z)) (λ z. absurd (not_sum refl z))
 
-ran_front : (f : List ℕ) → checked f ≡ Accepted → (l : Lent) → Front (program f) l.steps 0 (ran f l)
+ran_front : (f : List ℕ) → checked f ≡ Ok tt → (l : Lent) → Front (program f) l.steps 0 (ran f l)
 unfolding ran run_for run
 ran_front f e l = rw e (from_front (program f) _ _ l.steps)
 
-pub lent_run : (f : List ℕ) → checked f ≡ Accepted → (l : Lent) → LentRun f l
+pub lent_run : (f : List ℕ) → checked f ≡ Ok tt → (l : Lent) → LentRun f l
 lent_run f e l =
     let h = ran_front f e l in
     let S = demand_3 f e in

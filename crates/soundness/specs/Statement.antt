@@ -1,7 +1,6 @@
 -- Demand 3, to be checked against the user's words without reading a proof: what holds of every file that the checker accepts, and of whatever
 -- the annotator writes.
-use Rattle.std.specs.Prelude.{ℕ, suc, ◌+◌, ◌-◌, ◌≤◌, true, false, List, [], ◌∷◌, map, ◌↔◌, ◌≡◌}
-use Rattle.language.specs.declared.Verdict.TheVariants.{Accepted}
+use Rattle.std.specs.Prelude.{ℕ, suc, ◌+◌, ◌-◌, ◌≤◌, true, false, List, [], ◌∷◌, map, ◌↔◌, ◌≡◌, Ok}
 use Rattle.language.specs.Program.{test, Goals, ◌then◌, Goal, step}
 use Rattle.language.specs.Frames.{less_in, with_goals, fits, stays_at_sum}
 use Rattle.language.specs.PlainRun.{stripped, plain_steps}
@@ -61,8 +60,8 @@ pub record Sound (f : List ℕ) : Type 0 where
 
 -- "For every accepted file .."
 abbrev pub Demand3 : Type 0
-Demand3 = (f : List ℕ) → checked f ≡ Accepted → Sound f
+Demand3 = (f : List ℕ) → checked f ≡ Ok tt → Sound f
 
 -- "Whatever the annotator writes, the checker accepts."
 abbrev pub Written : Type 0
-Written = (f : List ℕ) (lent : ℕ) (g : List ℕ) → annotated f lent ≡ writes g → checked g ≡ Accepted
+Written = (f : List ℕ) (lent : ℕ) (g : List ℕ) → annotated f lent ≡ writes g → checked g ≡ Ok tt

@@ -1,6 +1,5 @@
 // Numbers 1 to 3 of any bytes; then numbers 4, 5 and 17, and 7's part for every program, with the tables that later stages read.
-ghost use Rattle.std.specs.Prelude.{◌≡◌, true, ◌≤◌, length};
-ghost use Rattle.language.specs.declared.Verdict.TheVariants.{Accepted};
+ghost use Rattle.std.specs.Prelude.{◌≡◌, true, ◌≤◌, length, Ok};
 ghost use Rattle.language.specs.Typing.{typing_ok};
 ghost use Rattle.language.specs.Regions.{regions_ok};
 ghost use Rattle.language.specs.Answers.{lowest, program};
@@ -14,8 +13,8 @@ ghost use Rattle.stages.specs.Tabled.{TablesAfter};
 
 use called::all_reached;
 use conditions::conditions_ok;
+use language::Refusal;
 use language::format::MAX_RECORDS;
-use language::{Refusal, Verdict};
 use owners::list_owners;
 use records::check_form;
 use regions::regions_agree;
@@ -25,35 +24,29 @@ use values::values_ok;
 use windows::list_procedures;
 
 // Numbers 1 and 2.
-fn check_shape(file: &[u8]) -> Verdict
+fn check_shape(file: &[u8]) -> Result<(), Refusal>
     ensures { result ≡ lowest (shape_stages file.now) }
 {
-    let answer = check_form(file);
-    let Verdict::Accepted = answer else {
-        return answer;
-    };
+    check_form(file)?;
     if !conditions_ok(file) {
-        return Verdict::Refused(Refusal::Form);
+        return Err(Refusal::Form);
     }
-    Verdict::Accepted
+    Ok(())
 }
 
 // Numbers 1 to 3.
-pub fn check_typing(file: &[u8]) -> Verdict
+pub fn check_typing(file: &[u8]) -> Result<(), Refusal>
     ensures { result ≡ lowest (typing_stages file.now) }
 {
-    let answer = check_shape(file);
-    let Verdict::Accepted = answer else {
-        return answer;
-    };
+    check_shape(file)?;
     if !typing_ok(file) {
-        return Verdict::Refused(Refusal::Typing);
+        return Err(Refusal::Typing);
     }
-    Verdict::Accepted
+    Ok(())
 }
 
 // Numbers 5 and 17, with what each step does to regions in its row. Both go by the procedure that each record belongs to; number 17 puts links over that.
-fn check_regions(file: &[u8], table: &[u64; TABLE], rows: &mut [u64; ROWS]) -> Verdict
+fn check_regions(file: &[u8], table: &[u64; TABLE], rows: &mut [u64; ROWS]) -> Result<(), Refusal>
     requires formed { Formed file.now }
     requires file_value { typing_ok (program file.now) ≡ true }
     requires file_table { FileTable file.now table.now }
@@ -64,34 +57,31 @@ fn check_regions(file: &[u8], table: &[u64; TABLE], rows: &mut [u64; ROWS]) -> V
     let mut owners = [0; MAX_RECORDS];
     list_owners(file, &mut owners);
     if !regions_agree(file, table, &owners, rows) {
-        return Verdict::Refused(Refusal::Regions);
+        return Err(Refusal::Regions);
     }
     if !all_reached(file, &mut owners) {
-        return Verdict::Refused(Refusal::Unreached);
+        return Err(Refusal::Unreached);
     }
-    Verdict::Accepted
+    Ok(())
 }
 
 // Numbers 4, 5 and 17, and 7's part for every program, of a file that passed number 3. Fills the file's table, and the rows as far as it comes before a
 // refusal.
-pub fn check_classes(file: &[u8], table: &mut [u64; TABLE], rows: &mut [u64; ROWS]) -> Verdict
+pub fn check_classes(file: &[u8], table: &mut [u64; TABLE], rows: &mut [u64; ROWS]) -> Result<(), Refusal>
     requires formed { Formed file.now }
     requires file_value { typing_ok (program file.now) ≡ true }
     requires file_words_in_bounds { (file_words ≤ length table.old) × (row_words ≤ length rows.old) }
     ensures value { result ≡ lowest (table_stages file.now) }
-    ensures prepared { result ≡ Accepted → Prepared file.now table.new rows.new }
+    ensures prepared { result ≡ Ok tt → Prepared file.now table.new rows.new }
     ensures tables_after { TablesAfter file.now table.old rows.old result table.new rows.new }
 {
     let right = list_procedures(file, table);
     if !values_ok(file, table, rows) {
-        return Verdict::Refused(Refusal::Values);
+        return Err(Refusal::Values);
     }
-    let answer = check_regions(file, table, rows);
-    let Verdict::Accepted = answer else {
-        return answer;
-    };
+    check_regions(file, table, rows)?;
     if !right {
-        return Verdict::Refused(Refusal::Classes);
+        return Err(Refusal::Classes);
     }
-    Verdict::Accepted
+    Ok(())
 }

@@ -1,7 +1,6 @@
 -- The joining theorem, to be read without a proof: for every file that the checker accepts, with any tables of it and any lent words, the run in
 -- words ends as the definition's does, after as many steps, with the same numbers printed; the words behind those are as they were.
-use Rattle.std.specs.Prelude.{ℕ, ◌≡◌, List}
-use Rattle.language.specs.declared.Verdict.TheVariants.{Accepted}
+use Rattle.std.specs.Prelude.{ℕ, ◌≡◌, List, Ok}
 use Rattle.language.specs.Machine.{Run}
 use Rattle.language.specs.Answers.{checked, ran}
 use Rattle.word_machine.specs.Tables.{Tables, Tabled}
@@ -17,5 +16,5 @@ pub record Gives (qs : List ℕ) (o : Outcome) (r : Run) : Type 0 where
 -- m, rs, fw and ps are the words lent for cells, regions, frames and printed numbers, l the steps
 abbrev pub JoinedRuns : Type 0
 JoinedRuns =
-    (f : List ℕ) → checked f ≡ Accepted → (T : Tables) → Tabled f T → (m rs fw ps : List ℕ) (l : ℕ)
+    (f : List ℕ) → checked f ≡ Ok tt → (T : Tables) → Tabled f T → (m rs fw ps : List ℕ) (l : ℕ)
     → Gives ps (word_run f T m rs fw ps l) (ran f (lent_words m rs fw ps l))

@@ -12,13 +12,13 @@ returns-in_default c = let h = c.annotate.ensures in record {
 }
 
 pub slice_bounds-check-end : goal.slice_bounds-check-end
-slice_bounds-check-end c = written_within _ c.args.out.now c.annotate.ensures c.in-Written.is
+slice_bounds-check-end c = written_within _ c.args.out.now c.annotate.ensures c.in-Ok.is
 
 pub slice_bounds-check-end-2 : goal.slice_bounds-check-end-2
-slice_bounds-check-end-2 c = sym (length-take-le _ _ (written_within _ c.args.out.now c.annotate.ensures c.in-Written.is))
+slice_bounds-check-end-2 c = sym (length-take-le _ _ (written_within _ c.args.out.now c.annotate.ensures c.in-Ok.is))
 
 pub returns-in_default-check : goal.returns-in_default-check
-returns-in_default-check c = not_accepted (sym c.in_default-check.is ∙ check_accepts _ c.args.out.now c.annotate.ensures c.in-Written.is c.check.ensures.value)
+returns-in_default-check c = not_accepted (sym c.in_default-check.is ∙ check_accepts _ c.args.out.now c.annotate.ensures c.in-Ok.is c.check.ensures.value)
 
 pub returns : goal.returns
 returns c = let h = c.annotate.ensures in record {

@@ -3,8 +3,8 @@ use Rattle.std.proofs.Common.{rules}
 use Rattle.answering.specs.Ran.{prints_refusal}
 use Rattle.answering.proofs.ran.runner_answer.Goals as goal
 
-pub returns-in-Refused : goal.returns-in-Refused
-returns-in-Refused c = prints_refusal _ (sym c.check.ensures.value ∙ c.in-Refused.is) c.requires c.put_refusal.ensures
+pub returns-in-Err : goal.returns-in-Err
+returns-in-Err c = prints_refusal _ (sym c.check.ensures.value ∙ c.in-Err.is) c.requires c.put_refusal.ensures
 
 pub accepted_answer-requires : goal.accepted_answer-requires
 accepted_answer-requires c = record {

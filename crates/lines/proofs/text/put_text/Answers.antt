@@ -1,20 +1,13 @@
--- The bytes before `i` are put.
-use mathlib.Core.Path.{refl}
+use mathlib.Core.Path.{refl, ◌∙◌}
+use lib.ListN.{length}
 use Rattle.std.proofs.Common.{arith}
-use Rattle.lines.specs.Put.{put_more, put_all, put_length}
+use Rattle.std.proofs.lemmas.Slice.{put_mid-paste}
+use Rattle.std.proofs.lemmas.List.Edits.{paste_all}
+use Rattle.lines.specs.Put.{put_copied}
 use Rattle.lines.proofs.text.put_text.Goals as goal
 
-pub loop-i-init : goal.loop-i-init
-loop-i-init c = (omega arith, record { bytes = refl; behind = omega arith })
-
-pub bounds-out-at : goal.bounds-out-at
-bounds-out-at c = omega (arith, put_length c.loop-i.invariant.1)
-
-pub loop-i-preserved : goal.loop-i-preserved
-loop-i-preserved c = (omega arith, put_more c.args.text.now _ _ _ _ (omega arith) c.loop-i.invariant.1)
-
-pub shape_of-out : goal.shape_of-out
-shape_of-out c = put_length c.loop-i.invariant.1
-
 pub returns : goal.returns
-returns c = put_all c.args.text.now _ _ _ _ (omega arith) c.loop-i.invariant.1
+returns c =
+    let t = c.args.text.now in
+    let e = put_mid-paste c.args.at _ c.args.out.now _ t (length t) c.copy_from_slice.ensures.after (omega arith) refl in
+    put_copied c.args.out.now t c.args.at c.requires (e ∙ paste_all c.args.out.now c.args.at t (length t) refl)

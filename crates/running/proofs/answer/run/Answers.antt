@@ -3,9 +3,9 @@ use Rattle.std.proofs.Common.{rules}
 use Rattle.running.specs.Answer.{refused_ran_as, refused_leaves, accepted_leaves}
 use Rattle.running.proofs.answer.run.Goals as goal
 
-pub returns-in-Refused : goal.returns-in-Refused
-returns-in-Refused c = record {
-  ran_as = refused_ran_as _ _ _ _ _ (sym c.check.ensures.value ∙ c.in-Refused.is);
+pub returns-in-Err : goal.returns-in-Err
+returns-in-Err c = record {
+  ran_as = refused_ran_as _ _ _ _ _ (sym c.check.ensures.value ∙ c.in-Err.is);
   lent_after = refused_leaves _ _ _ _;
 }
 
