@@ -3,10 +3,7 @@ use Rattle.std.specs.Prelude.{ℕ, List, refl, Result, Ok, Err}
 use Rattle.std.proofs.Common.{arith, sym, ◌∙◌}
 use Rattle.std.proofs.Math.Path.{◌≡◌, ap}
 use Rattle.language.specs.declared.Refusal.{Refusal}
-use Rattle.language.specs.declared.Stop.{Stop}
-use Rattle.language.specs.declared.Ending.{Ending}
-use Rattle.language.specs.declared.Ending.TheVariants.{Refused, Finished, Stopped}
-use Rattle.language.specs.Answers.{refusal_number, stop_number, checker_number, ending_number, AnnotatorAnswer, refuses, writes, annotator_number, written_bytes, annotator_memory}
+use Rattle.language.specs.Answers.{refusal_number, checker_number, AnnotatorAnswer, refuses, writes, annotator_number, written_bytes, annotator_memory}
 use Rattle.annotation.specs.Answer.{told, Annotates}
 
 -- release 4.2.0: 10,000 a major release, 100 a minor one, 1 a patch
@@ -25,10 +22,6 @@ module _ {n : ℕ} {q : Refusal} (k : n ≡ refusal_number q) where
   unfolding checker_number
   checker_refuses e g = k ∙ ap checker_number (sym g ∙ e)
 
-  pub run_refuses : {e : Ending} → e ≡ Refused q → n ≡ ending_number e
-  unfolding ending_number
-  run_refuses g = k ∙ ap ending_number (sym g)
-
 pub annotator_writes : (a : AnnotatorAnswer) (before : List ℕ) {after : List ℕ} {r : Result ℕ Refusal} {m : ℕ} → Annotates a before after r → r ≡ Ok m
     → (0 ≡ annotator_number a) × ((after ≡ annotator_memory a before) × (m ≡ written_bytes a))
 unfolding told annotator_number written_bytes
@@ -38,11 +31,3 @@ annotator_writes (writes g) before h e = (refl, (h.1, (cc)))
 pub checker_accepts : {v w : Result Unit Refusal} → v ≡ w → v ≡ Ok tt → 0 ≡ checker_number w
 unfolding checker_number
 checker_accepts e g = ap checker_number (sym g ∙ e)
-
-pub run_finishes : {e : Ending} → e ≡ Finished → 0 ≡ ending_number e
-unfolding ending_number
-run_finishes g = ap ending_number (sym g)
-
-pub run_stops : {e : Ending} {n : ℕ} {c : Stop} → n ≡ stop_number c → e ≡ Stopped c → n ≡ ending_number e
-unfolding ending_number
-run_stops k g = k ∙ ap ending_number (sym g)

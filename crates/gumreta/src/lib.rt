@@ -11,7 +11,6 @@ ghost use Rattle.gumreta.specs.Numbers.{version};
 
 use annotation::annotate;
 use checking::check;
-use language::Ending;
 use running::run;
 
 // As GUMRETA_VERSION of c/gumreta.h.
@@ -55,16 +54,6 @@ pub extern "C" fn gumreta_check(file: &[u8]) -> u64
     }
 }
 
-fn ending_number(e: Ending) -> u64
-    ensures { result ≡ ending_number e }
-{
-    match e {
-        Ending::Refused(r) => u64::from(r),
-        Ending::Finished => 0,
-        Ending::Stopped(c) => u64::from(c),
-    }
-}
-
 // 0 where the run finished, or the number of a refusal or a stop; the steps done; and how many words at the front of `prints` are printed numbers. Words
 // behind those keep their contents, and after a refusal all lent words do.
 #[unsafe(no_mangle)]
@@ -100,5 +89,5 @@ pub extern "C" fn gumreta_run(
     let ending = r.ending;
     *done = r.steps;
     *printed = r.printed;
-    ending_number(ending)
+    u64::from(ending)
 }

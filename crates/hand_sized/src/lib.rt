@@ -1,7 +1,8 @@
 // Document 01's table of hand-sized files ("Proved by hand-sized files"), about the code: each function puts a file to `annotate`, `check` or `run`, and its
 // contract states the answer outright. `language`'s Table has the same of the definitions. "The table keeps its cases with the answers that now follow and
 // gains the new U's" (C-14): U and A give a type of constants a region. "The last of the table cases" is a run that stops (C-15). After a refusal all lent
-// memory is as it was; after a run the words for cells, regions and frames are free.
+// memory is as it was; after a run the words for cells, regions and frames are free. A case has a function of its own though another differs only in a size: one over
+// every size would not say the table's values.
 #![tactic(auto)]
 
 mod ends;

@@ -1,7 +1,7 @@
 -- "Checker, along each path: it carries the held regions and the sound variables." Number 8.
 -- Here paths that meet are joined. `Paths` in crate `paths` has the rules along one path, one for each sentence; `Accepting` there proves that this
 -- accepts exactly if they hold on every path.
-use Rattle.std.specs.Prelude.{ℕ, Bool, true, false, List, [], ◌∷◌}
+use Rattle.std.specs.Prelude.{Bool, true, false}
 use Rattle.sets.specs.Tests.{◌&◌}
 use Rattle.sets.specs.Sets.{member, ◌∪◌, ◌∩◌, ◌∖◌, same_set, subset, apart}
 use Rattle.sets.specs.Members.{set_of, keep}

@@ -1,9 +1,9 @@
 -- Number 2, once a file is read: "Conditions hold no call, print, if or try; tests stand only in conditions; otherwise 2" (C-20).
 -- A condition is everything below a try's w2, arms of a switch in it too: `inside` says whether goals stand in one.
-use Rattle.std.specs.Prelude.{ℕ, Bool, true, false}
+use Rattle.std.specs.Prelude.{Bool, true, false}
 use Rattle.sets.specs.Tests.{◌&◌, neg}
 use Rattle.language.specs.Lists.{all}
-use Rattle.language.specs.Program.{Step, literal, sum, assign, construct, call, print, create, remove, test, Goals, done, ◌then◌, Goal, step, switch, if_less, try, Arms, no_arms, arm, Procedure, Program}
+use Rattle.language.specs.Program.{Step, literal, sum, assign, construct, call, print, create, remove, test, Goals, done, ◌then◌, Goal, step, switch, if_less, try, Arms, no_arms, arm, Program}
 
 unfoldable pub step_stands : Bool → Step → Bool
 step_stands inside (literal x v) = true

@@ -1,5 +1,5 @@
 -- "The file": bytes, words, the table of records, and numbers 1 and 2.
-use Rattle.std.specs.Prelude.{ℕ, zero, suc, ◌+◌, ◌-◌, ◌*◌, Bool, true, false, List, [], ◌∷◌, ◌++◌, eqb, leb, ltb, length, get_or}
+use Rattle.std.specs.Prelude.{ℕ, zero, suc, ◌+◌, ◌-◌, ◌*◌, Bool, true, List, [], ◌∷◌, ◌++◌, eqb, leb, ltb, length, get_or}
 use Rattle.sets.specs.Tests.{◌&◌, ◌or◌}
 use Rattle.language.specs.Lists.{nth, all, up_from, count}
 use Rattle.language.specs.Format.{header_kind, type_kind, functor_kind, procedure_kind, variable_kind, region_kind, edge_kind, literal_kind, sum_kind, assign_kind, construct_kind, switch_kind, arm_kind, if_kind, call_kind, argument_kind, print_kind, create_kind, remove_kind, try_kind, test_kind, record_bytes, max_bytes}

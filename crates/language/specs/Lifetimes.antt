@@ -1,12 +1,12 @@
 -- "Lifetimes": input, output and kept regions, live variables, wanted regions, what a step does to regions; number 7.
-use Rattle.std.specs.Prelude.{ℕ, Bool, true, false, List, eqb, length}
+use Rattle.std.specs.Prelude.{ℕ, Bool, true, eqb, length}
 use Rattle.sets.specs.Tests.{◌&◌, ◌or◌, neg}
 use Rattle.sets.specs.Sets.{empty_set, single, ◌∪◌, ◌∖◌, subset, apart}
 use Rattle.sets.specs.Members.{set_of, keep, image, every}
 use Rattle.sets.specs.declared.Set.{Set}
 use Rattle.language.specs.Lists.{all, up_from}
 use Rattle.language.specs.Format.{born_class, dead_class}
-use Rattle.language.specs.Program.{arguments_of, Step, literal, sum, assign, construct, call, print, create, remove, test, Goals, done, ◌then◌, Goal, step, switch, if_less, try, Arms, no_arms, arm, Signature, Procedure, Program, region_of, region_at, signature_of}
+use Rattle.language.specs.Program.{arguments_of, Step, literal, sum, assign, construct, call, print, create, remove, test, Goals, done, ◌then◌, Goal, step, switch, if_less, try, Arms, no_arms, arm, Signature, Program, region_of, region_at, signature_of}
 use Rattle.language.specs.Values.{ins_of, outs_of, reads, gives}
 use Rattle.language.specs.Regions.{reach_all, Mapping, mapping, image_in}
 

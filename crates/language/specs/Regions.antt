@@ -5,7 +5,7 @@ use Rattle.sets.specs.Sets.{single, ◌∪◌}
 use Rattle.sets.specs.Members.{set_of, union_over}
 use Rattle.sets.specs.declared.Set.{Set}
 use Rattle.language.specs.Lists.{all, choose, put}
-use Rattle.language.specs.Program.{Four, arguments_of, Edge, Step, literal, sum, assign, construct, call, print, create, remove, test, Goals, done, ◌then◌, Goal, step, switch, if_less, try, Arms, no_arms, arm, Signature, Procedure, Program, region_of, region_at, signature_of, parameters_of, parameter_variables}
+use Rattle.language.specs.Program.{arguments_of, Edge, Step, literal, sum, assign, construct, call, print, create, remove, test, Goals, done, ◌then◌, Goal, step, switch, if_less, try, Arms, no_arms, arm, Signature, Program, region_of, region_at, signature_of, parameters_of, parameter_variables}
 
 -- where the edges of a region lead, in rising order of functor and position
 unfoldable pub targets_in : List Edge → List ℕ

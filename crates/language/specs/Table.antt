@@ -1,6 +1,6 @@
 -- "Proved by hand-sized files": the cases of document 01, together as one theorem. "The table keeps its cases with the answers that now follow and
 -- gains the new U's" (C-14): U and A give a type of constants a region. "The last of the table cases" is a run that stops (C-15).
-use Rattle.std.specs.Prelude.{ℕ, zero, suc, List, [], ◌∷◌, ◌++◌, ◌≡◌, refl, ℤ, pos, negsuc, set, Ok, Err}
+use Rattle.std.specs.Prelude.{ℕ, zero, suc, List, [], ◌∷◌, ◌++◌, ◌≡◌, refl, pos, negsuc, set, Ok, Err}
 use Rattle.language.specs.declared.Refusal.{Refusal}
 use Rattle.language.specs.declared.Refusal.TheVariants.{Header, Form, Typing, Room}
 use Rattle.language.specs.declared.Stop.TheVariants.{Steps, Frames, Sums}

@@ -1,5 +1,5 @@
 -- Number 3: "a number out of range, a wrong type, count or order; a word past the arity not 0", by the rules of "The file".
-use Rattle.std.specs.Prelude.{ℕ, zero, suc, Bool, true, false, List, [], ◌∷◌, ◌++◌, eqb, leb, ltb, length, take, drop}
+use Rattle.std.specs.Prelude.{ℕ, suc, Bool, true, false, List, [], ◌∷◌, ◌++◌, eqb, leb, ltb, length, take, drop}
 use Rattle.sets.specs.Tests.{◌&◌, neg}
 use Rattle.language.specs.Lists.{all, among, choose}
 use Rattle.language.specs.Format.{max_types, max_functors, max_arity, max_procedures, max_variables, max_regions}

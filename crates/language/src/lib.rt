@@ -7,7 +7,7 @@ mod kind;
 pub use kind::{Goal, Kind, NoKind};
 
 ghost use Rattle.std.specs.Prelude.{◌≡◌};
-ghost use Rattle.language.specs.Answers.{refusal_number, stop_number};
+ghost use Rattle.language.specs.Answers.{refusal_number, stop_number, ending_number};
 
 // The cause of a refusal, in the order in which they are looked at: numbers 1 to 5, 17 (C-18), 6 to 9. A test of a file answers `Result<(), Refusal>`: the
 // lowest refusal that applies, or that none does.
@@ -80,4 +80,18 @@ pub enum Ending {
     Refused(Refusal),
     Finished,
     Stopped(Stop),
+}
+
+// The number of an answer: 0 where the run came to its end.
+impl From<Ending> for u64 {
+    ghost from_gives = { λ e n. n ≡ ending_number e };
+
+    #[tactic(auto, unfolding(crate::specs::Answers::ending_number))]
+    fn from(e: Ending) -> u64 {
+        match e {
+            Ending::Refused(r) => u64::from(r),
+            Ending::Finished => 0,
+            Ending::Stopped(c) => u64::from(c),
+        }
+    }
 }

@@ -12,6 +12,8 @@ use crate::numbers::{put_decimal, put_signed};
 use crate::text::put_text;
 use language::{Ending, Refusal, Stop};
 
+// No `Display`: these write into lent memory and promise each byte and the place behind it, of which `fmt` says nothing.
+
 // A line of a word and a number.
 fn put_line(out: &mut [u8], at: usize, word: &[u8], n: u64) -> usize
     requires { at + (length word.now + (length (decimal n) + 1)) ≤ length out.old }

@@ -25,10 +25,10 @@ pub fn put_signed(out: &mut [u8], at: usize, word: u32) -> usize
     ensures { Put out.old at (signed_decimal (to_z w32 word)) out.new result }
 {
     if word < NEGATIVE_FROM {
-        return put_decimal(out, at, word as u64);
+        return put_decimal(out, at, u64::from(word));
     }
     out[at] = b'-';
-    put_decimal(out, at + 1, WORDS_END - word as u64)
+    put_decimal(out, at + 1, WORDS_END - u64::from(word))
 }
 
 // The digits of n, none for 0.

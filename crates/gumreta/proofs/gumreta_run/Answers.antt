@@ -3,7 +3,7 @@ use Rattle.gumreta.proofs.gumreta_run.Goals as goal
 
 pub returns : goal.returns
 returns c = let h = c.run-r.ensures in record {
-  value = c.ending_number.ensures ∙ h.ran_as.number;
+  value = c.from.ensures ∙ h.ran_as.number;
   done_after = h.ran_as.steps;
   printed_after = h.ran_as.printed;
   prints_after = h.ran_as.places;
