@@ -4,8 +4,8 @@ ghost use Rattle.records.specs.Verdicts.{form_verdict};
 
 use crate::form::form_ok;
 use crate::words::{header_ok, word};
-use language::format::HEADER_COUNT;
 use language::Refusal;
+use language::format::HEADER_COUNT;
 
 pub fn check_form(file: &[u8]) -> Result<(), Refusal>
     ensures { result ≡ form_verdict file.now }

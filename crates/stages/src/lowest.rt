@@ -67,7 +67,11 @@ fn check_regions(file: &[u8], table: &[u64; TABLE], rows: &mut [u64; ROWS]) -> R
 
 // Numbers 4, 5 and 17, and 7's part for every program, of a file that passed number 3. Fills the file's table, and the rows as far as it comes before a
 // refusal.
-pub fn check_classes(file: &[u8], table: &mut [u64; TABLE], rows: &mut [u64; ROWS]) -> Result<(), Refusal>
+pub fn check_classes(
+    file: &[u8],
+    table: &mut [u64; TABLE],
+    rows: &mut [u64; ROWS],
+) -> Result<(), Refusal>
     requires formed { Formed file.now }
     requires file_value { typing_ok (program file.now) ≡ true }
     requires file_words_in_bounds { (file_words ≤ length table.old) × (row_words ≤ length rows.old) }
