@@ -4,10 +4,10 @@
 pub mod format;
 mod kind;
 
-pub use kind::{Goal, Kind, NoKind};
-
 ghost use Rattle.std.specs.Prelude.{◌≡◌};
 ghost use Rattle.language.specs.Answers.{refusal_number, stop_number, ending_number};
+
+pub use kind::{Goal, Kind, NoKind};
 
 // The cause of a refusal, in the order in which they are looked at: numbers 1 to 5, 17 (C-18), 6 to 9. A test of a file answers `Result<(), Refusal>`: the
 // lowest refusal that applies, or that none does.
