@@ -9,12 +9,12 @@ use lib.ListN.{length, get_or, replicate}
 use Rattle.sets.specs.Tests.{◌&◌}
 use Rattle.language.specs.Lists.{all, up_from}
 use Rattle.language.specs.Format.{max_records, kind_word}
-use Rattle.language.specs.File.{Use, row, kind_of, kind_at, record_ok, leading, references, references_of, once_in, form_ok}
+use Rattle.language.specs.File.{Use, number, unused, first, row, kind_of, kind_at, record_ok, leading, references, references_of, once_in, form_ok}
 use Rattle.records.specs.Lists.{all_same, from_here, from_end, tally}
 use Rattle.records.proofs.ListsLaws.{tally_append, tally_once}
 use Rattle.records.specs.Table.{digit, pack, packed, uses}
 use Rattle.records.proofs.TableLaws.{seven, pack_first, pack_rest}
-use Rattle.records.specs.Form.{Tallied, UseTallied, refers, leads, refers_ok, spare_ok, references_by_uses}
+use Rattle.records.specs.Form.{Tallied, UseTallied, use_ok, refers, leads, refers_ok, spare_ok, references_by_uses}
 use Rattle.records.proofs.FormLaws.{leading_cons, record_apart}
 use Rattle.records.specs.Sizes.{digit_end, record_words}
 
@@ -94,6 +94,20 @@ module _ (W : ℕ → ℕ → ℕ) (n i : ℕ) where
         go (u ∷ us) e p q =
             let w = s u (ap (λ x. x % digit_end) p ∙ pack_first u us) in
             sym (q ∙ and_none _ (sym w.says ∙ t))
+
+  -- where no digit is left, no word leads anywhere
+  none_left : (k : ℕ) (us : List Use) → pack us ≡ 0 → (refers W n i k us ≡ true) × (leading W n i k us ≡ [])
+  unfolding pack digit refers use_ok leading ◌&◌
+  none_left k [] e = (refl, refl)
+  none_left k (number ∷ us) e = none_left (suc k) us (omega arith)
+  none_left k (unused ∷ us) e = none_left (suc k) us (omega arith)
+  none_left k (first c ∷ us) e = absurd (omega arith)
+
+  pub words_none : {seen₀ seen : List ℕ} {digits k : ℕ} → Words seen₀ seen digits k → digits ≡ 0 → Tallied true (refers_ok W n i) (references W n i) seen₀ seen
+  unfolding tally
+  words_none {seen = seen} {k = k} h z =
+      let e = none_left k h.ahead (sym h.packs ∙ z) in
+      record { says = sym (h.says ∙ e.0); counts = λ _. ap (tally seen) (sym e.1) ∙ h.counts }
 
   pub words_last : {seen₀ seen : List ℕ} {digits k : ℕ} → Words seen₀ seen digits k → record_words ≤ k → Tallied true (refers_ok W n i) (references W n i) seen₀ seen
   unfolding tally refers leading

@@ -212,6 +212,9 @@ fn refers_ok(file: &[u8], seen: &mut [u8], n: usize, i: usize) -> bool
     let mut row = packed(word_in(file, i, KIND));
     for k in 1..RECORD_WORDS {
         row /= DIGIT_END;
+        if row == 0 {
+            return true;
+        }
         if !word_ok(file, seen, n, i, k, row % DIGIT_END) {
             return false;
         }

@@ -1,11 +1,17 @@
 -- Invariant: the words still ahead decide. Assumes nothing.
 use mathlib.Core.Path.{◌∙◌}
 use Rattle.std.proofs.Common.{arith}
-use Rattle.records.proofs.Loops.{words_first, words_next, words_refused, words_last}
+use Rattle.records.proofs.Loops.{words_first, words_next, words_none, words_refused, words_last}
 use Rattle.records.proofs.form.refers_ok.Goals as goal
 
 pub loop-k-init : goal.loop-k-init
 loop-k-init c = words_first _ _ _ _ c.word_in.ensures.0 c.packed-row.ensures
+
+pub shape_of-seen-then-row-eq0 : goal.shape_of-seen-then-row-eq0
+shape_of-seen-then-row-eq0 c = c.loop-k.invariant.same
+
+pub returns-then-row-eq0 : goal.returns-then-row-eq0
+returns-then-row-eq0 c = words_none _ _ _ c.loop-k.invariant c.if-row-eq0.true
 
 pub shape_of-seen-then-not-word_ok : goal.shape_of-seen-then-not-word_ok
 shape_of-seen-then-not-word_ok c = c.word_ok.auto.seen ∙ c.loop-k.invariant.same
