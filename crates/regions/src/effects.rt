@@ -4,8 +4,8 @@ ghost use Rattle.chains.specs.Shapes.{IsCall};
 ghost use Rattle.regions.specs.Here.{Here};
 ghost use Rattle.regions.specs.Effects.{SomeStep, EffectAt, region_effect};
 
-use chains::word;
-use language::format;
+use chains::{goal, word};
+use language::{Goal, format};
 use sets::Set;
 use tables::{Effect, home};
 
@@ -27,10 +27,10 @@ pub fn step_effect(file: &[u8], own: &[u64], i: usize) -> Effect
     requires fact { (IsCall file.now i → ⊥) × SomeStep file.now i }
     ensures { EffectAt file.now i result }
 {
-    match word(file, i, format::KIND) {
-        format::CONSTRUCT => region_effect(home(own, word(file, i, format::GOAL_X)), 0, 0),
-        format::CREATE => region_effect(0, word(file, i, format::LIFETIME_REGION), 0),
-        format::REMOVE => {
+    match goal(file, i) {
+        Goal::Construct => region_effect(home(own, word(file, i, format::GOAL_X)), 0, 0),
+        Goal::Create => region_effect(0, word(file, i, format::LIFETIME_REGION), 0),
+        Goal::Remove => {
             let r = word(file, i, format::LIFETIME_REGION);
             region_effect(r, 0, r)
         }
