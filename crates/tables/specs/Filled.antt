@@ -1,7 +1,7 @@
 -- What the rows say of every goal, and which procedure each record belongs to: what the walks over goals ask of the tables.
 use Rattle.std.specs.Prelude.{ℕ, ◌≤◌, ◌<◌, List, ◌≡◌, length}
 use Rattle.sets.specs.Members.{set_of}
-use Rattle.language.specs.File.{procedures, goals, arms, word}
+use Rattle.language.specs.File.{goals, arms, word}
 use Rattle.language.specs.Format.{max_procedures, next_word, switch_arms, arm_goals, if_then, if_else, try_condition, try_then, try_else, procedure_goals, header_procedures}
 use Rattle.language.specs.Lists.{nth}
 use Rattle.language.specs.Program.{arguments_of, Step, step, signature_of}

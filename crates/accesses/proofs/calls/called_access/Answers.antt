@@ -1,5 +1,5 @@
 -- The callee's window has the sets of its in and out variables.
-use Rattle.std.proofs.Common.{arith, rules}
+use Rattle.std.proofs.Common.{arith}
 use Rattle.accesses.specs.Fitting.{window_fits}
 use Rattle.accesses.proofs.FittingLaws.{call_none, callee_declares, callee_accesses}
 use Rattle.accesses.proofs.calls.called_access.Goals as goal
@@ -14,9 +14,6 @@ overflow_add-window c =
 pub overflow_add-window-2 : goal.overflow_add-window-2
 overflow_add-window-2 c =
     omega (arith, window_fits c.requires.file_table (omega (arith, c.requires.procedures_value, c.if-q-procedures.false)) c.word_at-window.ensures)
-
-pub match_arguments-requires : goal.match_arguments-requires
-match_arguments-requires c = search rules
 
 pub returns : goal.returns
 returns c =

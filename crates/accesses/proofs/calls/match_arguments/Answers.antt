@@ -1,5 +1,4 @@
 -- What is gathered so far and what the parameters left would take make the whole.
-use Rattle.std.proofs.Common.{rules}
 use Rattle.accesses.proofs.Turning.{going_first, going_short, going_last, going_next}
 use Rattle.accesses.proofs.calls.match_arguments.Goals as goal
 
@@ -8,12 +7,6 @@ loop-x-init c = going_first c.requires.stands c.no_access-a.ensures c.union-both
 
 pub returns-then-y-eq0 : goal.returns-then-y-eq0
 returns-then-y-eq0 c = going_short c.loop-x.invariant c.if-y-eq0.true
-
-pub word-requires : goal.word-requires
-word-requires c = search rules
-
-pub word-y-requires : goal.word-y-requires
-word-y-requires c = search rules
 
 pub loop-x-preserved : goal.loop-x-preserved
 loop-x-preserved c =

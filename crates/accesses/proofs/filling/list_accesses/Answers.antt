@@ -1,5 +1,5 @@
 -- The rows of the records passed are filled.
-use Rattle.std.proofs.Common.{arith, rules}
+use Rattle.std.proofs.Common.{arith}
 use Rattle.language.specs.File.{record_count}
 use Rattle.chains.specs.Formed.{procedures_stand}
 use Rattle.chains.specs.Elements.{procedure_count}
@@ -12,9 +12,6 @@ chain_length-procedures-requires c = let F = c.requires.formed in record {
   formed = F;
   i_bound = rw c.word.ensures.0 (procedures_stand F).below;
 }
-
-pub record_count-count-requires : goal.record_count-count-requires
-record_count-count-requires c = search rules
 
 pub loop-i-init : goal.loop-i-init
 loop-i-init c = (omega arith, noting_first _ _)

@@ -1,20 +1,14 @@
-use Rattle.std.proofs.Common.{arith, rules}
+use Rattle.std.proofs.Common.{arith}
 use mathlib.Core.Path.{sym, ◌∙◌}
 use Rattle.chains.specs.Formed.{counted}
 use Rattle.called.proofs.LinkedLaws.{linked_first, linked_skip, linked_call, call_asks_law, linked_last}
 use Rattle.called.proofs.linking.link_calls.Goals as goal
 use Rattle.called.proofs.linking.link_calls.Goals.{then-word-eq-CALL, else-word-eq-CALL}
 
-pub record_count-n-requires : goal.record_count-n-requires
-record_count-n-requires c = search rules
-
 pub loop-i-init : goal.loop-i-init
 loop-i-init c =
     let n = counted c.requires.formed in
     (c.record_count-n.ensures, omega arith, omega (arith, c.record_count-n.ensures), linked_first _ c.requires.lasts_value)
-
-pub word-requires : goal.word-requires
-word-requires c = search rules
 
 pub link_call-requires : goal.link_call-requires
 link_call-requires c =

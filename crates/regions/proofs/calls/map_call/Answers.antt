@@ -3,7 +3,6 @@ use Prim.Native.Nat.{ℕ}
 use mathlib.Core.Path.{refl, ◌∙◌}
 use mathlib.Core.Logic.{inl, inr}
 use mathlib.Core.List.{List}
-use Rattle.std.proofs.Common.{rules}
 use Rattle.chains.specs.Formed.{variables_at, variables_none, arguments_at, arguments_none}
 use Rattle.chains.specs.Is.{chain_next}
 use Rattle.regions.proofs.PairsLaws.{grown_refl, grown_trans, rest_first, rest_next, rest_stops, rest_ends}
@@ -21,12 +20,6 @@ loop-x-init c =
       rest_first f _ _ (regions_of_parameters (variables_at f c.word_at-x.result)) (homes_in c.args.own.now (arguments_at f c.args.arguments)) _,
     )
 
-pub word-next-requires : goal.word-next-requires
-word-next-requires c = search rules
-
-pub word-requires : goal.word-requires
-word-requires c = search rules
-
 pub returns-then-a-eq0 : goal.returns-then-a-eq0
 returns-then-a-eq0 c = let f : List ℕ = c.args.file.now in record {
   grown = c.loop-x.invariant.3;
@@ -34,24 +27,12 @@ returns-then-a-eq0 c = let f : List ℕ = c.args.file.now in record {
       (rest_ends f _ _ c.loop-x.invariant.4 (inr (homes_none c.args.own.now (arguments_none f c.if-a-eq0.true))));
 }
 
-pub word-r-requires : goal.word-r-requires
-word-r-requires c = search rules
-
-pub word-requires-then-word-ne0 : goal.word-requires-then-word-ne0
-word-requires-then-word-ne0 c = search rules
-
-pub map_region-requires : goal.map_region-requires
-map_region-requires c = search rules
-
 pub returns-then-not-map_region : goal.returns-then-not-map_region
 returns-then-not-map_region c = let f : List ℕ = c.args.file.now in let F = c.requires.formed in let k = c.loop-x.invariant in let z = c.loop-x-test.true in let n = c.word-next.ensures.0 in let rs = parameter_here f _ F k.0 z c.word.ensures.0 c.if-word-ne0.true n c.word-r.ensures.0 in let us = argument_here f c.args.own.now _ F k.1 c.if-a-eq0.false c.word-then-word-ne0.ensures.0 c.home-u.ensures refl in record {
   grown = grown_trans k.3 c.map_region.ensures.grown;
   call_mapped = call_mapped f _ _ c.args.arguments _ _ _ c.word_at-x.ensures
       (rest_stops f _ _ k.4 _ rs us c.map_region.ensures.region_mapped c.if-not-map_region.true);
 }
-
-pub word-a-requires : goal.word-a-requires
-word-a-requires c = search rules
 
 pub loop-x-smaller-else-not-map_region : goal.loop-x-smaller-else-not-map_region
 loop-x-smaller-else-not-map_region c =

@@ -1,5 +1,5 @@
 use Prim.Native.Nat.{◌<◌}
-use Rattle.std.proofs.Common.{arith, rules}
+use Rattle.std.proofs.Common.{arith}
 use mathlib.Core.Path.{ap, ◌∙◌}
 use Rattle.language.specs.Format.{max_records}
 use Rattle.chains.specs.Formed.{counted}
@@ -9,9 +9,6 @@ use Rattle.regions.specs.CallEffect.{call_window}
 use Rattle.regions.proofs.RepeatsLaws.{repeated_agrees, repeated_made}
 use Rattle.regions.proofs.RowedLaws.{rowed_put}
 use Rattle.regions.proofs.pass.next_call_ok.Goals as goal
-
-pub repeats-requires : goal.repeats-requires
-repeats-requires c = search rules
 
 pub put_effect-requires : goal.put_effect-requires
 put_effect-requires c =

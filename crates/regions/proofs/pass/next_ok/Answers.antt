@@ -1,5 +1,5 @@
 use Prim.Native.Nat.{◌<◌}
-use Rattle.std.proofs.Common.{arith, rules}
+use Rattle.std.proofs.Common.{arith}
 use mathlib.Core.Logic.{inr}
 use mathlib.Core.Path.{refl, sym, ◌∙◌}
 use Rattle.language.specs.Format.{max_records}
@@ -115,9 +115,6 @@ returns-in-12 c = record {
   rowed = rowed_not c.args.file.now c.args.i _ (inr (switch_none c.requires.given.formed (sym c.word.ensures.0 ∙ c.in-12.is)));
   firsts_2 = c.switch_ok.ensures.firsts_2;
 }
-
-pub returns-in-15 : goal.returns-in-15
-returns-in-15 c = search rules
 
 pub returns-in-10 : goal.returns-in-10
 returns-in-10 c = record { value = c.step_ok.ensures.value; rowed = c.step_ok.ensures.rowed; firsts_2 = c.step_ok.ensures.firsts_2 }

@@ -1,13 +1,10 @@
 -- The records below are done, and the rest decides.
-use Rattle.std.proofs.Common.{rules, arith, refl}
+use Rattle.std.proofs.Common.{arith, refl}
 use Rattle.language.specs.File.{record_count}
 use Rattle.regions.proofs.RowedLaws.{going_first, going_stop, going_next, going_last, going_passed, going_stopped, going_before}
 use Rattle.regions.proofs.TermsLaws.{firsts_none}
 use Rattle.regions.proofs.pass.regions_agree.Goals as goal
 use Rattle.regions.proofs.pass.regions_agree.Goals.{then-word-eq-CALL, else-word-eq-CALL}
-
-pub record_count-n-requires : goal.record_count-n-requires
-record_count-n-requires c = search rules
 
 pub loop-i-init : goal.loop-i-init
 unfolding record_count
@@ -29,9 +26,6 @@ returns-then-not-next_ok c = let k = c.loop-i.invariant.0 in let e = c.next_ok.e
   value = going_stop k c.loop-i-test.true e.value z;
   after_pass = going_stopped k c.loop-i-test.true e.rowed z;
 }
-
-pub word-requires : goal.word-requires
-word-requires c = search rules
 
 pub loop-i-preserved : goal.loop-i-preserved
 loop-i-preserved c =

@@ -8,29 +8,13 @@ use Rattle.chains.specs.Formed.{arguments_none}
 use Rattle.chains.specs.Is.{chain_next}
 use Rattle.regions.proofs.CallMapLaws.{homes_none, argument_here}
 use Rattle.regions.proofs.RepeatsLaws.{same_next}
-use Rattle.std.proofs.Common.{rules}
 use Rattle.regions.proofs.repeats.same_homes.Goals as goal
-
-pub loop-x-init : goal.loop-x-init
-loop-x-init c = search rules
 
 pub returns-then-y-eq0 : goal.returns-then-y-eq0
 returns-then-y-eq0 c = λ e. absurd (false≢true e)
 
-pub word-requires : goal.word-requires
-word-requires c = search rules
-
-pub word-requires-in-loop-x : goal.word-requires-in-loop-x
-word-requires-in-loop-x c = search rules
-
 pub returns-then-u-v : goal.returns-then-u-v
 returns-then-u-v c = λ e. absurd (false≢true e)
-
-pub word-x-requires : goal.word-x-requires
-word-x-requires c = search rules
-
-pub word-y-requires : goal.word-y-requires
-word-y-requires c = search rules
 
 pub loop-x-smaller : goal.loop-x-smaller
 loop-x-smaller c =

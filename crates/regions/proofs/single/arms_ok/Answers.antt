@@ -3,14 +3,7 @@ use mathlib.Core.Path.{◌∙◌}
 use Rattle.chains.specs.Formed.{edges_at}
 use Rattle.chains.specs.Is.{chain_next}
 use Rattle.regions.proofs.HereLaws.{arms_stop, arms_on, arms_last}
-use Rattle.std.proofs.Common.{rules}
 use Rattle.regions.proofs.single.arms_ok.Goals as goal
-
-pub loop-a-init : goal.loop-a-init
-loop-a-init c = search rules
-
-pub in_targets-requires : goal.in_targets-requires
-in_targets-requires c = search rules
 
 pub returns-then-not-in_targets : goal.returns-then-not-in_targets
 returns-then-not-in_targets c = record {
@@ -18,9 +11,6 @@ returns-then-not-in_targets c = record {
       ∙ c.loop-a.invariant.2;
   firsts_2 = c.in_targets.ensures.firsts_2;
 }
-
-pub word-a-requires : goal.word-a-requires
-word-a-requires c = search rules
 
 pub loop-a-smaller : goal.loop-a-smaller
 loop-a-smaller c =

@@ -3,32 +3,7 @@ use Rattle.language.specs.File.{k_construct, k_switch}
 use Rattle.chains.specs.Shapes.{to_arms}
 use Rattle.regions.specs.Here.{construct_kind_law}
 use Rattle.regions.proofs.HereLaws.{switch_kind_law, edges_stand, assign_agrees, construct_agrees, switch_agrees, other_agrees}
-use Rattle.std.proofs.Common.{rules}
 use Rattle.regions.proofs.single.record_ok.Goals as goal
-
-pub word-requires : goal.word-requires
-word-requires c = search rules
-
-pub word-requires-in-10 : goal.word-requires-in-10
-word-requires-in-10 c = search rules
-
-pub home-x-requires : goal.home-x-requires
-home-x-requires c = search rules
-
-pub word-requires-in-10-2 : goal.word-requires-in-10-2
-word-requires-in-10-2 c = search rules
-
-pub home-y-requires : goal.home-y-requires
-home-y-requires c = search rules
-
-pub word-requires-in-11 : goal.word-requires-in-11
-word-requires-in-11 c = search rules
-
-pub home-r-requires : goal.home-r-requires
-home-r-requires c = search rules
-
-pub edges-requires : goal.edges-requires
-edges-requires c = search rules
 
 pub in_targets-requires : goal.in_targets-requires
 in_targets-requires c = let H = c.requires.here in let k = construct_kind_law c.args.file.now c.args.i (sym c.word.ensures.0 ∙ c.in-11.is) in record {
@@ -36,18 +11,6 @@ in_targets-requires c = let H = c.requires.here in let k = construct_kind_law c.
   stands = (edges_stand H k_construct k c.word-in-11.ensures.0 c.home-r.ensures c.edges.ensures, H.below);
   firsts = c.requires.firsts;
 }
-
-pub word-requires-in-12 : goal.word-requires-in-12
-word-requires-in-12 c = search rules
-
-pub home-r-requires-in-12 : goal.home-r-requires-in-12
-home-r-requires-in-12 c = search rules
-
-pub word-start-requires : goal.word-start-requires
-word-start-requires c = search rules
-
-pub edges-requires-in-12 : goal.edges-requires-in-12
-edges-requires-in-12 c = search rules
 
 pub arms_ok-requires : goal.arms_ok-requires
 arms_ok-requires c = let H = c.requires.here in let n = sym c.word.ensures.0 ∙ c.in-12.is in let k = switch_kind_law c.args.file.now c.args.i n in record {

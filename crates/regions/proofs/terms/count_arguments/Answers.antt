@@ -1,9 +1,6 @@
-use Rattle.std.proofs.Common.{arith, rules}
+use Rattle.std.proofs.Common.{arith}
 use Rattle.regions.proofs.TermsLaws.{count_four, count_three, count_two, count_one, count_none}
 use Rattle.regions.proofs.terms.count_arguments.Goals as goal
-
-pub word-requires : goal.word-requires
-word-requires c = search rules
 
 pub returns-then-word-ne0 : goal.returns-then-word-ne0
 returns-then-word-ne0 c = record {
@@ -11,26 +8,17 @@ returns-then-word-ne0 c = record {
   i_value = count_four _ _ c.word.ensures.0 c.if-word-ne0.true;
 }
 
-pub word-requires-2 : goal.word-requires-2
-word-requires-2 c = search rules
-
 pub returns-then-word-ne0-2 : goal.returns-then-word-ne0-2
 returns-then-word-ne0-2 c = record {
   upper_bound = omega arith;
   i_value = count_three _ _ c.word.ensures.0 c.if-word-ne0.false c.word-2.ensures.0 c.if-word-ne0-2.true;
 }
 
-pub word-requires-3 : goal.word-requires-3
-word-requires-3 c = search rules
-
 pub returns-then-word-ne0-3 : goal.returns-then-word-ne0-3
 returns-then-word-ne0-3 c = record {
   upper_bound = omega arith;
   i_value = count_two _ _ c.word.ensures.0 c.if-word-ne0.false c.word-2.ensures.0 c.if-word-ne0-2.false c.word-3.ensures.0 c.if-word-ne0-3.true;
 }
-
-pub word-requires-4 : goal.word-requires-4
-word-requires-4 c = search rules
 
 pub returns-then-word-ne0-4 : goal.returns-then-word-ne0-4
 returns-then-word-ne0-4 c = record {

@@ -1,5 +1,4 @@
 -- What the rest of the chain has for the functor is what the whole has.
-use Rattle.std.proofs.Common.{rules}
 use mathlib.Core.Path.{refl, ◌∙◌}
 use Rattle.chains.specs.Is.{chain_next}
 use Rattle.regions.proofs.TermsLaws.{functor_passed}
@@ -7,15 +6,6 @@ use Rattle.regions.proofs.terms.edges_for.Goals as goal
 
 pub loop-i-init : goal.loop-i-init
 loop-i-init c = (c.requires.stands, λ k. refl)
-
-pub word-requires : goal.word-requires
-word-requires c = search rules
-
-pub returns-then-word-f : goal.returns-then-word-f
-returns-then-word-f c = search rules
-
-pub word-i-requires : goal.word-i-requires
-word-i-requires c = search rules
 
 pub loop-i-smaller : goal.loop-i-smaller
 loop-i-smaller c =

@@ -1,22 +1,13 @@
 -- What is kept for the functor is of this chain, or it is searched for and kept.
-use Rattle.std.proofs.Common.{rules, arith}
+use Rattle.std.proofs.Common.{arith}
 use Rattle.regions.proofs.TermsLaws.{firsts_put, first_kept}
 use Rattle.regions.proofs.terms.first_edge.Goals as goal
-
-pub edges_for-requires : goal.edges_for-requires
-edges_for-requires c = search rules
-
-pub returns-then-f-ge-MAX_FUNCTORS : goal.returns-then-f-ge-MAX_FUNCTORS
-returns-then-f-ge-MAX_FUNCTORS c = search rules
 
 pub returns-then-firsts-f : goal.returns-then-firsts-f
 returns-then-firsts-f c = let M = c.requires.firsts in record {
   first_edge = first_kept M (omega (arith, c.if-f-ge-MAX_FUNCTORS.false)) c.if-firsts-f.true;
   firsts_2 = M;
 }
-
-pub edges_for-first-requires : goal.edges_for-first-requires
-edges_for-first-requires c = search rules
 
 pub returns : goal.returns
 returns c = let M = c.requires.firsts in let e = c.edges_for-first.ensures in record {

@@ -1,29 +1,14 @@
 -- The arguments that are not looked at yet decide.
 use Prim.Native.Nat.{ℕ}
-use Rattle.std.proofs.Common.{arith, rules}
+use Rattle.std.proofs.Common.{arith}
 use mathlib.Core.List.{List}
 use mathlib.Core.Path.{refl, ◌∙◌}
 use Rattle.chains.specs.Formed.{edges_at}
 use Rattle.regions.proofs.TermsLaws.{rest_stop, rest_on, rest_end, terms_decided}
 use Rattle.regions.proofs.terms.in_targets.Goals as goal
 
-pub word-functor-requires : goal.word-functor-requires
-word-functor-requires c = search rules
-
-pub first_edge-first-requires : goal.first_edge-first-requires
-first_edge-first-requires c = search rules
-
-pub count_arguments-n-requires : goal.count_arguments-n-requires
-count_arguments-n-requires c = search rules
-
 pub loop-k-init : goal.loop-k-init
 loop-k-init c = (omega arith, refl)
-
-pub word-requires : goal.word-requires
-word-requires c = search rules
-
-pub target_for-requires : goal.target_for-requires
-target_for-requires c = search rules
 
 pub returns-then-r-target_for : goal.returns-then-r-target_for
 returns-then-r-target_for c = let f : List ℕ = c.args.file.now in record {

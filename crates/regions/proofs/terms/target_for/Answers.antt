@@ -3,23 +3,10 @@ use mathlib.Core.Path.{refl, ◌∙◌}
 use Rattle.chains.specs.Formed.{edges_none}
 use Rattle.chains.specs.Is.{chain_next}
 use Rattle.regions.proofs.TermsLaws.{target_none, functor_passed, position_passed, edge_found}
-use Rattle.std.proofs.Common.{rules}
 use Rattle.regions.proofs.terms.target_for.Goals as goal
 
 pub loop-i-init : goal.loop-i-init
 loop-i-init c = (c.requires.stands, refl)
-
-pub word-next-requires : goal.word-next-requires
-word-next-requires c = search rules
-
-pub word-requires : goal.word-requires
-word-requires c = search rules
-
-pub word-requires-then-word-f : goal.word-requires-then-word-f
-word-requires-then-word-f c = search rules
-
-pub word-requires-then-word-k : goal.word-requires-then-word-k
-word-requires-then-word-k c = search rules
 
 pub returns-then-word-k : goal.returns-then-word-k
 returns-then-word-k c =

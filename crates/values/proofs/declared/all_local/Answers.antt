@@ -2,23 +2,16 @@ use Rattle.values.proofs.Entry.{local_first, local_next, local_stop, local_last}
 use Rattle.chains.specs.Is.{chain_next}
 use Rattle.chains.specs.Shapes.{variable_here}
 use Rattle.chains.specs.Formed.{variables_none}
-use Rattle.std.proofs.Common.{rules}
 use mathlib.Core.Path.{sym, ◌∙◌}
 use Rattle.values.proofs.declared.all_local.Goals as goal
 
 pub loop-i-init : goal.loop-i-init
 loop-i-init c = (c.requires.stands, local_first _)
 
-pub word-requires : goal.word-requires
-word-requires c = search rules
-
 pub returns-then-word-ne0 : goal.returns-then-word-ne0
 returns-then-word-ne0 c =
     let v = variable_here c.requires.formed c.loop-i-test.true c.loop-i.invariant.0 in
     local_stop c.loop-i.invariant.1 v.view (λ q. c.if-word-ne0.true (c.word.ensures.0 ∙ q))
-
-pub word-i-requires : goal.word-i-requires
-word-i-requires c = search rules
 
 pub loop-i-smaller : goal.loop-i-smaller
 loop-i-smaller c =

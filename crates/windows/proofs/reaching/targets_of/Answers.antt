@@ -1,5 +1,4 @@
 -- What is found so far with what the rest leads to is the whole.
-use Rattle.std.proofs.Common.{rules}
 use Rattle.sets.specs.SetLaws.{empty_union}
 use Rattle.chains.specs.Is.{chain_next}
 use Rattle.chains.specs.Edges.{targets_end, targets_here}
@@ -8,12 +7,6 @@ use Rattle.windows.proofs.reaching.targets_of.Goals as goal
 
 pub loop-i-init : goal.loop-i-init
 loop-i-init c = (c.requires.stands, empty_union _)
-
-pub word-requires : goal.word-requires
-word-requires c = search rules
-
-pub word-i-requires : goal.word-i-requires
-word-i-requires c = search rules
 
 pub loop-i-smaller : goal.loop-i-smaller
 loop-i-smaller c =

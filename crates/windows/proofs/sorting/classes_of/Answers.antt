@@ -1,18 +1,5 @@
-use Rattle.std.proofs.Common.{rules}
 use Rattle.windows.specs.Classed.{reached_part, sorted}
 use Rattle.windows.proofs.sorting.classes_of.Goals as goal
-
-pub variables_in-ins-requires : goal.variables_in-ins-requires
-variables_in-ins-requires c = search rules
-
-pub variables_in-outs-requires : goal.variables_in-outs-requires
-variables_in-outs-requires c = search rules
-
-pub of_class-born-requires : goal.of_class-born-requires
-of_class-born-requires c = search rules
-
-pub of_class-dead-requires : goal.of_class-dead-requires
-of_class-dead-requires c = search rules
 
 pub returns : goal.returns
 returns c =

@@ -1,4 +1,4 @@
-use Rattle.std.proofs.Common.{rules, arith}
+use Rattle.std.proofs.Common.{arith}
 use mathlib.Core.Path.{refl, sym, ◌∙◌}
 use Prim.Native.Nat.{◌+◌, ◌*◌, ◌≤◌}
 use lib.ListN.{length, length-set}
@@ -7,15 +7,6 @@ use Rattle.tables.specs.TablePlaces.{head_size}
 use Rattle.windows.specs.Classed.{SignatureAt}
 use Rattle.windows.specs.Procedure.{entered, reached_here, procedure_listed}
 use Rattle.windows.proofs.stage.list_procedure.Goals as goal
-
-pub word-v-requires : goal.word-v-requires
-word-v-requires c = search rules
-
-pub word-r-requires : goal.word-r-requires
-word-r-requires c = search rules
-
-pub word-g-requires : goal.word-g-requires
-word-g-requires c = search rules
 
 pub chain_length-variables-requires : goal.chain_length-variables-requires
 chain_length-variables-requires c = let E = entered c.requires.formed c.requires.stands.0 c.requires.stands.1 c.requires.window_room c.word-v.ensures.0 c.word-r.ensures.0 in record {

@@ -44,9 +44,6 @@ overflow_add-q c =
     let o = place_here c.requires.formed c.requires.file_value c.loop-i.invariant.0 c.loop-i-test.true in
     omega (arith, o)
 
-pub word-i-requires-in-loop-i : goal.word-i-requires-in-loop-i
-word-i-requires-in-loop-i c = search rules
-
 pub loop-i-smaller : goal.loop-i-smaller
 loop-i-smaller c =
     (chain_next c.requires.formed c.loop-i.invariant.0.along.stands c.loop-i-test.true c.word-i-in-loop-i.ensures.0).falls

@@ -9,9 +9,6 @@ use Rattle.windows.proofs.writing.list_regions.Goals as goal
 pub loop-i-init : goal.loop-i-init
 loop-i-init c = (along_first c.requires.stands, regions_none c.args.file.now c.args.first c.args.table.now c.args.from c.args.targets.now, refl, refl)
 
-pub word-start-requires : goal.word-start-requires
-word-start-requires c = search rules
-
 pub overflow_add-table : goal.overflow_add-table
 overflow_add-table c =
     let l = along_below c.requires.formed c.loop-i.invariant.0 c.loop-i-test.true in
@@ -52,9 +49,6 @@ pub overflow_add-n : goal.overflow_add-n
 overflow_add-n c =
     let l = along_below c.requires.formed c.loop-i.invariant.0 c.loop-i-test.true in
     search rules
-
-pub word-i-requires : goal.word-i-requires
-word-i-requires c = search rules
 
 pub loop-i-smaller : goal.loop-i-smaller
 loop-i-smaller c = (chain_next c.requires.formed c.loop-i.invariant.0.stands c.loop-i-test.true c.word-i.ensures.0).falls

@@ -9,9 +9,6 @@ use Rattle.windows.proofs.writing.list_variables.Goals as goal
 pub loop-i-init : goal.loop-i-init
 loop-i-init c = (along_first c.requires.stands, variables_none c.args.file.now c.args.first c.args.reaches.now c.args.table.now c.args.from, refl)
 
-pub word-home-requires : goal.word-home-requires
-word-home-requires c = search rules
-
 pub overflow_mul-table : goal.overflow_mul-table
 overflow_mul-table c =
     let l = along_below c.requires.formed c.loop-i.invariant.0 c.loop-i-test.true in
@@ -61,9 +58,6 @@ pub overflow_add-n : goal.overflow_add-n
 overflow_add-n c =
     let l = along_below c.requires.formed c.loop-i.invariant.0 c.loop-i-test.true in
     search rules
-
-pub word-i-requires : goal.word-i-requires
-word-i-requires c = search rules
 
 pub loop-i-smaller : goal.loop-i-smaller
 loop-i-smaller c = (chain_next c.requires.formed c.loop-i.invariant.0.stands c.loop-i-test.true c.word-i.ensures.0).falls
