@@ -11,7 +11,8 @@ use Rattle.language.specs.Lifetimes.{wanted, live_step, step_classes}
 use Rattle.language.specs.Answers.{program}
 use Rattle.tables.specs.Rows.{bears_in, ends_in, mark_in}
 use Rattle.tables.specs.Filled.{GoalIsStep, Accessed, Effected}
-use Rattle.liveness.specs.Carried.{live_in, place_in, classes_in, wants_of, Carries}
+use Rattle.liveness.specs.Carried.{Carries}
+use Rattle.liveness.specs.declared.carried.Carried.{Carried}
 use Rattle.liveness.specs.Noted.{Noted}
 use Rattle.liveness.specs.Wants.{wanted_in}
 use Rattle.liveness.specs.Step.{StepNoted, classes_at, live_at}
@@ -48,23 +49,23 @@ unfolding ◌&◌
 and_broken true = refl
 and_broken false = refl
 
-module _ (rows : List ℕ) (i : ℕ) (c : List ℕ) {before after : Set} (ea : after ≡ live_in c) (eb : before ≡ live_at rows i after) {b : Bool}
-    (e : b ≡ classes_at rows (wants_of c) i before after) where
-  right : classes_at rows (wants_of c) i (live_at rows i (live_in c)) (live_in c) ≡ b
+module _ (rows : List ℕ) (i : ℕ) (c : Carried) {before after : Set} (ea : after ≡ c.live) (eb : before ≡ live_at rows i after) {b : Bool}
+    (e : b ≡ classes_at rows c.wants i before after) where
+  right : classes_at rows c.wants i (live_at rows i c.live) c.live ≡ b
   right = rw (sym ea, sym eb) (sym e)
 
-  pub step_keeps_law : {t d u : List ℕ} → b ≡ true → Noted c t d u before after (classes_in c) → StepNoted rows i c t d u
+  pub step_keeps_law : {t u : List ℕ} {d : Carried} → b ≡ true → Noted c t d u before after c.classes → StepNoted rows i c t d u
   step_keeps_law p n = record {
     live_is = n.live_is ∙ rw (sym ea, eb) refl;
-    classes_is = n.classes_is ∙ sym (rw (right, p) (and_right (classes_in c)));
+    classes_is = n.classes_is ∙ sym (rw (right, p) (and_right c.classes));
     wants_is = n.wants_is;
     fills = rw (sym ea, sym eb) n.fills;
   }
 
-  pub step_breaks : {k t d u : List ℕ} → b ≡ false → Carries k (wants_of c) (live_in c) (place_in c) false → Noted k t d u before after (classes_in k) → StepNoted rows i c t d u
+  pub step_breaks : {t u : List ℕ} {k d : Carried} → b ≡ false → Carries k c.wants c.live c.place false → Noted k t d u before after k.classes → StepNoted rows i c t d u
   step_breaks p q n = record {
     live_is = n.live_is ∙ rw (sym ea, eb) refl;
-    classes_is = n.classes_is ∙ q.classes_is ∙ sym (rw (right, p) (and_broken (classes_in c)));
+    classes_is = n.classes_is ∙ q.classes_is ∙ sym (rw (right, p) (and_broken c.classes));
     wants_is = n.wants_is ∙ q.wants_is;
     fills = rw (sym ea, sym eb, sym q.place_is) n.fills;
   }

@@ -21,14 +21,15 @@ use Rattle.tables.specs.Filled.{GoalIsStep, Accessed}
 use Rattle.liveness.specs.Points.{Point, point, points, part_points, goal_points, arms_points, point_words}
 use Rattle.liveness.specs.Table.{Fills}
 use Rattle.liveness.proofs.TableLaws.{fills_none, fills_more}
-use Rattle.liveness.specs.Carried.{live_in, place_in, classes_in, wants_of, Carries}
+use Rattle.liveness.specs.Carried.{Carries}
+use Rattle.liveness.specs.declared.carried.Carried.{Carried}
 use Rattle.liveness.specs.Noted.{Noted}
 use Rattle.liveness.proofs.Room.{points_room}
-use Rattle.liveness.specs.Wants.{Listed}
+use Rattle.liveness.specs.Wants.{Wants}
 use Rattle.liveness.proofs.WantsLaws.{wants_are}
 use Rattle.liveness.specs.Step.{StepNoted}
 use Rattle.liveness.proofs.StepLaws.{and_right, live_is, classes_are}
-use Rattle.liveness.specs.Done.{GoalsFrom, GoalFrom, ArmsFrom, GoalsDone, GoalDone, AtEnd, ListDone, ListClasses}
+use Rattle.liveness.specs.Done.{GoalsFrom, GoalFrom, ArmsFrom, GoalsDone, GoalDone, ListDone, ListClasses}
 
 -- what is walked later stands in front
 later_first : (x a b : Bool) → ((x & b) & a) ≡ (x & (a & b))
@@ -176,17 +177,17 @@ module _ (f : List ℕ) (i : ℕ) where
 -- ---- over the records
 module _ (f rows : List ℕ) where
   -- ---- a chain
-  pub goals_last : (i : ℕ) (c t : List ℕ) → i ≡ 0 → GoalsDone f rows i c t c t
+  pub goals_last : (i : ℕ) (c : Carried) (t : List ℕ) → i ≡ 0 → GoalsDone f rows i c t c t
   unfolding live points goals_classes
   goals_last i c t z =
       record {
         live_is = rw (goals_none f z) refl;
         wants_is = refl;
-        fills = rw (goals_none f z) (fills_none t (place_in c));
-        classes_are = λ o q y b. rw (goals_none f z) (sym (and_right (classes_in c)));
+        fills = rw (goals_none f z) (fills_none t c.place);
+        classes_are = λ o q y b. rw (goals_none f z) (sym (and_right c.classes));
       }
 
-  pub goals_more : (i : ℕ) {after : Set} {end : ℕ} {x : Bool} {t d u e v w : List ℕ} → Formed f → Stands f goals i → (i ≡ 0 → ⊥)
+  pub goals_more : (i : ℕ) {after : Set} {end : ℕ} {x : Bool} {t u v w : List ℕ} {d e : Carried} → Formed f → Stands f goals i → (i ≡ 0 → ⊥)
       → GoalsFrom f rows w (word f i next_word) after end x t d u → GoalDone f rows i d u e v → GoalsFrom f rows w i after end x t e v
   goals_more i {after} {x = x} F s z h m =
       let e = goals_step F s z refl in
@@ -212,24 +213,24 @@ module _ (f rows : List ℕ) where
     step_stands_law : GoalIsStep f i step_at.one
     step_stands_law = record { stands = S; some = z; view = step_goal }
 
-    pub step_done : (c : List ℕ) {t d u : List ℕ} → Accessed f rows → StepNoted rows i c t d u → GoalDone f rows i c t d u
+    pub step_done : (c : Carried) {t u : List ℕ} {d : Carried} → Accessed f rows → StepNoted rows i c t d u → GoalDone f rows i c t d u
     step_done c {t} A n =
-        let b = live_is A step_stands_law (live_in c) ∙ step_live (program f) (live_in c) step_goal in
+        let b = live_is A step_stands_law c.live ∙ step_live (program f) c.live step_goal in
         record {
           live_is = n.live_is ∙ b;
           wants_is = n.wants_is;
-          fills = own_point (program f) (goal_at f i) (live_in c) [] (step_parts (program f) (live_in c) step_goal) b (fills_none t (place_in c)) n.fills;
+          fills = own_point (program f) (goal_at f i) c.live [] (step_parts (program f) c.live step_goal) b (fills_none t c.place) n.fills;
           classes_are = λ o k y h.
               n.classes_is
-              ∙ ap (λ (v : Bool). classes_in c & v)
-              (classes_are A step_stands_law (wants_of c) y.ready.effected y.wants h (live_in c) ∙ step_classes_law (program f) (signature_of (program f) k) (live_in c) step_goal);
+              ∙ ap (λ (v : Bool). c.classes & v)
+              (classes_are A step_stands_law c.wants y.ready.effected y.wants h c.live ∙ step_classes_law (program f) (signature_of (program f) k) c.live step_goal);
         }
 
   -- ---- a switch
   module _ (i : ℕ) (F : Formed f) (k : IsSwitch f i) where
-    pub switch_done : {after now : Set} {end first m : ℕ} {x : Bool} {t d u e v w : List ℕ} {o n b : Set} → now ≡ after → first ≡ word f i switch_arms
-        → ArmsFrom f rows w first after end x t d u → m ≡ word f i goal_x → o ≡ single m → n ≡ live_in d → b ≡ o ∪ n
-        → Noted d u e v b now (classes_in d) → GoalFrom f rows w i after end x t e v
+    pub switch_done : {after now : Set} {end first m : ℕ} {x : Bool} {t u v w : List ℕ} {d e : Carried} {o n b : Set} → now ≡ after → first ≡ word f i switch_arms
+        → ArmsFrom f rows w first after end x t d u → m ≡ word f i goal_x → o ≡ single m → n ≡ d.live → b ≡ o ∪ n
+        → Noted d u e v b now d.classes → GoalFrom f rows w i after end x t e v
     switch_done {after} {now} {x = x} {b = b} ea ew h em eo en eb n =
         let l : b ≡ live_goal (program f) (goal_at f i) after = eb ∙ cc (eo, em, en, ew, h.live_is) ∙ switch_live (program f) after (switch_at f i F k).goal in
         record {
@@ -241,14 +242,14 @@ module _ (f rows : List ℕ) where
               ∙ ap (λ (v : Bool). x & v) (rw ew (switch_classes (program f) (signature_of (program f) q) after (switch_at f i F k).goal));
         }
 
-  carries_on : {c v w : List ℕ} {s : Set} {end : ℕ} {x : Bool} → v ≡ w → Carries c v s end x → Carries c w s end x
+  carries_on : {c : Carried} {v w : List ℕ} {s : Set} {end : ℕ} {x : Bool} → v ≡ w → Carries c v s end x → Carries c w s end x
   carries_on e h = rw e at h
 
   -- ---- the goals of a part, where what is live behind the whole goal was put back
-  pub part_from : (i : ℕ) {after now : Set} {end : ℕ} {x : Bool} {c t d u w : List ℕ} → now ≡ after → Carries c w now end x → GoalsDone f rows i c t d u
+  pub part_from : (i : ℕ) {after now : Set} {end : ℕ} {x : Bool} {c d : Carried} {t u w : List ℕ} → now ≡ after → Carries c w now end x → GoalsDone f rows i c t d u
       → GoalsFrom f rows w i after end x t d u
-  part_from i {after} {now} {end} {x} {c} {t} {d} {u} ea h m =
-      let a : live_in c ≡ after = h.live_is ∙ ea in
+  part_from i {after} {now} {end} {x} {c} {d} ea h m =
+      let a : c.live ≡ after = h.live_is ∙ ea in
       let k = rw h.wants_is at m in
       record {
         live_is = rw a at k.live_is;
@@ -260,10 +261,10 @@ module _ (f rows : List ℕ) where
   -- ---- an if
   module _ (i : ℕ) (F : Formed f) (k : IsIf f i) where
     -- the points of the second part stand behind those of the first
-    pub if_done : {after now : Set} {end m n : ℕ} {x : Bool} {t c u c' d v e v' w : List ℕ} {other one a b p q r : Set} → now ≡ after
-        → GoalsFrom f rows w (word f i if_else) after end x t c u → other ≡ live_in c → Carries c' (wants_of c) now (place_in c) (classes_in c)
-        → GoalsDone f rows (word f i if_then) c' u d v → one ≡ live_in d → m ≡ word f i if_y → a ≡ single m → n ≡ word f i if_z → b ≡ single n
-        → p ≡ a ∪ b → q ≡ one ∪ other → r ≡ p ∪ q → Noted d v e v' r now (classes_in d) → GoalFrom f rows w i after end x t e v'
+    pub if_done : {after now : Set} {end m n : ℕ} {x : Bool} {t u v v' w : List ℕ} {c c' d e : Carried} {other one a b p q r : Set} → now ≡ after
+        → GoalsFrom f rows w (word f i if_else) after end x t c u → other ≡ c.live → Carries c' c.wants now c.place c.classes
+        → GoalsDone f rows (word f i if_then) c' u d v → one ≡ d.live → m ≡ word f i if_y → a ≡ single m → n ≡ word f i if_z → b ≡ single n
+        → p ≡ a ∪ b → q ≡ one ∪ other → r ≡ p ∪ q → Noted d v e v' r now d.classes → GoalFrom f rows w i after end x t e v'
     if_done {after} {now} {x = x} {r = r} ea h eo g j ep p₁ p₂ p₃ p₄ p₅ p₆ p₇ n =
         let j' = part_from (word f i if_then) ea (carries_on h.wants_is g) j in
         let l : r ≡ live_goal (program f) (goal_at f i) after =
@@ -281,10 +282,10 @@ module _ (f rows : List ℕ) where
   -- ---- a try
   module _ (i : ℕ) (F : Formed f) (k : IsTry f i) where
     -- the points of the else part stand behind those of the then part, and these behind those of the condition
-    pub try_done : {after now : Set} {end : ℕ} {x : Bool} {t c u c' d v d' v' e u' w : List ℕ} {other one r : Set} → now ≡ after
-        → GoalsFrom f rows w (word f i try_else) after end x t c u → other ≡ live_in c → Carries c' (wants_of c) now (place_in c) (classes_in c)
-        → GoalsDone f rows (word f i try_then) c' u d v → GoalsDone f rows (word f i try_condition) d v d' v' → one ≡ live_in d' → r ≡ one ∪ other
-        → Noted d' v' e u' r now (classes_in d') → GoalFrom f rows w i after end x t e u'
+    pub try_done : {after now : Set} {end : ℕ} {x : Bool} {t u v v' u' w : List ℕ} {c c' d d' e : Carried} {other one r : Set} → now ≡ after
+        → GoalsFrom f rows w (word f i try_else) after end x t c u → other ≡ c.live → Carries c' c.wants now c.place c.classes
+        → GoalsDone f rows (word f i try_then) c' u d v → GoalsDone f rows (word f i try_condition) d v d' v' → one ≡ d'.live → r ≡ one ∪ other
+        → Noted d' v' e u' r now d'.classes → GoalFrom f rows w i after end x t e u'
     try_done {after} {now} {x = x} {r = r} ea h eo g j m ep p n =
         let j' = part_from (word f i try_then) ea (carries_on h.wants_is g) j in
         let m' = part_from (word f i try_condition) refl (record { live_is = j'.live_is; place_is = refl; classes_is = refl; wants_is = j'.wants_is }) m in
@@ -305,7 +306,7 @@ module _ (f rows : List ℕ) where
         }
 
   -- ---- arms
-  pub arms_last : (i : ℕ) {after : Set} {end : ℕ} {x : Bool} {d w : List ℕ} (t : List ℕ) → i ≡ 0 → Carries d w empty_set end x → ArmsFrom f rows w i after end x t d t
+  pub arms_last : (i : ℕ) {after : Set} {end : ℕ} {x : Bool} {d : Carried} {w : List ℕ} (t : List ℕ) → i ≡ 0 → Carries d w empty_set end x → ArmsFrom f rows w i after end x t d t
   unfolding live_arms arms_points arms_classes
   arms_last i {end = end} {x = x} t z h =
       record {
@@ -328,11 +329,11 @@ module _ (f rows : List ℕ) where
     unfolding arms_points
     arms_points_law after h = rw (arm_here F z S).view h
 
-    pub arms_more : {after now : Set} {end next : ℕ} {x : Bool} {t c u c' d v e w : List ℕ} {other own bound p r : Set} → now ≡ after → next ≡ word f i next_word
-        → ArmsFrom f rows w next after end x t c u → other ≡ live_in c → Carries c' (wants_of c) now (place_in c) (classes_in c)
-        → GoalsDone f rows (word f i arm_goals) c' u d v → own ≡ live_in d
+    pub arms_more : {after now : Set} {end next : ℕ} {x : Bool} {t u v w : List ℕ} {c c' d e : Carried} {other own bound p r : Set} → now ≡ after → next ≡ word f i next_word
+        → ArmsFrom f rows w next after end x t c u → other ≡ c.live → Carries c' c.wants now c.place c.classes
+        → GoalsDone f rows (word f i arm_goals) c' u d v → own ≡ d.live
         → bound ≡ set_of (arguments_of (four_at f i)) → p ≡ own ∖ bound → r ≡ p ∪ other
-        → Carries e (wants_of d) r (place_in d) (classes_in d) → ArmsFrom f rows w i after end x t e v
+        → Carries e d.wants r d.place d.classes → ArmsFrom f rows w i after end x t e v
     arms_more {after} {now} {x = x} {r = r} ea ew h eo g j ep eb p₁ p₂ n =
         let j' = part_from (word f i arm_goals) ea (carries_on h.wants_is g) j in
         record {
@@ -347,19 +348,15 @@ module _ (f rows : List ℕ) where
         }
 
   -- ---- the goals that a word leads to
-  pub part_done : (i k : ℕ) {after : Set} {end : ℕ} {x : Bool} {t d u w : List ℕ} {n : ℕ} → n ≡ word f i k → GoalsFrom f rows w n after end x t d u
+  pub part_done : (i k : ℕ) {after : Set} {end : ℕ} {x : Bool} {t u w : List ℕ} {d : Carried} {n : ℕ} → n ≡ word f i k → GoalsFrom f rows w n after end x t d u
       → GoalsFrom f rows w (word f i k) after end x t d u
   part_done i k e h = rw e at h
 
--- ---- a whole procedure: nothing is behind its last goal
-module _ {f rows : List ℕ} (i : ℕ) {own : List ℕ} {outs : Set} {c₀ c₁ c t d u : List ℕ} (e : AtEnd c₀) (k : Listed own c₀ c₁)
-    (h : Carries c (wants_of c₁) outs (place_in c₁) (classes_in c₁)) (g : GoalsDone f rows i c t d u) where
-  from_end : GoalsFrom f rows (wants_of c₁) i outs point_words true t d u
-  from_end = rw (k.place_is ∙ e.place_is, k.classes_is ∙ e.classes_is) at (part_from f rows i refl h g)
+-- ---- a whole procedure: nothing is behind its last goal, and no step has broken number 7
+module _ {f rows : List ℕ} (i : ℕ) {own w : List ℕ} {outs : Set} {t u : List ℕ} {d : Carried} (k : Wants own w) (g : GoalsFrom f rows w i outs point_words true t d u) where
+  pub list_done : Formed f → Stands f goals i → point_words ≤ length t → ListDone f i outs t u d.place d.live
+  list_done F S l = (g.live_is, g.fills.room (points_room F i outs S.below) l)
 
-  pub list_done : {r : Set} {s : ℕ} → Formed f → Stands f goals i → point_words ≤ length t → r ≡ live_in d → s ≡ place_in d → ListDone f i outs t u s r
-  list_done F S l er es = (er ∙ from_end.live_is, rw es (from_end.fills.room (points_room F i outs S.below) l))
-
-  pub list_classes : {b : Bool} → b ≡ classes_in d → ListClasses f rows own i outs b
+  pub list_classes : ListClasses f rows own i outs d.classes
   unfolding ◌&◌
-  list_classes eb o q E O W B = eb ∙ from_end.classes_are o q (record { ready = record { effected = E; owning = O }; wants = wants_are W k.wants }) B
+  list_classes o q E O W B = g.classes_are o q (record { ready = record { effected = E; owning = O }; wants = wants_are W k }) B

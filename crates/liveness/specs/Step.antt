@@ -4,7 +4,7 @@ use Rattle.sets.specs.Tests.{◌&◌}
 use Rattle.sets.specs.Sets.{◌∪◌, ◌∖◌, apart}
 use Rattle.sets.specs.declared.Set.{Set}
 use Rattle.tables.specs.Rows.{reads_in, gives_in, bears_in, ends_in, mark_in}
-use Rattle.liveness.specs.Carried.{live_in, classes_in, wants_of}
+use Rattle.liveness.specs.declared.carried.Carried.{Carried}
 use Rattle.liveness.specs.Noted.{Noted}
 use Rattle.liveness.specs.Wants.{wanted_in}
 
@@ -18,6 +18,6 @@ classes_at rows w i before after = apart (ends_in rows i) (wanted_in w after) & 
 
 -- ---- one law for each way through the tests
 -- what `step` does
-abbrev pub StepNoted : List ℕ → ℕ → List ℕ → List ℕ → List ℕ → List ℕ → Type 0
+abbrev pub StepNoted : List ℕ → ℕ → Carried → List ℕ → Carried → List ℕ → Type 0
 StepNoted rows i c t d u =
-    Noted c t d u (live_at rows i (live_in c)) (live_in c) (classes_in c & classes_at rows (wants_of c) i (live_at rows i (live_in c)) (live_in c))
+    Noted c t d u (live_at rows i c.live) c.live (c.classes & classes_at rows c.wants i (live_at rows i c.live) c.live)

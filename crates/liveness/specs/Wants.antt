@@ -1,15 +1,17 @@
 -- What is wanted at a point, from a short copy of a window: the reach of each variable at the place of its number, then the kept regions.
-use Rattle.std.specs.Prelude.{ℕ, ◌<◌, List, ◌≡◌, ltb, length, get_or}
+use Rattle.std.specs.Prelude.{ℕ, ◌+◌, ◌<◌, List, ◌≡◌, ltb, get_or}
 use Rattle.sets.specs.Sets.{empty_set, ◌∪◌, loaded}
 use Rattle.sets.specs.Members.{union_over}
 use Rattle.sets.specs.declared.Set.{Set}
 use Rattle.language.specs.Lists.{choose}
 use Rattle.language.specs.Format.{places}
-use Rattle.liveness.specs.Carried.{place_in, classes_in, wants_of}
 use Rattle.tables.specs.Window.{set_in, reach_in, kept_place}
 
 abbrev pub wants_kept : ℕ
 wants_kept = places
+
+abbrev pub want_words : ℕ
+want_words = wants_kept + 1
 
 -- the reach of variable x
 unfoldable pub reached_in : List ℕ → ℕ → Set
@@ -23,10 +25,3 @@ wanted_in w live = loaded (get_or w wants_kept 0) ∪ union_over (reached_in w) 
 pub record Wants (own w : List ℕ) : Type 0 where
   pub kept_is : loaded (get_or w wants_kept 0) ≡ set_in own kept_place
   pub reach_is : (x : ℕ) → x < places → loaded (get_or w x 0) ≡ reach_in own x
-
--- in what the walk carries, the first words are as they were
-pub record Listed (own c d : List ℕ) : Type 0 where
-  pub same : length d ≡ length c
-  pub place_is : place_in d ≡ place_in c
-  pub classes_is : classes_in d ≡ classes_in c
-  pub wants : Wants own (wants_of d)

@@ -18,19 +18,10 @@ pub use whole::list_live;
 // Two words a point, one for each goal.
 pub const POINTS: usize = 2 * MAX_RECORDS;
 
-// Words that the walk carries: what is live, the place that the next point is written in front of, 1 unless a step broke number 7; then what is
-// wanted: the reach of each variable, by its number, and the kept regions.
-pub const LIVE: usize = 0;
+// Words of what is wanted: the reach of each variable, by its number, then the kept regions.
+pub const WANTS_KEPT: usize = PLACES;
 
-pub const PLACE: usize = 1;
-
-pub const CLASSES: usize = 2;
-
-pub const REACHES: usize = 3;
-
-pub const WANTS_KEPT: usize = REACHES + PLACES;
-
-pub const CARRIED: usize = WANTS_KEPT + 1;
+pub const WANTS: usize = WANTS_KEPT + 1;
 
 // What is live before the goals whose points were written, the place of the first of them in the table, and whether their steps keep number 7.
 #[derive(Clone, Copy)]

@@ -1,10 +1,9 @@
 // A step: what is live before it, and number 7.
 ghost use Rattle.std.specs.Prelude.{◌≡◌};
-ghost use Rattle.liveness.specs.Carried.{wants_of};
 ghost use Rattle.liveness.specs.Step.{live_at, classes_at, StepNoted};
 
-use crate::CARRIED;
-use crate::carried::{live_in, put_broken, put_point};
+use crate::WANTS;
+use crate::carried::{Carried, put_point};
 use crate::wants::unwanted;
 use sets::Set;
 use tables::{ROWS, bears_at, ends_at, gives_at, marked, reads_at};
@@ -19,34 +18,28 @@ fn live_step(rows: &[u64; ROWS], i: usize, after: Set) -> Set
 }
 
 // "at a call, a dead image wanted after, a born image wanted before, either shared with another region"
-fn classes_kept(
-    rows: &[u64; ROWS],
-    carried: &[u64; CARRIED],
-    i: usize,
-    before: Set,
-    after: Set,
-) -> bool
-    ensures { result ≡ classes_at rows.now (wants_of carried.now) i before after }
+fn classes_kept(rows: &[u64; ROWS], wants: &[u64; WANTS], i: usize, before: Set, after: Set) -> bool
+    ensures { result ≡ classes_at rows.now wants.now i before after }
 {
-    if !unwanted(carried, ends_at(rows, i), after) {
+    if !unwanted(wants, ends_at(rows, i), after) {
         return false;
     }
-    if !unwanted(carried, bears_at(rows, i), before) {
+    if !unwanted(wants, bears_at(rows, i), before) {
         return false;
     }
     marked(rows, i)
 }
 
 // Writes the point of the step at record i.
-pub fn step(rows: &[u64; ROWS], i: usize, carried: &mut [u64; CARRIED], table: &mut [u64])
+pub fn step(rows: &[u64; ROWS], i: usize, carried: &mut Carried, table: &mut [u64])
     ensures { StepNoted rows.now i carried.old table.old carried.new table.new }
 {
-    let after = live_in(carried);
+    let after = carried.live;
     let before = live_step(rows, i, after);
-    if classes_kept(rows, carried, i, before, after) {
+    if classes_kept(rows, &carried.wants, i, before, after) {
         put_point(before, after, carried, table);
         return;
     }
-    put_broken(carried);
+    carried.classes = false;
     put_point(before, after, carried, table);
 }

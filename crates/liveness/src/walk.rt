@@ -8,9 +8,9 @@ ghost use Rattle.chains.specs.Formed.{Formed, Stands};
 ghost use Rattle.tables.specs.Filled.{Accessed};
 ghost use Rattle.liveness.specs.Done.{GoalsDone, GoalDone, ArmsDone};
 
-use crate::carried::{live_in, put_live, put_point};
+use crate::POINTS;
+use crate::carried::{Carried, put_point};
 use crate::step::step;
-use crate::{CARRIED, POINTS};
 use chains::word;
 use language::format::{
     ARM_GOALS, GOAL_X, IF, IF_ELSE, IF_THEN, IF_Y, IF_Z, KIND, NEXT, SWITCH, SWITCH_ARMS, TRY,
@@ -25,7 +25,7 @@ pub fn goals(
     file: &&[u8],
     rows: &[u64; ROWS],
     i: usize,
-    carried: &mut [u64; CARRIED],
+    carried: &mut Carried,
     table: &mut [u64; POINTS],
 )
     requires formed { Formed file.now.now }
@@ -47,7 +47,7 @@ fn part(
     rows: &[u64; ROWS],
     i: usize,
     k: usize,
-    carried: &mut [u64; CARRIED],
+    carried: &mut Carried,
     table: &mut [u64; POINTS],
 )
     requires formed { Formed file.now.now }
@@ -68,7 +68,7 @@ fn goal(
     file: &&[u8],
     rows: &[u64; ROWS],
     i: usize,
-    carried: &mut [u64; CARRIED],
+    carried: &mut Carried,
     table: &mut [u64; POINTS],
 )
     requires formed { Formed file.now.now }
@@ -90,7 +90,7 @@ fn switch(
     file: &&[u8],
     rows: &[u64; ROWS],
     i: usize,
-    carried: &mut [u64; CARRIED],
+    carried: &mut Carried,
     table: &mut [u64; POINTS],
 )
     requires formed { Formed file.now.now }
@@ -98,11 +98,11 @@ fn switch(
     requires kind_word_value { word file.now.now i kind_word ≡ switch_kind }
     ensures { GoalDone file.now.now rows.now i carried.old table.old carried.new table.new }
 {
-    let after = live_in(carried);
+    let after = carried.live;
     let first = word(*file, i, SWITCH_ARMS);
     arms(file, rows, first, carried, table);
     let x = Set::of(word(*file, i, GOAL_X));
-    let needed = live_in(carried);
+    let needed = carried.live;
     put_point(x.union(needed), after, carried, table);
 }
 
@@ -112,7 +112,7 @@ fn branches(
     file: &&[u8],
     rows: &[u64; ROWS],
     i: usize,
-    carried: &mut [u64; CARRIED],
+    carried: &mut Carried,
     table: &mut [u64; POINTS],
 )
     requires formed { Formed file.now.now }
@@ -120,12 +120,12 @@ fn branches(
     requires kind_word_value { word file.now.now i kind_word ≡ if_kind }
     ensures { GoalDone file.now.now rows.now i carried.old table.old carried.new table.new }
 {
-    let after = live_in(carried);
+    let after = carried.live;
     part(file, rows, i, IF_ELSE, carried, table);
-    let other = live_in(carried);
-    put_live(carried, after);
+    let other = carried.live;
+    carried.live = after;
     part(file, rows, i, IF_THEN, carried, table);
-    let one = live_in(carried);
+    let one = carried.live;
     let y = Set::of(word(*file, i, IF_Y));
     let z = Set::of(word(*file, i, IF_Z));
     put_point(y.union(z).union(one.union(other)), after, carried, table);
@@ -137,7 +137,7 @@ fn attempt(
     file: &&[u8],
     rows: &[u64; ROWS],
     i: usize,
-    carried: &mut [u64; CARRIED],
+    carried: &mut Carried,
     table: &mut [u64; POINTS],
 )
     requires formed { Formed file.now.now }
@@ -145,13 +145,13 @@ fn attempt(
     requires kind_word_value { word file.now.now i kind_word ≡ try_kind }
     ensures { GoalDone file.now.now rows.now i carried.old table.old carried.new table.new }
 {
-    let after = live_in(carried);
+    let after = carried.live;
     part(file, rows, i, TRY_ELSE, carried, table);
-    let other = live_in(carried);
-    put_live(carried, after);
+    let other = carried.live;
+    carried.live = after;
     part(file, rows, i, TRY_THEN, carried, table);
     part(file, rows, i, TRY_CONDITION, carried, table);
-    let one = live_in(carried);
+    let one = carried.live;
     put_point(one.union(other), after, carried, table);
 }
 
@@ -161,7 +161,7 @@ fn arms(
     file: &&[u8],
     rows: &[u64; ROWS],
     i: usize,
-    carried: &mut [u64; CARRIED],
+    carried: &mut Carried,
     table: &mut [u64; POINTS],
 )
     requires formed { Formed file.now.now }
@@ -170,16 +170,16 @@ fn arms(
     ensures { ArmsDone file.now.now rows.now i carried.old table.old carried.new table.new }
 {
     if i == 0 {
-        put_live(carried, Set::EMPTY);
+        carried.live = Set::EMPTY;
         return;
     }
-    let after = live_in(carried);
+    let after = carried.live;
     let next = word(*file, i, NEXT);
     arms(file, rows, next, carried, table);
-    let other = live_in(carried);
-    put_live(carried, after);
+    let other = carried.live;
+    carried.live = after;
     part(file, rows, i, ARM_GOALS, carried, table);
-    let live = live_in(carried);
+    let live = carried.live;
     let bound = gives_at(rows, i);
-    put_live(carried, live.difference(bound).union(other));
+    carried.live = live.difference(bound).union(other);
 }

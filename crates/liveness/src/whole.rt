@@ -3,31 +3,21 @@ ghost use Rattle.std.specs.Prelude.{◌≡◌, length};
 ghost use Rattle.language.specs.File.{goals};
 ghost use Rattle.chains.specs.Formed.{Formed, Stands};
 ghost use Rattle.tables.specs.Filled.{Accessed};
-ghost use Rattle.liveness.specs.Carried.{carried_words};
+ghost use Rattle.liveness.specs.Wants.{want_words};
 ghost use Rattle.liveness.specs.Points.{point_words};
-ghost use Rattle.liveness.specs.Done.{AtEnd, ListDone, ListClasses};
+ghost use Rattle.liveness.specs.Done.{ListDone, ListClasses};
 
-use crate::carried::{classes_in, live_in, place_in, put_live};
+use crate::carried::Carried;
 use crate::walk::goals;
 use crate::wants::list_wants;
-use crate::{CARRIED, CLASSES, Filled, PLACE, POINTS};
+use crate::{Filled, POINTS, WANTS};
 use sets::Set;
 use tables::ROWS;
 
-fn blank_carried() -> [u64; CARRIED]
-    ensures { carried_words ≡ length result }
+fn blank_wants() -> [u64; WANTS]
+    ensures { want_words ≡ length result }
 {
-    [0; CARRIED]
-}
-
-// The table's end, and no step yet that breaks number 7.
-fn at_end() -> [u64; CARRIED]
-    ensures { AtEnd result }
-{
-    let mut carried = blank_carried();
-    carried[PLACE] = POINTS as u64;
-    carried[CLASSES] = 1;
-    carried
+    [0; WANTS]
 }
 
 // Writes the points of a procedure's goals, from record body on, at the end of the table; own is the procedure's window. "After the last goal, the
@@ -48,13 +38,18 @@ pub fn list_live(
     ensures list_done { ListDone file.now body outs table.old table.new result.start result.live }
     ensures list_classes { ListClasses file.now rows.now own.now body outs result.classes }
 {
-    let mut carried = at_end();
-    list_wants(own, &mut carried);
-    put_live(&mut carried, outs);
+    let mut wants = blank_wants();
+    list_wants(own, &mut wants);
+    let mut carried = Carried {
+        live: outs,
+        place: POINTS,
+        classes: true,
+        wants,
+    };
     goals(&file, rows, body, &mut carried, table);
     Filled {
-        live: live_in(&carried),
-        start: place_in(&carried),
-        classes: classes_in(&carried),
+        live: carried.live,
+        start: carried.place,
+        classes: carried.classes,
     }
 }

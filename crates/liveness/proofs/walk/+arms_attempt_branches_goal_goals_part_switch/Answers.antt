@@ -1,5 +1,5 @@
 -- The walk over goals: one law of Walking for each way through it. The records ahead fall.
-use mathlib.Core.Path.{sym, ap, ◌∙◌}
+use mathlib.Core.Path.{refl, sym, ap, ◌∙◌}
 use Rattle.std.proofs.Common.{arith, rules}
 use Rattle.chains.specs.Formed.{ahead}
 use Rattle.chains.specs.Is.{chain_next}
@@ -22,10 +22,10 @@ arms-part-requires t c =
 
 pub arms-returns : goal.arms-returns
 arms-returns t c =
-    arms_more _ _ _ c.requires.formed c.requires.stands c.if-i-eq0.false c.live_in-after.ensures c.word-next.ensures.0 c.arms.ensures
-    c.live_in-other.ensures c.put_live-2.ensures c.part.ensures c.live_in-live.ensures
+    arms_more _ _ _ c.requires.formed c.requires.stands c.if-i-eq0.false refl c.word-next.ensures.0 c.arms.ensures
+    refl (record { live_is = refl; place_is = refl; classes_is = refl; wants_is = refl }) c.part.ensures refl
     (c.gives_at-bound.ensures ∙ c.requires.accessed.arm_gives _ c.requires.stands c.if-i-eq0.false) c.difference.ensures
-    c.union.ensures c.put_live-3.ensures
+    c.union-carried.ensures (record { live_is = refl; place_is = refl; classes_is = refl; wants_is = refl })
 
 pub attempt-part-requires : goal.attempt-part-requires
 attempt-part-requires t c =
@@ -44,8 +44,8 @@ attempt-part-requires-3 t c =
 
 pub attempt-returns : goal.attempt-returns
 attempt-returns t c =
-    try_done _ _ _ c.requires.formed c.requires.kind_word_value c.live_in-after.ensures c.part.ensures c.live_in-other.ensures
-    c.put_live.ensures c.part-2.ensures c.part-3.ensures c.live_in-one.ensures
+    try_done _ _ _ c.requires.formed c.requires.kind_word_value refl c.part.ensures refl
+    (record { live_is = refl; place_is = refl; classes_is = refl; wants_is = refl }) c.part-2.ensures c.part-3.ensures refl
     c.union.ensures c.put_point.ensures
 
 pub branches-part-requires : goal.branches-part-requires
@@ -69,8 +69,8 @@ branches-word-requires-2 t c = record {
 
 pub branches-returns : goal.branches-returns
 branches-returns t c =
-    if_done _ _ _ c.requires.formed c.requires.kind_word_value c.live_in-after.ensures c.part.ensures c.live_in-other.ensures
-    c.put_live.ensures c.part-2.ensures c.live_in-one.ensures c.word.ensures.0 c.of-y.ensures
+    if_done _ _ _ c.requires.formed c.requires.kind_word_value refl c.part.ensures refl
+    (record { live_is = refl; place_is = refl; classes_is = refl; wants_is = refl }) c.part-2.ensures refl c.word.ensures.0 c.of-y.ensures
     c.word-2.ensures.0 c.of-z.ensures c.union.ensures c.union-2.ensures c.union-3.ensures
     c.put_point.ensures
 
@@ -147,5 +147,5 @@ switch-word-requires t c = search (switch_there, rules)
 
 pub switch-returns : goal.switch-returns
 switch-returns t c =
-    switch_done _ _ _ c.requires.formed c.requires.kind_word_value c.live_in-after.ensures c.word-first.ensures.0 c.arms.ensures
-    c.word.ensures.0 c.of-x.ensures c.live_in-needed.ensures c.union.ensures c.put_point.ensures
+    switch_done _ _ _ c.requires.formed c.requires.kind_word_value refl c.word-first.ensures.0 c.arms.ensures
+    c.word.ensures.0 c.of-x.ensures refl c.union.ensures c.put_point.ensures

@@ -8,8 +8,5 @@ loop-x-init c = search (copying_first, rules)
 pub loop-x-preserved : goal.loop-x-preserved
 loop-x-preserved c = search (copying_next, rules)
 
-pub shape_of-carried : goal.shape_of-carried
-shape_of-carried c = search rules
-
 pub returns : goal.returns
 returns c = search (copying_last, rules)

@@ -8,8 +8,8 @@ pub goals-requires : goal.goals-requires
 goals-requires c = search rules
 
 pub returns : goal.returns
-returns c = let e = c.at_end-carried.ensures in let k = c.list_wants.ensures in let h = c.put_live.ensures in let g = c.goals.ensures in record {
+returns c = let k = c.list_wants.ensures in let g = c.goals.ensures in record {
   table_len_2 = g.fills.same ∙ c.requires.table_len;
-  list_done = list_done _ e k h g c.requires.formed c.requires.stands (omega (arith, c.requires.table_len)) c.live_in.ensures c.place_in.ensures;
-  list_classes = list_classes _ e k h g c.classes_in.ensures;
+  list_done = list_done _ k g c.requires.formed c.requires.stands (omega (arith, c.requires.table_len));
+  list_classes = list_classes _ k g;
 }
