@@ -73,9 +73,7 @@ pub fn match_calls(file: &[u8], table: &[u64], plan: &mut [usize; PLAN])
     ensures { plan.new ≡ placing file.now (record_count file.now - 1) 1 plan.old }
 {
     let n = word(file, 0, format::HEADER_COUNT);
-    let mut i = 1;
-    while i < n {
+    for i in 1..n {
         match_record(file, table, i, plan);
-        i += 1;
     }
 }

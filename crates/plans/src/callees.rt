@@ -25,10 +25,8 @@ fn put_callee(own: &[u64], q: usize, callees: &mut [u64; CALLEES])
 pub fn fill_callees(table: &[u64], callees: &mut [u64; CALLEES])
     ensures { callees.new ≡ callees_of table.now callees.old }
 {
-    let mut q = 0;
-    while q < MAX_PROCEDURES {
+    for q in 0..MAX_PROCEDURES {
         let start = start_of(table, q);
         put_callee(&table[start..], q, callees);
-        q += 1;
     }
 }

@@ -23,11 +23,7 @@ fn clear(found: &mut [usize; PLACES])
     requires { length found.old ≡ places }
     ensures { Blank found.new }
 {
-    let mut r = 0;
-    while r < PLACES {
-        found[r] = 0;
-        r += 1;
-    }
+    found.fill(0);
 }
 
 // The images of the call at record i of the procedure with the window callee; none where a region has two.
@@ -78,9 +74,7 @@ fn copy_images(found: &[usize; PLACES], n: usize, at: usize, images: &mut [u8; I
     requires by_index { (r : ℕ) → get_or found.now r 0 < places }
     ensures { images.new ≡ copied (λ r. get_or found.now r 0) n at images.old }
 {
-    let mut r = 0;
-    while r < n {
-        r += 1;
+    for r in 1..=n {
         images[at + r] = found[r] as u8;
     }
 }
@@ -95,13 +89,11 @@ pub fn fill_images(file: &[u8], table: &[u64], owners: &[u16], images: &mut [u8;
     let records = word(file, 0, format::HEADER_COUNT);
     let mut found = [0; PLACES];
     let mut last = 0;
-    let mut i = 1;
     let mut at = 0;
-    while i < records {
+    for i in 1..records {
         let n = image_count(file, table, i);
         last = next_images(file, table, owners, last, i, &mut found);
         copy_images(&found, n, at, images);
         at += n;
-        i += 1;
     }
 }

@@ -89,9 +89,8 @@ pub fn join_records(file: &[u8], plan: &mut [usize; PLAN])
     requires joinable { Joinable file.now (record_count file.now) plan.old }
     ensures { plan.new ≡ joining file.now plan.old }
 {
-    let mut i = word(file, 0, format::HEADER_COUNT);
-    while i > 0 {
-        i -= 1;
+    let records = word(file, 0, format::HEADER_COUNT);
+    for i in (0..records).rev() {
         join_record(file, i, plan);
     }
 }

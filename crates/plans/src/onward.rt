@@ -31,10 +31,8 @@ pub fn fill_onward(file: &[u8], table: &mut [usize])
 {
     let n = record_count(file);
     let parts = part_words();
-    let mut i = 0;
-    while i < n {
+    for i in 0..n {
         hand_down(&parts, file, i, table);
-        i += 1;
     }
     table[0] = 0;
 }

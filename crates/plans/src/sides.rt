@@ -46,11 +46,9 @@ pub fn fill_sides(file: &[u8], table: &[u64], owners: &[u16], plan: &mut [usize;
     ensures { plan.new ≡ siding file.now (record_count file.now - 1) 1 plan.old }
 {
     let n = word(file, 0, format::HEADER_COUNT);
-    let mut i = 1;
     let mut at = 0;
-    while i < n {
+    for i in 1..n {
         plan[SIDES + i] = side_of(file, table, owners, i, at);
         at += image_count(file, table, i);
-        i += 1;
     }
 }

@@ -14,13 +14,11 @@ pub fn region_size(cells: &[u32], regions: &[u32], limit: u32, region: u32) -> u
         return 0;
     }
     let mut cell = word(regions, at);
-    let mut n = 0;
-    while n < limit {
-        n += 1;
+    for n in 0..limit {
         if cell == last {
-            return n;
+            return n + 1;
         }
         cell = cell_word(cells, cell, CELL_NEXT as u32);
     }
-    n
+    limit
 }

@@ -1,5 +1,4 @@
 -- The procedures from q on are still to do.
-use Prim.Native.Nat.{◌-◌}
 use Rattle.language.specs.Format.{max_procedures}
 use Rattle.tables.specs.Starts.{window_in}
 use Rattle.plans.specs.Passes.{put_callee}
@@ -8,6 +7,3 @@ use Rattle.plans.proofs.callees.fill_callees.Given as goal
 
 abbrev pub invariant-loop-q : goal.invariant-loop-q
 invariant-loop-q l = Rising (λ p. put_callee (window_in l.table p) p) max_procedures l.initial.callees l.q l.callees
-
-abbrev pub decreases-loop-q : goal.decreases-loop-q
-decreases-loop-q l = max_procedures - l.q

@@ -10,7 +10,7 @@ use Rattle.plans.proofs.joining.join_records.Goals as goal
 
 pub loop-i-init : goal.loop-i-init
 unfolding record_count
-loop-i-init c = rw c.word-i.ensures.0 (down_first _ _, c.requires.joinable)
+loop-i-init c = rw c.word-records.ensures.0 (down_first _ _, c.requires.joinable)
 
 pub join_record-requires : goal.join_record-requires
 join_record-requires c = let e : suc (c.loop-i.i - 1) ≡ c.loop-i.i = omega (arith, c.loop-i-test.true) in record {

@@ -7,6 +7,3 @@ use Rattle.plans.proofs.joining.join_records.Given as goal
 
 abbrev pub invariant-loop-i : goal.invariant-loop-i
 invariant-loop-i l = Down (joined_at l.file) (record_count l.file) l.initial.plan l.i l.plan × Joinable l.file l.i l.plan
-
-abbrev pub decreases-loop-i : goal.decreases-loop-i
-decreases-loop-i l = l.i

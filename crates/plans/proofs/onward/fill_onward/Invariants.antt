@@ -1,5 +1,5 @@
 -- After i turns the first i records have handed down.
-use Prim.Native.Nat.{◌-◌, ◌≤◌}
+use Prim.Native.Nat.{◌≤◌}
 use mathlib.Core.Path.{◌≡◌}
 use lib.ListN.{length}
 use Rattle.owners.specs.Handed.{handed_up_to}
@@ -8,6 +8,3 @@ use Rattle.plans.proofs.onward.fill_onward.Given as goal
 
 abbrev pub invariant-loop-i : goal.invariant-loop-i
 invariant-loop-i l = (l.table ≡ handed_up_to (onward_by l.file) l.file l.i l.initial.table) × (l.i ≤ l.n) × (length l.table ≡ length l.initial.table)
-
-abbrev pub decreases-loop-i : goal.decreases-loop-i
-decreases-loop-i l = l.n - l.i

@@ -5,6 +5,3 @@ use Rattle.profiling.proofs.walking.region_size.Given as goal
 
 abbrev pub invariant-loop-n : goal.invariant-loop-n
 invariant-loop-n l = CellsPassed l.cells l.last l.limit l.initial.cell l.n l.cell
-
-abbrev pub decreases-loop-n : goal.decreases-loop-n
-decreases-loop-n l = l.limit - l.n
