@@ -1,5 +1,5 @@
 // Switches: "a switch takes the arm of X's functor".
-ghost use Rattle.std.specs.Prelude.{◌≡◌, ℕ, ◌+◌, ◌*◌, ◌≤◌, ◌<◌, length, get_or};
+ghost use Rattle.std.specs.Prelude.{true, ◌≡◌, ℕ, ◌+◌, ◌*◌, ◌≤◌, ◌<◌, length, get_or};
 ghost use Rattle.language.specs.File.{arms, word, record_count};
 ghost use Rattle.language.specs.Format.{record_bytes, max_variables, goal_x};
 ghost use Rattle.memory.specs.Memory.{cell_words};
@@ -14,26 +14,27 @@ use language::format::{GOAL_X, MAX_ARITY, SWITCH_ARMS, TERM_ARGUMENTS};
 use memory::{CELL_ARGUMENTS, CELL_WORDS, CONSTANTS, word};
 use records::word_in;
 
-// ".. and the arm's arguments get the cell's values", up to the first that is numbered 0: the arm at record j, a cell that is there whole.
-fn arm_values(file: &[u8], j: usize, cell: u32, at: usize, cells: &[u32], frames: &mut [u32])
-    requires record_bytes_in_bounds { (record_bytes * j + record_bytes ≤ length file.now) × (at + frame_words ≤ length frames.old) }
-    requires low_if_any { LowIfAny file.now j × (cell_words * cell + cell_words ≤ length cells.now) }
-    ensures { frames.new ≡ arm_values file.now j cell at cells.now frames.old }
+// A word of a cell; where the cell may not be there whole, 0 past the end.
+fn word_at<const WHOLE: bool>(cells: &[u32], at: usize) -> u32
+    requires { WHOLE ≡ true → at < length cells.now }
+    ensures { result ≡ get_or cells.now at 0 }
 {
-    let p = CELL_WORDS * (cell as usize);
-    for n in 0..MAX_ARITY {
-        let x = word_in(file, j, TERM_ARGUMENTS + n);
-        if x == 0 {
-            return;
-        }
-        give(&mut frames[..], at, x, cells[p + CELL_ARGUMENTS + n]);
-    }
+    if WHOLE { cells[at] } else { word(cells, at) }
 }
 
-// The same where a part of the cell may lie behind the end: no value of an accepted file's run is such a cell.
-pub fn arm_part(file: &[u8], j: usize, cell: u32, at: usize, cells: &[u32], frames: &mut [u32])
+// ".. and the arm's arguments get the cell's values", up to the first that is numbered 0: the arm at record j. Where it isn't said that the cell is there
+// whole, a part of it may lie behind the end: no value of an accepted file's run is such a cell.
+fn arm_values<const WHOLE: bool>(
+    file: &[u8],
+    j: usize,
+    cell: u32,
+    at: usize,
+    cells: &[u32],
+    frames: &mut [u32],
+)
     requires record_bytes_in_bounds { (record_bytes * j + record_bytes ≤ length file.now) × (at + frame_words ≤ length frames.old) }
     requires low_if_any { LowIfAny file.now j }
+    requires whole { WHOLE ≡ true → cell_words * cell + cell_words ≤ length cells.now }
     ensures { frames.new ≡ arm_values file.now j cell at cells.now frames.old }
 {
     let p = CELL_WORDS * (cell as usize);
@@ -42,7 +43,8 @@ pub fn arm_part(file: &[u8], j: usize, cell: u32, at: usize, cells: &[u32], fram
         if x == 0 {
             return;
         }
-        give(&mut frames[..], at, x, word(cells, p + CELL_ARGUMENTS + n));
+        let v = word_at::<WHOLE>(cells, p + CELL_ARGUMENTS + n);
+        give(&mut frames[..], at, x, v);
     }
 }
 
@@ -58,7 +60,7 @@ fn whole_cell(cells: &[u32], term: u32) -> bool
 }
 
 // The functor of a term's word: of the cell, or of the constant.
-pub fn functor_of(cells: &[u32], term: u32) -> u32
+fn functor_of(cells: &[u32], term: u32) -> u32
     ensures { result ≡ functor_in cells.now term }
 {
     if term < CONSTANTS {
@@ -67,8 +69,15 @@ pub fn functor_of(cells: &[u32], term: u32) -> u32
     term - CONSTANTS
 }
 
-// Returns the arm's record. A constant has no values: the frames are as they were.
-pub fn switch_arm(file: &[u8], i: usize, at: usize, cells: &[u32], frames: &mut [u32]) -> usize
+// Returns the arm's record. A constant has no values: the frames are as they were. A run's own switches and those in its conditions (C-20) have one of their
+// own each, with one caller, so that the compiler lays the first into the run's loop. Conditions are short: they don't ask whether a cell is there whole.
+pub fn switch_arm<const IN_RUN: bool>(
+    file: &[u8],
+    i: usize,
+    at: usize,
+    cells: &[u32],
+    frames: &mut [u32],
+) -> usize
     requires formed { Formed file.now }
     requires i_bound { (i < record_count file.now) × IsSwitch file.now i × (at + frame_words ≤ length frames.old) }
     requires goal_x_bound { (word file.now i goal_x ≤ max_variables) × ((j : ℕ) → Stands file.now arms j → LowIfAny file.now j) }
@@ -79,15 +88,15 @@ pub fn switch_arm(file: &[u8], i: usize, at: usize, cells: &[u32], frames: &mut 
 {
     let term = value(&frames[..], at, word_in(file, i, GOAL_X));
     let first = word_in(file, i, SWITCH_ARMS);
-    if whole_cell(cells, term) {
+    if IN_RUN && whole_cell(cells, term) {
         let j = arm_of(file, first, cells[CELL_WORDS * (term as usize)]);
-        arm_values(file, j, term, at, cells, &mut frames[..]);
+        arm_values::<true>(file, j, term, at, cells, &mut frames[..]);
         return j;
     }
     let j = arm_of(file, first, functor_of(cells, term));
     if CONSTANTS <= term {
         return j;
     }
-    arm_part(file, j, term, at, cells, &mut frames[..]);
+    arm_values::<false>(file, j, term, at, cells, &mut frames[..]);
     j
 }

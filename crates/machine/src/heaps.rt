@@ -45,7 +45,7 @@ pub fn construct_step(
 {
     let i = state.goal;
     let at = state.at;
-    let made = construct(
+    let made = construct::<true>(
         file,
         plan,
         i,

@@ -1,7 +1,6 @@
 // The runner: the goals of an accepted file carried out in lent words, step by step as the machine on lists of words does it (word_machine).
 #![tactic(auto)]
 
-mod apart;
 mod arms;
 mod calls;
 mod cells;

@@ -13,7 +13,8 @@ ghost use Rattle.machine.specs.Words.{FramePlaced};
 ghost use Rattle.machine.specs.Entries.{Logs};
 ghost use Rattle.machine.specs.Trying.{frame_numbers, saved_words, count_end, GoesIn};
 
-use crate::apart::{slow_arm, slow_construct};
+use crate::arms::switch_arm;
+use crate::cells::construct;
 use crate::entries::{LOG_WORDS, note, undo_log};
 use crate::goals::{assign, literal, passes, successor, sum};
 use crate::places::make_region;
@@ -125,7 +126,7 @@ fn construct_in(
     let i = state.goal;
     let at = state.at;
     let home = region(&frames[..], at, plan[SIDES + i]);
-    let made = slow_construct(
+    let made = construct::<false>(
         file,
         plan,
         i,
@@ -251,7 +252,7 @@ pub fn step_in(
             log,
         ),
         SWITCH => {
-            let j = slow_arm(file, i, at, &cells[..], &mut frames[..]);
+            let j = switch_arm::<false>(file, i, at, &cells[..], &mut frames[..]);
             Ok(ConditionStep::On(heap, successor(plan, j), count))
         }
         CREATE => create_in(

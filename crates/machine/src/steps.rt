@@ -135,7 +135,7 @@ pub fn switch_step(
 {
     let i = state.goal;
     let at = state.at;
-    let j = switch_arm(file, i, at, cells, &mut frames[..]);
+    let j = switch_arm::<true>(file, i, at, cells, &mut frames[..]);
     onward(state, successor(plan, j))
 }
 

@@ -8,4 +8,4 @@ use Rattle.machine.proofs.Terms.{given_from}
 use Rattle.machine.proofs.arms.arm_values.Given as goal
 
 abbrev pub invariant-loop-n : goal.invariant-loop-n
-invariant-loop-n l = (given_from l.file l.j l.cell l.at l.cells l.n l.frames ≡ given_from l.file l.j l.cell l.at l.cells 0 l.initial.frames) × (length l.frames ≡ length l.initial.frames) × (0 < l.n → word l.file l.j term_arguments ≡ 0 → ⊥)
+invariant-loop-n g l = (given_from l.file l.j l.cell l.at l.cells l.n l.frames ≡ given_from l.file l.j l.cell l.at l.cells 0 l.initial.frames) × (length l.frames ≡ length l.initial.frames) × (0 < l.n → word l.file l.j term_arguments ≡ 0 → ⊥)

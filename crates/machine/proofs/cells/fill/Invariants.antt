@@ -5,4 +5,4 @@ use Rattle.machine.proofs.Terms.{poured_from}
 use Rattle.machine.proofs.cells.fill.Given as goal
 
 abbrev pub invariant-loop-n : goal.invariant-loop-n
-invariant-loop-n l = (poured_from l.file l.i l.at l.frames l.cell l.n l.cells ≡ poured_from l.file l.i l.at l.frames l.cell 0 l.initial.cells) × (length l.cells ≡ length l.initial.cells)
+invariant-loop-n g l = (poured_from l.file l.i l.at l.frames l.cell l.n l.cells ≡ poured_from l.file l.i l.at l.frames l.cell 0 l.initial.cells) × (length l.cells ≡ length l.initial.cells)

@@ -41,15 +41,15 @@ construct_in-requires c = record {
   goal_bound = (c.requires.goal_bound.0, (sym c.word_in.ensures.0 ∙ c.in-11.is), c.requires.goal_bound.2);
 }
 
-pub slow_arm-j-requires : goal.slow_arm-j-requires
-slow_arm-j-requires c = record {
+pub switch_arm-j-requires : goal.switch_arm-j-requires
+switch_arm-j-requires c = record {
   formed = c.requires.formed.0;
   i_bound = (c.requires.goal_bound.0, (sym c.word_in.ensures.0 ∙ c.in-12.is), c.requires.goal_bound.2.fits);
   goal_x_bound = (switch_low c.requires.formed.1 _ c.word_in.ensures.0 c.in-12.is, arm_low c.requires.formed.1);
 }
 
 pub successor-requires-in-12 : goal.successor-requires-in-12
-successor-requires-in-12 c = (whole c.requires.formed.0 _ c.slow_arm-j.ensures.upper_bound).0
+successor-requires-in-12 c = (whole c.requires.formed.0 _ c.switch_arm-j.ensures.upper_bound).0
 
 pub create_in-requires : goal.create_in-requires
 create_in-requires c = record {
@@ -82,7 +82,7 @@ pub returns-in-11 : goal.returns-in-11
 returns-in-11 c = c.construct_in.ensures
 
 pub returns-in-12 : goal.returns-in-12
-returns-in-12 c = λ images callees. switch_in _ _ _ _ _ _ _ _ _ _ c.word_in.ensures.0 c.in-12.is _ _ (λ ps. switch_goes _ _ _ _ _ _ c.requires.goal_bound.2 _ c.word_in.ensures.0 _ _ _ c.in-12.is c.slow_arm-j.ensures.value c.slow_arm-j.ensures.frames_after (entry_as _ _ _ _ _ c.successor-in-12.ensures))
+returns-in-12 c = λ images callees. switch_in _ _ _ _ _ _ _ _ _ _ c.word_in.ensures.0 c.in-12.is _ _ (λ ps. switch_goes _ _ _ _ _ _ c.requires.goal_bound.2 _ c.word_in.ensures.0 _ _ _ c.in-12.is c.switch_arm-j.ensures.value c.switch_arm-j.ensures.frames_after (entry_as _ _ _ _ _ c.successor-in-12.ensures))
 
 pub returns-in-18 : goal.returns-in-18
 returns-in-18 c = λ images callees. c.create_in.ensures images callees _
