@@ -7,18 +7,12 @@ ghost use Rattle.frames.specs.Naming.{Pictured, named_in, named_out};
 use crate::words::{FRAME_WORDS, name_region, region};
 use sets::Set;
 
-fn wide(x: u8) -> usize
-    ensures { result ≡ x }
-{
-    x as usize
-}
-
 // The caller's region for region r.
 fn image_of(images: &[u8], side: usize, r: usize) -> usize
     requires { side + r < length images.now }
     ensures { result ≡ get_or images.now (side + r) 0 }
 {
-    wide(images[side + r])
+    usize::from(images[side + r])
 }
 
 // "A callee's dead and kept numbers stand for what their images do": the caller's frame is at a place, the callee's behind it.
@@ -26,13 +20,10 @@ pub fn regions_in(rs: Set, images: &[u8], side: usize, at: usize, frames: &mut [
     requires { Pictured images.now side × (at + 2 * frame_words ≤ length frames.old) }
     ensures { frames.new ≡ named_in images.now side at (members rs) frames.old }
 {
-    let mut left = rs;
-    while !left.is_empty() {
-        let r = left.lowest();
+    for r in rs.members() {
         let image = image_of(images, side, r);
         let place = region(&frames[..], at, image);
         name_region(&mut frames[..], at + FRAME_WORDS, r, place);
-        left = left.without_lowest();
     }
 }
 
@@ -41,12 +32,9 @@ pub fn regions_out(rs: Set, images: &[u8], side: usize, at: usize, frames: &mut 
     requires { Pictured images.now side × (at + 2 * frame_words ≤ length frames.old) }
     ensures { frames.new ≡ named_out images.now side at (members rs) frames.old }
 {
-    let mut left = rs;
-    while !left.is_empty() {
-        let r = left.lowest();
+    for r in rs.members() {
         let image = image_of(images, side, r);
         let place = region(&frames[..], at + FRAME_WORDS, r);
         name_region(&mut frames[..], at, image, place);
-        left = left.without_lowest();
     }
 }
