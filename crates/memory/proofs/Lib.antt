@@ -1,2 +1,1 @@
 mod Ways
-mod Copied
