@@ -3,7 +3,6 @@ pub mod Referred
 pub mod ChainTests
 pub mod Handed
 pub mod Handing
-pub mod TryWords
 pub mod Digits
 pub mod Gives
 pub mod Owner

@@ -7,4 +7,3 @@ mod words;
 
 pub use pass::{hand_to, list_owners};
 pub use plain::is_unannotated;
-pub use words::part_words;

@@ -1,8 +1,7 @@
-// The record table as the passes read it.
+// The record table as a pass reads it.
 ghost use Rattle.std.specs.Prelude.{◌≡◌, ◌<◌};
 ghost use Rattle.language.specs.File.{kind_of};
 ghost use Rattle.records.specs.Sizes.{kinds_end};
-ghost use Rattle.records.specs.Table.{table_of};
 ghost use Rattle.owners.specs.Handed.{part_digits};
 
 use records::sizes::KINDS_END;
@@ -39,11 +38,4 @@ pub(crate) fn part_digits(kind: usize) -> usize
     ensures { result ≡ part_digits (kind_of kind) }
 {
     PART_WORDS[kind]
-}
-
-// The whole table, to be lent.
-pub fn part_words() -> [usize; KINDS_END]
-    ensures { result ≡ table_of part_digits }
-{
-    PART_WORDS
 }

@@ -1,19 +1,16 @@
 -- What the functions of the pass come to on each way through them.
-use Rattle.std.specs.Prelude.{ℕ, zero, suc, ◌+◌, ◌≤◌, ◌≡◌, get_or}
+use Rattle.std.specs.Prelude.{ℕ, Bool, true, false, eqb, zero, suc, ◌+◌, ◌≤◌, ◌≡◌}
 use native.Mathlib.Omega.{arith}
 use Rattle.std.proofs.Common.{add-one, ◌∙◌}
 use Rattle.std.proofs.Math.Path.{refl, ap}
 use mathlib.Core.List.{List}
-use borrow.Author.Tests.{ne_eqb}
+use borrow.Author.Tests.{eq-eqb, ne_eqb}
 use Rattle.std.proofs.Math.ListN.{set}
 use Rattle.sets.specs.Tests.{◌&◌, ◌or◌}
 use Rattle.language.specs.Lists.{choose}
 use Rattle.language.specs.File.{word, record_count}
-use Rattle.language.specs.Format.{kind_word, next_word, procedure_kind, switch_kind, if_kind, try_kind, try_condition, try_then, try_else}
-use Rattle.chains.specs.Shapes.{IsTry}
-use Rattle.owners.specs.Handed.{next_and, hand_to, words_of, given, hand_down, handed_up_to, handed}
-use Rattle.owners.specs.Handing.{to_same}
-use Rattle.owners.specs.TryWords.{try_handed}
+use Rattle.language.specs.Format.{next_word, procedure_kind, switch_kind, if_kind, try_kind, try_condition}
+use Rattle.owners.specs.Handed.{next_and, hand_down, handed_up_to, handed}
 use Rattle.word_machine.specs.Tables.{onto}
 use Rattle.word_machine.specs.Filling.{parts_onward, onward_by}
 
@@ -40,26 +37,43 @@ module _ (kind next v : ℕ) where
   unfolding parts_onward choose ◌or◌
   if_onward e = rw e refl
 
-  pub other_onward : (kind ≡ try_kind → ⊥) → (kind ≡ procedure_kind → ⊥) → (kind ≡ switch_kind → ⊥) → (kind ≡ if_kind → ⊥) → v ≡ parts_onward kind next v
+  pub try_onward : kind ≡ try_kind → onto next v ≡ parts_onward kind next v
   unfolding parts_onward choose ◌or◌
-  other_onward t a b c = rw (ne_eqb kind procedure_kind a, ne_eqb kind switch_kind b, ne_eqb kind if_kind c, ne_eqb kind try_kind t) refl
+  try_onward e = rw e refl
+
+  pub other_onward : (kind ≡ procedure_kind → ⊥) → (kind ≡ switch_kind → ⊥) → (kind ≡ if_kind → ⊥) → (kind ≡ try_kind → ⊥) → v ≡ parts_onward kind next v
+  unfolding parts_onward choose ◌or◌
+  other_onward a b c t = rw (ne_eqb kind procedure_kind a, ne_eqb kind switch_kind b, ne_eqb kind if_kind c, ne_eqb kind try_kind t) refl
+
+-- ---- by the word
+neither : (b : Bool) (x y : ℕ) → y ≡ choose (b & false) x y
+unfolding choose ◌&◌
+neither true x y = refl
+neither false x y = refl
+
+module _ (f : List ℕ) (kind i k v : ℕ) where
+  pub condition_onward : kind ≡ try_kind → k ≡ try_condition → 0 ≡ onward_by f kind i k v
+  unfolding onward_by choose ◌&◌
+  condition_onward e h = rw (eq-eqb kind try_kind e, eq-eqb k try_condition h)
+
+  pub next_onward_law : k ≡ next_word → v ≡ onward_by f kind i k v
+  unfolding onward_by next_and choose
+  next_onward_law h = rw (ne_eqb k try_condition (λ z. omega arith), eq-eqb k next_word h) (neither (eqb kind try_kind) 0 v)
+
+  part_onward : {n x : ℕ} → n ≡ word f i next_word → (k ≡ next_word → ⊥) → x ≡ parts_onward kind n v → x ≡ next_and v (parts_onward kind (word f i next_word) v) k
+  unfolding next_and choose
+  part_onward e h g = rw (ne_eqb k next_word h, ← e) g
+
+  pub kind_onward : {n x : ℕ} → (kind ≡ try_kind → ⊥) → n ≡ word f i next_word → (k ≡ next_word → ⊥) → x ≡ parts_onward kind n v → x ≡ onward_by f kind i k v
+  unfolding onward_by choose ◌&◌
+  kind_onward t e h g = rw (ne_eqb kind try_kind t) (part_onward e h g)
+
+  pub word_onward : {n x : ℕ} → (k ≡ try_condition → ⊥) → n ≡ word f i next_word → (k ≡ next_word → ⊥) → x ≡ parts_onward kind n v → x ≡ onward_by f kind i k v
+  unfolding onward_by
+  word_onward t e h g = part_onward e h g ∙ rw (ne_eqb k try_condition t) (neither (eqb kind try_kind) 0 _)
 
 -- ---- the pass
 module _ (f : List ℕ) (i : ℕ) (t : List ℕ) where
-  pub onward_down : {k n x : ℕ} {u : List ℕ} → k ≡ word f i kind_word → (k ≡ try_kind → ⊥) → n ≡ word f i next_word → x ≡ parts_onward k n (get_or t i 0)
-      → u ≡ hand_to (next_and (get_or t i 0) x) (word f i) (words_of f i) t → u ≡ hand_down (onward_by f) f i t
-  unfolding hand_down given onward_by choose ◌&◌
-  onward_down {k} {n} {x} e m g h j = j ∙ to_same (next_and (get_or t i 0) x) (given (onward_by f) f i (get_or t i 0)) (word f i) same (words_of f i) t
-    where
-      same : (l : ℕ) → next_and (get_or t i 0) x l ≡ given (onward_by f) f i (get_or t i 0) l
-      same l = rw (ne_eqb (word f i kind_word) try_kind (λ z. m (e ∙ z)), h, e, g) refl
-
-  -- .. of a try
-  pub tries_down : {own a b c d x : ℕ} → IsTry f i → own ≡ get_or t i 0 → a ≡ word f i next_word → b ≡ word f i try_condition → c ≡ word f i try_then → d ≡ word f i try_else
-      → x ≡ onto a own → set (set (set (set t a own) b 0) c x) d x ≡ hand_down (onward_by f) f i t
-  unfolding given onward_by parts_onward next_and choose ◌&◌ ◌or◌
-  tries_down e o p q r s h = try_handed (onward_by f) f i t e p q r s (rw (e, o) refl) (rw e refl) (rw (e, h, p, o) refl) (rw (e, h, p, o) refl)
-
   pub onward_next : (t₁ : List ℕ) {u : List ℕ} → t ≡ handed_up_to (onward_by f) f i t₁ → u ≡ hand_down (onward_by f) f i t → u ≡ handed_up_to (onward_by f) f (i + 1) t₁
   unfolding handed_up_to
   onward_next t₁ e g = g ∙ rw (add-one i, e) refl

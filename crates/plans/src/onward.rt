@@ -1,19 +1,15 @@
 // Where the chain of each record goes on after its end, handed down in one pass over the records.
-ghost use Rattle.std.specs.Prelude.{◌≡◌, ◌≤◌, ◌<◌, length, get_or};
-ghost use Rattle.language.specs.File.{word, record_count};
-ghost use Rattle.language.specs.Format.{try_kind};
-ghost use Rattle.records.specs.Table.{table_of};
+ghost use Rattle.std.specs.Prelude.{◌≡◌, ℕ, List, ◌≤◌, length};
+ghost use Rattle.language.specs.File.{word as word_of, record_count};
+ghost use Rattle.language.specs.Format.{next_word};
 ghost use Rattle.chains.specs.Formed.{Formed};
-ghost use Rattle.chains.specs.Shapes.{IsTry};
-ghost use Rattle.owners.specs.Handed.{part_digits, next_and, hand_to, words_of, hand_down, handed};
-ghost use Rattle.owners.specs.Digits.{Hander};
+ghost use Rattle.owners.specs.Handed.{handed};
 ghost use Rattle.word_machine.specs.Tables.{onto as ontoOf};
 ghost use Rattle.word_machine.specs.Filling.{parts_onward, onward_by};
 
 use chains::record_count;
 use language::format;
-use owners::part_words;
-use records::sizes::{DIGIT_END, KINDS_END};
+use owners::hand_to;
 use records::word_in;
 
 // The first record of a chain, or where to go on if the chain is empty.
@@ -29,74 +25,37 @@ pub fn fill_onward(file: &[u8], table: &mut [usize])
     requires file_in_bounds { record_count file.now ≤ length table.old }
     ensures { table.new ≡ handed (onward_by file.now) file.now table.old }
 {
-    let n = record_count(file);
-    let parts = part_words();
-    for i in 0..n {
-        hand_down(&parts, file, i, table);
+    for i in 0..record_count(file) {
+        let own = table[i];
+        let kind = word_in(file, i, format::KIND);
+        let next = word_in(file, i, format::NEXT);
+        hand_to(file, i, table, |k| next_onward(kind, next, k, own));
     }
     table[0] = 0;
 }
 
-// Hands down the word of record i.
-fn hand_down(parts: &[usize; KINDS_END], file: &[u8], i: usize, table: &mut [usize])
-    requires formed { Formed file.now }
-    requires parts_value { parts.now ≡ table_of part_digits }
-    requires i_bound { (i < record_count file.now) × (record_count file.now ≤ length table.old) }
-    ensures { table.new ≡ hand_down (onward_by file.now) file.now i table.old }
+// Where the chain goes on that a word of a record leads to, own being where its own does: a try's condition nowhere.
+fn next_onward(kind: usize, next: usize, word: usize, own: usize) -> usize
+    ensures { (f : List ℕ) (i : ℕ) → next ≡ word_of f i next_word → result ≡ onward_by f kind i word own }
 {
-    let own = table[i];
-    let kind = word_in(file, i, format::KIND);
-    if kind == format::TRY {
-        hand_try(file, i, own, table);
-        return;
+    if kind == format::TRY && word == format::TRY_CONDITION {
+        return 0;
     }
-    let words = parts[kind];
-    let next = word_in(file, i, format::NEXT);
-    hand_to(file, i, words, own, parts_onward(kind, next, own), table);
+    if word == format::NEXT {
+        return own;
+    }
+    parts_onward(kind, next, own)
 }
 
-// A try's condition goes on nowhere, its parts at the goal after it.
-fn hand_try(file: &[u8], i: usize, own: usize, table: &mut [usize])
-    requires formed { Formed file.now }
-    requires i_bound { (i < record_count file.now) × (record_count file.now ≤ length table.old) }
-    requires fact { IsTry file.now i × (own ≡ get_or table.old i 0) }
-    ensures { table.new ≡ hand_down (onward_by file.now) file.now i table.old }
-{
-    let next = word_in(file, i, format::NEXT);
-    let condition = word_in(file, i, format::TRY_CONDITION);
-    let then_part = word_in(file, i, format::TRY_THEN);
-    let else_part = word_in(file, i, format::TRY_ELSE);
-    let on = onto(next, own);
-    table[next] = own;
-    table[condition] = 0;
-    table[then_part] = on;
-    table[else_part] = on;
-}
-
-// Where the chains go on that a record's words beside w1 lead to, own being where its own does. It is no try.
+// Where the chains go on that a record's words beside w1 lead to, but for a try's condition.
 fn parts_onward(kind: usize, next: usize, own: usize) -> usize
-    requires { kind ≡ try_kind → ⊥ }
     ensures { result ≡ parts_onward kind next own }
 {
     match kind {
         format::PROCEDURE => 0,
         format::SWITCH => onto(next, own),
         format::IF => onto(next, own),
+        format::TRY => onto(next, own),
         _ => own,
-    }
-}
-
-// Hands `on` to the next record of the chain of record i, and x to what its other words lead to, which `words` lists.
-fn hand_to(file: &[u8], i: usize, words: usize, on: usize, x: usize, table: &mut [usize])
-    requires { Hander file.now i words table.old }
-    ensures { table.new ≡ hand_to (next_and on x) (word file.now i) (words_of file.now i) table.old }
-{
-    let next = word_in(file, i, format::NEXT);
-    table[next] = on;
-    let mut left = words;
-    while left != 0 {
-        let w = word_in(file, i, left % DIGIT_END);
-        table[w] = x;
-        left = left / DIGIT_END;
     }
 }
