@@ -24,8 +24,9 @@ use Rattle.checking.specs.Checker.{CheckState, carrying, checker}
 use Rattle.checking.specs.Carried.{state}
 use Rattle.checking.specs.declared.carried.Carried.{Carried}
 use Rattle.checking.specs.Sound.{ReachesAll}
-use Rattle.checking.specs.Rules.{StepChecked}
-use Rattle.checking.specs.Ready.{Ready, GoalsChecked, GoalChecked, ArmsChecked}
+use Rattle.checking.specs.Rules.{StepChecked, StepAfter}
+use Rattle.checking.specs.Ready.{Ready, GoalsChecked, GoalChecked, ArmsChecked, GoalAfter, ArmsAfter}
+use Rattle.std.proofs.Common.{Option, None, Some}
 
 -- the walk of procedure q's goals
 abbrev walker : List ℕ → ℕ → Walker CheckState
@@ -88,6 +89,11 @@ step_checked {f} rows own i c b c' F s z e p r n m o q y h =
     let v : goal_at f i ≡ step t.one = same_goal (goals_step F s z refl) t.view in
     step_goes (walker f q) (state c) (state c') b v (m f o q t.one y.accessed y.owned.effected y.window (record { stands = s; some = z; view = v }) h)
 
+pub step_after : {f : List ℕ} (rows own : List ℕ) (i : ℕ) (c : Carried) {w : ℕ} → Formed f → Stands f goals i → (z : i ≡ 0 → ⊥)
+    → w ≡ word f i kind_word → (w ≡ switch_kind → ⊥) → (w ≡ if_kind → ⊥) → (w ≡ try_kind → ⊥) → (r : Option Carried) → StepAfter rows own i c r → GoalAfter f rows own i c r
+step_after rows own i c F s z e p q n None m = step_checked rows own i c false c F s z e p q n m
+step_after rows own i c F s z e p q n (Some d) m = step_checked rows own i c true d F s z e p q n m
+
 -- ---- a switch
 module _ {f : List ℕ} (rows own : List ℕ) {i : ℕ} (c : Carried) (F : Formed f) (k : IsSwitch f i) {t : Set} {x : ℕ} {b : Bool} (et : t ≡ c.sound)
     (j : x ≡ word f i goal_x) (e : b ≡ member t x) where
@@ -98,6 +104,11 @@ module _ {f : List ℕ} (rows own : List ℕ) {i : ℕ} (c : Carried) (F : Forme
   switch_done {w} r d p l m o q y h =
       switch_walked (walker f q) f F i k (state c) j (test_of f c et q x e) p (state d) r l
       (m o q y (λ v. y.owned.owning.to_arms i k w l v ∙ h))
+
+pub switch_after : {f : List ℕ} (rows own : List ℕ) (i : ℕ) (c : Carried) → Formed f → IsSwitch f i → {t : Set} {x w : ℕ} {b : Bool} → t ≡ c.sound → x ≡ word f i goal_x
+    → b ≡ member t x → b ≡ true → w ≡ word f i switch_arms → (r : Option Carried) → ArmsAfter f rows own w c r → GoalAfter f rows own i c r
+switch_after rows own i c F k et j e p l None m = switch_done rows own c F k et j e false c p l m
+switch_after rows own i c F k et j e p l (Some d) m = switch_done rows own c F k et j e true d p l m
 
 -- ---- an if
 module _ {f : List ℕ} (rows own : List ℕ) {i : ℕ} (c : Carried) (F : Formed f) (k : IsIf f i) {t : Set} {x : ℕ} {b : Bool} (et : t ≡ c.sound)

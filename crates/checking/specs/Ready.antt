@@ -1,5 +1,5 @@
 -- What the walk over goals asks of the tables, and what its functions answer by them.
-use Rattle.std.specs.Prelude.{ℕ, Bool, List, ◌≡◌}
+use Rattle.std.specs.Prelude.{ℕ, Bool, true, false, List, ◌≡◌, Option, MatchOption}
 use Rattle.language.specs.Program.{signature_of}
 use Rattle.language.specs.Answers.{program}
 use Rattle.tables.specs.Window.{Window}
@@ -25,3 +25,14 @@ module _ (f rows own : List ℕ) (i : ℕ) (c : Carried) (b : Bool) (c' : Carrie
 
   abbrev pub ArmsChecked : Type 0
   ArmsChecked = (o : ℕ → ℕ) (q : ℕ) → Ready f rows own o q → Belongs o q i → ArmsWalked (checker (program f) (signature_of (program f) q)) f i (state c) b (state c')
+
+-- ---- what the code answers: nothing where a rule is broken, else what is carried afterwards
+module _ (f rows own : List ℕ) (i : ℕ) (c : Carried) (r : Option Carried) where
+  abbrev pub GoalsAfter : Type 0
+  GoalsAfter = MatchOption r (GoalsChecked f rows own i c false c) (λ d. GoalsChecked f rows own i c true d)
+
+  abbrev pub GoalAfter : Type 0
+  GoalAfter = MatchOption r (GoalChecked f rows own i c false c) (λ d. GoalChecked f rows own i c true d)
+
+  abbrev pub ArmsAfter : Type 0
+  ArmsAfter = MatchOption r (ArmsChecked f rows own i c false c) (λ d. ArmsChecked f rows own i c true d)

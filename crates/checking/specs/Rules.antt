@@ -1,5 +1,5 @@
 -- The rules for a step, by its row and the window of its procedure.
-use Rattle.std.specs.Prelude.{ℕ, Bool, List, ◌≡◌}
+use Rattle.std.specs.Prelude.{ℕ, Bool, true, false, List, ◌≡◌, Option, MatchOption}
 use Rattle.sets.specs.Tests.{◌&◌}
 use Rattle.sets.specs.Sets.{subset, apart}
 use Rattle.sets.specs.declared.Set.{Set}
@@ -19,11 +19,14 @@ unfoldable pub rules_at : List ℕ → List ℕ → ℕ → Set → Set → Bool
 rules_at rows own i held sound =
     subset (reads_in rows i) sound & subset (needs_in rows i) held & apart (ends_in rows i) (set_in own kept_place) & apart (bears_in rows i) held & mark_in rows i
 
--- what `step` answers
+-- what `step` answers: nothing where a rule is broken
 abbrev pub StepChecked : List ℕ → List ℕ → ℕ → Carried → Bool → Carried → Type 0
 StepChecked rows own i c b c' =
     (f : List ℕ) (o : ℕ → ℕ) (q : ℕ) (g : Step) → Accessed f rows → Effected f o rows → Window f (signature_of (program f) q) own → GoalIsStep f i g → o i ≡ q
     → outcome b (state c') ≡ (checker (program f) (signature_of (program f) q)).at_step g (state c)
+
+abbrev pub StepAfter : List ℕ → List ℕ → ℕ → Carried → Option Carried → Type 0
+StepAfter rows own i c r = MatchOption r (StepChecked rows own i c false c) (λ d. StepChecked rows own i c true d)
 
 -- ---- where an arm's goals start: its arguments have been given their values
 abbrev pub Entered : List ℕ → List ℕ → ℕ → Carried → Carried → Type 0

@@ -1,25 +1,26 @@
-// What the walk carries, in place: the held regions and the sound variables.
-ghost use Rattle.std.specs.Prelude.{◌≡◌};
-ghost use Rattle.language.specs.Program.{Signature, Program};
-ghost use Rattle.walks.specs.Walk.{outcome};
-ghost use Rattle.checking.specs.Checker.{checker};
-ghost use Rattle.checking.specs.Carried.{state};
+// What number 8 carries.
+ghost use Rattle.checking.specs.Carried.{JoinAfter};
 
 use sets::Set;
 
+// The held regions and the sound variables.
 #[derive(Clone, Copy)]
 pub struct Carried {
     pub held: Set,
     pub sound: Set,
 }
 
-// "Arms end with equal held regions; sound afterwards is sound after every arm." False where they differ.
-pub fn join(first: Carried, carried: &mut Carried) -> bool
-    ensures { (P : Program) (S : Signature) → outcome result (state carried.new) ≡ (checker P S).join (state first) (state carried.old) }
-{
-    if !first.held.same(carried.held) {
-        return false;
+impl Carried {
+    // "Arms end with equal held regions; sound afterwards is sound after every arm." Nothing where they differ.
+    pub fn join(self, other: Carried) -> Option<Carried>
+        ensures { JoinAfter self other result }
+    {
+        if !self.held.same(other.held) {
+            return None;
+        }
+        Some(Carried {
+            held: self.held,
+            sound: self.sound.intersection(other.sound),
+        })
     }
-    carried.sound = first.sound.intersection(carried.sound);
-    true
 }

@@ -23,17 +23,19 @@ fn window_ok(file: &[u8], rows: &[u64; ROWS], own: &[u64]) -> bool
     ensures { WindowChecked file.now rows.now own.now result }
 {
     let kept = set_at(own, KEPT);
-    let mut carried = Carried {
+    let before = Carried {
         held: set_at(own, DEAD).union(kept),
         sound: set_at(own, INS),
     };
-    if !goals(file, rows, own, &mut carried, word_at(own, BODY)) {
-        return false;
+    match goals(file, rows, own, before, word_at(own, BODY)) {
+        None => false,
+        Some(after) => {
+            if !after.held.same(set_at(own, BORN).union(kept)) {
+                return false;
+            }
+            set_at(own, OUTS).is_subset(after.sound)
+        }
     }
-    if !carried.held.same(set_at(own, BORN).union(kept)) {
-        return false;
-    }
-    set_at(own, OUTS).is_subset(carried.sound)
 }
 
 // Whether procedure q keeps the rules.

@@ -1,6 +1,6 @@
 // The checker's rules for a step, by its row and the window of its procedure.
 ghost use Rattle.std.specs.Prelude.{◌≡◌};
-ghost use Rattle.checking.specs.Rules.{rules_at, StepChecked, Entered};
+ghost use Rattle.checking.specs.Rules.{rules_at, StepAfter, Entered};
 
 use crate::carried::Carried;
 use crate::sound::{sound_given, sound_without};
@@ -31,28 +31,29 @@ fn allowed(rows: &[u64; ROWS], own: &[u64], i: usize, held: Set, sound: Set) -> 
     marked(rows, i)
 }
 
-// After the step at record i; false where a rule is broken.
-pub fn step(rows: &[u64; ROWS], own: &[u64], carried: &mut Carried, i: usize) -> bool
-    ensures { StepChecked rows.now own.now i carried.old result carried.new }
+// After the step at record i; nothing where a rule is broken.
+pub fn step(rows: &[u64; ROWS], own: &[u64], before: Carried, i: usize) -> Option<Carried>
+    ensures { StepAfter rows.now own.now i before result }
 {
-    let Carried { held, sound } = *carried;
+    let Carried { held, sound } = before;
     if !allowed(rows, own, i, held, sound) {
-        return false;
+        return None;
     }
     let ends = ends_at(rows, i);
     let after = held.difference(ends).union(bears_at(rows, i));
     let still = sound_without(own, ends, sound);
-    let now_sound = sound_given(own, gives_at(rows, i), after, still);
-    *carried = Carried {
+    Some(Carried {
         held: after,
-        sound: now_sound,
-    };
-    true
+        sound: sound_given(own, gives_at(rows, i), after, still),
+    })
 }
 
 // Where the goals of the arm at record i start: its arguments have been given their values.
-pub fn enter(rows: &[u64; ROWS], own: &[u64], carried: &mut Carried, i: usize)
-    ensures { Entered rows.now own.now i carried.old carried.new }
+pub fn enter(rows: &[u64; ROWS], own: &[u64], before: Carried, i: usize) -> Carried
+    ensures { Entered rows.now own.now i before result }
 {
-    carried.sound = sound_given(own, gives_at(rows, i), carried.held, carried.sound);
+    Carried {
+        held: before.held,
+        sound: sound_given(own, gives_at(rows, i), before.held, before.sound),
+    }
 }

@@ -8,4 +8,4 @@ pub returns-then-not-allowed : goal.returns-then-not-allowed
 returns-then-not-allowed c = search (not-true, step_stops, rules)
 
 pub returns : goal.returns
-returns c = step_goes _ _ _ _ refl refl c.allowed.ensures _ c.if-not-allowed.false c.ends_at-ends.ensures c.difference.ensures c.bears_at.ensures c.union-after.ensures c.sound_without-still.ensures c.gives_at.ensures c.sound_given-now_sound.ensures refl refl
+returns c = step_goes _ _ _ _ refl refl c.allowed.ensures _ c.if-not-allowed.false c.ends_at-ends.ensures c.difference.ensures c.bears_at.ensures c.union-after.ensures c.sound_without-still.ensures c.gives_at.ensures c.sound_given.ensures refl refl

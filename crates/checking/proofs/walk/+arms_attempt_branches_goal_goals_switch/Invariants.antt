@@ -20,7 +20,7 @@ abbrev pub decreases-goals : goal.decreases-goals
 decreases-goals l = 4 * ahead l.file.now l.start + 3
 
 abbrev pub invariant-goals-loop-i : goal.invariant-goals-loop-i
-invariant-goals-loop-i l = Walking l.file l.rows l.own l.start l.initial.carried l.carried l.i
+invariant-goals-loop-i l = Walking l.file l.rows l.own l.start l.fn.before l.carried l.i
 
 abbrev pub decreases-goals-loop-i : goal.decreases-goals-loop-i
 decreases-goals-loop-i l = ahead l.file l.i
