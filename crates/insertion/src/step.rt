@@ -11,7 +11,8 @@ use crate::Cursor;
 use crate::placed::{created_for, removed_after};
 use crate::points::past;
 use chains::word;
-use language::format::{CREATE, IF, KIND, MAX_BYTES, NEXT, REMOVE, SWITCH, TRY};
+use language::Goal;
+use language::format::{CREATE, MAX_BYTES, NEXT, REMOVE};
 use laying::{follows, lay_marks, lay_record};
 use liveness::{POINTS, after_at, before_at};
 use sets::Set;
@@ -84,10 +85,8 @@ pub fn steps(
 {
     let mut i = start;
     while i != 0 {
-        match word(*file, i, KIND) {
-            SWITCH => return i,
-            IF => return i,
-            TRY => return i,
+        match chains::goal(*file, i) {
+            Goal::Switch | Goal::If | Goal::Try => return i,
             _ => step(file, rows, points, out, at, i),
         }
         i = word(*file, i, NEXT);

@@ -11,9 +11,9 @@ use crate::points::past;
 use crate::starts::{either, start_part};
 use crate::step::steps;
 use chains::word;
+use language::Goal;
 use language::format::{
-    ARM_GOALS, IF, IF_ELSE, IF_THEN, KIND, MAX_BYTES, NEXT, SWITCH, SWITCH_ARMS, TRY_CONDITION,
-    TRY_ELSE, TRY_THEN,
+    ARM_GOALS, IF_ELSE, IF_THEN, MAX_BYTES, NEXT, SWITCH_ARMS, TRY_CONDITION, TRY_ELSE, TRY_THEN,
 };
 use laying::{store_arm, store_if, store_switch, store_try};
 use liveness::POINTS;
@@ -36,9 +36,9 @@ pub fn goals(
 {
     let mut i = start;
     while i != 0 {
-        match word(*file, i, KIND) {
-            SWITCH => switch(file, rows, points, out, at, i),
-            IF => branches(file, rows, points, out, at, i),
+        match chains::goal(*file, i) {
+            Goal::Switch => switch(file, rows, points, out, at, i),
+            Goal::If => branches(file, rows, points, out, at, i),
             _ => attempt(file, rows, points, out, at, i),
         }
         let next = word(*file, i, NEXT);

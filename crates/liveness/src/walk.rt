@@ -12,9 +12,10 @@ use crate::POINTS;
 use crate::carried::{Carried, put_point};
 use crate::step::step;
 use chains::word;
+use language::Goal;
 use language::format::{
-    ARM_GOALS, GOAL_X, IF, IF_ELSE, IF_THEN, IF_Y, IF_Z, KIND, NEXT, SWITCH, SWITCH_ARMS, TRY,
-    TRY_CONDITION, TRY_ELSE, TRY_THEN,
+    ARM_GOALS, GOAL_X, IF_ELSE, IF_THEN, IF_Y, IF_Z, NEXT, SWITCH_ARMS, TRY_CONDITION, TRY_ELSE,
+    TRY_THEN,
 };
 use sets::Set;
 use tables::{ROWS, gives_at};
@@ -76,10 +77,10 @@ fn goal(
     requires stands { Stands file.now.now goals i × (i ≡ 0 → ⊥) }
     ensures { GoalDone file.now.now rows.now i carried.old table.old carried.new table.new }
 {
-    match word(*file, i, KIND) {
-        SWITCH => switch(file, rows, i, carried, table),
-        IF => branches(file, rows, i, carried, table),
-        TRY => attempt(file, rows, i, carried, table),
+    match chains::goal(*file, i) {
+        Goal::Switch => switch(file, rows, i, carried, table),
+        Goal::If => branches(file, rows, i, carried, table),
+        Goal::Try => attempt(file, rows, i, carried, table),
         _ => step(rows, i, carried, table),
     }
 }

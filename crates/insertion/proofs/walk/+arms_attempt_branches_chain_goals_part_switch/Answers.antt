@@ -1,10 +1,10 @@
 -- The walk over goals: one law of Walking for each way through it. The records ahead fall.
-use Rattle.insertion.proofs.walk.+arms_attempt_branches_chain_goals_part_switch.Goals.{goals-in-12, goals-in-14, goals-in_default}
-use mathlib.Core.Path.{refl, sym, ◌∙◌}
+use mathlib.Core.Path.{refl}
 use Rattle.std.proofs.Common.{arith}
 use Rattle.chains.specs.Shapes.{switch_here, if_here, try_here, to_arms, to_then, to_else, to_condition, to_try_then, to_try_else, arm_goals_law, arm_next}
 use Rattle.insertion.proofs.AlongLaws.{along_first, along_last, along_onward, along_rest}
 use Rattle.insertion.proofs.Walking.{along_turn, goal_moved, part_laid, switch_laid, if_laid, try_laid, no_arms_law, arms_laid}
+use Rattle.insertion.proofs.walk.+arms_attempt_branches_chain_goals_part_switch.Goals.{goals-in-Switch, goals-in-If, goals-in_default}
 use Rattle.insertion.proofs.walk.+arms_attempt_branches_chain_goals_part_switch.Goals as goal
 
 pub arms-returns-then-i-eq0 : goal.arms-returns-then-i-eq0
@@ -141,41 +141,9 @@ pub goals-loop-i-init : goal.goals-loop-i-init
 goals-loop-i-init t c =
     (along_first _ _ _ _ _ _ _ c.requires.stands.0, c.requires.stands.1)
 
-pub goals-word-requires : goal.goals-word-requires
-goals-word-requires t c = record {
-  formed = c.requires.formed;
-  k_lt_record_words = (omega arith, c.loop-i.invariant.0.stands.below);
-}
-
-pub goals-switch-requires : goal.goals-switch-requires
-goals-switch-requires t c =
-    (omega (arith, c.loop-i.invariant.0.near, c.decreases), (c.requires.formed, sym c.word.ensures.0 ∙ c.in-12.is))
-
-pub goals-branches-requires : goal.goals-branches-requires
-goals-branches-requires t c =
-    (omega (arith, c.loop-i.invariant.0.near, c.decreases), (c.requires.formed, sym c.word.ensures.0 ∙ c.in-14.is))
-
-pub goals-attempt-requires : goal.goals-attempt-requires
-goals-attempt-requires t c = (
-  omega (arith, c.loop-i.invariant.0.near, c.decreases),
-  (
-    c.requires.formed,
-    c.loop-i.invariant.1 c.loop-i-test.true
-        (λ k. c.in_default.in_default-own.rest.0.1 (c.word.ensures.0 ∙ k)) (λ k. c.in_default.in_default-own.rest.1 (c.word.ensures.0 ∙ k)),
-  ),
-)
-
-pub goals-word-next-requires : goal.goals-word-next-requires
-goals-word-next-requires t c = record {
-  formed = c.requires.formed;
-  k_lt_record_words = (omega arith, c.loop-i.invariant.0.stands.below);
-}
-
-pub goals-steps-i-requires : goal.goals-steps-i-requires
-goals-steps-i-requires t c = record {
-  formed = c.requires.formed;
-  stands = (along_onward c.loop-i.invariant.0 c.requires.formed c.loop-i-test.true c.word-next.ensures.0).stands;
-}
+pub goals-steps-i-requires-clause-stands : goal.goals-steps-i-requires-clause-stands
+goals-steps-i-requires-clause-stands t c =
+    (along_onward c.loop-i.invariant.0 c.requires.formed c.loop-i-test.true c.word-next.ensures.0).stands
 
 pub goals-loop-i-smaller : goal.goals-loop-i-smaller
 goals-loop-i-smaller t c =
@@ -185,9 +153,9 @@ goals-loop-i-smaller t c =
 pub goals-loop-i-preserved : goal.goals-loop-i-preserved
 goals-loop-i-preserved t c = (
   along_turn c.loop-i.invariant.0 c.requires.formed c.loop-i-test.true c.word-next.ensures.0 c.steps-i.ensures.lays_along
-      (elim c.match-word.branch [
-        | goals-in-12 w ↦ goal_moved _ _ w.out-is w.at-is w.switch.ensures
-        | goals-in-14 w ↦ goal_moved _ _ w.out-is w.at-is w.branches.ensures
+      (elim c.match-goal.branch [
+        | goals-in-Switch w ↦ goal_moved _ _ w.out-is w.at-is w.switch.ensures
+        | goals-in-If w ↦ goal_moved _ _ w.out-is w.at-is w.branches.ensures
         | goals-in_default w ↦ goal_moved _ _ w.out-is w.at-is w.attempt.ensures
       ]),
   c.steps-i.ensures.has_parts,

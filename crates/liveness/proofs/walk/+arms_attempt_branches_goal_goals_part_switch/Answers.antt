@@ -74,37 +74,9 @@ branches-returns t c =
     c.word-2.ensures.0 c.of-z.ensures c.union.ensures c.union-2.ensures c.union-3.ensures
     c.put_point.ensures
 
-pub goal-word-requires : goal.goal-word-requires
-goal-word-requires t c = record {
-  formed = c.requires.formed;
-  k_lt_record_words = (omega arith, c.requires.stands.0.below);
-}
-
-pub goal-switch-requires : goal.goal-switch-requires
-goal-switch-requires t c =
-    (omega (arith, c.decreases), (c.requires.formed, (c.requires.accessed, sym c.word.ensures.0 ∙ c.in-12.is)))
-
-pub goal-branches-requires : goal.goal-branches-requires
-goal-branches-requires t c =
-    (omega (arith, c.decreases), (c.requires.formed, (c.requires.accessed, sym c.word.ensures.0 ∙ c.in-14.is)))
-
-pub goal-attempt-requires : goal.goal-attempt-requires
-goal-attempt-requires t c =
-    (omega (arith, c.decreases), (c.requires.formed, (c.requires.accessed, sym c.word.ensures.0 ∙ c.in-20.is)))
-
-pub goal-returns-in-12 : goal.goal-returns-in-12
-goal-returns-in-12 t c = c.switch.ensures
-
-pub goal-returns-in-14 : goal.goal-returns-in-14
-goal-returns-in-14 t c = c.branches.ensures
-
-pub goal-returns-in-20 : goal.goal-returns-in-20
-goal-returns-in-20 t c = c.attempt.ensures
-
 pub goal-returns-in_default : goal.goal-returns-in_default
 goal-returns-in_default t c =
-    step_done _ _ _ c.requires.formed c.requires.stands.0 c.requires.stands.1 (λ e. c.in_default.in_default-own.rest.0.0.1 (c.word.ensures.0 ∙ e))
-    (λ e. c.in_default.in_default-own.rest.0.1 (c.word.ensures.0 ∙ e)) (λ e. c.in_default.in_default-own.rest.1 (c.word.ensures.0 ∙ e)) _ c.requires.accessed c.step.ensures
+    step_done _ _ _ c.requires.formed c.requires.stands.0 c.requires.stands.1 (search rules) (search rules) (search rules) _ c.requires.accessed c.step.ensures
 
 pub goals-returns-then-i-eq0 : goal.goals-returns-then-i-eq0
 goals-returns-then-i-eq0 t c = goals_last _ _ _ _ _ c.if-i-eq0.true
