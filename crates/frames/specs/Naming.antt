@@ -2,11 +2,11 @@
 -- behind it.
 use Prim.Native.Nat.{ℕ, suc, ◌+◌, ◌*◌, ◌≤◌, ◌<◌}
 use native.Mathlib.Omega.{arith}
-use Rattle.std.specs.Prelude.{◌≡◌, refl, Bool, true, false, not, List, [], ◌∷◌, length, get_or, set}
-use Rattle.std.proofs.Common.{sym, ap, ◌∙◌}
+use Rattle.std.specs.Prelude.{◌≡◌, Bool, true, false, not, List, length, get_or, set}
+use Rattle.std.proofs.Common.{sym, ◌∙◌}
 use borrow.Author.Tests.{not-true, not-false}
 use Rattle.sets.specs.Sets.{empty_set, single, ◌∖◌, same_set, Small}
-use Rattle.sets.specs.Members.{members, next_member, in_list, cons_here, members_in}
+use Rattle.sets.specs.Members.{members, next_member}
 use Rattle.sets.specs.Lowest.{lowest_low, members_none, members_lowest, lowest_falls}
 use Rattle.sets.specs.Size.{size}
 use Rattle.sets.specs.declared.Set.{Set}
@@ -27,31 +27,9 @@ module _ (images : List ℕ) (side at : ℕ) where
   unfoldable pub named_out : List ℕ → List ℕ → List ℕ
   named_out rs fw = copied (λ r. at + regions_from + get_or images (side + r) 0) (λ r. at + frame_words + regions_from + r) rs fw
 
-  -- the walk comes to region x, which has its image i, and what one of them stands for is v
-  module _ {x i v : ℕ} {left rest : List ℕ} (fw fx : List ℕ) (e : left ≡ x ∷ rest) (ei : i ≡ get_or images (side + x) 0) where
-    pub in_here : v ≡ get_or fw (at + regions_from + i) 0 → fx ≡ set fw (at + frame_words + regions_from + x) v → named_in rest fx ≡ named_in left fw
-    unfolding named_in copied
-    in_here ev ex = rw (e, ex, ev, ei)
-
-    pub out_here : v ≡ get_or fw (at + frame_words + regions_from + x) 0 → fx ≡ set fw (at + regions_from + i) v → named_out rest fx ≡ named_out left fw
-    unfolding named_out copied
-    out_here ev ex = rw (e, ex, ev, ei)
-
-  pub in_end : {left : List ℕ} (fw : List ℕ) → left ≡ [] → fw ≡ named_in left fw
-  unfolding named_in copied
-  in_end fw e = rw e
-
-  pub out_end : {left : List ℕ} (fw : List ℕ) → left ≡ [] → fw ≡ named_out left fw
-  unfolding named_out copied
-  out_end fw e = rw e
-
   pub in_length : (rs fw : List ℕ) → length (named_in rs fw) ≡ length fw
   unfolding named_in
   in_length rs fw = copied_length _ _ rs fw
-
--- a member that the walk comes to is a region's number
-pub next_low : (s : Set) {x : ℕ} {rest : List ℕ} → members s ≡ x ∷ rest → x ≤ max_regions
-next_low s {x} {rest} e = (members_in s x (ap (in_list x) e ∙ cons_here x x rest refl)).1
 
 -- ---- words are copied for each member, the least one first
 module _ (to from : ℕ → ℕ) where
