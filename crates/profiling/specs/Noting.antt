@@ -1,6 +1,8 @@
 -- A step's line, and the lines of many steps, one after the other.
-use Rattle.std.specs.Prelude.{ℕ, zero, suc, ◌+◌, ◌≡◌, refl, Bool, true, false, List}
-use Rattle.std.proofs.Common.{arith, sym, ap, subst, ◌∙◌}
+use Rattle.std.specs.Prelude.{ℕ, zero, suc, ◌+◌, ◌≡◌, refl, Bool, true, false, ◌&&◌, List, eqb}
+use Rattle.std.proofs.Common.{arith, sym, ap, subst, ◌∙◌, eqb-true, eq-eqb}
+use Rattle.std.proofs.lemmas.Bool.{false≢true}
+use Rattle.std.specs.Cmp.Derive.{both_true}
 use Rattle.lines.specs.Put.{Put}
 use Rattle.profiling.specs.declared.Held.{Held}
 use Rattle.profiling.specs.declared.Line.{Line}
@@ -43,6 +45,18 @@ held_equal a b c r f =
     ap (λ n. record { cells = n; regions = a.regions; frames = a.frames }) c
     ∙ ap (λ n. record { cells = b.cells; regions = n; frames = a.frames }) r
     ∙ ap (λ n. record { cells = b.cells; regions = b.regions; frames = n }) f
+
+both_hold : (x y : Bool) → true ≡ (x && y) → (x ≡ true) × (y ≡ true)
+both_hold true y e = (refl, sym e)
+both_hold false y e = absurd (false≢true (sym e))
+
+-- what `==` of two says
+pub held_told : (a b : Held) (r : Bool) → r ≡ (eqb a.cells b.cells && (eqb a.regions b.regions && eqb a.frames b.frames)) → Tells a b r
+held_told a b true e =
+    let (c, t) = both_hold _ _ e in
+    let (r, f) = both_hold _ _ (sym t) in
+    held_equal a b (eqb-true _ _ c) (eqb-true _ _ r) (eqb-true _ _ f)
+held_told a b false e = λ h. false≢true (e ∙ both_true (eq-eqb _ _ (ap (λ k. k.cells) h)) (both_true (eq-eqb _ _ (ap (λ k. k.regions) h)) (eq-eqb _ _ (ap (λ k. k.frames) h))))
 
 -- what the test of two points says
 module _ (p q : Point) (h k : Held) (eh : h ≡ held_at q) (ek : k ≡ held_at p) (r : Bool) (t : Tells h k r) where

@@ -26,7 +26,7 @@ pub struct Counts {
 }
 
 // How many cells, regions and frames are held.
-#[derive(Clone, Copy)]
+#[derive(Clone, Copy, PartialEq, Eq)]
 pub struct Held {
     pub cells: u64,
     pub regions: u64,

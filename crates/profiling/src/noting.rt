@@ -2,7 +2,7 @@
 ghost use Rattle.std.specs.Prelude.{◌+◌, ◌≤◌, ◌≡◌, length};
 ghost use Rattle.profiling.specs.Text.{line_bytes};
 ghost use Rattle.profiling.specs.Standing.{frames_in};
-ghost use Rattle.profiling.specs.Noting.{held_at, Tells, Notes};
+ghost use Rattle.profiling.specs.Noting.{held_at, Notes};
 
 use crate::text::put_line;
 use crate::{Held, Line, Point};
@@ -30,22 +30,6 @@ pub fn held_at(point: Point) -> Held
     }
 }
 
-// Whether as much is held.
-fn same_held(a: Held, b: Held) -> bool
-    ensures { Tells a b result }
-{
-    if a.cells != b.cells {
-        return false;
-    }
-    if a.regions != b.regions {
-        return false;
-    }
-    if a.frames != b.frames {
-        return false;
-    }
-    true
-}
-
 // The line of the step from one point to the next, if it changed what is held.
 pub fn note(out: &mut [u8], at: usize, from: Point, to: Point) -> usize
     requires { at + line_bytes ≤ length out.old }
@@ -53,7 +37,7 @@ pub fn note(out: &mut [u8], at: usize, from: Point, to: Point) -> usize
     ensures upper_bound { result ≤ length out.new }
 {
     let held = held_at(to);
-    if same_held(held, held_at(from)) {
+    if held == held_at(from) {
         return at;
     }
     let state = from.state;

@@ -1,5 +1,4 @@
 -- The cells passed and those still to come make the region's.
-use Prim.Native.Nat.{◌-◌}
 use Rattle.profiling.specs.Walking.{CellsPassed}
 use Rattle.profiling.proofs.walking.region_size.Given as goal
 
