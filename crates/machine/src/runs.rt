@@ -5,8 +5,6 @@ ghost use Rattle.chains.specs.Formed.{Formed};
 ghost use Rattle.memory.specs.Memory.{cell_words, region_words, empty_heap};
 ghost use Rattle.plans.specs.Plan.{Narrow, Numbered, tables_in};
 ghost use Rattle.word_machine.specs.Machine.{frame_words, word_run};
-ghost use Rattle.machine.specs.Entries.{log_words};
-ghost use Rattle.machine.specs.Trying.{saved_words};
 ghost use Rattle.machine.specs.Runs.{ended_at, first_state, run_first, Ran};
 
 use crate::calls::{body_of, settle, size_of};
@@ -45,18 +43,6 @@ pub fn first_state(callees: &[u64; CALLEES]) -> State
         goal: body_of(callees, 0),
         printed: 0,
     }
-}
-
-fn log_words() -> [u32; LOG_WORDS]
-    ensures { log_words ≡ length result }
-{
-    [0; LOG_WORDS]
-}
-
-fn saved_words() -> [u32; SAVED_WORDS]
-    ensures { saved_words ≡ length result }
-{
-    [0; SAVED_WORDS]
 }
 
 // The run from the first step on. "An ended run is finished before 10 is looked at."
@@ -166,8 +152,8 @@ pub fn run_words(
         return ended(Ending::Stopped(Stop::Frames), 0, first_state(callees));
     }
     clear(frames, 1, size_of(callees, 0));
-    let mut log = log_words();
-    let mut own = saved_words();
+    let mut log = [0; LOG_WORDS];
+    let mut own = [0; SAVED_WORDS];
     run_on(
         file, plan, images, callees, cells, regions, frames, prints, &mut log, &mut own, steps,
     )

@@ -2,7 +2,6 @@
 #![tactic(auto)]
 
 mod arguments;
-mod blank;
 mod callees;
 mod fill;
 mod images;
@@ -10,7 +9,6 @@ mod joining;
 mod onward;
 mod sides;
 
-pub use blank::{blank_callees, blank_images, blank_plan};
 pub use fill::fill_plan;
 use language::format::{MAX_PROCEDURES, MAX_RECORDS, MAX_REGIONS};
 pub use onward::onto;

@@ -7,8 +7,9 @@ ghost use Rattle.profile.specs.Parts.{output_bytes};
 
 use crate::parts::print_parts;
 use answering::print;
-use plans::{CALLEES, IMAGES, PLAN, blank_callees, blank_images, blank_plan};
-use profiling::{LINE_BYTES, begin, log_words, put_entry, saved_words};
+use machine::{LOG_WORDS, SAVED_WORDS};
+use plans::{CALLEES, IMAGES, PLAN};
+use profiling::{LINE_BYTES, begin, put_entry};
 use running::fill_tables;
 use running::lent::{cell_words, frame_words, print_words, region_words};
 
@@ -37,8 +38,9 @@ fn print_tabled(
     let mut regions = region_words();
     let mut frames = frame_words();
     let mut prints = print_words();
-    let mut log = log_words();
-    let mut own = saved_words();
+    // what an open condition keeps beside the lent words (C-20): its log and the frame's words at the try
+    let mut log = [0; LOG_WORDS];
+    let mut own = [0; SAVED_WORDS];
     let mut out = output();
     let first = begin(callees, &cells, &regions, &mut frames);
     let n = put_entry(&mut out, first);
@@ -64,9 +66,9 @@ pub fn print_accepted(rt: &HostRuntime, file: &[u8], room: usize)
     requires file_value { checked file.now ≡ Ok tt }
     requires line_bytes_le_room { (line_bytes ≤ room) × (room ≤ output_bytes) }
 {
-    let mut plan = blank_plan();
-    let mut images = blank_images();
-    let mut callees = blank_callees();
+    let mut plan = [0; PLAN];
+    let mut images = [0; IMAGES];
+    let mut callees = [0; CALLEES];
     fill_tables(file, &mut plan, &mut images, &mut callees);
     print_tabled(rt, file, &plan, &images, &callees, room);
 }

@@ -7,7 +7,6 @@ ghost use Rattle.word_machine.specs.Machine.{frame_words};
 ghost use Rattle.word_machine.specs.Tables.{Tables, Tabled};
 ghost use Rattle.plans.specs.Plan.{tables_in};
 ghost use Rattle.machine.specs.Entries.{log_words};
-ghost use Rattle.machine.specs.Trying.{saved_words};
 ghost use Rattle.profiling.specs.Statement.{line_text, entry_line};
 ghost use Rattle.profiling.specs.Text.{line_bytes};
 ghost use Rattle.profiling.specs.Moving.{RunStands};
@@ -16,22 +15,9 @@ use crate::noting::held_at;
 use crate::text::put_line;
 use crate::{Counts, Line, Open, Point};
 use frames::clear;
-use machine::{LOG_WORDS, SAVED_WORDS, first_state, size_of};
+use machine::{first_state, size_of};
 use memory::empty;
 use plans::CALLEES;
-
-// What an open condition keeps beside the lent words (C-20): its log and the frame's words at the try.
-pub fn log_words() -> [u32; LOG_WORDS]
-    ensures { log_words ≡ length result }
-{
-    [0; LOG_WORDS]
-}
-
-pub fn saved_words() -> [u32; SAVED_WORDS]
-    ensures { saved_words ≡ length result }
-{
-    [0; SAVED_WORDS]
-}
 
 fn no_counts() -> Counts
     ensures { result ≡ record { cells = 0; regions = 0 } }

@@ -12,7 +12,7 @@ mod turning;
 mod walking;
 
 pub use advancing::advance;
-pub use beginning::{begin, log_words, put_entry, saved_words};
+pub use beginning::{begin, put_entry};
 use language::Ending;
 use machine::State;
 use memory::Heap;

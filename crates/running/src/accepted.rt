@@ -6,7 +6,7 @@ ghost use Rattle.machine.specs.Joining.{RanAs};
 ghost use Rattle.running.specs.Planned.{Planned};
 
 use machine::{Outcome, run_words};
-use plans::{CALLEES, IMAGES, PLAN, blank_callees, blank_images, blank_plan, fill_plan};
+use plans::{CALLEES, IMAGES, PLAN, fill_plan};
 use tables::blank_file_table;
 use windows::list_procedures;
 
@@ -61,9 +61,9 @@ pub fn run_accepted(
     ensures { RanAs file.now cells.old regions.old frames.old prints.old steps
         result prints.new }
 {
-    let mut plan = blank_plan();
-    let mut images = blank_images();
-    let mut callees = blank_callees();
+    let mut plan = [0; PLAN];
+    let mut images = [0; IMAGES];
+    let mut callees = [0; CALLEES];
     fill_tables(file, &mut plan, &mut images, &mut callees);
     run_tabled(
         file, &plan, &images, &callees, cells, regions, frames, prints, steps,

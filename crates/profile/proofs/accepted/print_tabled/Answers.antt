@@ -1,4 +1,7 @@
 -- `print_tabled`: the run stands at its start.
+use Rattle.std.specs.Prelude.{ℕ}
+use Rattle.std.proofs.lemmas.List.{length-replicate}
+use Rattle.machine.specs.Entries.{log_words}
 use Rattle.std.proofs.Common.{arith, rules}
 use mathlib.Core.Path.{sym}
 use lib.Seq.{length-take-le}
@@ -27,7 +30,7 @@ pub slice_bounds-print_parts-end-6 : goal.slice_bounds-print_parts-end-6
 slice_bounds-print_parts-end-6 c = sym (length-take-le _ _ (omega (arith, c.put_entry-n.auto.out, c.output-out.ensures, c.requires.line_bytes_le_room.1)))
 
 pub print_parts-requires : goal.print_parts-requires
-print_parts-requires c = let e = (c.begin-first.ensures _ _ _ _ _ c.requires.planned.accepted c.requires.planned.tabled (frame_room _ c.frame_words-frames.ensures) _ _ (sym c.log_words-log.ensures)).1 in record {
+print_parts-requires c = let e = (c.begin-first.ensures _ _ _ _ _ c.requires.planned.accepted c.requires.planned.tabled (frame_room _ c.frame_words-frames.ensures) _ _ (length-replicate {A = ℕ} log_words 0)).1 in record {
   narrow = (c.requires.planned.narrow, c.requires.planned.numbered);
   line_bytes_in_bounds = line_fits c.args.room c.put_entry-n.new.out c.requires.line_bytes_le_room.0 (omega (arith, c.put_entry-n.auto.out, c.output-out.ensures, c.requires.line_bytes_le_room.1));
   run_stands = e;
