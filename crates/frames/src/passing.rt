@@ -1,4 +1,5 @@
-// The values that a call's arguments pass, along the links of the plan: from the call's record to its arguments of a mode, each to the next.
+// The values that a call's arguments pass, along the links of the plan: from the call's record to its arguments of a mode, each to the next. Tried as one
+// function for both ways, by a const bool parameter, whose proof doesn't close: the parameter doesn't compute in the goals.
 ghost use Rattle.std.specs.Prelude.{◌≡◌, ◌+◌, ◌*◌, ◌≤◌, ◌<◌, length};
 ghost use Rattle.language.specs.Format.{max_records};
 ghost use Rattle.plans.specs.Plan.{ins_from, outs_from};

@@ -1,4 +1,5 @@
-// The log of an open condition (C-20): two words an entry, a region's place and what was done there.
+// The log of an open condition (C-20): two words an entry, a region's place and what was done there. `undo_log` and `free_log` walk alike: one function over
+// what is done to an entry would take a law of the two and both names over it, which is no plainer.
 ghost use Rattle.std.specs.Prelude.{◌≡◌, List, ℕ, ◌<◌, length};
 ghost use Rattle.memory.specs.Log.{kinds, entry, stored, Is, undone_of, undone, freed_of, freed};
 ghost use Rattle.machine.specs.Entries.{log_words, entry_word, noted, Logs};
