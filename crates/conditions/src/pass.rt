@@ -46,7 +46,7 @@ fn any_condition(file: &[u8]) -> bool
     found
 }
 
-// Whether a record of this kind may stand in a condition, or outside where `inside` is 0.
+// Whether a record of this kind, by its number as in `owners`, may stand in a condition, or outside where `inside` is 0.
 fn may_stand(inside: u16, kind: usize) -> bool
     ensures { result ≡ may_stand (eqb inside 1) kind }
 {

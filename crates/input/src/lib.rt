@@ -54,6 +54,7 @@ pub fn read_input<R: Read>(reader: &mut R, file: &mut [u8]) -> io::Result<usize>
     ensures at_end { IfOk result (λ n. n < length file.new → IsAtEnd (R.remaining reader.new)) }
 {
     let mut at = 0;
+    // by what each read brings: no count
     while at < file.len() {
         let end = read_on(reader, file, at)?;
         if end == at {

@@ -134,6 +134,7 @@ pub fn settle(
     let mut top = state.top;
     let mut at = state.at;
     let mut goal = state.goal;
+    // a frame a turn, as long as it has no goals left
     while goal == 0 {
         if at == 0 {
             return State {

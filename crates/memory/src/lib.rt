@@ -34,7 +34,8 @@ const MOST: u32 = 65535;
 // A term's word is the place of its cell or, above all places, a constant: this number and its functor.
 pub const CONSTANTS: u32 = 65536;
 
-// An entry of an open condition's log (C-20) tells of a region whether a cell was built in it, it was made or it was removed.
+// An entry of an open condition's log (C-20) tells of a region whether a cell was built in it, it was made or it was removed: numbers, no enum, since a log is
+// words of fixed memory, and `undone` and `freed` speak of its words.
 pub const ENTRY_BUILT: u32 = 0;
 
 pub const ENTRY_MADE: u32 = 1;

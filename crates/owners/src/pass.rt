@@ -29,7 +29,8 @@ pub fn list_owners(file: &[u8], owners: &mut [u16])
     owners[0] = 0;
 }
 
-// What a record hands down by a word: the next procedure has the next number.
+// What a record hands down by a word: the next procedure has the next number. A kind stays its number in passes: `part_digits` is a table by that number, and
+// `owner_by` takes it.
 fn next_owner(kind: usize, word: usize, own: u16) -> u16
     requires { own + 1 < word_end }
     ensures { (i : ℕ) → result ≡ owner_by kind i word own }
@@ -51,6 +52,7 @@ pub fn hand_to<T: Copy, F: Fn(usize) -> T>(file: &[u8], i: usize, table: &mut [T
     let next = word_in(file, i, format::NEXT);
     table[next] = by(format::NEXT);
     let mut left = part_digits(word_in(file, i, format::KIND));
+    // digits, the lowest first: no count
     while left != 0 {
         let part = left % DIGIT_END;
         let w = word_in(file, i, part);

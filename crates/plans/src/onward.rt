@@ -34,7 +34,7 @@ pub fn fill_onward(file: &[u8], table: &mut [usize])
     table[0] = 0;
 }
 
-// Where the chain goes on that a word of a record leads to, own being where its own does: a try's condition nowhere.
+// Where the chain goes on that a word of a record leads to, own being where its own does: a try's condition nowhere. Kinds are numbers, as in `owners`.
 fn next_onward(kind: usize, next: usize, word: usize, own: usize) -> usize
     ensures { (f : List ℕ) (i : ℕ) → next ≡ word_of f i next_word → result ≡ onward_by f kind i word own }
 {

@@ -40,6 +40,7 @@ pub fn advance(
 {
     let mut here = point;
     let mut at = 0;
+    // as long as there is room for the longest line: no count
     while LINE_BYTES <= out.len() - at {
         let moved = forward(
             file, plan, images, callees, here, cells, regions, frames, prints, log, own, steps,

@@ -8,7 +8,7 @@ use crate::Record;
 use crate::words::word;
 use language::format::*;
 
-// Record i of a file.
+// Record i of a file. Here its kind's number becomes a case of the enum.
 pub fn record_at(file: &[u8], i: usize) -> Record
     ensures { result ≡ record_at file.now i }
 {

@@ -95,7 +95,7 @@ impl Set {
         (self.bits >> (n - 1)) & 1 == 1
     }
 
-    // Whether both have the same members.
+    // Whether both have the same members: `==`, in the word that theorems have for it, `same_set`.
     pub fn same(self, other: Set) -> bool
         ensures { result ≡ same_set self other }
     {
@@ -164,7 +164,7 @@ impl Set {
         Some((self.lowest(), self.without_lowest()))
     }
 
-    // The set as one word of memory, for tables of sets; 0 is the empty set.
+    // The set as one word of memory, for tables of sets; 0 is the empty set. By name and not by `From`: a number is no set elsewhere.
     pub fn stored(self) -> u64
         ensures { result ≡ stored self }
     {

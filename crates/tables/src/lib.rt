@@ -71,7 +71,7 @@ pub const EDGES: usize = 9;
 // Words of the file's table: for each procedure where its window starts and the window's first words; two words for each record.
 pub const TABLE: usize = (1 + HEAD) * MAX_PROCEDURES + 2 * MAX_RECORDS;
 
-// What a goal reads, what it gives a value, and whether it gives no variable twice.
+// What a goal reads, what it gives a value, and whether it gives no variable twice. The two sets mean the same whether it does or not, so no Option.
 #[derive(Clone, Copy)]
 pub struct Access {
     pub reads: Set,
@@ -80,7 +80,7 @@ pub struct Access {
 }
 
 // What a step does to regions: those that it needs held, those that it bears, those that it ends, and whether "an image of a dead or born one is
-// no other region's image".
+// no other region's image". The three sets mean the same whether it is or not, so no Option.
 #[derive(Clone, Copy)]
 pub struct Effect {
     pub needs: Set,

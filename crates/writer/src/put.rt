@@ -67,7 +67,7 @@ pub fn link(w: usize, c: usize) -> usize
     if w == 0 { 0 } else { c }
 }
 
-// Writes record i of the file as record at, but for the next of its chain, which is given.
+// Writes record i of the file as record at, but for the next of its chain, which is given. Its kind is one more word to write.
 pub fn copy_record(file: &[u8], out: &mut [u8], i: usize, at: usize, next: usize)
     requires record_bytes_in_bounds { record_bytes * at + record_bytes ≤ length out.old }
     requires next_lt_word_end { next < word_end }
