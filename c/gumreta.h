@@ -42,7 +42,7 @@ enum gumreta_answer {
 /* No annotated file is longer. */
 #define GUMRETA_MAX_BYTES 65536
 
-/* A call takes less of the stack: 1,213 KiB at most were measured (docs/LIBRARY.md). For pthread_attr_setstacksize, with what your own functions take. */
+/* A call takes less of the stack: 856 KiB at most were measured (docs/LIBRARY.md). For pthread_attr_setstacksize, with what your own functions take. */
 #define GUMRETA_STACK_BYTES 1572864
 
 /* 32-bit words of memory for one of each sort; more than 65,535 of a sort count as 65,535. */

@@ -9,11 +9,11 @@ returns-in-Err c = record {
   lent_after = refused_leaves _ _ _ _;
 }
 
-pub run_accepted-requires : goal.run_accepted-requires
-run_accepted-requires c = sym c.check.ensures.value ∙ c.in_default.is
+pub run_apart-requires : goal.run_apart-requires
+run_apart-requires c = sym c.check.ensures.value ∙ c.in_default.is
 
 pub returns : goal.returns
 returns c = record {
-  ran_as = c.run_accepted.ensures;
+  ran_as = c.run_apart.ensures;
   lent_after = accepted_leaves (sym c.check.ensures.value ∙ c.in_default.is) _ _ _ _ _ _ _ _ (search rules, search rules, search rules);
 }
