@@ -14,6 +14,7 @@ use language::format::{
     TRY_ELSE, TRY_THEN,
 };
 use tables::ROWS;
+use walks::is_step;
 
 // After the goals from record start on.
 #[cycle(arms_attempt_branches_goal_goals_switch)]
@@ -48,7 +49,12 @@ fn goal(file: &[u8], rows: &[u64; ROWS], own: &[u64], before: Carried, i: usize)
         Goal::Switch => switch(file, rows, own, before, i),
         Goal::If => branches(file, rows, own, before, i),
         Goal::Try => attempt(file, rows, own, before, i),
-        _ => step(rows, own, before, i),
+        _ => {
+            if !is_step(word(file, i, KIND)) {
+                return None;
+            }
+            step(rows, own, before, i)
+        }
     }
 }
 

@@ -1,4 +1,3 @@
-pub mod Carried
 pub mod Steps
 pub mod Closed
 pub mod Walk

@@ -2,7 +2,7 @@
 use Rattle.std.proofs.Common.{arith, rules}
 use mathlib.Core.Path.{refl}
 use Rattle.chains.specs.Shapes.{switch_here, if_here, try_here, to_arms, to_then, to_else, to_condition, to_try_then, to_try_else, arm_goals_law, arm_next}
-use Rattle.walks.specs.Closed.{arm_closed}
+use Rattle.walks.specs.Closed.{goal_closed, arm_closed}
 use Rattle.checking.specs.Ready.{GoalChecked, ArmsChecked}
 use Rattle.checking.proofs.CarriedLaws.{after_join}
 use Rattle.checking.proofs.Walking.{none_checked, walk_last, walk_onward, walk_stop, walk_next, step_after, switch_broken, switch_after, if_broken, if_broken_2, then_broken, else_broken, if_done, condition_broken, try_then_broken, try_else_broken, try_done, arms_none_checked, arm_broken, arm_ended, rest_broken, arm_more}
@@ -138,8 +138,12 @@ branches-returns t c =
     after_join (λ y d. GoalChecked c.args.file.now c.args.rows.now c.args.own.now c.args.i c.args.before y d) _ _ _ _ c.join-2.ensures
     (λ y d h. if_done _ _ _ c.requires.formed c.requires.fact refl c.word.ensures.0 c.has.ensures c.if-not-has.false c.word-2.ensures.0 c.has-2.ensures c.if-not-has-2.false c.word-yes.ensures.0 _ _ c.in_ok-one.ensures refl c.word-no.ensures.0 _ refl refl _ _ c.in_ok-other.ensures y d refl refl refl h)
 
-pub goal-returns-in_default : goal.goal-returns-in_default
-goal-returns-in_default t c = step_after _ _ _ _ c.requires.formed c.requires.stands.0 c.requires.stands.1 refl (search rules) (search rules) (search rules) _ c.step.ensures
+pub goal-returns-then-not-is_step : goal.goal-returns-then-not-is_step
+goal-returns-then-not-is_step t c =
+    goal_closed c.requires.formed _ c.requires.stands.0 c.requires.stands.1 c.word.ensures.0 (search rules) (search rules) (search rules) c.is_step.ensures c.if-not-is_step.true
+
+pub goal-returns-else-not-is_step : goal.goal-returns-else-not-is_step
+goal-returns-else-not-is_step t c = step_after _ _ _ _ c.requires.formed c.requires.stands.0 c.requires.stands.1 refl (search rules) (search rules) (search rules) _ c.step.ensures
 
 pub goals-returns-in_err-carried : goal.goals-returns-in_err-carried
 goals-returns-in_err-carried t c = rw c.from_residual.ensures (walk_stop c.requires.formed c.loop-i.invariant c.loop-i-test.true _ _ c.in_err-carried.ensures _ refl)
