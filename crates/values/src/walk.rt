@@ -79,6 +79,9 @@ fn branches(file: &[u8], rows: &[u64; ROWS], before: Valuation, i: usize) -> Opt
     let first = word(file, i, IF_THEN);
     let one = goals(file, rows, before, first)?;
     let second = word(file, i, IF_ELSE);
+    if second == 0 {
+        return Some(one.join(before));
+    }
     let other = goals(file, rows, before, second)?;
     Some(one.join(other))
 }
@@ -96,6 +99,9 @@ fn attempt(file: &[u8], rows: &[u64; ROWS], before: Valuation, i: usize) -> Opti
     let first = word(file, i, TRY_THEN);
     let one = goals(file, rows, holds, first)?;
     let otherwise = word(file, i, TRY_ELSE);
+    if otherwise == 0 {
+        return Some(one.join(before));
+    }
     let other = goals(file, rows, before, otherwise)?;
     Some(one.join(other))
 }

@@ -3,7 +3,7 @@ use Rattle.std.proofs.Common.{arith, rules}
 use mathlib.Core.Path.{refl}
 use Rattle.chains.specs.Is.{chain_next}
 use Rattle.chains.specs.Shapes.{switch_here, if_here, try_here, to_arms, to_then, to_else, to_condition, to_try_then, to_try_else, arm_goals_law, arm_next}
-use Rattle.walks.specs.Along.{along_last, along_stop, along_next, switch_stops, if_unread, if_unread_2, if_then_stops, if_else_stops, if_walked, condition_stops, try_then_stops, try_else_stops, try_walked, arms_none_walked, arm_refused, arm_stops, arm_last, arm_rest_stops, arms_walked}
+use Rattle.walks.specs.Along.{none_walked, along_last, along_stop, along_next, switch_stops, if_unread, if_unread_2, if_then_stops, if_else_stops, if_walked, condition_stops, try_then_stops, try_else_stops, try_walked, arms_none_walked, arm_refused, arm_stops, arm_last, arm_rest_stops, arms_walked}
 use Rattle.walks.specs.Closed.{arm_closed}
 use Rattle.values.proofs.CarryingLaws.{goal_after, row_arm, switch_after, readable_is, joined}
 use Rattle.values.proofs.walk.+arms_attempt_branches_goal_goals_switch.Goals as goal
@@ -66,6 +66,9 @@ attempt-word-otherwise-requires t c = record {
   k_lt_record_words = (omega arith, (try_here c.requires.formed refl c.requires.kind_word_value).below);
 }
 
+pub attempt-returns-then-otherwise-eq0 : goal.attempt-returns-then-otherwise-eq0
+attempt-returns-then-otherwise-eq0 t c = try_walked _ _ c.requires.formed _ c.requires.kind_word_value _ _ _ c.word-condition.ensures.0 c.in_ok-holds.ensures refl _ _ c.word-first.ensures.0 c.in_ok-one.ensures refl _ refl _ _ c.word-otherwise.ensures.0 (none_walked _ _ _ c.if-otherwise-eq0.true) _ _ _ refl refl (joined _ _ _ _ c.join.ensures)
+
 pub attempt-goals-requires-3 : goal.attempt-goals-requires-3
 attempt-goals-requires-3 t c = let o = to_try_else c.requires.formed c.requires.kind_word_value c.word-otherwise.ensures.0 in (omega (arith, o.falls, c.decreases), (c.requires.formed, (c.requires.all_noted, o.stands)))
 
@@ -73,7 +76,7 @@ pub attempt-returns-in_err-other : goal.attempt-returns-in_err-other
 attempt-returns-in_err-other t c = rw c.from_residual-in_err-other.ensures (try_else_stops _ _ c.requires.formed _ c.requires.kind_word_value _ _ _ c.word-condition.ensures.0 c.in_ok-holds.ensures refl _ _ c.word-first.ensures.0 c.in_ok-one.ensures refl _ refl _ _ c.word-otherwise.ensures.0 c.in_err-other.ensures _ refl)
 
 pub attempt-returns : goal.attempt-returns
-attempt-returns t c = try_walked _ _ c.requires.formed _ c.requires.kind_word_value _ _ _ c.word-condition.ensures.0 c.in_ok-holds.ensures refl _ _ c.word-first.ensures.0 c.in_ok-one.ensures refl _ refl _ _ c.word-otherwise.ensures.0 c.in_ok-other.ensures _ _ _ refl refl (joined _ _ _ _ c.join.ensures)
+attempt-returns t c = try_walked _ _ c.requires.formed _ c.requires.kind_word_value _ _ _ c.word-condition.ensures.0 c.in_ok-holds.ensures refl _ _ c.word-first.ensures.0 c.in_ok-one.ensures refl _ refl _ _ c.word-otherwise.ensures.0 c.in_ok-other.ensures _ _ _ refl refl (joined _ _ _ _ c.join-2.ensures)
 
 pub branches-word-requires : goal.branches-word-requires
 branches-word-requires t c = record {
@@ -111,6 +114,9 @@ branches-word-second-requires t c = record {
   k_lt_record_words = (omega arith, (if_here c.requires.formed refl c.requires.kind_word_value).below);
 }
 
+pub branches-returns-then-second-eq0 : goal.branches-returns-then-second-eq0
+branches-returns-then-second-eq0 t c = if_walked _ _ c.requires.formed _ c.requires.kind_word_value _ c.word.ensures.0 (readable_is _ _ _ c.has.ensures) c.if-not-has.false c.word-2.ensures.0 (readable_is _ _ _ c.has-2.ensures) c.if-not-has-2.false _ _ c.word-first.ensures.0 c.in_ok-one.ensures refl _ refl _ _ c.word-second.ensures.0 (none_walked _ _ _ c.if-second-eq0.true) _ _ _ refl refl (joined _ _ _ _ c.join.ensures)
+
 pub branches-goals-requires-2 : goal.branches-goals-requires-2
 branches-goals-requires-2 t c = let o = to_else c.requires.formed c.requires.kind_word_value c.word-second.ensures.0 in (omega (arith, o.falls, c.decreases), (c.requires.formed, (c.requires.all_noted, o.stands)))
 
@@ -118,7 +124,7 @@ pub branches-returns-in_err-other : goal.branches-returns-in_err-other
 branches-returns-in_err-other t c = rw c.from_residual-in_err-other.ensures (if_else_stops _ _ c.requires.formed _ c.requires.kind_word_value _ c.word.ensures.0 (readable_is _ _ _ c.has.ensures) c.if-not-has.false c.word-2.ensures.0 (readable_is _ _ _ c.has-2.ensures) c.if-not-has-2.false _ _ c.word-first.ensures.0 c.in_ok-one.ensures refl _ refl _ _ c.word-second.ensures.0 c.in_err-other.ensures _ refl)
 
 pub branches-returns : goal.branches-returns
-branches-returns t c = if_walked _ _ c.requires.formed _ c.requires.kind_word_value _ c.word.ensures.0 (readable_is _ _ _ c.has.ensures) c.if-not-has.false c.word-2.ensures.0 (readable_is _ _ _ c.has-2.ensures) c.if-not-has-2.false _ _ c.word-first.ensures.0 c.in_ok-one.ensures refl _ refl _ _ c.word-second.ensures.0 c.in_ok-other.ensures _ _ _ refl refl (joined _ _ _ _ c.join.ensures)
+branches-returns t c = if_walked _ _ c.requires.formed _ c.requires.kind_word_value _ c.word.ensures.0 (readable_is _ _ _ c.has.ensures) c.if-not-has.false c.word-2.ensures.0 (readable_is _ _ _ c.has-2.ensures) c.if-not-has-2.false _ _ c.word-first.ensures.0 c.in_ok-one.ensures refl _ refl _ _ c.word-second.ensures.0 c.in_ok-other.ensures _ _ _ refl refl (joined _ _ _ _ c.join-2.ensures)
 
 pub goal-returns-in_default : goal.goal-returns-in_default
 goal-returns-in_default t c = goal_after _ c.requires.all_noted c.requires.formed _ c.requires.stands.0 c.requires.stands.1 refl (search rules) (search rules) (search rules) _ _ c.after.ensures
