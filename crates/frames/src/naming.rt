@@ -1,7 +1,7 @@
 // What a callee's regions stand for, at a call and at a return. `images` has the caller's region for region r of the callee at place side + r.
-// Both loops count by hand: `for r in rs.members()` knows the members still to come before its body, which wants a register more of a run's loop, for
-// 0.6 to 1.4 in 100 more instructions a step on every job. The two are one loop both ways; tried as one function by a const bool parameter, whose proof
-// doesn't close: the parameter doesn't compute in the goals.
+// Both loops take the least member off by hand: `for r in rs.members()` knows the members still to come before its body, which wants a register more of a
+// run's loop, for 0.6 to 1.4 in 100 more instructions a step on every job. The two are one loop both ways; tried as one function by a const bool parameter,
+// whose proof doesn't close: the parameter doesn't compute in the goals.
 ghost use Rattle.std.specs.Prelude.{◌≡◌, ◌+◌, ◌*◌, ◌≤◌, ◌<◌, length, get_or};
 ghost use Rattle.sets.specs.Members.{members};
 ghost use Rattle.word_machine.specs.Machine.{frame_words};

@@ -1,4 +1,4 @@
--- Laws of `specs/Steps` and `specs/Cursor` that only proofs cite.
+-- Laws of `specs/Steps` that only proofs cite.
 use Prim.Native.Nat.{ℕ, ◌+◌, ◌<◌}
 use native.Mathlib.Omega.{arith}
 use mathlib.Core.List.{List}
