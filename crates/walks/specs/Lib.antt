@@ -1,3 +1,4 @@
+pub mod Carried
 pub mod Steps
 pub mod Closed
 pub mod Walk
