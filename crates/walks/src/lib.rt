@@ -1,4 +1,4 @@
-// The one walk over goals, whatever it carries: its laws (specs/Walk, specs/Along), which goals are steps, and the words that it carries.
+// The one walk over goals, whatever it carries: its laws (specs/Walk, specs/Along), which goals are steps, and words for what it carries.
 #![tactic(auto)]
 
 mod carried;
